@@ -1,0 +1,5 @@
+pub mod Lines
+pub mod Names
+pub mod Values
+pub mod Plain
+pub mod Meaning

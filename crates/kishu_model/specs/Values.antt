@@ -1,0 +1,61 @@
+-- Values, names, and what a cell's run gives (Python Language Reference 3, "Data model" and "Naming and binding").
+use Rattle.std.specs.Prelude.{ℕ, ℤ, List, [], ◌∷◌, map, Option, Some, None, if◌then◌else◌}
+use Rattle.std.specs.Ordering.{nat_cmp, match_ordering}
+use Rattle.std.specs.Cmp.Lexicographic.{slice_cmp}
+use Rattle.std.specs.Str.{bytes_eq}
+use Rattle.std.specs.Rc.{rc_str_bytes}
+use Rattle.kishu_model.specs.declared.value.Value as rust
+use Rattle.kishu_model.specs.declared.value.Value.TheVariants as rust_value
+use Rattle.kishu_model.specs.declared.result.Output as rust_output
+use Rattle.kishu_model.specs.declared.result.CellResult.{CellResult}
+use Rattle.kishu_model.specs.declared.result.Outcome.{Outcome}
+
+pub data Value : Type 0 where
+  integer : ℤ → Value
+
+abbrev pub value_of : rust.Value → Value
+value_of (rust_value.Int z) = integer z
+
+-- the names that are bound, each once, in byte order, with their values
+abbrev pub Names : Type 0
+Names = List (List ℕ × Value)
+
+abbrev pub find : List ℕ → Names → Option Value
+find name [] = None
+find name (n ∷ ns) = if bytes_eq name n.0 then Some n.1 else find name ns
+
+-- the names, with this one bound to v
+abbrev pub bind : List ℕ → Value → Names → Names
+bind name v [] = (name, v) ∷ []
+bind name v (n ∷ ns) = match_ordering (slice_cmp nat_cmp name n.0) ((name, v) ∷ n ∷ ns) ((name, v) ∷ ns) (n ∷ bind name v ns)
+
+-- all that one cell leaves to the next
+pub record State : Type 0 where
+  pub names : Names
+
+abbrev pub empty : State
+empty = record { names = [] }
+
+-- One output of a cell: what it printed, the value that it shows, or the exception that ended it (nbformat 4.5, "Code cell outputs").
+pub data Output : Type 0 where
+  stream : (text : List ℕ) → Output
+  shown : (text : List ℕ) → Output
+  fault : (ename evalue : List ℕ) → Output
+
+abbrev pub output_of : rust_output.Output → Output
+output_of (rust_output.TheVariants.Stream text) = stream (rc_str_bytes text)
+output_of (rust_output.TheVariants.Shown text) = shown (rc_str_bytes text)
+output_of (rust_output.TheVariants.Fault ename evalue) = fault (rc_str_bytes ename) (rc_str_bytes evalue)
+
+-- how a run ended, and what it shows
+pub record Report : Type 0 where
+  pub outcome : Outcome
+  pub outputs : List Output
+
+abbrev pub report_of : CellResult → Report
+report_of r = record { outcome = r.outcome; outputs = map output_of r.outputs.items }
+
+-- what a run gives
+pub record Ran : Type 0 where
+  pub state : State
+  pub report : Report

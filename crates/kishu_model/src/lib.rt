@@ -1,0 +1,14 @@
+//! The types that several crates share, and in `specs/` every definition that more than one crate
+//! cites: what a cell means, what a graph of commits is, which bytes a store file has, and what a
+//! run writes. Whoever wants to know what Kishu promises reads those definitions.
+#![tactic(auto)]
+
+mod profile;
+mod result;
+mod steps;
+mod value;
+
+pub use profile::Profile;
+pub use result::{CellResult, Outcome, Output};
+pub use steps::Steps;
+pub use value::Value;

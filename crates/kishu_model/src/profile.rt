@@ -1,0 +1,5 @@
+/// The rules of the language under which a commit's cells run.
+#[derive(Clone, Copy, Debug, PartialEq, Eq)]
+pub enum Profile {
+    One,
+}
