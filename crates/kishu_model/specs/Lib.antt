@@ -3,3 +3,10 @@ pub mod Names
 pub mod Values
 pub mod Plain
 pub mod Meaning
+pub mod Graph
+pub mod Replay
+pub mod Answers
+pub mod Step
+pub mod Serve
+pub mod Record
+pub mod Holds
