@@ -10,3 +10,5 @@ pub mod Step
 pub mod Serve
 pub mod Record
 pub mod Holds
+pub mod Task
+pub mod Growth

@@ -64,3 +64,9 @@ changed_by g (e ∷ es) = changed_by (changed g e) es
 abbrev pub AreRecords : Graph → List Entry → Type 0
 AreRecords g [] = Unit {0}
 AreRecords g (e ∷ es) = (length (body_of e) ≤ longest_body) × Fits g e × AreRecords (changed g e) es
+
+abbrev pub profile_of : Entry → Profile
+profile_of (commit parent profile cells) = profile
+
+abbrev pub cells_of : Entry → List (List ℕ)
+cells_of (commit parent profile cells) = cells

@@ -1,4 +1,4 @@
--- One request to the replaying machine: the graph after it, and its answer.
+-- One request to the replaying machine: the graph after it, and its answer. A cell of a later form is no request yet: a run that gets one ends before its first step.
 use Rattle.std.specs.Prelude.{ℕ, suc, ◌+◌, Bool, nat_le, if◌then◌else◌, List, [], ◌∷◌}
 use Rattle.kishu_model.specs.declared.profile.Profile.{Profile}
 use Rattle.kishu_model.specs.declared.profile.Profile.TheVariants.{One}
