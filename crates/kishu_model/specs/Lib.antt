@@ -10,3 +10,4 @@ pub mod Step
 pub mod Serve
 pub mod Record
 pub mod Holds
+pub mod Laws
