@@ -8,7 +8,8 @@ pub mod Replay
 pub mod Answers
 pub mod Step
 pub mod Serve
+pub mod Task
 pub mod Record
 pub mod Holds
-pub mod Task
 pub mod Growth
+pub mod Laws
