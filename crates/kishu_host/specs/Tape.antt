@@ -1,0 +1,41 @@
+-- How a story is kept: what happened, in order, and the bytes of all writes and of all puts, one after another.
+use Rattle.std.specs.Prelude.{◌≡◌, ◌+◌, ◌≤◌, ℕ, List, [], ◌∷◌, length, take, drop}
+use Rattle.kishu_host.specs.declared.tape.Entry.{Entry}
+use Rattle.kishu_host.specs.declared.tape.Entry.TheVariants.{Write, Sync, Append}
+use Rattle.kishu_host.specs.Story.{Event, Wrote, Synced, Put, file_after, out_after, all_written}
+
+abbrev pub history : List Entry → List ℕ → List ℕ → List Event → List Event
+history [] written out earlier = earlier
+history (Write at len ∷ es) written out earlier = history es (drop len written) out (Wrote at (take len written) ∷ earlier)
+history (Sync ∷ es) written out earlier = history es written out (Synced ∷ earlier)
+history (Append len ∷ es) written out earlier = history es written (drop len out) (Put (take len out) ∷ earlier)
+
+abbrev pub write_total : List Entry → ℕ
+write_total [] = 0
+write_total (Write at len ∷ es) = len + write_total es
+write_total (Sync ∷ es) = write_total es
+write_total (Append len ∷ es) = write_total es
+
+abbrev pub put_total : List Entry → ℕ
+put_total [] = 0
+put_total (Write at len ∷ es) = put_total es
+put_total (Sync ∷ es) = put_total es
+put_total (Append len ∷ es) = len + put_total es
+
+pub record IsTape (first file out written : List ℕ) (entries : List Entry) : Type 0 where
+  pub file_is : file ≡ file_after first (history entries written out [])
+  pub out_is : out ≡ out_after (history entries written out [])
+  pub written_is : written ≡ all_written (history entries written out [])
+  pub count : length (history entries written out []) ≡ length entries
+  pub writes : write_total entries ≡ length written
+  pub puts : put_total entries ≡ length out
+
+pub record HasRoom (room a ca b cb c cc d cd : ℕ) : Type 0 where
+  pub file : a ≤ room
+  pub file_cap : room ≤ ca
+  pub out : b ≤ room
+  pub out_cap : room ≤ cb
+  pub written : c ≤ room
+  pub written_cap : room ≤ cc
+  pub entries : d ≤ room
+  pub entries_cap : room ≤ cd

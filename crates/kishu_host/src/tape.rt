@@ -1,0 +1,173 @@
+// What a host in memory has done, in buffers of fixed size.
+ghost use Rattle.std.specs.Prelude.{◌≡◌, ◌≤◌, ◌+◌, ◌-◌, ◌++◌, ◌∷◌, [], length, take, drop, vec_len, vec_capacity, max, true, false, IfOk, ◌↔◌, IsTrue};
+ghost use Rattle.kishu_host.specs.Host.{overwrite};
+ghost use Rattle.kishu_host.specs.Story.{file_of, out_of, with_event, Wrote, Synced, Put};
+
+use std::alloc::{AllocError, Global};
+use std::marker::Model;
+
+#[derive(Clone, Copy)]
+enum Entry {
+    Write { at: u64, len: usize },
+    Sync,
+    Append { len: usize },
+}
+
+#[derive(Drop)]
+pub(crate) struct Tape {
+    first: Vec<u8>,
+    file: Vec<u8>,
+    out: Vec<u8>,
+    written: Vec<u8>,
+    entries: Vec<Entry>,
+    room: usize,
+}
+
+impl Model for Tape {
+    ghost use Rattle.std.specs.Prelude.{[], vec_len, vec_capacity};
+    ghost use Rattle.kishu_host.specs.Story.{Story};
+
+    ghost Value = { Story };
+
+    ghost use Rattle.kishu_host.specs.Tape.{history, IsTape, HasRoom};
+
+    ghost view = { λ t. record { first = t.first.items; events = history t.entries.items t.written.items t.out.items []; room = t.room } };
+
+    ghost invariant = { λ t. IsTape t.first.items t.file.items t.out.items t.written.items t.entries.items
+        × HasRoom t.room (vec_len t.file) (vec_capacity t.file) (vec_len t.out) (vec_capacity t.out) (vec_len t.written) (vec_capacity t.written) (vec_len t.entries) (vec_capacity t.entries) };
+}
+
+fn add_bytes(to: &mut Vec<u8>, bytes: &[u8])
+    requires { vec_len to.old + length bytes.now ≤ vec_capacity to.old }
+    ensures items { to.new.items ≡ to.old.items ++ bytes.now }
+    ensures len { vec_len to.new ≡ vec_len to.old + length bytes.now }
+    ensures capacity { vec_capacity to.old ≤ vec_capacity to.new }
+{
+    match to.extend_from_slice(bytes) {
+        Ok(()) => {}
+        Err(_) => unreachable!(),
+    }
+}
+
+fn add_entry(to: &mut Vec<Entry>, entry: Entry)
+    requires { vec_len to.old + 1 ≤ vec_capacity to.old }
+    ensures items { to.new.items ≡ to.old.items ++ entry ∷ [] }
+    ensures len { vec_len to.new ≡ vec_len to.old + 1 }
+    ensures capacity { vec_capacity to.old ≤ vec_capacity to.new }
+{
+    match to.push(entry) {
+        Ok(()) => {}
+        Err(_) => unreachable!(),
+    }
+}
+
+fn put_over(to: &mut Vec<u8>, at: usize, bytes: &[u8])
+    requires place { at ≤ vec_len to.old }
+    requires room { at + length bytes.now ≤ vec_capacity to.old }
+    ensures items { to.new.items ≡ overwrite at bytes.now to.old.items }
+    ensures len { vec_len to.new ≡ max (vec_len to.old) (at + length bytes.now) }
+    ensures capacity { vec_capacity to.old ≤ vec_capacity to.new }
+{
+    let rest = to.len() - at;
+    if bytes.len() <= rest {
+        to[at..at + bytes.len()].copy_from_slice(bytes);
+    } else {
+        to[at..].copy_from_slice(&bytes[..rest]);
+        add_bytes(to, &bytes[rest..]);
+    }
+}
+
+impl Tape {
+    ghost use Rattle.kishu_host.specs.Story.{file_of, out_of, with_event, all_written, Wrote, Synced, Put};
+
+    /// A tape of nothing done to a file with these bytes.
+    pub(crate) fn new(alloc: Global, file: &[u8], room: usize) -> Result<Tape, AllocError>
+        requires { length file.now ≤ room }
+        ensures { IfOk result (λ t. t ≡ record { first = file.now; events = []; room = room }) }
+    {
+        let mut first = Vec::with_capacity(alloc, room)?;
+        add_bytes(&mut first, file);
+        let mut kept = Vec::with_capacity(alloc, room)?;
+        add_bytes(&mut kept, file);
+        let out = Vec::with_capacity(alloc, room)?;
+        let written = Vec::with_capacity(alloc, room)?;
+        let entries = Vec::with_capacity(alloc, room)?;
+        Ok(Tape {
+            first,
+            file: kept,
+            out,
+            written,
+            entries,
+            room,
+        })
+    }
+
+    pub(crate) fn file(&self) -> &[u8]
+        ensures { result.now ≡ file_of self.now }
+    {
+        &self.file
+    }
+
+    pub(crate) fn out(&self) -> &[u8]
+        ensures { result.now ≡ out_of self.now }
+    {
+        &self.out
+    }
+
+    /// Notes a sync, where there is room for it.
+    pub(crate) fn sync(&mut self) -> bool
+        ensures yes { result ≡ true → self.new ≡ with_event Synced self.old }
+        ensures no { result ≡ false → self.new ≡ self.old }
+        ensures room { IsTrue result ↔ (length self.old.events + 1 ≤ self.old.room) }
+    {
+        if self.entries.len() >= self.room {
+            return false;
+        }
+        add_entry(&mut self.entries, Entry::Sync);
+        true
+    }
+
+    /// Appends to the output, where there is room for it.
+    pub(crate) fn put(&mut self, bytes: &[u8]) -> bool
+        ensures yes { result ≡ true → self.new ≡ with_event (Put bytes.now) self.old }
+        ensures no { result ≡ false → self.new ≡ self.old }
+        ensures room { IsTrue result ↔ ((length self.old.events + 1 ≤ self.old.room)
+            × (length (out_of self.old) + length bytes.now ≤ self.old.room)) }
+    {
+        if self.entries.len() >= self.room || bytes.len() > self.room - self.out.len() {
+            return false;
+        }
+        add_bytes(&mut self.out, bytes);
+        add_entry(&mut self.entries, Entry::Append { len: bytes.len() });
+        true
+    }
+
+    /// Writes over the file, where there is room for it.
+    pub(crate) fn write(&mut self, at: u64, bytes: &[u8]) -> bool
+        requires { at ≤ length (file_of self.old) }
+        ensures yes { result ≡ true → self.new ≡ with_event (Wrote at bytes.now) self.old }
+        ensures no { result ≡ false → self.new ≡ self.old }
+        ensures room { IsTrue result ↔ ((length self.old.events + 1 ≤ self.old.room)
+            × (at + length bytes.now ≤ self.old.room)
+            × (length (all_written self.old.events) + length bytes.now ≤ self.old.room)) }
+    {
+        let place = at as usize;
+        if self.entries.len() >= self.room
+            || bytes.len() > self.room - self.written.len()
+            || place > self.room
+            || bytes.len() > self.room - place
+        {
+            return false;
+        }
+        put_over(&mut self.file, place, bytes);
+        add_bytes(&mut self.written, bytes);
+        add_entry(
+            &mut self.entries,
+            Entry::Write {
+                at,
+                len: bytes.len(),
+            },
+        );
+        true
+    }
+}
