@@ -41,7 +41,7 @@ only_now_since first [] c o left = left
 only_now_since first (e ∷ es) c o (inl now) = now
 only_now_since first (e ∷ es) c o (inr before) = absurd (omega (arith, before.0))
 
-length-torn_of : (fill : ℕ) (first : List ℕ) (es : List Event) → is_valid first es ≡ true → length (torn_of fill first es) ≡ length (file_after first es)
+pub length-torn_of : (fill : ℕ) (first : List ℕ) (es : List Event) → is_valid first es ≡ true → length (torn_of fill first es) ≡ length (file_after first es)
 length-torn_of fill first [] valid = refl
 length-torn_of fill first (Wrote at bytes ∷ es) valid =
     let le : at ≤ length (file_after first es) = grind (arith, nat_tests) in

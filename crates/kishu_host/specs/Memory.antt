@@ -32,3 +32,8 @@ is_refused fail stop n = list_any (λ y. y == n) fail || reaches stop n
 -- one more, up to the last value
 abbrev pub next : ℕ → ℕ
 next n = min (n + 1) (2 ^ 64 - 1)
+
+-- a number that may not be told, as a number
+abbrev pub number_told : Option ℕ → ℕ
+number_told None = 2 ^ 64 - 1
+number_told (Some n) = n

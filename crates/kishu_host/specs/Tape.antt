@@ -3,6 +3,7 @@ use Rattle.std.specs.Prelude.{◌≡◌, ◌+◌, ◌≤◌, ℕ, List, [], ◌�
 use Rattle.kishu_host.specs.declared.tape.Entry.{Entry}
 use Rattle.kishu_host.specs.declared.tape.Entry.TheVariants.{Write, Sync, Append}
 use Rattle.kishu_host.specs.Story.{Event, Wrote, Synced, Put, file_after, out_after, all_written}
+use Rattle.kishu_host.specs.Crash.{Range, range}
 
 abbrev pub history : List Entry → List ℕ → List ℕ → List Event → List Event
 history [] written out earlier = earlier
@@ -39,3 +40,17 @@ pub record HasRoom (room a ca b cb c cc d cd : ℕ) : Type 0 where
   pub written_cap : room ≤ cc
   pub entries : d ≤ room
   pub entries_cap : room ≤ cd
+
+-- the ranges written since the last sync, newest first, of entries in their order
+abbrev pub unsynced : List Entry → List Range → List Range
+unsynced [] earlier = earlier
+unsynced (Write at len ∷ es) earlier = unsynced es (range at len ∷ earlier)
+unsynced (Sync ∷ es) earlier = unsynced es []
+unsynced (Append len ∷ es) earlier = unsynced es earlier
+
+-- the ranges of all writes, newest first
+abbrev pub ranges_of : List Entry → List Range → List Range
+ranges_of [] earlier = earlier
+ranges_of (Write at len ∷ es) earlier = ranges_of es (range at len ∷ earlier)
+ranges_of (Sync ∷ es) earlier = ranges_of es earlier
+ranges_of (Append len ∷ es) earlier = ranges_of es earlier

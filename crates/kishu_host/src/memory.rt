@@ -4,8 +4,9 @@ ghost use Rattle.kishu_host.specs.Host.{Rises, Only};
 ghost use Rattle.kishu_host.specs.Story.{is_valid};
 ghost use Rattle.kishu_host.specs.Memory.{is_refused, next};
 
+use crate::count::{raise, refuses};
 use crate::tape::Tape;
-use crate::{Failed, Host, Source};
+use crate::{Failed, Host};
 use std::alloc::{AllocError, Global};
 
 #[derive(Drop)]
@@ -20,26 +21,12 @@ pub struct MemHost {
     ghost valid: { IsTrue (is_valid tape.first tape.events) },
 }
 
-pub(crate) fn raise(count: &mut u64)
-    ensures value { count.new ≡ next count.old }
-    ensures no_fall { count.old ≤ count.new }
-    ensures rises { Rises count.old count.new }
-{
-    *count = count.saturating_add(1);
-}
-
-fn refuses(fail: &[u64], stop: Option<u64>, call: u64) -> bool
-    ensures { result ≡ is_refused fail.now stop call }
-{
-    fail.contains(&call)
-        || match stop {
-            Some(stop) => stop <= call,
-            None => false,
-        }
-}
-
 impl MemHost {
-    ghost use Rattle.kishu_host.specs.Fails.{calls_of, fail_of, stop_of, story_of};
+    ghost use Rattle.std.specs.Prelude.{List, ℕ};
+    ghost use Rattle.kishu_host.specs.Memory.{number_told};
+    ghost use Rattle.kishu_host.specs.Story.{torn_of};
+    ghost use Rattle.kishu_host.specs.Crash.{MayHold};
+    ghost use Rattle.kishu_host.specs.Calls.{memory_of, fresh, synced_of, written_since};
 
     /// A host whose file holds these bytes, all of them on the disk. It takes its memory at once.
     pub fn new(
@@ -57,8 +44,7 @@ impl MemHost {
         ensures disk_faults { IfOk result (λ m. (⟦<MemHost as Host>⟧.state m).disk_faults ≡ 0) }
         ensures out_faults { IfOk result (λ m. (⟦<MemHost as Host>⟧.state m).out_faults ≡ 0) }
         ensures tells { IfOk result (λ m. (⟦<MemHost as Host>⟧.state m).tells ≡ true) }
-        ensures calls { IfOk result (λ m. (calls_of m ≡ 0) × (fail_of m ≡ fail.items) × (stop_of m ≡ stop)) }
-        ensures room { IfOk result (λ m. story_of m ≡ record { first = file.items; events = []; room = room }) }
+        ensures memory { IfOk result (λ m. memory_of m ≡ fresh file.items room fail.items stop) }
     {
         let tape = Tape::new(alloc, &file, room as usize)?;
         Ok(MemHost {
@@ -86,24 +72,64 @@ impl MemHost {
         refuses(&self.fail, self.stop, self.calls)
     }
 
+    /// The file as reads give it.
     pub fn file(&self) -> &[u8]
         ensures { result.now ≡ (⟦<MemHost as Host>⟧.state self.now).file }
     {
         self.tape.file()
     }
 
+    /// The bytes put out.
     pub fn out(&self) -> &[u8]
         ensures { result.now ≡ (⟦<MemHost as Host>⟧.state self.now).out }
     {
         self.tape.out()
     }
+
+    /// The number of bytes that reads gave, or 2^64-1 where that isn't told any more.
+    pub fn bytes_read(&self) -> u64
+        ensures { result ≡ number_told (⟦<MemHost as Host>⟧.state self.now).reads }
+    {
+        self.reads
+    }
+
+    /// How many calls on the file failed, up to 2^64-1.
+    pub fn failed_disk(&self) -> u64
+        ensures { result ≡ (⟦<MemHost as Host>⟧.state self.now).disk_faults }
+    {
+        self.disk_faults
+    }
+
+    /// How many puts failed, up to 2^64-1.
+    pub fn failed_out(&self) -> u64
+        ensures { result ≡ (⟦<MemHost as Host>⟧.state self.now).out_faults }
+    {
+        self.out_faults
+    }
+
+    /// The file in which each range that was written since the last sync holds `fill`: one that a stop now may leave.
+    ///
+    /// It fails with `AllocError` for want of memory alone.
+    pub fn torn_file(&self, fill: u8) -> Result<Vec<u8>, AllocError>
+        ensures torn { IfOk result (λ v. v.items ≡ torn_of fill (memory_of self.now).story.first (memory_of self.now).story.events) }
+        ensures left { IfOk result (λ v. (⟦<MemHost as Host>⟧.state self.now).may_leave v.items) }
+    {
+        self.tape.torn(fill)
+    }
+
+    /// A law, with no work to do: each file that a stop now may leave keeps to the crash model.
+    pub fn keeps_crash_model(&self)
+        ensures { (c : List ℕ) → (⟦<MemHost as Host>⟧.state self.now).may_leave c → MayHold (synced_of (memory_of self.now)) (written_since (memory_of self.now)) c }
+    {
+    }
 }
 
 impl Host for MemHost {
-    ghost use Rattle.std.specs.Prelude.{◌≡◌, ◌≤◌, ◌+◌, ◌-◌, ◌++◌, ◌↔◌, ◌⊎◌, ℕ, List, length, take, drop, min, true, is_err, IfOk, OnOk, OnErr, IsErr};
+    ghost use Rattle.std.specs.Prelude.{◌≡◌, ◌≤◌, ◌+◌, ◌-◌, ◌++◌, ◌↔◌, ◌⊎◌, ℕ, List, length, take, drop, min, true, is_err, IfOk, OnOk, OnErr, IsOk, IsErr};
     ghost use Rattle.kishu_host.specs.Host.{Told, Only, overwrite, Torn, Follows, IsPrefix, DuringPut, Keeps, Elapses, Now, ReadsMore, HasCause};
     ghost use Rattle.kishu_host.specs.Memory.{next};
-    ghost use Rattle.kishu_host.specs.Fails.{is_due, calls_of, fail_of, stop_of, HasPlace, CanWrite, CanPut};
+    ghost use Rattle.kishu_host.specs.Story.{Wrote, Synced, Put};
+    ghost use Rattle.kishu_host.specs.Calls.{memory_of, is_due, IsFaultless, HasPlace, CanWrite, CanPut, looked, read, did, disk_failed, out_failed};
     ghost use Rattle.kishu_host.specs.Memory.{state_of};
     ghost use Rattle.kishu_host.specs.Laws.{valid-reads_now, now_is_since, only_now_since};
 
@@ -122,9 +148,10 @@ impl Host for MemHost {
         ensures reads { ReadsMore (⟦<MemHost as Host>⟧.state self.old).reads (⟦<MemHost as Host>⟧.state self.new).reads 0 }
         ensures disk { HasCause (⟦<MemHost as Host>⟧.state self.old).disk_faults (⟦<MemHost as Host>⟧.state self.new).disk_faults result }
         ensures out { (⟦<MemHost as Host>⟧.state self.old).out_faults ≤ (⟦<MemHost as Host>⟧.state self.new).out_faults }
-        // It fails exactly where it is to fail, or there is no room.
-        ensures exact { is_err result ≡ is_due self.old }
-        ensures call { (calls_of self.new ≡ next (calls_of self.old)) × (fail_of self.new ≡ fail_of self.old) × (stop_of self.new ≡ stop_of self.old) }
+        ensures fails { is_err result ≡ is_due (memory_of self.old) }
+        ensures after_ok { OnOk result (memory_of self.new ≡ looked (memory_of self.old)) }
+        ensures after_err { OnErr result (memory_of self.new ≡ disk_failed (memory_of self.old)) }
+        ensures sure { IsFaultless (memory_of self.old) → IsOk result }
     {
         if self.is_due() {
             raise(&mut self.disk_faults);
@@ -143,9 +170,11 @@ impl Host for MemHost {
         ensures reads_err { OnErr result (ReadsMore (⟦<MemHost as Host>⟧.state self.old).reads (⟦<MemHost as Host>⟧.state self.new).reads 0) }
         ensures disk { HasCause (⟦<MemHost as Host>⟧.state self.old).disk_faults (⟦<MemHost as Host>⟧.state self.new).disk_faults result }
         ensures out { (⟦<MemHost as Host>⟧.state self.old).out_faults ≤ (⟦<MemHost as Host>⟧.state self.new).out_faults }
-        // It fails exactly where it is to fail, or there is no room.
-        ensures exact { is_err result ≡ is_due self.old }
-        ensures call { (calls_of self.new ≡ next (calls_of self.old)) × (fail_of self.new ≡ fail_of self.old) × (stop_of self.new ≡ stop_of self.old) }
+        ensures fails { is_err result ≡ is_due (memory_of self.old) }
+        ensures after_ok { IfOk result (λ n. memory_of self.new ≡ read n (memory_of self.old)) }
+        ensures after_err { OnErr result (memory_of self.new ≡ disk_failed (memory_of self.old)) }
+        ensures sure { IsFaultless (memory_of self.old) → IsOk result }
+        ensures into_err { OnErr result (into.new ≡ into.old) }
     {
         if self.is_due() {
             raise(&mut self.disk_faults);
@@ -174,9 +203,10 @@ impl Host for MemHost {
         ensures reads { ReadsMore (⟦<MemHost as Host>⟧.state self.old).reads (⟦<MemHost as Host>⟧.state self.new).reads 0 }
         ensures disk { HasCause (⟦<MemHost as Host>⟧.state self.old).disk_faults (⟦<MemHost as Host>⟧.state self.new).disk_faults result }
         ensures out { (⟦<MemHost as Host>⟧.state self.old).out_faults ≤ (⟦<MemHost as Host>⟧.state self.new).out_faults }
-        // It fails exactly where it is to fail, or there is no room.
-        ensures exact { IsErr result ↔ ((is_due self.old ≡ true) ⊎ (CanWrite self.old at bytes.now → ⊥)) }
-        ensures call { (calls_of self.new ≡ next (calls_of self.old)) × (fail_of self.new ≡ fail_of self.old) × (stop_of self.new ≡ stop_of self.old) }
+        ensures fails { IsErr result ↔ ((is_due (memory_of self.old) ≡ true) ⊎ (CanWrite (memory_of self.old) at bytes.now → ⊥)) }
+        ensures after_ok { OnOk result (memory_of self.new ≡ did (Wrote at bytes.now) (memory_of self.old)) }
+        ensures after_err { OnErr result (memory_of self.new ≡ disk_failed (memory_of self.old)) }
+        ensures sure { IsFaultless (memory_of self.old) → CanWrite (memory_of self.old) at bytes.now → IsOk result }
     {
         if self.is_due() || !self.tape.write(at, bytes) {
             raise(&mut self.disk_faults);
@@ -192,9 +222,10 @@ impl Host for MemHost {
         ensures reads { ReadsMore (⟦<MemHost as Host>⟧.state self.old).reads (⟦<MemHost as Host>⟧.state self.new).reads 0 }
         ensures disk { HasCause (⟦<MemHost as Host>⟧.state self.old).disk_faults (⟦<MemHost as Host>⟧.state self.new).disk_faults result }
         ensures out { (⟦<MemHost as Host>⟧.state self.old).out_faults ≤ (⟦<MemHost as Host>⟧.state self.new).out_faults }
-        // It fails exactly where it is to fail, or there is no room.
-        ensures exact { IsErr result ↔ ((is_due self.old ≡ true) ⊎ (HasPlace self.old → ⊥)) }
-        ensures call { (calls_of self.new ≡ next (calls_of self.old)) × (fail_of self.new ≡ fail_of self.old) × (stop_of self.new ≡ stop_of self.old) }
+        ensures fails { IsErr result ↔ ((is_due (memory_of self.old) ≡ true) ⊎ (HasPlace (memory_of self.old) → ⊥)) }
+        ensures after_ok { OnOk result (memory_of self.new ≡ did Synced (memory_of self.old)) }
+        ensures after_err { OnErr result (memory_of self.new ≡ disk_failed (memory_of self.old)) }
+        ensures sure { IsFaultless (memory_of self.old) → HasPlace (memory_of self.old) → IsOk result }
     {
         if self.is_due() || !self.tape.sync() {
             raise(&mut self.disk_faults);
@@ -212,58 +243,15 @@ impl Host for MemHost {
         ensures reads { ReadsMore (⟦<MemHost as Host>⟧.state self.old).reads (⟦<MemHost as Host>⟧.state self.new).reads 0 }
         ensures disk { (⟦<MemHost as Host>⟧.state self.old).disk_faults ≤ (⟦<MemHost as Host>⟧.state self.new).disk_faults }
         ensures out { HasCause (⟦<MemHost as Host>⟧.state self.old).out_faults (⟦<MemHost as Host>⟧.state self.new).out_faults result }
-        // It fails exactly where it is to fail, or there is no room.
-        ensures exact { IsErr result ↔ ((is_due self.old ≡ true) ⊎ (CanPut self.old bytes.now → ⊥)) }
-        ensures call { (calls_of self.new ≡ next (calls_of self.old)) × (fail_of self.new ≡ fail_of self.old) × (stop_of self.new ≡ stop_of self.old) }
+        ensures fails { IsErr result ↔ ((is_due (memory_of self.old) ≡ true) ⊎ (CanPut (memory_of self.old) bytes.now → ⊥)) }
+        ensures after_ok { OnOk result (memory_of self.new ≡ did (Put bytes.now) (memory_of self.old)) }
+        ensures after_err { OnErr result (memory_of self.new ≡ out_failed (memory_of self.old)) }
+        ensures sure { IsFaultless (memory_of self.old) → CanPut (memory_of self.old) bytes.now → IsOk result }
     {
         if self.is_due() || !self.tape.put(bytes) {
             raise(&mut self.out_faults);
             return Err(Failed);
         }
         Ok(())
-    }
-}
-
-/// An input in memory.
-#[derive(Drop)]
-pub struct MemSource {
-    bytes: Vec<u8>,
-    taken: usize,
-    fail: Vec<u64>,
-    calls: u64,
-    in_faults: u64,
-    ghost within: { taken ≤ vec_len bytes },
-}
-
-impl MemSource {
-    pub fn new(bytes: Vec<u8>, fail: Vec<u64>) -> MemSource
-        ensures { ⟦<MemSource as Source>⟧.source result ≡ record { tells = true; left = bytes.items; in_faults = 0 } }
-    {
-        MemSource {
-            bytes,
-            taken: 0,
-            fail,
-            calls: 0,
-            in_faults: 0,
-        }
-    }
-}
-
-impl Source for MemSource {
-    ghost use Rattle.std.specs.Prelude.{drop};
-
-    ghost source = { λ s. record { tells = true; left = drop s.taken s.bytes.items; in_faults = s.in_faults } };
-
-    fn take(&mut self, into: &mut [u8]) -> Result<usize, Failed> {
-        raise(&mut self.calls);
-        if self.fail.contains(&self.calls) {
-            raise(&mut self.in_faults);
-            return Err(Failed);
-        }
-        let n = into.len().min(self.bytes.len() - self.taken);
-        let from = self.taken;
-        into[..n].copy_from_slice(&self.bytes[from..from + n]);
-        self.taken += n;
-        Ok(n)
     }
 }

@@ -1,7 +1,9 @@
 // What a host in memory has done, in buffers of fixed size.
-ghost use Rattle.std.specs.Prelude.{◌≡◌, ◌≤◌, ◌+◌, ◌-◌, ◌++◌, ◌∷◌, [], length, take, drop, vec_len, vec_capacity, max, true, false, IfOk, ◌↔◌, IsTrue};
+ghost use Rattle.std.specs.Prelude.{◌≡◌, ◌≤◌, ◌+◌, ◌-◌, ◌++◌, ◌∷◌, [], length, take, drop, vec_len, vec_capacity, max, true, false, IfOk, ◌↔◌, IsTrue, replicate};
 ghost use Rattle.kishu_host.specs.Host.{overwrite};
 ghost use Rattle.kishu_host.specs.Story.{file_of, out_of, with_event, Wrote, Synced, Put};
+ghost use Rattle.kishu_host.specs.Crash.{IsFilled, all_within};
+ghost use Rattle.kishu_host.specs.Tape.{unsynced, ranges_of};
 
 use std::alloc::{AllocError, Global};
 use std::marker::Model;
@@ -77,8 +79,40 @@ fn put_over(to: &mut Vec<u8>, at: usize, bytes: &[u8])
     }
 }
 
+/// The entries after the last sync.
+fn since_sync(entries: &[Entry]) -> &[Entry]
+    ensures { ranges_of result.now [] ≡ unsynced entries.now [] }
+{
+    let mut start = 0;
+    for (i, entry) in entries.iter().enumerate() {
+        if let Entry::Sync = entry {
+            start = i + 1;
+        }
+    }
+    &entries[start..]
+}
+
+fn fill_range(file: &mut Vec<u8>, at: usize, len: usize, fill: u8)
+    requires { at + len ≤ vec_len file.old }
+    ensures { file.new.items ≡ overwrite at (replicate len fill) file.old.items }
+{
+    file[at..at + len].fill(fill);
+}
+
+/// Fills the ranges of these writes.
+fn fill_writes(file: &mut Vec<u8>, entries: &[Entry], fill: u8)
+    requires { all_within (length file.old.items) (ranges_of entries.now []) ≡ true }
+    ensures { IsFilled fill (ranges_of entries.now []) file.old.items file.new.items }
+{
+    for entry in entries {
+        if let Entry::Write { at, len } = *entry {
+            fill_range(file, at as usize, len, fill);
+        }
+    }
+}
+
 impl Tape {
-    ghost use Rattle.kishu_host.specs.Story.{file_of, out_of, with_event, all_written, Wrote, Synced, Put};
+    ghost use Rattle.kishu_host.specs.Story.{file_of, out_of, with_event, all_written, is_valid, torn_of, Wrote, Synced, Put};
 
     /// A tape of nothing done to a file with these bytes.
     pub(crate) fn new(alloc: Global, file: &[u8], room: usize) -> Result<Tape, AllocError>
@@ -169,5 +203,15 @@ impl Tape {
             },
         );
         true
+    }
+
+    /// The file in which each range written since the last sync holds this byte.
+    pub(crate) fn torn(&self, fill: u8) -> Result<Vec<u8>, AllocError>
+        requires { is_valid self.now.first self.now.events ≡ true }
+        ensures { IfOk result (λ v. v.items ≡ torn_of fill self.now.first self.now.events) }
+    {
+        let mut torn = self.file.clone()?;
+        fill_writes(&mut torn, since_sync(&self.entries), fill);
+        Ok(torn)
     }
 }

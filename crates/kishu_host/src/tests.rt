@@ -1,5 +1,5 @@
 // A host that tells no content, as one over a real file.
-use crate::memory::raise;
+use crate::count::raise;
 use crate::{Failed, Host};
 
 #[derive(Drop)]
