@@ -13,24 +13,24 @@ use Rattle.kishu_host.specs.Crash.{Range, range, is_written, ranges_since, IsFil
 use Rattle.kishu_host.specs.Tape.{history, write_total, unsynced, ranges_of, IsTape}
 
 -- one place of a file after a write
-overwrite-before : (at : ℕ) (bytes f : List ℕ) (i : ℕ) → at ≤ length f → i < at → slice_index (overwrite at bytes f) i ≡ slice_index f i
+pub overwrite-before : (at : ℕ) (bytes f : List ℕ) (i : ℕ) → at ≤ length f → i < at → slice_index (overwrite at bytes f) i ≡ slice_index f i
 overwrite-before at bytes f i le lt =
     get_or_append_left (take at f ++ bytes) (drop (at + length bytes) f) 0 i (omega (arith, length-append (take at f) bytes, length-take-le at f le))
     ∙ get_or_append_left (take at f) bytes 0 i (omega (arith, length-take-le at f le))
     ∙ get_or-take at f i 0 lt
 
-overwrite-inside : (at : ℕ) (bytes f : List ℕ) (i : ℕ) → at ≤ length f → at ≤ i → i < at + length bytes → slice_index (overwrite at bytes f) i ≡ slice_index bytes (i - at)
+pub overwrite-inside : (at : ℕ) (bytes f : List ℕ) (i : ℕ) → at ≤ length f → at ≤ i → i < at + length bytes → slice_index (overwrite at bytes f) i ≡ slice_index bytes (i - at)
 overwrite-inside at bytes f i le ge lt =
     get_or_append_left (take at f ++ bytes) (drop (at + length bytes) f) 0 i (omega (arith, length-append (take at f) bytes, length-take-le at f le))
     ∙ get_or-append_right (take at f) bytes at i 0 (length-take-le at f le) ge
 
-overwrite-after : (at : ℕ) (bytes f : List ℕ) (i : ℕ) → at ≤ length f → at + length bytes ≤ i → slice_index (overwrite at bytes f) i ≡ slice_index f i
+pub overwrite-after : (at : ℕ) (bytes f : List ℕ) (i : ℕ) → at ≤ length f → at + length bytes ≤ i → slice_index (overwrite at bytes f) i ≡ slice_index f i
 overwrite-after at bytes f i le ge =
     get_or-append_right (take at f ++ bytes) (drop (at + length bytes) f) (at + length bytes) i 0 (omega (arith, length-append (take at f) bytes, length-take-le at f le)) ge
     ∙ get_or-drop (at + length bytes) f (i - (at + length bytes)) 0
     ∙ ap (λ k. get_or f k 0) (omega (arith, ge))
 
-overwrite-outside : (at : ℕ) (bytes f : List ℕ) (i : ℕ) → at ≤ length f → (nat_le at i && nat_lt i (at + length bytes)) ≡ false → slice_index (overwrite at bytes f) i ≡ slice_index f i
+pub overwrite-outside : (at : ℕ) (bytes f : List ℕ) (i : ℕ) → at ≤ length f → (nat_le at i && nat_lt i (at + length bytes)) ≡ false → slice_index (overwrite at bytes f) i ≡ slice_index f i
 overwrite-outside at bytes f i le out =
     let cases : (i < at) ⊎ (at + length bytes ≤ i) = grind (arith, nat_tests) in
     ⊎_elim (λ lt. overwrite-before at bytes f i le lt) (λ ge. overwrite-after at bytes f i le ge) cases

@@ -117,9 +117,10 @@ impl MemHost {
         self.tape.torn(fill)
     }
 
-    /// A law, with no work to do: each file that a stop now may leave keeps to the crash model.
+    /// A law, with no work to do: the files that a stop now may leave are those of the crash model.
     pub fn keeps_crash_model(&self)
-        ensures { (c : List ℕ) → (⟦<MemHost as Host>⟧.state self.now).may_leave c → MayHold (synced_of (memory_of self.now)) (written_since (memory_of self.now)) c }
+        ensures none_else { (c : List ℕ) → (⟦<MemHost as Host>⟧.state self.now).may_leave c → MayHold (synced_of (memory_of self.now)) (written_since (memory_of self.now)) c }
+        ensures each { (c : List ℕ) → MayHold (synced_of (memory_of self.now)) (written_since (memory_of self.now)) c → (⟦<MemHost as Host>⟧.state self.now).may_leave c }
     {
     }
 }
