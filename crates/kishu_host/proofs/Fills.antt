@@ -1,14 +1,14 @@
 -- The file whose unsynced ranges hold one byte.
-use Rattle.std.proofs.Common.{◌≡◌, ◌≤◌, ◌<◌, ◌⊎◌, ℕ, ◌+◌, ◌-◌, Bool, true, false, ◌&&◌, ◌||◌, nat_le, nat_lt, min, max, List, [], ◌∷◌, ◌++◌, length, take, drop, get_or, slice_index, replicate, refl, inl, inr, ⊎_elim, sym, ◌∙◌, ap, subst, arith, length-append, length-take, length-drop}
+use Rattle.std.proofs.Common.{◌≡◌, ◌≤◌, ◌<◌, ◌⊎◌, ℕ, ◌+◌, ◌-◌, Bool, true, false, ◌&&◌, ◌||◌, nat_le, nat_lt, List, [], ◌∷◌, ◌++◌, length, take, drop, get_or, slice_index, replicate, refl, inl, inr, ⊎_elim, sym, ◌∙◌, ap, subst, arith, length-append, length-take, length-drop}
 use Rattle.std.proofs.lemmas.List.{get_or-take, get_or-drop, get_or-replicate, get_or_append_left, get_or-append_right, length-take-le, length-replicate, take_more, take-append-drop, drop-append-le, drop_all}
 use Rattle.std.proofs.lemmas.Bool.Decides.{nat_tests}
-use Rattle.std.proofs.lemmas.Bool.{cases_lt, or_parts}
-use Rattle.std.proofs.lemmas.Grind.{same_number_lists, common_steps}
+use Rattle.std.proofs.lemmas.Bool.{or_parts}
+use Rattle.std.proofs.lemmas.Grind.{same_number_lists}
 use Rattle.kishu_host.specs.declared.tape.Entry.{Entry}
 use Rattle.kishu_host.specs.declared.tape.Entry.TheVariants.{Write, Sync, Append}
 use Rattle.kishu_host.specs.Host.{overwrite}
 use Rattle.kishu_host.specs.Story.{Event, Wrote, Synced, Put, file_after, is_valid, torn_of}
-use Rattle.kishu_host.specs.Laws.{length-overwrite, length-torn_of}
+use Rattle.kishu_host.specs.Laws.{length-overwrite}
 use Rattle.kishu_host.specs.Crash.{Range, range, is_written, ranges_since, IsFilled, all_within}
 use Rattle.kishu_host.specs.Tape.{history, write_total, unsynced, ranges_of, IsTape}
 
@@ -76,7 +76,7 @@ pub filled-one : (fill : ℕ) (rs : List Range) (file s t : List ℕ) → IsFill
 filled-one fill rs file s t f g =
     same_number_lists s t (f.len ∙ sym g.len)
     (λ k lt. let low : k < length file = omega (arith, lt, f.len) in
-        ⊎_elim (λ is. f.inside k low is ∙ sym (g.inside k low is)) (λ is. f.outside k low is ∙ sym (g.outside k low is)) (bool_cases (is_written k rs)))
+    ⊎_elim (λ is. f.inside k low is ∙ sym (g.inside k low is)) (λ is. f.outside k low is ∙ sym (g.outside k low is)) (bool_cases (is_written k rs)))
 
 module _ (fill : ℕ) (first : List ℕ) where
   -- the torn file is the one that reads give, filled
@@ -217,5 +217,5 @@ module _ (first file out written : List ℕ) (entries : List Entry) (t : IsTape 
   tape-torn fill x f =
       filled-one fill (ranges_since (history entries written out [])) (file_after first (history entries written out [])) x (torn_of fill first (history entries written out []))
       (subst (λ (g : List ℕ). IsFilled fill (ranges_since (history entries written out [])) g x) t.file_is
-        (subst (λ (rs : List Range). IsFilled fill rs file x) (sym same-ranges) f))
+      (subst (λ (rs : List Range). IsFilled fill rs file x) (sym same-ranges) f))
       (torn_of-filled fill first (history entries written out []) valid)

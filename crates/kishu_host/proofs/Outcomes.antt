@@ -1,14 +1,14 @@
 -- That a host in memory may leave all that the crash model allows.
-use Rattle.std.proofs.Common.{◌≡◌, ◌≤◌, ◌<◌, ◌⊎◌, ℕ, ◌+◌, ◌-◌, Bool, true, false, ◌&&◌, ◌||◌, nat_le, nat_lt, min, max, List, [], ◌∷◌, ◌++◌, length, take, drop, get_or, slice_index, refl, inl, inr, ⊎_elim, sym, ◌∙◌, ap, subst, arith, length-append, length-take, length-drop}
-use Rattle.std.proofs.lemmas.List.{get_or-take, get_or-drop, get_or_append_left, get_or-append_right, length-take-le, take-take}
+use Rattle.std.proofs.Common.{◌≡◌, ◌≤◌, ◌<◌, ℕ, ◌+◌, ◌-◌, true, false, ◌&&◌, nat_le, nat_lt, min, List, [], ◌∷◌, ◌++◌, length, take, drop, get_or, slice_index, refl, ⊎_elim, sym, ◌∙◌, ap, arith, length-append, length-take, length-drop}
+use Rattle.std.proofs.lemmas.List.{get_or-take, get_or-drop, get_or_append_left}
 use Rattle.std.proofs.lemmas.Bool.Decides.{nat_tests}
-use Rattle.std.proofs.lemmas.Bool.{cases_lt, or_from, or_parts}
+use Rattle.std.proofs.lemmas.Bool.{cases_lt, or_from}
 use Rattle.std.proofs.lemmas.Grind.{same_number_lists}
 use Rattle.kishu_host.specs.Host.{Torn, overwrite}
 use Rattle.kishu_host.specs.Story.{Event, Wrote, Synced, Put, file_after, is_valid, MayLeave}
-use Rattle.kishu_host.specs.Laws.{length-overwrite, torn-overwrite}
+use Rattle.kishu_host.specs.Laws.{length-overwrite}
 use Rattle.kishu_host.specs.Crash.{Range, range, is_written, greatest_length, MayHold, synced_file, ranges_since}
-use Rattle.kishu_host.proofs.Fills.{overwrite-inside, overwrite-outside, overwrite-after}
+use Rattle.kishu_host.proofs.Fills.{overwrite-inside, overwrite-outside}
 
 greatest-is-length : (first : List ℕ) (es : List Event) → is_valid first es ≡ true → greatest_length (length (synced_file first es)) (ranges_since es) ≡ length (file_after first es)
 greatest-is-length first [] valid = refl
@@ -79,18 +79,18 @@ module _ (synced : List ℕ) (rs : List Range) (at n g : ℕ) (c : List ℕ) (he
     before-kept : (i : ℕ) → i < length synced → is_written i rs ≡ false → slice_index before i ≡ slice_index synced i
     before-kept i low out =
         ⊎_elim (λ here.
-            let out-here : (nat_le at i && nat_lt i (at + length piece)) ≡ false = grind (arith, nat_tests) in
-            let out-range : (nat_le at i && nat_lt i (at + n)) ≡ false = grind (arith, nat_tests) in
-            before-outside i out-here ∙ cut-at i (omega (arith, low, longer))
-            ∙ held.kept i low (or_from (nat_le at i && nat_lt i (at + n)) (is_written i rs) out-range out))
+        let out-here : (nat_le at i && nat_lt i (at + length piece)) ≡ false = grind (arith, nat_tests) in
+        let out-range : (nat_le at i && nat_lt i (at + n)) ≡ false = grind (arith, nat_tests) in
+        before-outside i out-here ∙ cut-at i (omega (arith, low, longer))
+        ∙ held.kept i low (or_from (nat_le at i && nat_lt i (at + n)) (is_written i rs) out-range out))
         (λ ge. ⊎_elim (λ lt. before-inside i ge lt ∙ piece-at i ge lt low)
-            (λ past.
-                let out-here : (nat_le at i && nat_lt i (at + length piece)) ≡ false = grind (arith, nat_tests) in
-                let far : at + n ≤ i = omega (arith, past, length-piece, low, length-cut, held.no_shorter, longer) in
-                let out-range : (nat_le at i && nat_lt i (at + n)) ≡ false = grind (arith, nat_tests) in
-                before-outside i out-here ∙ cut-at i (omega (arith, low, longer))
-                ∙ held.kept i low (or_from (nat_le at i && nat_lt i (at + n)) (is_written i rs) out-range out))
-            (cases_lt i (at + length piece)))
+        (λ past.
+        let out-here : (nat_le at i && nat_lt i (at + length piece)) ≡ false = grind (arith, nat_tests) in
+        let far : at + n ≤ i = omega (arith, past, length-piece, low, length-cut, held.no_shorter, longer) in
+        let out-range : (nat_le at i && nat_lt i (at + n)) ≡ false = grind (arith, nat_tests) in
+        before-outside i out-here ∙ cut-at i (omega (arith, low, longer))
+        ∙ held.kept i low (or_from (nat_le at i && nat_lt i (at + n)) (is_written i rs) out-range out))
+        (cases_lt i (at + length piece)))
         (cases_lt i at)
 
     before-held : MayHold synced rs before
@@ -104,16 +104,16 @@ module _ (synced : List ℕ) (rs : List Range) (at n g : ℕ) (c : List ℕ) (he
     before-torn = record {
       before = same_number_lists (take at c) (take at before) (omega (arith, length-take at c, length-take at before, length-before, length-cut, inside))
           (λ k lt.
-            let low : k < at = omega (arith, lt, length-take at c) in
-            let out-here : (nat_le at k && nat_lt k (at + length piece)) ≡ false = grind (arith, nat_tests) in
-            get_or-take at c k 0 low ∙ sym (get_or-take at before k 0 low ∙ before-outside k out-here ∙ cut-at k (omega (arith, low, le))));
+          let low : k < at = omega (arith, lt, length-take at c) in
+          let out-here : (nat_le at k && nat_lt k (at + length piece)) ≡ false = grind (arith, nat_tests) in
+          get_or-take at c k 0 low ∙ sym (get_or-take at before k 0 low ∙ before-outside k out-here ∙ cut-at k (omega (arith, low, le))));
       after = same_number_lists (drop (at + n) c) (drop (at + n) before)
           (omega (arith, length-drop (at + n) c, length-drop (at + n) before, length-before, length-cut, held.no_longer, greatest))
           (λ k lt.
-            let some : (at + n) + k < length c = omega (arith, lt, length-drop (at + n) c) in
-            let low : (at + n) + k < g = omega (arith, some, held.no_longer, greatest) in
-            let out-here : (nat_le at ((at + n) + k) && nat_lt ((at + n) + k) (at + length piece)) ≡ false = grind (arith, nat_tests, length-piece) in
-            get_or-drop (at + n) c k 0 ∙ sym (get_or-drop (at + n) before k 0 ∙ before-outside ((at + n) + k) out-here ∙ cut-at ((at + n) + k) low));
+          let some : (at + n) + k < length c = omega (arith, lt, length-drop (at + n) c) in
+          let low : (at + n) + k < g = omega (arith, some, held.no_longer, greatest) in
+          let out-here : (nat_le at ((at + n) + k) && nat_lt ((at + n) + k) (at + length piece)) ≡ false = grind (arith, nat_tests, length-piece) in
+          get_or-drop (at + n) c k 0 ∙ sym (get_or-drop (at + n) before k 0 ∙ before-outside ((at + n) + k) out-here ∙ cut-at ((at + n) + k) low));
       no_shorter = omega (arith, length-before, length-cut);
       no_longer = omega (arith, length-before, length-cut, held.no_longer, greatest);
     }

@@ -1,5 +1,5 @@
 -- A sync as a call of a host.
-use Rattle.std.proofs.Common.{◌≡◌, inl, inr, ⊎_elim, ℕ, List, length, true, refl, sym, ◌∙◌, ap, subst, arith}
+use Rattle.std.proofs.Common.{◌≡◌, inl, inr, ⊎_elim, ℕ, List, true, refl, sym, subst, arith}
 use Rattle.kishu_host.specs.Host.{Keeps, Elapses, Now}
 use Rattle.kishu_host.specs.Story.{Story, Synced, with_event, MayLeave, is_valid}
 use Rattle.kishu_host.specs.Memory.{state_of}

@@ -1,4 +1,8 @@
 -- What each call of a host in memory does, exactly.
+--
+-- `Memory`: all that there is to know of the host. `fresh`: of a new one.
+-- `is_due`: the next call fails by its number. `HasPlace`, `CanWrite`, `CanPut`: there is room for it. `IsFaultless`: none fails by its number.
+-- `looked`, `read`, `did`: after a call that succeeded. `disk_failed`, `out_failed`: after one that failed.
 use Rattle.std.specs.Prelude.{◌≡◌, ◌+◌, ◌-◌, ◌^◌, ◌≤◌, ℕ, Bool, [], List, length, min, Option, None}
 use Rattle.kishu_host.specs.declared.memory.MemHost.{MemHost}
 use Rattle.kishu_host.specs.Story.{Story, Event, out_of, all_written, with_event}
@@ -33,7 +37,7 @@ pub record IsFaultless (m : Memory) : Type 0 where
   pub fail : m.fail ≡ []
   pub stop : m.stop ≡ None
 
--- There is room in the record for one event more, and for the bytes of a write or a put.
+-- There is room in the record for one event more, and for the bytes of a write and of a put.
 abbrev pub HasPlace : Memory → Type 0
 HasPlace m = length m.story.events + 1 ≤ m.story.room
 

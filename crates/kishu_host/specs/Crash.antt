@@ -1,7 +1,10 @@
--- What a stop may leave of a file on a disk.
+-- The crash model: what a stop may leave of a file.
 --
 -- Between two syncs each range that was written, and all past the end that the file had at the last sync, may hold any bytes.
 -- Every other byte stays. The length lies between the length at the last sync and the greatest length since.
+--
+-- `MayHold`: this, of a file at the last sync and the ranges written since. `synced_file`, `ranges_since`: these two, of a story.
+-- `IsFilled`: the file in which all these ranges hold one byte.
 use Rattle.std.specs.Prelude.{◌≡◌, ◌≤◌, ◌<◌, ℕ, ◌+◌, Bool, true, false, ◌||◌, ◌&&◌, nat_le, nat_lt, max, List, [], ◌∷◌, length, slice_index}
 use Rattle.kishu_host.specs.Story.{Event, Wrote, Synced, Put, file_after}
 
@@ -23,7 +26,7 @@ abbrev pub greatest_length : ℕ → List Range → ℕ
 greatest_length synced [] = synced
 greatest_length synced (r ∷ rs) = max (greatest_length synced rs) (r.from + r.count)
 
--- The crash model: what a stop may leave of a file that held `synced` at the last sync, and where `ranges` were written since.
+-- What a stop may leave of a file that held `synced` at the last sync, and in which `ranges` were written since.
 pub record MayHold (synced : List ℕ) (ranges : List Range) (left : List ℕ) : Type 0 where
   pub kept : (i : ℕ) → i < length synced → is_written i ranges ≡ false → slice_index left i ≡ slice_index synced i
   pub no_shorter : length synced ≤ length left

@@ -1,14 +1,15 @@
--- That the host's own account of stops keeps to the crash model.
-use Rattle.std.specs.Prelude.{◌≡◌, ◌≤◌, ◌<◌, ◌⊎◌, ℕ, ◌+◌, ◌-◌, Bool, true, false, ◌&&◌, ◌||◌, nat_le, nat_lt, min, max, List, [], ◌∷◌, ◌++◌, length, take, drop, get_or, slice_index, replicate, refl}
-use Rattle.std.proofs.Common.{inl, inr, ⊎_elim, sym, ◌∙◌, ap, subst, arith, length-append, length-take, length-drop}
-use Rattle.std.proofs.lemmas.List.{get_or-take, get_or-drop, get_or-replicate, get_or_append_left, get_or-append_right, length-take-le, length-replicate}
+-- That what hosts say of stops keeps to the crash model.
+--
+-- `may_hold-synced`, `may_hold-write`: what the trait's clauses on a sync and on a write allow, the crash model allows.
+-- `may_leave-may_hold`: so it is with all that a host in memory may leave.
+use Rattle.std.specs.Prelude.{◌≡◌, ◌≤◌, ◌<◌, ◌⊎◌, ℕ, ◌+◌, ◌-◌, false, ◌&&◌, nat_le, nat_lt, List, [], ◌∷◌, length, get_or, slice_index, refl}
+use Rattle.std.proofs.Common.{⊎_elim, sym, ◌∙◌, ap, subst, arith}
+use Rattle.std.proofs.lemmas.List.{get_or-take, get_or-drop}
 use Rattle.std.proofs.lemmas.Bool.Decides.{nat_tests}
-use Rattle.std.proofs.lemmas.Bool.{cases_lt, or_parts}
-use Rattle.std.proofs.lemmas.Grind.{same_number_lists}
-use Rattle.kishu_host.specs.Host.{Torn, overwrite}
-use Rattle.kishu_host.specs.Story.{Event, Wrote, Synced, Put, file_after, is_valid, MayLeave, torn_of}
-use Rattle.kishu_host.specs.Laws.{length-overwrite, length-torn_of}
-use Rattle.kishu_host.specs.Crash.{Range, range, is_written, greatest_length, MayHold, synced_file, ranges_since, IsFilled, all_within}
+use Rattle.std.proofs.lemmas.Bool.{or_parts}
+use Rattle.kishu_host.specs.Host.{Torn}
+use Rattle.kishu_host.specs.Story.{Event, Wrote, Synced, Put, file_after, MayLeave}
+use Rattle.kishu_host.specs.Crash.{Range, range, is_written, MayHold, synced_file, ranges_since}
 
 -- a place outside a range is before it or after it
 outside_cases : (i at n : ℕ) → (nat_le at i && nat_lt i (at + n)) ≡ false → (i < at) ⊎ (at + n ≤ i)
@@ -18,8 +19,8 @@ torn-kept : (at n : ℕ) (d c : List ℕ) → Torn at n d c → (i : ℕ) → (n
 torn-kept at n d c torn i out =
     ⊎_elim (λ lt. sym (get_or-take at c i 0 lt) ∙ ap (λ (l : List ℕ). get_or l i 0) torn.before ∙ get_or-take at d i 0 lt)
     (λ le. let e : (at + n) + (i - (at + n)) ≡ i = omega (arith, le) in
-        sym (ap (λ k. get_or c k 0) e) ∙ sym (get_or-drop (at + n) c (i - (at + n)) 0) ∙ ap (λ (l : List ℕ). get_or l (i - (at + n)) 0) torn.after
-        ∙ get_or-drop (at + n) d (i - (at + n)) 0 ∙ ap (λ k. get_or d k 0) e)
+    sym (ap (λ k. get_or c k 0) e) ∙ sym (get_or-drop (at + n) c (i - (at + n)) 0) ∙ ap (λ (l : List ℕ). get_or l (i - (at + n)) 0) torn.after
+    ∙ get_or-drop (at + n) d (i - (at + n)) 0 ∙ ap (λ k. get_or d k 0) e)
     (outside_cases i at n out)
 
 -- One write more: what the host's clause on a write allows, the crash model allows.

@@ -1,5 +1,8 @@
--- How a run of calls goes on.
-use Rattle.std.proofs.Common.{◌≡◌, inl, inr, ⊎_elim, ℕ, List, ◌≤◌, refl, ◌∙◌, arith}
+-- How what holds of each call holds of a run of calls.
+--
+-- `weaker`: the first call. `goes_on`: a call more.
+-- `now_has`, `now_each`: what each stop since the beginning leaves holds of the pair as it reads now, and of each pair that a stop now may leave.
+use Rattle.std.proofs.Common.{inl, inr, ⊎_elim, ℕ, List, ◌≤◌, ◌∙◌, arith}
 use Rattle.kishu_host.specs.Host.{State, Now, Elapses}
 
 -- a call more

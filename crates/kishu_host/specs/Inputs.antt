@@ -1,9 +1,11 @@
--- What each call of an input in memory does, exactly.
-use Rattle.std.specs.Prelude.{◌≡◌, ℕ, Bool, List, drop, None}
+-- What each call of a source in memory does, exactly.
+--
+-- `Input`: all that there is to know of the source. `is_due`: the next call fails by its number. `took`, `failed`: after a call.
+use Rattle.std.specs.Prelude.{ℕ, Bool, List, drop, None}
 use Rattle.kishu_host.specs.declared.input.MemSource.{MemSource}
 use Rattle.kishu_host.specs.Memory.{is_refused, next}
 
--- all that there is to know of an input in memory
+-- all that there is to know of a source in memory
 pub record Input : Type 0 where
   pub left : List ℕ
   -- the numbers of the calls that fail

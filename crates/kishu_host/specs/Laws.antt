@@ -1,12 +1,14 @@
--- What holds of each story.
-use Rattle.std.specs.Prelude.{◌≡◌, ◌≤◌, ◌<◌, ◌⊎◌, ℕ, suc, ◌+◌, ◌-◌, Bool, true, false, ◌&&◌, nat_le, min, max, List, [], ◌∷◌, ◌++◌, length, take, drop, refl}
-use Rattle.std.proofs.Common.{inl, inr, sym, ◌∙◌, ap, subst, arith, length-append, length-take, length-drop}
-use Rattle.std.proofs.lemmas.List.{take-append-le, take_at, drop_at, drop-drop, take-take, append-nil, length-take-le, take_all, append_assoc}
+-- What holds of each story, by induction on its events.
+--
+-- `valid-reads_now`, `now_is_since`, `only_now_since`: the laws of the trait `Host`. `torn_of-may_leave`: a stop may leave the torn file.
+use Rattle.std.specs.Prelude.{◌≡◌, ◌≤◌, ℕ, ◌+◌, true, max, List, [], ◌∷◌, ◌++◌, length, take, drop, refl}
+use Rattle.std.proofs.Common.{inl, inr, ◌∙◌, ap, subst, arith, length-append, length-take, length-drop}
+use Rattle.std.proofs.lemmas.List.{take_at, drop_at, length-take-le, append_assoc}
 use Rattle.std.proofs.lemmas.Bool.Decides.{nat_tests}
 use Rattle.std.specs.Prelude.{replicate}
 use Rattle.std.proofs.lemmas.List.{length-replicate}
 use Rattle.kishu_host.specs.Host.{Torn, overwrite}
-use Rattle.kishu_host.specs.Story.{Event, Wrote, Synced, Put, file_after, out_after, is_valid, MayLeave, LeftSince, Inside, torn_of}
+use Rattle.kishu_host.specs.Story.{Event, Wrote, Synced, Put, file_after, out_after, is_valid, MayLeave, LeftSince, torn_of}
 
 pub length-overwrite : (at : ℕ) (bytes f : List ℕ) → at ≤ length f → length (overwrite at bytes f) ≡ max (length f) (at + length bytes)
 length-overwrite at bytes f le =

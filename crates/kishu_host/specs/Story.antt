@@ -1,4 +1,8 @@
--- What has been done to a file and an output, and what a stop leaves of it. Lists of events have the newest first.
+-- What was done to a file and an output in memory, and what a stop leaves of it. Lists of events have the newest first.
+--
+-- `Event`, `Story`: what happened. `file_after`, `out_after`: the file and the output after it. `is_valid`: no write began past the end.
+-- `MayLeave`, `LeftSince`: what a stop may leave, now and since a moment, event by event. `Crash` says the same in direct words.
+-- `torn_of`: one file that it may leave, told by a byte.
 use Rattle.std.specs.Prelude.{replicate, ◌≡◌, ◌≤◌, ◌⊎◌, ℕ, Bool, true, ◌&&◌, nat_le, List, [], ◌∷◌, ◌++◌, length}
 use Rattle.kishu_host.specs.Host.{overwrite, Torn, IsPrefix}
 
@@ -7,12 +11,14 @@ pub data Event : Type 0 where
   Synced : Event
   Put : List ℕ → Event
 
+-- the file after all events
 abbrev pub file_after : List ℕ → List Event → List ℕ
 file_after first [] = first
 file_after first (Wrote at bytes ∷ es) = overwrite at bytes (file_after first es)
 file_after first (Synced ∷ es) = file_after first es
 file_after first (Put bytes ∷ es) = file_after first es
 
+-- the bytes put out
 abbrev pub out_after : List Event → List ℕ
 out_after [] = []
 out_after (Wrote at bytes ∷ es) = out_after es

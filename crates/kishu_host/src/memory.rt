@@ -1,4 +1,4 @@
-// A host in memory, which keeps what it first held and a record of what was done.
+// A host in memory. Its clauses on the trait's calls are the trait's own, and then what it does exactly.
 ghost use Rattle.std.specs.Prelude.{◌≡◌, ◌≤◌, ◌+◌, ◌-◌, ◌^◌, ◌↔◌, ◌⊎◌, min, length, vec_len, true, [], Some, OnOk, IfOk, IsErr, IsTrue};
 ghost use Rattle.kishu_host.specs.Host.{Rises, Only};
 ghost use Rattle.kishu_host.specs.Story.{is_valid};
@@ -9,6 +9,12 @@ use crate::tape::Tape;
 use crate::{Failed, Host};
 use std::alloc::{AllocError, Global};
 
+/// A store file and an output in memory: for tests, and for whoever wants to see what a stop at any moment would leave.
+///
+/// It keeps what the file first held and a record of its writes, syncs and puts. Its calls are numbered from 1, and a call past
+/// number 2^64-1 has that number. A call fails exactly where its number stands in the list that it was made with, or is at least
+/// the stop that it was made with; a write, a sync or a put also where there is no room for it. A call that fails changes neither
+/// file, output nor record, and raises the count of its kind by one, up to 2^64-1.
 #[derive(Drop)]
 pub struct MemHost {
     tape: Tape,
@@ -28,7 +34,14 @@ impl MemHost {
     ghost use Rattle.kishu_host.specs.Crash.{MayHold};
     ghost use Rattle.kishu_host.specs.Calls.{memory_of, fresh, synced_of, written_since};
 
-    /// A host whose file holds these bytes, all of them on the disk. It takes its memory at once.
+    /// A host whose file holds these bytes, so that a stop leaves them, and which has put out and read nothing.
+    ///
+    /// - `room`: so many bytes there are for the file, which must fit; as many for the file's first content, for the output, and for
+    ///   the bytes of all writes; and as many places in the record.
+    /// - `fail`: the numbers of the calls that fail.
+    /// - `stop`: the number from which on every call fails.
+    ///
+    /// It takes all this memory at once, and fails with `AllocError` for want of it alone.
     pub fn new(
         alloc: Global,
         file: Vec<u8>,
@@ -58,6 +71,7 @@ impl MemHost {
         })
     }
 
+    /// Counts a call, and answers whether it is to fail by its number.
     fn is_due(&mut self) -> bool
         ensures tape { self.new.tape ≡ self.old.tape }
         ensures reads { self.new.reads ≡ self.old.reads }
@@ -93,21 +107,22 @@ impl MemHost {
         self.reads
     }
 
-    /// How many calls on the file failed, up to 2^64-1.
+    /// How many calls of `len`, `read_at`, `write_at` and `sync` failed, up to 2^64-1.
     pub fn failed_disk(&self) -> u64
         ensures { result ≡ (⟦<MemHost as Host>⟧.state self.now).disk_faults }
     {
         self.disk_faults
     }
 
-    /// How many puts failed, up to 2^64-1.
+    /// How many calls of `put` failed, up to 2^64-1.
     pub fn failed_out(&self) -> u64
         ensures { result ≡ (⟦<MemHost as Host>⟧.state self.now).out_faults }
     {
         self.out_faults
     }
 
-    /// The file in which each range that was written since the last sync holds `fill`: one that a stop now may leave.
+    /// The file in which each range that was written since the last sync holds `fill`, and every other byte is as reads give it.
+    /// It is one of those that a stop now may leave.
     ///
     /// It fails with `AllocError` for want of memory alone.
     pub fn torn_file(&self, fill: u8) -> Result<Vec<u8>, AllocError>
@@ -117,12 +132,12 @@ impl MemHost {
         self.tape.torn(fill)
     }
 
-    /// A law, with no work to do: the files that a stop now may leave are those of the crash model.
+    /// A law, with no work to do: the files that a stop now may leave are exactly those that the crash model allows, given the file
+    /// at the last sync and the ranges written since.
     pub fn keeps_crash_model(&self)
         ensures none_else { (c : List ℕ) → (⟦<MemHost as Host>⟧.state self.now).may_leave c → MayHold (synced_of (memory_of self.now)) (written_since (memory_of self.now)) c }
         ensures each { (c : List ℕ) → MayHold (synced_of (memory_of self.now)) (written_since (memory_of self.now)) c → (⟦<MemHost as Host>⟧.state self.now).may_leave c }
-    {
-    }
+    {}
 }
 
 impl Host for MemHost {
@@ -142,6 +157,7 @@ impl Host for MemHost {
 
     ghost only_now = { λ m c o _ left. only_now_since m.tape.first m.tape.events c o left };
 
+    /// It fails exactly where its number is due.
     fn len(&mut self) -> Result<u64, Failed>
         ensures length { IfOk result (λ n. Told (⟦<MemHost as Host>⟧.state self.old) (n ≡ length (⟦<MemHost as Host>⟧.state self.old).file)) }
         ensures keeps { Keeps (⟦<MemHost as Host>⟧.state self.old) (⟦<MemHost as Host>⟧.state self.new) }
@@ -161,6 +177,7 @@ impl Host for MemHost {
         Ok(self.tape.file().len() as u64)
     }
 
+    /// It fails exactly where its number is due, and then leaves `into` as it was.
     fn read_at(&mut self, at: u64, into: &mut [u8]) -> Result<usize, Failed>
         ensures count { IfOk result (λ n. n ≤ length into.old) }
         ensures bytes { IfOk result (λ n. Told (⟦<MemHost as Host>⟧.state self.old) ((n ≡ min (length into.old) (length (⟦<MemHost as Host>⟧.state self.old).file - at))
@@ -195,6 +212,7 @@ impl Host for MemHost {
         Ok(n)
     }
 
+    /// It fails exactly where its number is due, or where the file, the bytes of all writes or the record would outgrow the room.
     fn write_at(&mut self, at: u64, bytes: &[u8]) -> Result<(), Failed>
         requires { Told (⟦<MemHost as Host>⟧.state self.old) (at ≤ length (⟦<MemHost as Host>⟧.state self.old).file) }
         ensures written { OnOk result (Told (⟦<MemHost as Host>⟧.state self.old) ((⟦<MemHost as Host>⟧.state self.new).file ≡ overwrite at bytes.now (⟦<MemHost as Host>⟧.state self.old).file)) }
@@ -216,6 +234,7 @@ impl Host for MemHost {
         Ok(())
     }
 
+    /// It fails exactly where its number is due, or the record is full.
     fn sync(&mut self) -> Result<(), Failed>
         ensures durable { OnOk result (Told (⟦<MemHost as Host>⟧.state self.old) (Only (⟦<MemHost as Host>⟧.state self.old).file (⟦<MemHost as Host>⟧.state self.new).may_leave)) }
         ensures keeps { Keeps (⟦<MemHost as Host>⟧.state self.old) (⟦<MemHost as Host>⟧.state self.new) }
@@ -235,6 +254,7 @@ impl Host for MemHost {
         Ok(())
     }
 
+    /// It fails exactly where its number is due, or where the output or the record would outgrow the room.
     fn put(&mut self, bytes: &[u8]) -> Result<(), Failed>
         ensures ok { OnOk result (Told (⟦<MemHost as Host>⟧.state self.old) ((⟦<MemHost as Host>⟧.state self.new).out ≡ (⟦<MemHost as Host>⟧.state self.old).out ++ bytes.now)) }
         ensures err { OnErr result (Told (⟦<MemHost as Host>⟧.state self.old) ((p : List ℕ) × IsPrefix p bytes.now × ((⟦<MemHost as Host>⟧.state self.new).out ≡ (⟦<MemHost as Host>⟧.state self.old).out ++ p))) }

@@ -8,6 +8,7 @@ ghost use Rattle.kishu_host.specs.Tape.{unsynced, ranges_of};
 use std::alloc::{AllocError, Global};
 use std::marker::Model;
 
+/// What happened, without its bytes.
 #[derive(Clone, Copy)]
 enum Entry {
     Write { at: u64, len: usize },
@@ -15,6 +16,9 @@ enum Entry {
     Append { len: usize },
 }
 
+/// What the file first held, and what was done to file and output since.
+///
+/// `written` and `out` hold the bytes of all writes and of all puts, one after another; `entries` says how to part them.
 #[derive(Drop)]
 pub(crate) struct Tape {
     first: Vec<u8>,
@@ -39,6 +43,7 @@ impl Model for Tape {
         × HasRoom t.room (vec_len t.file) (vec_capacity t.file) (vec_len t.out) (vec_capacity t.out) (vec_len t.written) (vec_capacity t.written) (vec_len t.entries) (vec_capacity t.entries) };
 }
 
+/// Appends bytes for which there is room.
 fn add_bytes(to: &mut Vec<u8>, bytes: &[u8])
     requires { vec_len to.old + length bytes.now ≤ vec_capacity to.old }
     ensures items { to.new.items ≡ to.old.items ++ bytes.now }
@@ -51,6 +56,7 @@ fn add_bytes(to: &mut Vec<u8>, bytes: &[u8])
     }
 }
 
+/// Appends an entry for which there is room.
 fn add_entry(to: &mut Vec<Entry>, entry: Entry)
     requires { vec_len to.old + 1 ≤ vec_capacity to.old }
     ensures items { to.new.items ≡ to.old.items ++ entry ∷ [] }
@@ -63,6 +69,7 @@ fn add_entry(to: &mut Vec<Entry>, entry: Entry)
     }
 }
 
+/// Writes bytes over what is there, and past the end.
 fn put_over(to: &mut Vec<u8>, at: usize, bytes: &[u8])
     requires place { at ≤ vec_len to.old }
     requires room { at + length bytes.now ≤ vec_capacity to.old }
@@ -92,6 +99,7 @@ fn since_sync(entries: &[Entry]) -> &[Entry]
     &entries[start..]
 }
 
+/// Fills one range of a file with a byte.
 fn fill_range(file: &mut Vec<u8>, at: usize, len: usize, fill: u8)
     requires { at + len ≤ vec_len file.old }
     ensures { file.new.items ≡ overwrite at (replicate len fill) file.old.items }
@@ -99,7 +107,7 @@ fn fill_range(file: &mut Vec<u8>, at: usize, len: usize, fill: u8)
     file[at..at + len].fill(fill);
 }
 
-/// Fills the ranges of these writes.
+/// Fills the ranges of these writes with a byte.
 fn fill_writes(file: &mut Vec<u8>, entries: &[Entry], fill: u8)
     requires { all_within (length file.old.items) (ranges_of entries.now []) ≡ true }
     ensures { IsFilled fill (ranges_of entries.now []) file.old.items file.new.items }

@@ -250,8 +250,15 @@ impl Host for Silent {
     ghost use Rattle.std.proofs.lemmas.Bool.{false≢true};
 
     ghost state = { λ s. record {
-        tells = false; file = []; out = []; moment = 0; reads = None; disk_faults = s.disk_faults; out_faults = s.out_faults;
-        may_leave = λ _. Unit {0}; left_since = λ _ _ _. Unit {0}
+      tells = false;
+      file = [];
+      out = [];
+      moment = 0;
+      reads = None;
+      disk_faults = s.disk_faults;
+      out_faults = s.out_faults;
+      may_leave = λ _. Unit {0};
+      left_since = λ _ _ _. Unit {0};
     } };
 
     ghost reads_now = { λ s told. tt };

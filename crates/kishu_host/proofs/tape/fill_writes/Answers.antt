@@ -1,6 +1,4 @@
-use Rattle.std.proofs.Common.{◌≡◌, ◌+◌, ◌∙◌, sym, subst, take, [], List, ℕ, length, replicate, arith}
-use Rattle.kishu_host.specs.Host.{overwrite}
-use Rattle.kishu_host.specs.Crash.{Range, IsFilled}
+use Rattle.std.proofs.Common.{take, [], length, arith}
 use Rattle.kishu_host.specs.Tape.{ranges_of}
 use Rattle.kishu_host.proofs.Fills.{write-within, filled-more, ranges_of-write, ranges_of-other}
 use Rattle.kishu_host.proofs.tape.fill_writes.Goals.{in-Write, in_default}
@@ -15,9 +13,9 @@ loop-entry-preserved c =
     let i = c.loop-entry.entry-index in
     let old = c.args.file.now.items in
     elim c.match-entry.branch [
-    | in-Write w ↦ (
-        let within = write-within (length old) es i w.in-Write.at w.in-Write.len c.requires c.loop-entry-test.true w.in-Write.is in
-        rw (ranges_of-write es i c.loop-entry-test.true w.in-Write.at w.in-Write.len w.in-Write.is, w.file-is, w.fill_range.ensures)
-        (filled-more c.args.fill (ranges_of (take i es) []) w.in-Write.at w.in-Write.len old c.loop-entry.file.items c.loop-entry.invariant within))
-    | in_default w ↦ rw (ranges_of-other es i c.loop-entry-test.true w.in_default.not-Write, w.file-is) c.loop-entry.invariant
+      | in-Write w ↦ (
+          let within = write-within (length old) es i w.in-Write.at w.in-Write.len c.requires c.loop-entry-test.true w.in-Write.is in
+          rw (ranges_of-write es i c.loop-entry-test.true w.in-Write.at w.in-Write.len w.in-Write.is, w.file-is, w.fill_range.ensures)
+          (filled-more c.args.fill (ranges_of (take i es) []) w.in-Write.at w.in-Write.len old c.loop-entry.file.items c.loop-entry.invariant within))
+      | in_default w ↦ rw (ranges_of-other es i c.loop-entry-test.true w.in_default.not-Write, w.file-is) c.loop-entry.invariant
     ]

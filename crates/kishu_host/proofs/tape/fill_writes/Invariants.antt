@@ -1,4 +1,4 @@
-use Rattle.std.proofs.Common.{◌≡◌, [], take, length, true}
+use Rattle.std.proofs.Common.{[], take}
 use Rattle.kishu_host.specs.Crash.{IsFilled}
 use Rattle.kishu_host.specs.Tape.{ranges_of}
 use Rattle.kishu_host.proofs.tape.fill_writes.Given as goal

@@ -1,4 +1,4 @@
-use Rattle.std.proofs.Common.{◌≡◌, List, ℕ, Result, Ok, Err, IfOk, sym, subst}
+use Rattle.std.proofs.Common.{Result, Ok, Err, IfOk, sym, subst}
 use Rattle.kishu_host.specs.Story.{MayLeave}
 use Rattle.kishu_host.specs.Laws.{torn_of-may_leave}
 use Rattle.kishu_host.proofs.memory.MemHost.torn_file.Goals as goal

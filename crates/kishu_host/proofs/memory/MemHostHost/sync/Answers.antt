@@ -1,4 +1,4 @@
-use Rattle.std.proofs.Common.{◌≡◌, sym, ◌∙◌, ap, subst}
+use Rattle.std.proofs.Common.{sym, ◌∙◌, ap, subst}
 use Rattle.kishu_host.specs.Host.{Keeps, Elapses, Now}
 use Rattle.kishu_host.specs.Story.{Story, Synced, with_event}
 use Rattle.kishu_host.specs.Memory.{state_of}

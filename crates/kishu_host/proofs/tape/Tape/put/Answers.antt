@@ -1,4 +1,4 @@
-use Rattle.std.proofs.Common.{rules, [], List, ℕ, ◌≡◌, ◌∷◌, ◌++◌, length, ◌∙◌, ap, arith}
+use Rattle.std.proofs.Common.{[], List, ◌≡◌, ◌∷◌, ◌∙◌, ap, arith}
 use Rattle.kishu_host.specs.Story.{Event, Story, Put, with_event}
 use Rattle.kishu_host.specs.Tape.{history}
 use Rattle.kishu_host.proofs.History.{tape-put, history-put}

@@ -1,9 +1,9 @@
-use Rattle.std.proofs.Common.{rules, ◌≡◌, ◌∙◌, List, ℕ, [], true, length, sym, ap, subst}
+use Rattle.std.proofs.Common.{◌≡◌, ◌∙◌, List, ℕ, [], true, sym, ap, subst}
 use Rattle.std.specs.List.{each_same}
 use Rattle.kishu_host.specs.declared.tape.Entry.{Entry}
 use Rattle.kishu_host.specs.Story.{Story, is_valid, torn_of}
-use Rattle.kishu_host.specs.Crash.{Range, IsFilled, all_within}
-use Rattle.kishu_host.specs.Tape.{unsynced, ranges_of}
+use Rattle.kishu_host.specs.Crash.{Range, IsFilled}
+use Rattle.kishu_host.specs.Tape.{unsynced}
 use Rattle.kishu_host.proofs.Fills.{tape-within, tape-torn}
 use Rattle.kishu_host.proofs.tape.Tape.torn.Goals as goal
 

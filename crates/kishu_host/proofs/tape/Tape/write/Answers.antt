@@ -1,5 +1,5 @@
-use Rattle.std.proofs.Common.{rules, [], List, ℕ, ◌≡◌, ◌≤◌, ◌+◌, ◌∷◌, ◌++◌, length, sym, ◌∙◌, ap, arith}
-use Rattle.kishu_host.specs.Story.{Event, Story, Wrote, with_event, all_written}
+use Rattle.std.proofs.Common.{[], List, ◌≡◌, ◌∷◌, ◌∙◌, ap, arith}
+use Rattle.kishu_host.specs.Story.{Event, Story, Wrote, with_event}
 use Rattle.kishu_host.specs.Tape.{history}
 use Rattle.kishu_host.proofs.History.{tape-write, history-write}
 use Rattle.kishu_host.proofs.tape.Tape.write.Goals as goal
