@@ -10,7 +10,8 @@ use Rattle.kishu_host.specs.Laws.{length-overwrite}
 use Rattle.kishu_host.specs.Crash.{Range, range, is_written, greatest_length, MayHold, synced_file, ranges_since}
 use Rattle.kishu_host.proofs.Fills.{overwrite-inside, overwrite-outside}
 
-greatest-is-length : (first : List ℕ) (es : List Event) → is_valid first es ≡ true → greatest_length (length (synced_file first es)) (ranges_since es) ≡ length (file_after first es)
+-- The file never shrinks between syncs.
+pub greatest-is-length : (first : List ℕ) (es : List Event) → is_valid first es ≡ true → greatest_length (length (synced_file first es)) (ranges_since es) ≡ length (file_after first es)
 greatest-is-length first [] valid = refl
 greatest-is-length first (Wrote at bytes ∷ es) valid =
     let le : at ≤ length (file_after first es) = grind (arith, nat_tests) in

@@ -37,16 +37,10 @@ pub record IsTape (first file out written : List ℕ) (entries : List Entry) : T
   pub writes : write_total entries ≡ length written
   pub puts : put_total entries ≡ length out
 
--- Each buffer holds at most `room` items, and has memory for so many.
-pub record HasRoom (room a ca b cb c cc d cd : ℕ) : Type 0 where
-  pub file : a ≤ room
-  pub file_cap : room ≤ ca
-  pub out : b ≤ room
-  pub out_cap : room ≤ cb
-  pub written : c ≤ room
-  pub written_cap : room ≤ cc
-  pub entries : d ≤ room
-  pub entries_cap : room ≤ cd
+-- A buffer holds at most `room` items, and has memory for so many.
+pub record HasRoom (room len capacity : ℕ) : Type 0 where
+  pub used : len ≤ room
+  pub memory : room ≤ capacity
 
 -- the ranges written since the last sync, newest first, of entries in their order
 abbrev pub unsynced : List Entry → List Range → List Range

@@ -1,5 +1,5 @@
 // The store file and the output, as the layers above see them.
-ghost use Rattle.std.specs.Prelude.{◌≡◌, ◌≤◌, ◌+◌, ◌-◌, ◌++◌, ◌∷◌, [], ◌^◌, ◌⊎◌, ℕ, List, length, take, drop, min, true, IfOk, IfErr, OnOk, OnErr};
+ghost use Rattle.std.specs.Prelude.{◌≡◌, ◌≤◌, ◌-◌, ◌++◌, ◌∷◌, [], ℕ, List, length, take, drop, min, IfOk, OnOk, OnErr};
 ghost use Rattle.kishu_host.specs.Host.{State, Told, overwrite, Torn, Follows, Only, HasCause, ReadsMore, Elapses, Now, IsPrefix, DuringPut, Keeps};
 ghost use Rattle.kishu_host.specs.Crash.{Range, range, MayHold};
 

@@ -1,6 +1,6 @@
 // A host in memory. Its clauses on the trait's calls are the trait's own, and then what it does exactly.
-ghost use Rattle.std.specs.Prelude.{◌≡◌, ◌≤◌, ◌+◌, ◌-◌, ◌^◌, ◌↔◌, ◌⊎◌, min, length, vec_len, true, [], Some, OnOk, IfOk, IsErr, IsTrue};
-ghost use Rattle.kishu_host.specs.Host.{Rises, Only};
+ghost use Rattle.std.specs.Prelude.{◌≡◌, ◌≤◌, vec_len, true, [], Some, IfOk, IsTrue};
+ghost use Rattle.kishu_host.specs.Host.{Only};
 ghost use Rattle.kishu_host.specs.Story.{is_valid};
 ghost use Rattle.kishu_host.specs.Memory.{is_refused, next};
 
@@ -28,10 +28,10 @@ pub struct MemHost {
 }
 
 impl MemHost {
-    ghost use Rattle.std.specs.Prelude.{List, ℕ};
+    ghost use Rattle.std.specs.Prelude.{List, ℕ, length};
     ghost use Rattle.kishu_host.specs.Memory.{number_told};
     ghost use Rattle.kishu_host.specs.Story.{torn_of};
-    ghost use Rattle.kishu_host.specs.Crash.{MayHold};
+    ghost use Rattle.kishu_host.specs.Crash.{MayHold, greatest_length};
     ghost use Rattle.kishu_host.specs.Calls.{memory_of, fresh, synced_of, written_since};
 
     /// A host whose file holds these bytes, so that a stop leaves them, and which has put out and read nothing.
@@ -133,20 +133,20 @@ impl MemHost {
     }
 
     /// A law, with no work to do: the files that a stop now may leave are exactly those that the crash model allows, given the file
-    /// at the last sync and the ranges written since.
+    /// at the last sync and the ranges written since. The greatest length since is that of the file as reads give it.
     pub fn keeps_crash_model(&self)
         ensures none_else { (c : List ℕ) → (⟦<MemHost as Host>⟧.state self.now).may_leave c → MayHold (synced_of (memory_of self.now)) (written_since (memory_of self.now)) c }
         ensures each { (c : List ℕ) → MayHold (synced_of (memory_of self.now)) (written_since (memory_of self.now)) c → (⟦<MemHost as Host>⟧.state self.now).may_leave c }
+        ensures longest { greatest_length (length (synced_of (memory_of self.now))) (written_since (memory_of self.now)) ≡ length (⟦<MemHost as Host>⟧.state self.now).file }
     {}
 }
 
 impl Host for MemHost {
-    ghost use Rattle.std.specs.Prelude.{◌≡◌, ◌≤◌, ◌+◌, ◌-◌, ◌++◌, ◌↔◌, ◌⊎◌, ℕ, List, length, take, drop, min, true, is_err, IfOk, OnOk, OnErr, IsOk, IsErr};
+    ghost use Rattle.std.specs.Prelude.{◌≡◌, ◌≤◌, ◌-◌, ◌++◌, ◌↔◌, ◌⊎◌, ℕ, List, length, take, drop, min, true, is_err, IfOk, OnOk, OnErr, IsOk, IsErr};
     ghost use Rattle.kishu_host.specs.Host.{Told, Only, overwrite, Torn, Follows, IsPrefix, DuringPut, Keeps, Elapses, Now, ReadsMore, HasCause};
-    ghost use Rattle.kishu_host.specs.Memory.{next};
     ghost use Rattle.kishu_host.specs.Story.{Wrote, Synced, Put};
-    ghost use Rattle.kishu_host.specs.Calls.{memory_of, is_due, IsFaultless, HasPlace, CanWrite, CanPut, looked, read, did, disk_failed, out_failed};
     ghost use Rattle.kishu_host.specs.Memory.{state_of};
+    ghost use Rattle.kishu_host.specs.Calls.{memory_of, is_due, IsFaultless, HasPlace, CanWrite, CanPut, looked, read, did, disk_failed, out_failed};
     ghost use Rattle.kishu_host.specs.Laws.{valid-reads_now, now_is_since, only_now_since};
 
     ghost state = { λ m. state_of m.tape m.reads m.disk_faults m.out_faults };
@@ -199,15 +199,9 @@ impl Host for MemHost {
             return Err(Failed);
         }
         let file = self.tape.file();
-        let n = if at >= file.len() as u64 {
-            0
-        } else {
-            into.len().min(file.len() - at as usize)
-        };
-        if n > 0 {
-            let from = at as usize;
-            into[..n].copy_from_slice(&file[from..from + n]);
-        }
+        let from = at.min(file.len() as u64) as usize;
+        let n = into.len().min(file.len() - from);
+        into[..n].copy_from_slice(&file[from..from + n]);
         self.reads = self.reads.saturating_add(n as u64);
         Ok(n)
     }

@@ -1,7 +1,6 @@
 // What a host in memory has done, in buffers of fixed size.
-ghost use Rattle.std.specs.Prelude.{◌≡◌, ◌≤◌, ◌+◌, ◌-◌, ◌++◌, ◌∷◌, [], length, take, drop, vec_len, vec_capacity, max, true, false, IfOk, ◌↔◌, IsTrue, replicate};
+ghost use Rattle.std.specs.Prelude.{◌≡◌, ◌≤◌, ◌+◌, ◌++◌, ◌∷◌, [], length, replicate, vec_len, vec_capacity, max, true, false, IfOk, ◌↔◌, IsTrue};
 ghost use Rattle.kishu_host.specs.Host.{overwrite};
-ghost use Rattle.kishu_host.specs.Story.{file_of, out_of, with_event, Wrote, Synced, Put};
 ghost use Rattle.kishu_host.specs.Crash.{IsFilled, all_within};
 ghost use Rattle.kishu_host.specs.Tape.{unsynced, ranges_of};
 
@@ -32,15 +31,17 @@ pub(crate) struct Tape {
 impl Model for Tape {
     ghost use Rattle.std.specs.Prelude.{[], vec_len, vec_capacity};
     ghost use Rattle.kishu_host.specs.Story.{Story};
+    ghost use Rattle.kishu_host.specs.Tape.{history, IsTape, HasRoom};
 
     ghost Value = { Story };
-
-    ghost use Rattle.kishu_host.specs.Tape.{history, IsTape, HasRoom};
 
     ghost view = { λ t. record { first = t.first.items; events = history t.entries.items t.written.items t.out.items []; room = t.room } };
 
     ghost invariant = { λ t. IsTape t.first.items t.file.items t.out.items t.written.items t.entries.items
-        × HasRoom t.room (vec_len t.file) (vec_capacity t.file) (vec_len t.out) (vec_capacity t.out) (vec_len t.written) (vec_capacity t.written) (vec_len t.entries) (vec_capacity t.entries) };
+        × HasRoom t.room (vec_len t.file) (vec_capacity t.file)
+        × HasRoom t.room (vec_len t.out) (vec_capacity t.out)
+        × HasRoom t.room (vec_len t.written) (vec_capacity t.written)
+        × HasRoom t.room (vec_len t.entries) (vec_capacity t.entries) };
 }
 
 /// Appends bytes for which there is room.
@@ -144,12 +145,14 @@ impl Tape {
         })
     }
 
+    /// The file after all that was done.
     pub(crate) fn file(&self) -> &[u8]
         ensures { result.now ≡ file_of self.now }
     {
         &self.file
     }
 
+    /// The bytes of all puts.
     pub(crate) fn out(&self) -> &[u8]
         ensures { result.now ≡ out_of self.now }
     {

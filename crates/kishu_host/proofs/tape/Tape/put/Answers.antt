@@ -7,7 +7,10 @@ use Rattle.kishu_host.proofs.tape.Tape.put.Goals as goal
 pub invariant_of-self : goal.invariant_of-self
 invariant_of-self c = (
   rw (c.add_entry.ensures.items, c.add_bytes.ensures.items) (tape-put _ _ _ _ _ c.self.invariant.0 c.args.bytes.now),
-  let r = c.self.invariant.1 in record { file = r.file; file_cap = r.file_cap; out = omega arith; out_cap = omega arith; written = r.written; written_cap = r.written_cap; entries = omega arith; entries_cap = omega arith },
+  c.self.invariant.1,
+  record { used = omega arith; memory = omega arith },
+  c.self.invariant.3,
+  record { used = omega arith; memory = omega arith },
 )
 
 pub returns-clause-yes : goal.returns-clause-yes

@@ -7,7 +7,10 @@ use Rattle.kishu_host.proofs.tape.Tape.write.Goals as goal
 pub invariant_of-self : goal.invariant_of-self
 invariant_of-self c = (
   rw (c.add_entry.ensures.items, c.add_bytes.ensures.items, c.put_over.ensures.items) (tape-write _ _ _ _ _ c.self.invariant.0 c.args.at c.args.bytes.now),
-  let r = c.self.invariant.1 in record { file = omega arith; file_cap = omega arith; out = r.out; out_cap = r.out_cap; written = omega arith; written_cap = omega arith; entries = omega arith; entries_cap = omega arith },
+  record { used = omega arith; memory = omega arith },
+  c.self.invariant.2,
+  record { used = omega arith; memory = omega arith },
+  record { used = omega arith; memory = omega arith },
 )
 
 pub returns-clause-yes : goal.returns-clause-yes
