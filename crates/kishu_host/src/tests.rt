@@ -218,6 +218,11 @@ fn tears_what_was_written_since_the_last_sync(rt: HostRuntime) -> Result<(), Fai
     Ok(())
 }
 
+/// Takes at most two bytes.
+fn take_two<S: Source>(source: &mut S, into: &mut [u8; 2]) -> Result<usize, Failed> {
+    source.take(into)
+}
+
 #[test]
 fn takes_to_the_end(rt: HostRuntime) -> Result<(), Fail> {
     let bytes = [1, 2, 3, 4, 5].to_vec(rt.alloc())?;
@@ -231,7 +236,7 @@ fn takes_to_the_end(rt: HostRuntime) -> Result<(), Fail> {
         (Ok(1), [5, 4]),
         (Ok(0), [5, 4]),
     ] {
-        assert_eq!(rt; source.take(&mut into), answer);
+        assert_eq!(rt; take_two(&mut source, &mut into), answer);
         assert_eq!(rt; into, holds);
     }
     Ok(())
