@@ -1,0 +1,17 @@
+//! The bytes of a store's records.
+//!
+//! `encode` gives the body of an entry, and `decode` the entry that a body spells, or none where
+//! no entry has that body.
+#![tactic(auto)]
+
+mod cursor;
+mod entry;
+mod reader;
+mod writer;
+
+pub use entry::Entry;
+pub use reader::decode;
+pub use writer::encode;
+
+/// The first byte of a commit's head.
+const COMMIT: u8 = 1;
