@@ -13,7 +13,7 @@ use Rattle.kishu_model.specs.declared.profile.Profile.TheVariants.{One}
 use Rattle.kishu_model.specs.Record.{Entry, commit, profile_number, four, texts_bytes, head_of, body_of, longest_cell, AreCells}
 use Rattle.kishu_model.specs.Plain.{later_line, is_plain_text, longest_plain}
 use Rattle.std.specs.Str.{IsUtf8}
-use Rattle.kishu_record.specs.Entries.{AreShort, AreTexts, KeepsRules}
+use Rattle.kishu_record.specs.Entries.{IsText, AreTexts, KeepsRules, BeginsText, BeginsCommit}
 
 -- the length of a body, and of the head of a commit of one cell
 pub length-body : (e : Entry) → length (body_of e) ≡ 4 + length (head_of e)
@@ -57,14 +57,6 @@ text-cut s t x y hs ht e = let cut = four-cut (length s) (length t) (s ++ x) (t 
 
 -- ---- texts, each behind its length
 
--- the bytes begin with a cell's text behind its length
-pub record BeginsText (bytes : List ℕ) : Type 0 where
-  pub text : List ℕ
-  pub rest : List ℕ
-  pub short : length text ≤ longest_cell
-  pub utf8 : IsUtf8 text
-  pub is : bytes ≡ four (length text) ++ (text ++ rest)
-
 -- one more text behind others
 pub texts-push : (texts : List (List ℕ)) (text rest : List ℕ) → texts_bytes (texts ++ text ∷ []) ++ rest ≡ texts_bytes texts ++ (four (length text) ++ (text ++ rest))
 texts-push [] text rest = ap (λ (z : List ℕ). four (length text) ++ z) (append_assoc text [] rest)
@@ -72,37 +64,36 @@ texts-push (t ∷ ts) text rest =
     ap (λ (z : List ℕ). four (length t) ++ z)
     (append_assoc t (texts_bytes (ts ++ text ∷ [])) rest ∙ ap (λ (z : List ℕ). t ++ z) (texts-push ts text rest) ∙ sym (append_assoc t (texts_bytes ts) (four (length text) ++ (text ++ rest))))
 
-pub AreShort-push : (texts : List (List ℕ)) (text : List ℕ) → AreShort texts → length text ≤ longest_cell → AreShort (texts ++ text ∷ [])
-AreShort-push [] text h short = (short, tt)
-AreShort-push (t ∷ ts) text h short = (h.0, AreShort-push ts text h.1 short)
+pub AreTexts-push : (texts : List (List ℕ)) (text : List ℕ) → AreTexts texts → IsText text → AreTexts (texts ++ text ∷ [])
+AreTexts-push [] text h fits = (fits, tt)
+AreTexts-push (t ∷ ts) text h fits = (h.0, AreTexts-push ts text h.1 fits)
 
 -- the same texts, where as many were read as there are
-pub texts-cut : (ss ts : List (List ℕ)) (x y : List ℕ) → length ss ≡ length ts → AreShort ss → AreShort ts → texts_bytes ss ++ x ≡ texts_bytes ts ++ y → (ss ≡ ts) × (x ≡ y)
+pub texts-cut : (ss ts : List (List ℕ)) (x y : List ℕ) → length ss ≡ length ts → AreTexts ss → AreTexts ts → texts_bytes ss ++ x ≡ texts_bytes ts ++ y → (ss ≡ ts) × (x ≡ y)
 texts-cut [] [] x y l hs ht e = (refl, e)
 texts-cut [] (t ∷ ts) x y l hs ht e = absurd (omega arith)
 texts-cut (s ∷ ss) [] x y l hs ht e = absurd (omega arith)
 texts-cut (s ∷ ss) (t ∷ ts) x y l hs ht e =
     let moved : four (length s) ++ (s ++ (texts_bytes ss ++ x)) ≡ four (length t) ++ (t ++ (texts_bytes ts ++ y)) =
     ap (λ (z : List ℕ). four (length s) ++ z) (sym (append_assoc s (texts_bytes ss) x)) ∙ e ∙ ap (λ (z : List ℕ). four (length t) ++ z) (append_assoc t (texts_bytes ts) y) in
-    let cut = text-cut s t (texts_bytes ss ++ x) (texts_bytes ts ++ y) (omega (arith, hs.0)) (omega (arith, ht.0)) moved in
+    let cut = text-cut s t (texts_bytes ss ++ x) (texts_bytes ts ++ y) (omega (arith, hs.0.short)) (omega (arith, ht.0.short)) moved in
     let rest = texts-cut ss ts x y (omega arith) hs.1 ht.1 cut.1 in
     (cc (cut.0, rest.0), rest.1)
 
 -- a text follows, where fewer were read than there are
-pub texts-follow : (ss ts : List (List ℕ)) (x y : List ℕ) → length ss < length ts → AreShort ss → AreTexts ts → texts_bytes ss ++ x ≡ texts_bytes ts ++ y → BeginsText x
+pub texts-follow : (ss ts : List (List ℕ)) (x y : List ℕ) → length ss < length ts → AreTexts ss → AreTexts ts → texts_bytes ss ++ x ≡ texts_bytes ts ++ y → BeginsText x
 texts-follow ss [] x y l hs ht e = absurd (omega arith)
 texts-follow [] (t ∷ ts) x y l hs ht e = record {
   text = t;
   rest = texts_bytes ts ++ y;
-  short = ht.0;
-  utf8 = ht.1;
+  fits = ht.0;
   is = e ∙ ap (λ (z : List ℕ). four (length t) ++ z) (append_assoc t (texts_bytes ts) y);
 }
 texts-follow (s ∷ ss) (t ∷ ts) x y l hs ht e =
     let moved : four (length s) ++ (s ++ (texts_bytes ss ++ x)) ≡ four (length t) ++ (t ++ (texts_bytes ts ++ y)) =
     ap (λ (z : List ℕ). four (length s) ++ z) (sym (append_assoc s (texts_bytes ss) x)) ∙ e ∙ ap (λ (z : List ℕ). four (length t) ++ z) (append_assoc t (texts_bytes ts) y) in
-    let cut = text-cut s t (texts_bytes ss ++ x) (texts_bytes ts ++ y) (omega (arith, hs.0)) (omega (arith, ht.0)) moved in
-    texts-follow ss ts x y (omega arith) hs.1 ht.2 cut.1
+    let cut = text-cut s t (texts_bytes ss ++ x) (texts_bytes ts ++ y) (omega (arith, hs.0.short)) (omega (arith, ht.0.short)) moved in
+    texts-follow ss ts x y (omega arith) hs.1 ht.1 cut.1
 
 -- ---- cells are texts
 
@@ -124,39 +115,27 @@ utf8_from_plain text plain =
 
 pub texts_from_cells : (cells : List (List ℕ)) → AreCells cells → AreTexts cells
 texts_from_cells [] h = tt
-texts_from_cells (c ∷ cs) h = (h.0.short, utf8_from_plain c h.0.plain, texts_from_cells cs h.1)
-
-pub short_from_texts : (texts : List (List ℕ)) → AreTexts texts → AreShort texts
-short_from_texts [] h = tt
-short_from_texts (t ∷ ts) h = (h.0, short_from_texts ts h.2)
-
--- the bytes begin with what a commit of some cells says before their texts
-pub record BeginsCommit (bytes : List ℕ) : Type 0 where
-  pub parent : ℕ
-  pub profile : Profile
-  pub count : ℕ
-  pub rest : List ℕ
-  pub count_fits : count < 2 ^ 32
-  pub some_cells : 0 < count
-  pub is : bytes ≡ 1 ∷ (four parent ++ (profile_number profile ∷ (four count ++ rest)))
+texts_from_cells (c ∷ cs) h = (record { short = h.0.short; utf8 = utf8_from_plain c h.0.plain }, texts_from_cells cs h.1)
 
 -- ---- two entries with one body are one
 
 one_profile : (p q : Profile) → p ≡ q
 one_profile One One = refl
 
-pub head-cut : (a b : Entry) → KeepsRules a → KeepsRules b → head_of a ≡ head_of b → a ≡ b
+-- a head that a body of at most 2 ^ 30 bytes holds has fewer than 2 ^ 32 texts
+pub head-cut : (a b : Entry) → KeepsRules a → KeepsRules b → length (head_of a) < 2 ^ 32 → head_of a ≡ head_of b → a ≡ b
 unfolding head_of
-head-cut (commit p One ss) (commit q One ts) ha hb e =
+head-cut (commit p One ss) (commit q One ts) ha hb short e =
+    let short_b : length (head_of (commit q One ts)) < 2 ^ 32 = omega (arith, ap length e) in
     let e1 : four p ++ (1 ∷ (four (length ss) ++ (texts_bytes ss ++ (four 0 ++ four 0)))) ≡ four q ++ (1 ∷ (four (length ts) ++ (texts_bytes ts ++ (four 0 ++ four 0)))) = cc in
     let c1 = four-cut p q _ _ ha.0 hb.0 e1 in
     let e2 : four (length ss) ++ (texts_bytes ss ++ (four 0 ++ four 0)) ≡ four (length ts) ++ (texts_bytes ts ++ (four 0 ++ four 0)) = cc (c1.1) in
-    let c2 = four-cut (length ss) (length ts) _ _ ha.2 hb.2 e2 in
-    let c3 = texts-cut ss ts (four 0 ++ four 0) (four 0 ++ four 0) c2.0 ha.3 hb.3 c2.1 in
+    let c2 = four-cut (length ss) (length ts) _ _ (fit_from_head p One ss short).0 (fit_from_head q One ts short_b).0 e2 in
+    let c3 = texts-cut ss ts (four 0 ++ four 0) (four 0 ++ four 0) c2.0 ha.2 hb.2 c2.1 in
     cc (c1.0, c3.0)
 
-pub same_body : (a b : Entry) → KeepsRules a → KeepsRules b → body_of a ≡ body_of b → a ≡ b
+pub same_body : (a b : Entry) → KeepsRules a → KeepsRules b → length (body_of a) < 2 ^ 32 → body_of a ≡ body_of b → a ≡ b
 unfolding body_of
-same_body a b ha hb e =
+same_body a b ha hb short e =
     let tail : head_of a ≡ head_of b = cc in
-    head-cut a b ha hb tail
+    head-cut a b ha hb (omega arith) tail

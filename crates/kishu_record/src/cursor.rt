@@ -1,8 +1,7 @@
 ghost use Rattle.std.specs.Prelude.{◌≡◌, ◌<◌, ◌≤◌, ◌++◌, ◌∷◌, [], List, ℕ, length, map, Ok, None, IfOk, IfSome};
 ghost use Rattle.std.specs.Rc.{rc_str_bytes};
-ghost use Rattle.kishu_model.specs.Record.{four, texts_bytes, longest_cell};
-ghost use Rattle.kishu_record.specs.Entries.{AreShort, AreTexts};
-ghost use Rattle.kishu_record.specs.Laws.{BeginsText};
+ghost use Rattle.kishu_model.specs.Record.{four, texts_bytes};
+ghost use Rattle.kishu_record.specs.Entries.{IsText, AreTexts, BeginsText};
 
 use std::alloc::{AllocError, Global};
 use std::rc::RcStr;
@@ -57,7 +56,7 @@ impl<'a> Cursor<'a> {
     /// The next cell's text, or none where no such text follows.
     pub(crate) fn text(&mut self, alloc: Global) -> Result<Option<RcStr>, AllocError>
         ensures found { IfOk result (λ o. IfSome o (λ t. self.old.rest.now ≡ four (length (rc_str_bytes t)) ++ (rc_str_bytes t ++ self.new.rest.now))) }
-        ensures short { IfOk result (λ o. IfSome o (λ t. length (rc_str_bytes t) ≤ longest_cell)) }
+        ensures fits { IfOk result (λ o. IfSome o (λ t. IsText (rc_str_bytes t))) }
         ensures none { result ≡ Ok None → BeginsText self.old.rest.now → ⊥ }
     {
         let Some(length) = self.number() else {
@@ -83,7 +82,7 @@ impl<'a> Cursor<'a> {
     ) -> Result<Option<Vec<RcStr>>, AllocError>
         ensures found { IfOk result (λ o. IfSome o (λ v. self.old.rest.now ≡ texts_bytes (map rc_str_bytes v.items) ++ self.new.rest.now)) }
         ensures count { IfOk result (λ o. IfSome o (λ v. length v.items ≡ count)) }
-        ensures short { IfOk result (λ o. IfSome o (λ v. AreShort (map rc_str_bytes v.items))) }
+        ensures fit { IfOk result (λ o. IfSome o (λ v. AreTexts (map rc_str_bytes v.items))) }
         ensures none { result ≡ Ok None → (cells : List (List ℕ)) (rest : List ℕ) → length cells ≡ count → AreTexts cells → self.old.rest.now ≡ texts_bytes cells ++ rest → ⊥ }
     {
         let mut texts = Vec::new(alloc);

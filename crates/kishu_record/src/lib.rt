@@ -7,6 +7,8 @@
 mod cursor;
 mod entry;
 mod reader;
+#[cfg(test)]
+mod tests;
 mod writer;
 
 pub use entry::Entry;

@@ -2,8 +2,7 @@ ghost use Rattle.std.specs.Prelude.{◌≡◌, ◌<◌, ◌≤◌, ◌^◌, ◌+
 ghost use Rattle.kishu_model.specs.declared.profile.Profile.{Profile};
 ghost use Rattle.kishu_model.specs.Record as model;
 ghost use Rattle.kishu_model.specs.Record.{commit, profile_number, four, head_of, body_of, AreCells};
-ghost use Rattle.kishu_record.specs.Entries.{entry_of, KeepsRules, IsReadable};
-ghost use Rattle.kishu_record.specs.Laws.{BeginsCommit};
+ghost use Rattle.kishu_record.specs.Entries.{entry_of, KeepsRules, BeginsCommit};
 
 use crate::COMMIT;
 use crate::cursor::Cursor;
@@ -68,7 +67,7 @@ fn is_no_groups(bytes: &[u8]) -> bool
 fn commit_of(alloc: Global, head: &[u8]) -> Result<Option<Entry>, AllocError>
     ensures found { IfOk result (λ o. IfSome o (λ e. head.now ≡ head_of (entry_of e))) }
     ensures rules { IfOk result (λ o. IfSome o (λ e. KeepsRules (entry_of e))) }
-    ensures none { result ≡ Ok None → (e : model.Entry) → IsReadable e → head.now ≡ head_of e → ⊥ }
+    ensures none { result ≡ Ok None → (e : model.Entry) → KeepsRules e → length (head_of e) < 2 ^ 32 → head.now ≡ head_of e → ⊥ }
 {
     let mut cursor = Cursor { rest: head };
     let Some(front) = commit_front(&mut cursor) else {
@@ -89,13 +88,15 @@ fn commit_of(alloc: Global, head: &[u8]) -> Result<Option<Entry>, AllocError>
 
 /// The entry that a record's body spells, or none where no entry has that body.
 ///
-/// A body of more than 2^30 bytes is not handed in. Whatever is found has a cell at least, and no
-/// text of more than 1,048,576 bytes. The error is want of memory.
+/// Its condition is that the body has at most 2^30 bytes. What is found has a cell at least, each of
+/// UTF-8 and of at most 1,048,576 bytes, and an entry of that kind is always found. The error is want
+/// of memory.
 #[tactic(auto, unfolding(kishu_model::specs::Record::body_of))]
 pub fn decode(alloc: Global, body: &[u8]) -> Result<Option<Entry>, AllocError>
     requires { length body.now ≤ 2 ^ 30 }
     ensures found { IfOk result (λ o. IfSome o (λ e. body.now ≡ body_of (entry_of e))) }
     ensures rules { IfOk result (λ o. IfSome o (λ e. KeepsRules (entry_of e))) }
+    ensures exact { result ≡ Ok None → (e : model.Entry) → KeepsRules e → body.now ≡ body_of e → ⊥ }
     ensures none { result ≡ Ok None → (parent : ℕ) (profile : Profile) (cells : List (List ℕ)) → parent < 2 ^ 32 → 0 < length cells → AreCells cells → body.now ≡ body_of (commit parent profile cells) → ⊥ }
 
     // No other entry that keeps the rules has the body.
