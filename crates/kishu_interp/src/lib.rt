@@ -1,0 +1,4 @@
+//! Runs cells of the language.
+#![tactic(auto)]
+
+mod tokens;
