@@ -1,1 +1,4 @@
 pub mod Tokens
+pub mod State
+pub mod Tree
+pub mod Reading

@@ -1,4 +1,10 @@
 //! Runs cells of the language.
 #![tactic(auto)]
 
+mod state;
+mod sums;
 mod tokens;
+mod tree;
+mod words;
+
+pub use state::PlainState;
