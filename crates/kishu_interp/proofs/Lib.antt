@@ -1,3 +1,5 @@
 pub mod Cuts
 pub mod Bound
 pub mod Digits
+pub mod Glue
+pub mod Shapes

@@ -1,6 +1,7 @@
 //! Runs cells of the language.
 #![tactic(auto)]
 
+mod lines;
 mod state;
 mod sums;
 mod tokens;
