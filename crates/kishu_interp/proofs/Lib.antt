@@ -3,3 +3,4 @@ pub mod Bound
 pub mod Digits
 pub mod Glue
 pub mod Shapes
+pub mod Later

@@ -2,3 +2,4 @@ pub mod Tokens
 pub mod State
 pub mod Tree
 pub mod Reading
+pub mod Raised

@@ -1,11 +1,15 @@
 //! Runs cells of the language.
 #![tactic(auto)]
 
+mod form;
 mod lines;
+mod run;
 mod state;
 mod sums;
 mod tokens;
 mod tree;
+mod values;
 mod words;
 
+pub use form::later_form;
 pub use state::PlainState;
