@@ -4,3 +4,4 @@ pub mod Digits
 pub mod Glue
 pub mod Shapes
 pub mod Later
+pub mod Ran

@@ -1,7 +1,7 @@
-ghost use Rattle.std.specs.Prelude.{◌≡◌, ◌≤◌, length, nat_lt, is_some, IfOk};
+ghost use Rattle.std.specs.Prelude.{◌≡◌, ◌≤◌, length, nat_lt, is_some, IfOk, IsNone, IsSome, ◌↔◌};
 ghost use Rattle.std.specs.List.{list_all};
 ghost use Rattle.kishu_model.specs.Lines.{lines_of};
-ghost use Rattle.kishu_model.specs.Plain.{line_of, is_plain_text, first_later, later_line};
+ghost use Rattle.kishu_model.specs.Plain.{line_of, is_plain_text, first_later, later_line, cell_of};
 
 use std::alloc::{AllocError, Global};
 
@@ -62,7 +62,8 @@ fn first_later(alloc: Global, text: &[u8]) -> Result<Option<u32>, AllocError>
 ///
 /// The only error is want of memory.
 pub fn later_form(alloc: Global, text: &[u8]) -> Result<Option<u32>, AllocError>
-    ensures { IfOk result (λ o. o ≡ later_line text.now) }
+    ensures line { IfOk result (λ o. o ≡ later_line text.now) }
+    ensures form { IfOk result (λ o. IsNone o ↔ IsSome (cell_of text.now)) }
 {
     if is_plain_text(text) {
         first_later(alloc, text)

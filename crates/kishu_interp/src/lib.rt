@@ -12,4 +12,5 @@ mod values;
 mod words;
 
 pub use form::later_form;
+pub use run::run_plain;
 pub use state::PlainState;

@@ -3,3 +3,4 @@ pub mod Names
 pub mod Values
 pub mod Plain
 pub mod Meaning
+pub mod PlainLaws
