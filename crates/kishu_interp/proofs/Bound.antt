@@ -1,7 +1,7 @@
 -- A map of texts to whole numbers looks names up and binds them as the definitions say.
-use Rattle.std.proofs.Common.{◌≡◌, ℕ, ℤ, Bool, true, false, cond, List, [], ◌∷◌, Option, Some, None, Ordering, refl, sym, ap, ◌∙◌, rules}
-use Rattle.std.specs.Prelude.{map, String, string_bytes, option_map}
-use Rattle.std.specs.Ordering.{nat_cmp, is_eq, match_ordering}
+use Rattle.std.proofs.Common.{◌≡◌, ℕ, ℤ, Bool, true, false, cond, List, [], ◌∷◌, Option, Some, Ordering, refl, sym, ◌∙◌}
+use Rattle.std.specs.Prelude.{String, string_bytes, option_map}
+use Rattle.std.specs.Ordering.{nat_cmp, match_ordering}
 use Rattle.std.specs.declared.cmp.Ordering.TheVariants.{Less, Equal, Greater}
 use Rattle.std.specs.Cmp.Lexicographic.{slice_cmp}
 use Rattle.std.specs.String.{string_cmp}
@@ -10,7 +10,7 @@ use Rattle.std.specs.Map.{lookup}
 use Rattle.std.specs.Str.{bytes_eq}
 use Rattle.std.proofs.lemmas.Map.Text.{is_eq-slice_cmp}
 use Rattle.std.proofs.lemmas.Slice.Eq.{bytes_eq-Decides}
-use Rattle.kishu_model.specs.Values.{Value, integer, Names, find, bind}
+use Rattle.kishu_model.specs.Values.{Value, integer, find, bind}
 use Rattle.kishu_interp.specs.State.{names_of}
 
 find_step : (v : ℤ) (rest : Option ℤ) (names : Option Value) (b : Bool) → option_map integer rest ≡ names → option_map integer (cond b (Some v) rest) ≡ cond b (Some (integer v)) names

@@ -1,6 +1,6 @@
 -- A sum that is read from the left, item for item, is the sum of all its tokens.
-use Rattle.std.proofs.Common.{◌≡◌, ℕ, Bool, true, false, cond, List, [], ◌∷◌, ◌++◌, Option, Some, None, refl, sym, ap, ◌∙◌, append_assoc, rules}
-use Rattle.std.specs.Prelude.{map, codes, option_map, Result, Ok, Err, IfOk, MatchOption}
+use Rattle.std.proofs.Common.{◌≡◌, ℕ, Bool, true, false, cond, List, [], ◌∷◌, Option, Some, None, refl, sym, ap, ◌∙◌, append_assoc}
+use Rattle.std.specs.Prelude.{codes, option_map, Result, Ok, Err, IfOk, MatchOption}
 use Rattle.std.specs.Str.{bytes_eq}
 use Rattle.std.proofs.lemmas.Slice.Eq.{bytes_eq-Decides}
 use Rattle.kishu_model.specs.Plain.{Product, Sign, plus, minus, Sum, item_of, sum_of, are_same, join, joined}

@@ -1,13 +1,12 @@
 -- A run of lines goes on where a line raised nothing, and ends where one raised.
-use Rattle.std.proofs.Common.{◌≡◌, ℕ, Bool, true, false, List, [], ◌∷◌, ◌++◌, Option, Some, None, refl, sym, ap, ◌∙◌}
+use Rattle.std.proofs.Common.{◌≡◌, ℕ, true, List, [], ◌∷◌, ◌++◌, Option, Some, None, refl, sym, ap, ◌∙◌}
 use Rattle.std.specs.Prelude.{is_some, Result, Ok, Err}
-use Rattle.kishu_model.specs.Lines.{lines_of}
 use Rattle.kishu_model.specs.Plain.{Line, line_of, onto_lines, lines_from}
 use Rattle.kishu_model.specs.Values.{Names, Ran, fault}
 use Rattle.kishu_model.specs.declared.result.Outcome.TheVariants.{Raised}
 use Rattle.kishu_model.specs.Meaning as meaning
 use Rattle.kishu_interp.specs.declared.values.Exception.{Exception}
-use Rattle.kishu_interp.specs.Raised.{exception_of, LineRan, TextRan, run_read, run_texts, ran_to}
+use Rattle.kishu_interp.specs.Raised.{LineRan, TextRan, run_read, run_texts, ran_to}
 
 -- what a line's run leads to
 next : Names → List ℕ → List Line → Result (Names × List ℕ) meaning.Exception → Ran

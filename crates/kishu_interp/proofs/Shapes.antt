@@ -1,13 +1,13 @@
 -- What line a text is, by its first token.
-use Rattle.std.proofs.Common.{◌≡◌, ℕ, Bool, true, false, cond, List, [], ◌∷◌, Option, Some, None, refl, sym, ap, ◌∙◌, rules}
-use Rattle.std.specs.Prelude.{codes, option_map, ◌==◌, ◌&&◌, Result, Ok, Err, IfOk}
+use Rattle.std.proofs.Common.{◌≡◌, ℕ, Bool, true, false, cond, List, [], ◌∷◌, Option, Some, None, refl, sym, ap, ◌∙◌}
+use Rattle.std.specs.Prelude.{codes, option_map, ◌==◌, ◌&&◌}
 use Rattle.std.specs.Str.{bytes_eq}
 use Rattle.std.proofs.lemmas.Slice.Eq.{bytes_eq-Decides}
 use Rattle.std.proofs.lemmas.Option.{cond_some}
 use borrow.Author.Tests.{eqb-true}
 use Rattle.kishu_model.specs.Names.{reserved_words, builtin_names, class_names}
 use Rattle.kishu_model.specs.Plain.{Line, blank, assign, print, Sum, sum_of, is_free_name, line_from, line_of, unless_indented, tokens_of, space}
-use Rattle.kishu_interp.specs.Reading.{after, is_indented, printed_from, printed_sum, bound_from, bound_sum}
+use Rattle.kishu_interp.specs.Reading.{is_indented, printed_from, printed_sum, bound_from, bound_sum}
 
 print_bound : is_free_name (codes "print") ≡ false
 unfolding reserved_words builtin_names class_names

@@ -1,5 +1,5 @@
 -- The trees that the code makes, as the definitions have them.
-use Rattle.std.specs.Prelude.{ℕ, List, map}
+use Rattle.std.specs.Prelude.{map}
 use Rattle.kishu_model.specs.Plain as plain
 use Rattle.kishu_interp.specs.declared.tree.Item.{Item}
 use Rattle.kishu_interp.specs.declared.tree.Item.TheVariants as item

@@ -3,10 +3,9 @@ ghost use Rattle.std.specs.List.{list_all};
 ghost use Rattle.kishu_model.specs.Lines.{lines_of};
 ghost use Rattle.kishu_model.specs.Plain.{line_of, is_plain_text, first_later, later_line, cell_of};
 
-use std::alloc::{AllocError, Global};
-
 use crate::lines::read_line;
 use crate::tokens::cut_line;
+use std::alloc::{AllocError, Global};
 
 // The longest cell of the form, in bytes.
 const LONGEST_CELL: usize = 65_536;

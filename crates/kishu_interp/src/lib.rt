@@ -14,3 +14,6 @@ mod words;
 pub use form::later_form;
 pub use run::run_plain;
 pub use state::PlainState;
+
+#[cfg(test)]
+mod tests;

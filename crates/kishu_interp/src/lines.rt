@@ -5,12 +5,11 @@ ghost use Rattle.kishu_model.specs.Plain.{sum_of, are_same, line_of, tokens_of};
 ghost use Rattle.kishu_interp.specs.Tree.{tree_sum, tree_line};
 ghost use Rattle.kishu_interp.specs.Reading.{is_indented, printed_sum, bound_sum};
 
-use std::alloc::{AllocError, Global};
-
 use crate::sums::read_sum;
 use crate::tokens::next_token;
 use crate::tree::{Line, Sum};
 use crate::words::{after_mark, free_name};
+use std::alloc::{AllocError, Global};
 
 fn is_blank(line: &[u8]) -> bool
     ensures { result ≡ are_same [] (tokens_of line.now) }

@@ -8,16 +8,14 @@ ghost use Rattle.kishu_model.specs.Meaning.{run, printed};
 ghost use Rattle.kishu_interp.specs.Tree.{tree_line};
 ghost use Rattle.kishu_interp.specs.Raised.{LineRan, TextRan, fault_of, run_texts, ran_to};
 
-use std::alloc::{AllocError, Global};
-use std::rc::RcStr;
-
-use kishu_model::{CellResult, Outcome, Output};
-
 use crate::lines::read_line;
 use crate::state::PlainState;
 use crate::tokens::cut_line;
 use crate::tree::Line;
 use crate::values::{Exception, sum_value};
+use kishu_model::{CellResult, Outcome, Output};
+use std::alloc::{AllocError, Global};
+use std::rc::RcStr;
 
 // Runs a line. What it prints is put behind what was printed before.
 fn run_line<'a>(

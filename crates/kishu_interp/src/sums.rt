@@ -4,10 +4,9 @@ ghost use Rattle.kishu_model.specs.Plain.{sum_of, tokens_of};
 ghost use Rattle.kishu_interp.specs.Tree.{tree_item, tree_product, tree_sum};
 ghost use Rattle.kishu_interp.specs.Reading.{sign_read, first_sign, closing, single, only, after_product, after_sum, closed_sum};
 
-use std::alloc::{AllocError, Global};
-
 use crate::tree::{Item, Product, Sign, Sum, Term};
 use crate::words::{after_mark, read_item};
+use std::alloc::{AllocError, Global};
 
 fn read_sign(line: &[u8]) -> Option<(Sign, &[u8])>
     ensures sign { option_map sign_read result ≡ first_sign (tokens_of line.now) }
@@ -84,10 +83,7 @@ fn read_terms<'a>(
 }
 
 /// The sum that a line begins with, and what stands behind it.
-pub(crate) fn read_sum(
-    alloc: Global,
-    line: &[u8],
-) -> Result<Option<(Sum<'_>, &[u8])>, AllocError>
+pub(crate) fn read_sum(alloc: Global, line: &[u8]) -> Result<Option<(Sum<'_>, &[u8])>, AllocError>
     ensures { IfOk result (λ o. (closed : Bool) → MatchOption o
         (sum_of (closing closed) (tokens_of line.now) ≡ None)
         (λ r. sum_of (closing closed) (tokens_of line.now) ≡ closed_sum closed (tree_sum r.0) (tokens_of r.1.now))) }

@@ -50,10 +50,7 @@ fn applied<'a>(sign: Sign, left: i128, right: i128) -> Result<i128, Exception<'a
     }
 }
 
-fn product_value<'a>(
-    state: &PlainState,
-    product: &Product<'a>,
-) -> Result<i128, Exception<'a>>
+fn product_value<'a>(state: &PlainState, product: &Product<'a>) -> Result<i128, Exception<'a>>
     ensures { raised result ≡ product_value state.now.names (tree_product product.now) }
 {
     let mut value = item_value(state, &product.first)?;

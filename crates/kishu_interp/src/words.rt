@@ -7,10 +7,9 @@ ghost use Rattle.kishu_model.specs.Plain.{item_of, is_number, is_free_name, toke
 ghost use Rattle.kishu_interp.specs.Tree.{tree_item};
 ghost use Rattle.kishu_interp.specs.Reading.{after, first_item, item_read};
 
-use kishu_model::{is_builtin, is_reserved};
-
 use crate::tokens::{is_word_char, next_token};
 use crate::tree::{Item, Number};
+use kishu_model::{is_builtin, is_reserved};
 
 // The longest name, in bytes.
 const LONGEST_NAME: usize = 255;
@@ -42,7 +41,10 @@ fn is_name(word: &[u8]) -> bool
     ensures { result ≡ is_name word.now }
 {
     match word.first() {
-        Some(c) => is_letter(*c) && is_word(word) && word.len() <= LONGEST_NAME && !is_reserved(word),
+        Some(c) => is_letter(*c)
+            && is_word(word)
+            && word.len() <= LONGEST_NAME
+            && !is_reserved(word),
         None => false,
     }
 }

@@ -1,4 +1,4 @@
-use Rattle.std.proofs.Common.{◌≡◌, ◌∙◌, arith, sym}
+use Rattle.std.proofs.Common.{◌∙◌, arith, sym}
 use Rattle.kishu_model.specs.Lines.{lines_of}
 use Rattle.kishu_interp.proofs.Later.{later_next, later_found}
 use Rattle.kishu_interp.proofs.form.first_later.Goals as goal
@@ -10,5 +10,5 @@ returns-then-not-branch c =
 pub loop-rest-preserved : goal.loop-rest-preserved
 loop-rest-preserved c = record {
   later = c.loop-rest.invariant.later ∙ later_next c.loop-rest.number (lines_of c.loop-rest.rest.now) (lines_of c.cut_line.result.1.now) c.cut_line.result.0.now c.cut_line.ensures.lines (sym c.in_ok-has_form.ensures ∙ c.if-not-branch.false);
-  counted = omega (arith, c.cut_line.ensures.shorter)
+  counted = omega (arith, c.cut_line.ensures.shorter);
 }

@@ -6,7 +6,7 @@ use Rattle.kishu_interp.proofs.form.first_later.Given as goal
 abbrev pub invariant-loop-rest : goal.invariant-loop-rest
 invariant-loop-rest l = record {
   later : first_later 1 (lines_of l.text) ≡ first_later l.number (lines_of l.rest);
-  counted : l.number + length l.rest ≤ length l.text + 1
+  counted : l.number + length l.rest ≤ length l.text + 1;
 }
 
 abbrev pub decreases-loop-rest : goal.decreases-loop-rest

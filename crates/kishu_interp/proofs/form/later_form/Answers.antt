@@ -1,7 +1,7 @@
-use Rattle.std.proofs.Common.{◌≡◌, ◌∙◌, sym, ap, Option, Some, None, cond, ℕ, List, true, refl}
+use Rattle.std.proofs.Common.{◌≡◌, ◌∙◌, sym, Option, ℕ, List, true, refl}
 use Rattle.std.specs.Prelude.{Result, Ok, Err, IfOk, IsNone, IsSome, ◌↔◌}
 use Rattle.kishu_model.specs.Lines.{lines_of}
-use Rattle.kishu_model.specs.Plain.{cell_of, is_plain_text, first_later, later_line}
+use Rattle.kishu_model.specs.Plain.{cell_of, is_plain_text, first_later}
 use Rattle.kishu_model.specs.PlainLaws.{form_is}
 use Rattle.kishu_interp.proofs.form.later_form.Goals as goal
 

@@ -1,4 +1,4 @@
-use Rattle.std.proofs.Common.{◌≡◌, ◌∙◌, sym, refl, false}
+use Rattle.std.proofs.Common.{sym, refl, false}
 use Rattle.kishu_interp.proofs.lines.read_bare_sum.Goals as goal
 
 pub returns-in_default : goal.returns-in_default

@@ -1,4 +1,4 @@
-use Rattle.std.proofs.Common.{◌≡◌, ◌∙◌, sym, refl, true}
+use Rattle.std.proofs.Common.{sym, refl, true}
 use Rattle.kishu_interp.proofs.lines.read_closed_sum.Goals as goal
 
 pub returns-in_default : goal.returns-in_default

@@ -1,4 +1,4 @@
-use Rattle.std.proofs.Common.{◌≡◌, ◌∙◌, Option, Some, None, option_map, IfOk, subst, sym, ap, List, ℕ}
+use Rattle.std.proofs.Common.{◌≡◌, ◌∙◌, Option, option_map, IfOk, subst, sym, ap, List, ℕ}
 use Rattle.kishu_model.specs.Plain.{Line, tokens_of}
 use Rattle.kishu_interp.specs.Tree.{tree_line}
 use Rattle.kishu_interp.specs.Reading.{bound_sum}

@@ -1,4 +1,4 @@
-use Rattle.std.proofs.Common.{◌≡◌, ◌∙◌}
+use Rattle.std.proofs.Common.{◌∙◌}
 use Rattle.std.specs.Prelude.{string_bytes}
 use Rattle.kishu_model.specs.Lines.{lines_of}
 use Rattle.kishu_interp.proofs.Ran.{first_reads, goes_on, ends}

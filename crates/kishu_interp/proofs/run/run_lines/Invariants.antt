@@ -8,7 +8,7 @@ use Rattle.kishu_interp.proofs.run.run_lines.Given as goal
 abbrev pub invariant-loop-rest : goal.invariant-loop-rest
 invariant-loop-rest l = record {
   reads : is_some (lines_from (lines_of l.rest)) ≡ true;
-  same : run_texts l.initial.state.names (string_bytes l.initial.printed) (lines_of l.text) ≡ run_texts l.state.names (string_bytes l.printed) (lines_of l.rest)
+  same : run_texts l.initial.state.names (string_bytes l.initial.printed) (lines_of l.text) ≡ run_texts l.state.names (string_bytes l.printed) (lines_of l.rest);
 }
 
 abbrev pub decreases-loop-rest : goal.decreases-loop-rest

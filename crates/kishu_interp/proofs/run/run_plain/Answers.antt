@@ -1,5 +1,4 @@
 use Rattle.kishu_model.specs.PlainLaws.{plain_text-none_later}
-use Rattle.std.proofs.Common.{◌≡◌}
 use Rattle.kishu_interp.proofs.run.run_plain.Goals as goal
 
 pub run_lines-requires : goal.run_lines-requires

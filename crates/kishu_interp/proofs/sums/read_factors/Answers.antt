@@ -1,4 +1,4 @@
-use Rattle.std.proofs.Common.{◌≡◌, ◌∙◌, map, arith, refl}
+use Rattle.std.proofs.Common.{◌∙◌, map, arith, refl}
 use Rattle.std.proofs.lemmas.List.{map_push}
 use Rattle.kishu_model.specs.Plain.{tokens_of}
 use Rattle.kishu_interp.specs.Tree.{tree_item}
@@ -13,5 +13,5 @@ returns-in_default-read_item-clause-product c = λ closed.
 pub loop-after-preserved : goal.loop-after-preserved
 loop-after-preserved c = record {
   product = λ closed. c.loop-after.invariant.product closed ∙ (factor_some closed (record { first = tree_item c.args.first; more = map tree_item c.loop-after.more.items }) (tokens_of c.loop-after.rest.now) (tokens_of c.in-Some.after.now) (tokens_of c.in-Some-read_item.after.now) (tree_item c.in-Some-read_item.item) c.in-Some.ensures.mark c.in-Some-read_item.ensures.item ∙ rw (c.in_ok-push.ensures.items, map_push tree_item c.loop-after.more.items c.in-Some-read_item.item) refl);
-  no_longer = omega (arith, c.in-Some.ensures.shorter, c.in-Some-read_item.ensures.shorter)
+  no_longer = omega (arith, c.in-Some.ensures.shorter, c.in-Some-read_item.ensures.shorter);
 }

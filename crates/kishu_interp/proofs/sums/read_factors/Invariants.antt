@@ -8,7 +8,7 @@ use Rattle.kishu_interp.proofs.sums.read_factors.Given as goal
 abbrev pub invariant-loop-after : goal.invariant-loop-after
 invariant-loop-after l = record {
   product : (closed : Bool) → after_product closed (single (tree_item l.first)) (tokens_of l.line) ≡ after_product closed (record { first = tree_item l.first; more = map tree_item l.more.items }) (tokens_of l.rest);
-  no_longer : length l.rest ≤ length l.line
+  no_longer : length l.rest ≤ length l.line;
 }
 
 abbrev pub decreases-loop-after : goal.decreases-loop-after

@@ -1,6 +1,4 @@
-use Rattle.std.proofs.Common.{◌≡◌, List, ℕ, Bor}
 use Rattle.kishu_model.specs.Plain.{sum_of, tokens_of}
-use Rattle.kishu_interp.specs.declared.tree.Product.{Product}
 use Rattle.kishu_interp.specs.Tree.{tree_item, tree_product}
 use Rattle.kishu_interp.specs.Reading.{closing, single, only, after_product, after_sum}
 use Rattle.kishu_interp.proofs.Glue.{first_some, first_none, carried}

@@ -1,4 +1,4 @@
-use Rattle.std.proofs.Common.{◌≡◌, ◌∙◌, map, refl}
+use Rattle.std.proofs.Common.{◌∙◌, map, refl}
 use Rattle.std.proofs.lemmas.List.{map_push}
 use Rattle.kishu_model.specs.Plain.{tokens_of}
 use Rattle.kishu_interp.specs.Tree.{tree_sign, tree_product, tree_term}

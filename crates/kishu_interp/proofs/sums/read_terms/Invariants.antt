@@ -1,4 +1,4 @@
-use Rattle.std.proofs.Common.{◌≡◌, ◌≤◌, Bool, length, map}
+use Rattle.std.proofs.Common.{◌≡◌, Bool, length, map}
 use Rattle.kishu_model.specs.Plain.{tokens_of}
 use Rattle.kishu_interp.specs.Tree.{tree_product, tree_term}
 use Rattle.kishu_interp.specs.Reading.{only, after_sum}

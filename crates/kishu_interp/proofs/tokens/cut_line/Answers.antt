@@ -1,4 +1,3 @@
-use Rattle.std.proofs.Common.{rules}
 use Rattle.kishu_interp.proofs.Cuts.{line_at, last_line}
 use Rattle.kishu_interp.proofs.tokens.cut_line.Goals as goal
 

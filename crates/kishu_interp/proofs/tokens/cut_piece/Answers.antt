@@ -1,4 +1,4 @@
-use Rattle.std.proofs.Common.{◌≡◌, ◌<◌, sym, ◌∙◌, true, false, arith, rules}
+use Rattle.std.proofs.Common.{◌<◌, sym, ◌∙◌, arith}
 use Rattle.std.proofs.lemmas.Grind.{common_steps}
 use Rattle.kishu_interp.proofs.Cuts.{lone_at, word_at, word_first, word_all}
 use Rattle.kishu_interp.proofs.tokens.cut_piece.Goals as goal

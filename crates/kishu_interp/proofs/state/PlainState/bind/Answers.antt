@@ -1,4 +1,4 @@
-use Rattle.std.proofs.Common.{◌≡◌, ap, rules}
+use Rattle.std.proofs.Common.{ap}
 use Rattle.std.specs.Int.{w128}
 use Rattle.std.proofs.lemmas.Int.{to_z-of_z}
 use Rattle.kishu_model.specs.Values.{Names, State}

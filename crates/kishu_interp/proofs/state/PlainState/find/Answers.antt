@@ -1,4 +1,4 @@
-use Rattle.std.proofs.Common.{rules, refl}
+use Rattle.std.proofs.Common.{refl}
 use Rattle.kishu_interp.proofs.Bound.{finds}
 use Rattle.kishu_interp.proofs.state.PlainState.find.Goals as goal
 
