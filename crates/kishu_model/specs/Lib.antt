@@ -2,6 +2,7 @@ pub mod Lines
 pub mod Names
 pub mod Values
 pub mod Plain
+pub mod PlainLaws
 pub mod Meaning
 pub mod Graph
 pub mod Replay

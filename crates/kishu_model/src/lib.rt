@@ -3,11 +3,13 @@
 //! run writes. Whoever wants to know what Kishu promises reads those definitions.
 #![tactic(auto)]
 
+mod names;
 mod profile;
 mod result;
 mod steps;
 mod value;
 
+pub use names::{is_builtin, is_reserved};
 pub use profile::Profile;
 pub use result::{CellResult, Outcome, Output};
 pub use steps::Steps;

@@ -1,0 +1,5 @@
+pub mod Tokens
+pub mod State
+pub mod Tree
+pub mod Reading
+pub mod Raised
