@@ -1,5 +1,5 @@
 -- Files with one record more.
-use Rattle.std.proofs.Common.{◌≡◌, ◌≤◌, ◌<◌, ◌+◌, ◌*◌, ◌^◌, ℕ, List, [], ◌∷◌, ◌++◌, length, refl, sym, ◌∙◌, ap, arith, length-append, append_assoc}
+use Rattle.std.proofs.Common.{◌≡◌, ◌≤◌, ◌<◌, ◌+◌, ◌*◌, ◌^◌, ℕ, List, [], ◌∷◌, ◌++◌, length, sym, ◌∙◌, ap, arith, length-append, append_assoc}
 use Rattle.kishu_model.specs.Graph.{Graph, new_graph}
 use Rattle.kishu_model.specs.Record.{Entry, body_of, changed, AreRecords}
 use Rattle.kishu_model.specs.Holds.{header, open_gate, framed, records, front, end_of}
@@ -12,8 +12,8 @@ records-with (d ∷ es) e x =
     ap
     (λ (l : List ℕ). open_gate ∷ l)
     (append_assoc (framed (body_of d)) (records (with_entry es e)) x
-      ∙ ap (λ (l : List ℕ). framed (body_of d) ++ l) (records-with es e x)
-      ∙ sym (append_assoc (framed (body_of d)) (records es) (open_gate ∷ (framed (body_of e) ++ x))))
+    ∙ ap (λ (l : List ℕ). framed (body_of d) ++ l) (records-with es e x)
+    ∙ sym (append_assoc (framed (body_of d)) (records es) (open_gate ∷ (framed (body_of e) ++ x))))
 
 pub front-with : (es : List Entry) (e : Entry) (x : List ℕ) → front (with_entry es e) ++ x ≡ front es ++ (open_gate ∷ (framed (body_of e) ++ x))
 front-with es e x =

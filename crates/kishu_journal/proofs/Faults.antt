@@ -1,5 +1,5 @@
 -- Which faults are left, where some can't be.
-use Rattle.std.proofs.Common.{◌≡◌, ◌⊎◌, inl, inr, ℕ, Result, Ok, Err, IsErr, IsErrOf, IfErr, refl, ap}
+use Rattle.std.proofs.Common.{◌≡◌, ◌⊎◌, inl, inr, ℕ, Result, Ok, Err, IsErr, IsErrOf, IfErr, refl}
 use Rattle.std.proofs.lemmas.Bool.{false≢true}
 use Rattle.kishu_journal.specs.declared.journal.JournalFault.{JournalFault}
 use Rattle.kishu_journal.specs.declared.journal.JournalFault.TheVariants.{NotAJournal, Damaged, DiskFault, NoMemory}

@@ -7,3 +7,4 @@ mod Gates
 mod Walks
 mod Fitting
 mod Faults
+mod OneSum

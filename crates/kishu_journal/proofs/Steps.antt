@@ -1,5 +1,5 @@
 -- The four calls of an append, and what a stop leaves in each.
-use Rattle.std.proofs.Common.{◌≡◌, ◌≢◌, ◌≤◌, ◌⊎◌, inl, inr, ⊎_elim, ◌+◌, ℕ, List, [], ◌∷◌, ◌++◌, length, drop, get_or, refl, sym, ◌∙◌, ap, subst, arith, append_assoc}
+use Rattle.std.proofs.Common.{◌≡◌, ◌≢◌, ◌⊎◌, inl, inr, ⊎_elim, ◌+◌, ℕ, List, [], ◌∷◌, ◌++◌, length, drop, get_or, sym, ◌∙◌, ap, subst, arith, append_assoc}
 use Rattle.std.proofs.lemmas.Bool.{cases_eq}
 use Rattle.kishu_host.specs.Host.{State, Now, Torn, Follows, Only, Elapses, overwrite}
 use Rattle.kishu_host.specs.Going.{weaker, goes_on}
@@ -62,9 +62,9 @@ module _ (old : List ℕ) (place : ℕ) (bytes : List ℕ) (entries : List Entry
       st.rest
       file
       (is
-        ∙ ap (λ (p : ℕ). overwrite p (open_gate ∷ []) before) w.place_is
-        ∙ ap (λ (f : List ℕ). overwrite (end_of entries) (open_gate ∷ []) f) st.split
-        ∙ written-gate (front entries) st.gate (framed (body_of e) ++ (0 ∷ st.rest)) open_gate)
+      ∙ ap (λ (p : ℕ). overwrite p (open_gate ∷ []) before) w.place_is
+      ∙ ap (λ (f : List ℕ). overwrite (end_of entries) (open_gate ∷ []) f) st.split
+      ∙ written-gate (front entries) st.gate (framed (body_of e) ++ (0 ∷ st.rest)) open_gate)
 
   -- with the record or without, where the write of the gate is cut short
   torn_holds : (before c : List ℕ) → IsStaged before entries e → Torn place 1 before c → Holds c (graph_of entries) ⊎ Holds c (changed (graph_of entries) e)

@@ -1,5 +1,5 @@
 -- What writes leave of a list that is `front`, one gate and the rest.
-use Rattle.std.proofs.Common.{◌≡◌, ◌≤◌, ◌<◌, ◌+◌, ℕ, List, [], ◌∷◌, ◌++◌, length, take, drop, get_or, refl, sym, ◌∙◌, ap, arith, length-append, append_assoc, take-append-drop}
+use Rattle.std.proofs.Common.{◌≡◌, ◌<◌, ◌+◌, ℕ, List, [], ◌∷◌, ◌++◌, length, take, drop, get_or, refl, sym, ◌∙◌, ap, arith, length-append, append_assoc, take-append-drop}
 use Rattle.std.proofs.lemmas.List.{take_at, drop_at, drop_more, drop-drop, length_push}
 use Rattle.kishu_host.specs.Host.{overwrite, Torn}
 

@@ -11,5 +11,4 @@ pub fn one_graph()
     ensures broken { (file : List ℕ) (at : ℕ) (g : Graph) → IsBroken file at → Holds file g → ⊥ }
     ensures not_both { (file : List ℕ) (at : ℕ) → IsForeign file → IsBroken file at → ⊥ }
     ensures one_place { (file : List ℕ) (at there : ℕ) → IsBroken file at → IsBroken file there → at ≡ there }
-{
-}
+{}

@@ -17,3 +17,6 @@ mod read;
 pub use journal::{Journal, JournalFault};
 pub use kishu_record::Entry;
 pub use laws::one_graph;
+
+#[cfg(test)]
+mod tests;

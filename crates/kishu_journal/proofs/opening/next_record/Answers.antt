@@ -1,4 +1,4 @@
-use Rattle.std.proofs.Common.{◌≡◌, IsErrOf, ap, sym, ◌∙◌, ◌∷◌, ◌++◌, refl, drop, length, rules, ℕ, List, subst}
+use Rattle.std.proofs.Common.{◌≡◌, IsErrOf, ◌∙◌, ◌∷◌, ◌++◌, refl, drop, rules}
 use Rattle.kishu_model.specs.Record.{Entry, body_of, Fits}
 use Rattle.kishu_model.specs.Holds.{open_gate, framed}
 use Rattle.kishu_journal.specs.declared.journal.JournalFault.TheVariants.{Damaged}

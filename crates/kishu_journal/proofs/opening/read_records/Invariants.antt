@@ -1,4 +1,4 @@
-use Rattle.std.proofs.Common.{◌≡◌, ◌<◌, ◌+◌, ◌-◌, []}
+use Rattle.std.proofs.Common.{◌≡◌, ◌<◌, ◌-◌, []}
 use Rattle.kishu_host.specs.Host.{Told}
 use Rattle.kishu_model.specs.Graph.{new_graph}
 use Rattle.kishu_model.specs.Record.{AreRecords}

@@ -1,8 +1,7 @@
-use Rattle.std.proofs.Common.{◌≡◌, ◌∷◌, ◌++◌, ◌^◌, [], ℕ, List, IsErrOf, length, refl, sym, ◌∙◌, ap, subst, arith, rules}
+use Rattle.std.proofs.Common.{◌≡◌, ◌∷◌, ◌++◌, ◌^◌, [], ℕ, List, IsErrOf, sym, ◌∙◌, ap, subst, arith, rules}
 use Rattle.std.proofs.lemmas.List.{length-map}
 use Rattle.kishu_record.specs.declared.entry.Entry as program
 use Rattle.kishu_record.specs.Entries.{entry_of}
-use Rattle.kishu_model.specs.Record.{Entry}
 use Rattle.kishu_model.specs.Holds.{Ends, end_of, front, IsBroken, IsForeign}
 use Rattle.kishu_model.specs.Laws.{records-most, broken-ends, broken-holds, foreign-holds, foreign-broken, one_place}
 use Rattle.kishu_journal.specs.declared.journal.JournalFault.TheVariants.{NotAJournal, Damaged}
@@ -32,8 +31,8 @@ returns-in_err-found-clause-foreign_file g c told foreign =
     c.from_residual.result
     c.from_residual.ensures.0
     (λ at err.
-      let was : IsErrOf c.read_store.result (Damaged at) = search rules in
-      foreign-broken file at foreign (subst (λ (f : List ℕ). IsBroken f at) same (c.read_store.ensures.damaged at was (c.settle.ensures.quiet.time.tells ∙ told))))
+    let was : IsErrOf c.read_store.result (Damaged at) = search rules in
+    foreign-broken file at foreign (subst (λ (f : List ℕ). IsBroken f at) same (c.read_store.ensures.damaged at was (c.settle.ensures.quiet.time.tells ∙ told))))
 
 pub returns-in_err-found-clause-broken_file : goal.returns-in_err-found-clause-broken_file
 returns-in_err-found-clause-broken_file g c told at broken =
@@ -45,11 +44,11 @@ returns-in_err-found-clause-broken_file g c told at broken =
     at
     c.from_residual.ensures.0
     (λ err.
-      let was : IsErrOf c.read_store.result NotAJournal = search rules in
-      foreign-broken file at (subst (λ (f : List ℕ). IsForeign f) same (c.read_store.ensures.foreign was told1)) broken)
+    let was : IsErrOf c.read_store.result NotAJournal = search rules in
+    foreign-broken file at (subst (λ (f : List ℕ). IsForeign f) same (c.read_store.ensures.foreign was told1)) broken)
     (λ there err.
-      let was : IsErrOf c.read_store.result (Damaged there) = search rules in
-      one_place file there at (subst (λ (f : List ℕ). IsBroken f there) same (c.read_store.ensures.damaged there was told1)) broken)
+    let was : IsErrOf c.read_store.result (Damaged there) = search rules in
+    one_place file there at (subst (λ (f : List ℕ). IsBroken f there) same (c.read_store.ensures.damaged there was told1)) broken)
 
 pub returns-in_err-found-clause-good_file : goal.returns-in_err-found-clause-good_file
 returns-in_err-found-clause-good_file g c told good =
@@ -60,11 +59,11 @@ returns-in_err-found-clause-good_file g c told good =
     c.from_residual.result
     c.from_residual.ensures.0
     (λ err.
-      let was : IsErrOf c.read_store.result NotAJournal = search rules in
-      foreign-holds file good.0 (subst (λ (f : List ℕ). IsForeign f) same (c.read_store.ensures.foreign was told1)) good.1)
+    let was : IsErrOf c.read_store.result NotAJournal = search rules in
+    foreign-holds file good.0 (subst (λ (f : List ℕ). IsForeign f) same (c.read_store.ensures.foreign was told1)) good.1)
     (λ at err.
-      let was : IsErrOf c.read_store.result (Damaged at) = search rules in
-      broken-holds file at good.0 (subst (λ (f : List ℕ). IsBroken f at) same (c.read_store.ensures.damaged at was told1)) good.1)
+    let was : IsErrOf c.read_store.result (Damaged at) = search rules in
+    broken-holds file at good.0 (subst (λ (f : List ℕ). IsBroken f at) same (c.read_store.ensures.damaged at was told1)) good.1)
 
 pub at-requires-2 : goal.at-requires-2
 at-requires-2 g c = omega (arith, c.in_ok-found.ensures.place, end-below (entries_of c.in_ok-found.found.items) c.in_ok-found.ensures.fit)
