@@ -54,10 +54,16 @@ fn write_record<H: Host>(host: &mut H, place: u64, bytes: &[u8]) -> Result<(), F
 }
 
 impl Journal {
-    /// Appends a record by its body, and answers the body's place. It makes four calls of the host:
-    /// it writes the body's length, the body and a closed gate behind the gate at which the records
-    /// end, syncs, opens that gate, and syncs. It takes its memory before the first of them, so the
-    /// host is untouched after NoMemory. After DiskFault the journal is closed.
+    /// Appends a record by its body, and answers the body's place. The body is that of an entry that
+    /// fits the graph of the store's records, and has at most 2^30 bytes.
+    ///
+    /// It makes four calls of the host: it writes the body's length, the body and a closed gate
+    /// behind the gate at which the records end, syncs, opens that gate, and syncs. It takes its
+    /// memory before the first of them.
+    ///
+    /// - `DiskFault`: a call of the host failed. The journal is closed then; the file holds the
+    ///   records as they were, or with the new one.
+    /// - `NoMemory`: there was no memory. Nothing has changed.
     pub fn append<H: Host>(
         &mut self,
         alloc: Global,

@@ -12,7 +12,7 @@ ghost use Rattle.kishu_journal.specs.Stands.{Stands};
 ghost use Rattle.kishu_journal.specs.declared.journal.JournalFault.TheVariants.{DiskFault, NoMemory, NotAJournal, Damaged};
 
 use crate::fit::fitting;
-use crate::read::{read_body, read_exact};
+use crate::read::{read_body, read_exact, settle};
 use crate::{Entry, Journal, JournalFault};
 use kishu_host::{Failed, Host};
 use std::alloc::Global;
@@ -20,18 +20,6 @@ use std::alloc::Global;
 const HEADER: [u8; 16] = *b"KISHU-JOURNAL-1\n";
 
 const FRESH: [u8; 17] = *b"KISHU-JOURNAL-1\n\0";
-
-/// The file's length, once all of the file is on the disk.
-fn settle<H: Host>(host: &mut H) -> Result<u64, Failed>
-    ensures quiet { IsQuiet (H.state host.old) (H.state host.new) }
-    ensures len { IfOk result (λ n. Told (H.state host.old) (n ≡ length (H.state host.old).file)) }
-    ensures durable { OnOk result (Told (H.state host.old) (Only (H.state host.new).file (H.state host.new).may_leave)) }
-    ensures failed { IsErr result → Rises (H.state host.old).disk_faults (H.state host.new).disk_faults }
-    ensures reads { ReadsAtMost (H.state host.old).reads (H.state host.new).reads 0 }
-{
-    host.sync()?;
-    host.len()
-}
 
 /// Begins a short file anew.
 #[tactic(auto, unfolding(kishu_model::specs::Holds::header))]
@@ -117,6 +105,7 @@ fn read_records<H: Host>(
     Ok((found, at))
 }
 
+/// Whether a store begins so.
 #[tactic(auto, unfolding(kishu_model::specs::Holds::header))]
 fn is_header(head: &[u8]) -> bool
     ensures yes { result ≡ true → head.now ≡ header }
@@ -156,10 +145,16 @@ fn read_store<H: Host>(
 }
 
 impl Journal {
-    /// Opens a store. A file of at most 17 bytes, whatever they are, is begun anew. Of a longer one
-    /// the records are answered in order, each with the place of its body; the file stays as it is.
-    /// A longer file is NotAJournal where it has another header, and Damaged at the first open gate
-    /// behind which no whole record stands that fits those before it.
+    /// Opens a store, and answers a journal at its end and its records in order, each with the place
+    /// of its body. It begins with a sync. A file of at most 17 bytes, whatever they are, is begun
+    /// anew, with the header and a closed gate; a longer one stays as it is, and each of its bytes is
+    /// read once at most.
+    ///
+    /// - `NotAJournal`: the file has more than 17 bytes and another header.
+    /// - `Damaged`: at that place stands the first open gate behind which no whole record stands that
+    ///   fits the graph of those before it.
+    /// - `DiskFault`: a call of the host failed.
+    /// - `NoMemory`: there was no memory for the records.
     pub fn attach<H: Host>(
         alloc: Global,
         host: &mut H,

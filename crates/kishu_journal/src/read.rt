@@ -1,6 +1,6 @@
-ghost use Rattle.std.specs.Prelude.{◌≡◌, ◌≢◌, ◌≤◌, ◌<◌, ◌+◌, ◌-◌, ◌∷◌, ℕ, List, length, take, drop, true, false, IfOk, IfSome, IsErr, IsErrOf, None, Ok};
+ghost use Rattle.std.specs.Prelude.{◌≡◌, ◌≢◌, ◌≤◌, ◌<◌, ◌+◌, ◌-◌, ◌∷◌, ℕ, List, length, take, drop, true, false, IfOk, IfSome, OnOk, IsErr, IsErrOf, None, Ok};
 ghost use Rattle.std.specs.Int.{w64, to_be_bytes, from_be_bytes};
-ghost use Rattle.kishu_host.specs.Host.{Told, Rises};
+ghost use Rattle.kishu_host.specs.Host.{Told, Only, Rises};
 ghost use Rattle.kishu_model.specs.Record.{longest_body};
 ghost use Rattle.kishu_model.specs.Holds.{open_gate};
 ghost use Rattle.kishu_journal.specs.Going.{IsQuiet, ReadsAtMost};
@@ -13,6 +13,18 @@ use kishu_host::{Failed, Host};
 use std::alloc::Global;
 
 const LONGEST_BODY: u64 = 1 << 30;
+
+/// The file's length, once all of the file is on the disk.
+pub(crate) fn settle<H: Host>(host: &mut H) -> Result<u64, Failed>
+    ensures quiet { IsQuiet (H.state host.old) (H.state host.new) }
+    ensures len { IfOk result (λ n. Told (H.state host.old) (n ≡ length (H.state host.old).file)) }
+    ensures durable { OnOk result (Told (H.state host.old) (Only (H.state host.new).file (H.state host.new).may_leave)) }
+    ensures failed { IsErr result → Rises (H.state host.old).disk_faults (H.state host.new).disk_faults }
+    ensures reads { ReadsAtMost (H.state host.old).reads (H.state host.new).reads 0 }
+{
+    host.sync()?;
+    host.len()
+}
 
 /// Fills `into` from a place, or answers that the file ends before.
 pub(crate) fn read_exact<H: Host>(host: &mut H, at: u64, into: &mut [u8]) -> Result<bool, Failed>
