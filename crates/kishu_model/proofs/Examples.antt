@@ -1,11 +1,11 @@
 -- Worked examples, computed on the definitions.
-use Rattle.std.proofs.Common.{◌≡◌, ℕ, pos, List, [], ◌∷◌, ◌++◌, codes, Some, None, refl}
+use Rattle.std.proofs.Common.{◌≡◌, pos, [], ◌∷◌, codes, Some, refl}
 use Rattle.kishu_model.specs.declared.profile.Profile.TheVariants.{One}
 use Rattle.kishu_model.specs.declared.result.Outcome.TheVariants.{Done, Raised}
 use Rattle.std.specs.Fmt.{digits}
 use Rattle.kishu_model.specs.Names.{reserved_words, builtin_names, class_names}
-use Rattle.kishu_model.specs.Values.{Value, integer, empty, stream, fault, Ran}
-use Rattle.kishu_model.specs.Plain.{Line, cell_of, later_line}
+use Rattle.kishu_model.specs.Values.{integer, empty, stream, fault}
+use Rattle.kishu_model.specs.Plain.{later_line}
 use Rattle.kishu_model.specs.Meaning.{run, ended}
 
 one_line : run One (codes "print(1 + 2)") empty ≡ ended [] Done (stream (codes "3\n") ∷ [])

@@ -1,5 +1,5 @@
 -- The first cell of an empty store: its file and its answer, computed on the definitions.
-use Rattle.std.proofs.Common.{◌≡◌, ℕ, inl, inr, List, [], ◌∷◌, ◌++◌, length, codes, Some, None, refl, ap, arith, slice_index}
+use Rattle.std.proofs.Common.{◌≡◌, inl, inr, [], ◌∷◌, ◌++◌, length, codes, Some, None, refl, ap, arith, slice_index}
 use Rattle.serde_json.proofs.OnLiterals.{serde_json_on_literals}
 use Rattle.std.specs.Fmt.{digits}
 use Rattle.kishu_model.specs.declared.profile.Profile.TheVariants.{One}

@@ -1,13 +1,13 @@
 -- How a graph and its replay grow by a commit.
 use Rattle.std.specs.Prelude.{◌≡◌, ◌<◌, ◌≤◌, ℕ, suc, ◌+◌, Bool, true, false, nat_le, ◌==◌, if◌then◌else◌, List, [], ◌∷◌, ◌++◌, length, refl}
-use Rattle.std.proofs.Common.{sym, ◌∙◌, ap, arith}
+use Rattle.std.proofs.Common.{◌∙◌, ap, arith}
 use Rattle.std.proofs.lemmas.Bool.Decides.{nat_tests}
 use Rattle.kishu_model.specs.declared.profile.Profile.{Profile}
 use Rattle.kishu_model.specs.Values.{State, empty}
-use Rattle.kishu_model.specs.Graph.{Commit, Graph, Target, newest, with_commit, path, path_in, cell_count, count_of}
+use Rattle.kishu_model.specs.Graph.{Commit, Graph, newest, with_commit, path, path_in, cell_count, count_of}
 use Rattle.kishu_model.specs.Replay.{after_cells, after_commits, replay}
 use Rattle.kishu_model.specs.Answers.{refused, store_full}
-use Rattle.kishu_model.specs.Step.{Request, cell, step, committed, most_records, Stepped}
+use Rattle.kishu_model.specs.Step.{cell, step, committed, most_records}
 
 is_itself : (n : ℕ) → (n == n) ≡ true
 is_itself n = grind (arith, nat_tests)

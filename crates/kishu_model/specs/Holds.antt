@@ -1,5 +1,5 @@
 -- What a store file holds.
-use Rattle.std.specs.Prelude.{◌≡◌, ◌≢◌, ◌<◌, ◌≤◌, ◌⊎◌, ℕ, ◌+◌, List, [], ◌∷◌, ◌++◌, length}
+use Rattle.std.specs.Prelude.{◌≡◌, ◌≢◌, ◌<◌, ◌≤◌, ◌⊎◌, ℕ, List, [], ◌∷◌, ◌++◌, length}
 use Rattle.std.specs.Int.{w64, to_be_bytes}
 use Rattle.kishu_model.specs.Graph.{Graph, new_graph}
 use Rattle.kishu_model.specs.Record.{Entry, body_of, longest_body, Fits, changed_by, AreRecords}

@@ -1,5 +1,5 @@
 -- Cells of sums: each line is blank, `NAME = SUM` or `print(SUM)`. How such a text reads (Python Language Reference 3, "Lexical analysis", "Simple statements" and "Binary arithmetic operations").
-use Rattle.std.specs.Prelude.{ℕ, suc, ◌^◌, Bool, true, false, ◌&&◌, ◌||◌, not, nat_le, nat_lt, ◌==◌, if◌then◌else◌, List, [], ◌∷◌, length, filter, codes, Option, Some, None, option_map}
+use Rattle.std.specs.Prelude.{ℕ, suc, ◌^◌, Bool, false, ◌&&◌, ◌||◌, not, nat_le, nat_lt, ◌==◌, if◌then◌else◌, List, [], ◌∷◌, length, filter, codes, Option, Some, None, option_map}
 use Rattle.std.specs.List.{list_all}
 use Rattle.std.specs.Str.{bytes_eq}
 use Rattle.std.specs.Str.Parse.{digits_value}

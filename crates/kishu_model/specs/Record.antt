@@ -1,10 +1,10 @@
 -- Records, and their bytes. Numbers are big-endian.
-use Rattle.std.specs.Prelude.{◌≡◌, ◌<◌, ◌≤◌, ◌^◌, ℕ, List, [], ◌∷◌, ◌++◌, length, Option, None}
-use Rattle.std.specs.Int.{w32, w64, to_be_bytes}
+use Rattle.std.specs.Prelude.{◌≡◌, ◌<◌, ◌≤◌, ◌^◌, ℕ, List, [], ◌∷◌, ◌++◌, length, None}
+use Rattle.std.specs.Int.{w32, to_be_bytes}
 use Rattle.kishu_model.specs.declared.profile.Profile.{Profile}
 use Rattle.kishu_model.specs.declared.profile.Profile.TheVariants.{One}
 use Rattle.kishu_model.specs.Plain.{later_line}
-use Rattle.kishu_model.specs.Graph.{Graph, Target, with_commit}
+use Rattle.kishu_model.specs.Graph.{Graph, with_commit}
 use Rattle.kishu_model.specs.Step.{most_records, newest_profile}
 
 pub data Entry : Type 0 where

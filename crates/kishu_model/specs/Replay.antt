@@ -1,7 +1,7 @@
 -- The machine that replays each commit's whole path of cells from empty.
 use Rattle.std.specs.Prelude.{ℕ, List, [], ◌∷◌}
 use Rattle.kishu_model.specs.declared.profile.Profile.{Profile}
-use Rattle.kishu_model.specs.Values.{State, empty, Ran}
+use Rattle.kishu_model.specs.Values.{State, empty}
 use Rattle.kishu_model.specs.Meaning.{run}
 use Rattle.kishu_model.specs.Graph.{Commit, Graph, path}
 

@@ -2,7 +2,7 @@
 use Rattle.std.specs.Prelude.{◌≡◌, ◌⊎◌, ℕ, List, [], ◌∷◌, ◌++◌}
 use Rattle.kishu_model.specs.Graph.{Graph}
 use Rattle.kishu_model.specs.Answers.{answer_line}
-use Rattle.kishu_model.specs.Step.{Request, step, Stepped}
+use Rattle.kishu_model.specs.Step.{Request, step}
 
 -- the graph after a request, and the line that answers it
 abbrev pub after : Graph → Request → Graph

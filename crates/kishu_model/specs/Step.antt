@@ -1,10 +1,9 @@
 -- One request to the replaying machine: the graph after it, and its answer. A cell of a later form is no request yet: a run that gets one ends before its first step.
-use Rattle.std.specs.Prelude.{ℕ, suc, ◌+◌, Bool, nat_le, if◌then◌else◌, List, [], ◌∷◌}
+use Rattle.std.specs.Prelude.{ℕ, suc, nat_le, if◌then◌else◌, List, [], ◌∷◌}
 use Rattle.kishu_model.specs.declared.profile.Profile.{Profile}
 use Rattle.kishu_model.specs.declared.profile.Profile.TheVariants.{One}
-use Rattle.kishu_model.specs.Values.{Ran}
 use Rattle.kishu_model.specs.Meaning.{run}
-use Rattle.kishu_model.specs.Graph.{Graph, Target, newest, with_commit, count_of}
+use Rattle.kishu_model.specs.Graph.{Graph, newest, with_commit, count_of}
 use Rattle.kishu_model.specs.Replay.{replay}
 use Rattle.kishu_model.specs.Answers.{Answer, ran_cell, refused, store_full}
 

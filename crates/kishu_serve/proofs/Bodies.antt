@@ -21,8 +21,8 @@ plain-short text e =
     let yes : is_plain_text text ≡ true = test-holds (is_plain_text text) (first_later 1 (lines_of text)) e in
     first (length text) (list_all (λ c. nat_lt c 128) text) yes
   where
-  first : (n : ℕ) (b : Bool) → (nat_le n 65536 && b) ≡ true → n ≤ 65536
-  first n b e = grind (arith, nat_tests)
+    first : (n : ℕ) (b : Bool) → (nat_le n 65536 && b) ≡ true → n ≤ 65536
+    first n b e = grind (arith, nat_tests)
 
 -- a list that passes a test, by index
 ascii : (cs : List ℕ) → list_all (λ c. nat_lt c 128) cs ≡ true → (i : ℕ) → slice_index cs i < 128
@@ -30,17 +30,17 @@ ascii [] e i = omega arith
 ascii (c ∷ cs) e zero = grind (arith, nat_tests)
 ascii (c ∷ cs) e (suc i) = ascii cs (both (nat_lt c 128) (list_all (λ d. nat_lt d 128) cs) e) i
   where
-  both : (a b : Bool) → (a && b) ≡ true → b ≡ true
-  both true b e = e
-  both false b e = absurd (cc e)
+    both : (a b : Bool) → (a && b) ≡ true → b ≡ true
+    both true b e = e
+    both false b e = absurd (cc e)
 
 pub plain-utf8 : (text : List ℕ) → later_line text ≡ None → IsUtf8 text
 plain-utf8 text e =
     IsUtf8-from_ascii text (ascii text (second (nat_le (length text) 65536) (list_all (λ c. nat_lt c 128) text) (test-holds (is_plain_text text) (first_later 1 (lines_of text)) e)))
   where
-  second : (a b : Bool) → (a && b) ≡ true → b ≡ true
-  second true b e = e
-  second false b e = absurd (cc e)
+    second : (a b : Bool) → (a && b) ≡ true → b ≡ true
+    second true b e = e
+    second false b e = absurd (cc e)
 
 pub length-head_of : (parent : ℕ) (profile : Profile) (text : List ℕ) → length (head_of (commit parent profile (text ∷ []))) ≡ 22 + length text
 unfolding head_of
@@ -53,7 +53,7 @@ length-head_of parent profile text =
       length-append (four 1) (texts ++ tail),
       length-append texts tail,
       length-append (four (length text)) (text ++ []),
-      length-append text []
+      length-append text [],
     )
 
 pub length-body_of : (parent : ℕ) (profile : Profile) (text : List ℕ) → length (body_of (commit parent profile (text ∷ []))) ≡ 26 + length text

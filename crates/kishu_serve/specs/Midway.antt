@@ -32,8 +32,8 @@ length-texts_bytes [] = omega arith
 length-texts_bytes (t ∷ ts) =
     omega (arith, length-append (four (length t)) (t ++ texts_bytes ts), length-append t (texts_bytes ts), length-texts_bytes ts, length-four (length t))
   where
-  length-four : (n : ℕ) → length (four n) ≡ 4
-  length-four n = refl
+    length-four : (n : ℕ) → length (four n) ≡ 4
+    length-four n = refl
 
 pub length-cells_of : (e : Entry) → length (cells_of e) ≤ length (body_of e)
 unfolding body_of head_of
@@ -44,7 +44,7 @@ length-cells_of (commit parent profile cells) =
       length-append (four (length (head_of (commit parent profile cells)))) (head_of (commit parent profile cells)),
       length-append (four parent) (profile_number profile ∷ (four (length cells) ++ (texts_bytes cells ++ (four 0 ++ four 0)))),
       length-append (four (length cells)) (texts_bytes cells ++ (four 0 ++ four 0)),
-      length-append (texts_bytes cells) (four 0 ++ four 0)
+      length-append (texts_bytes cells) (four 0 ++ four 0),
     )
 
 pub midway-cells : (total : Graph) (e : Entry) (rest : List Entry) (s : State) (n : ℕ) → Midway total (e ∷ rest) s n → AreCells (cells_of e) × (profile_of e ≡ One) × (length (cells_of e) ≤ 2 ^ 30)

@@ -80,12 +80,7 @@ fn refuse<H: Host>(alloc: Global, host: &mut H) -> Result<(), Halt>
 
 impl Session {
     /// Runs a cell, commits it, and puts its answer out.
-    fn commit_cell<H: Host>(
-        &mut self,
-        alloc: Global,
-        host: &mut H,
-        text: &str,
-    ) -> Result<(), Halt>
+    fn commit_cell<H: Host>(&mut self, alloc: Global, host: &mut H, text: &str) -> Result<(), Halt>
         requires opened { self.old.journal.closed ≡ false }
         requires room { self.old.commits < 1000000 }
         requires plain { later_line text.now ≡ None }

@@ -1,3 +1,5 @@
+ghost use Rattle.std.specs.Prelude.{◌≡◌, ◌<◌};
+
 use super::*;
 use kishu_host::{Host, MemHost, MemSource, Source};
 use kishu_model::Steps;
@@ -7,12 +9,12 @@ use std::process::Abort;
 use std::sync::ledger::{Blank, Ledger};
 use std::test::Fail;
 
-ghost use Rattle.std.specs.Prelude.{◌≡◌, ◌<◌};
-
 /// The store file of one commit with the cell `print(1 + 2)`.
-const FIRST: [u8; 64] = *b"KISHU-JOURNAL-1\n\xa5\0\0\0\0\0\0\0\x26\0\0\0\x22\x01\0\0\0\0\x01\0\0\0\x01\0\0\0\x0cprint(1 + 2)\0\0\0\0\0\0\0\0\0";
+const FIRST: [u8; 64] =
+    *b"KISHU-JOURNAL-1\n\xa5\0\0\0\0\0\0\0\x26\0\0\0\x22\x01\0\0\0\0\x01\0\0\0\x01\0\0\0\x0cprint(1 + 2)\0\0\0\0\0\0\0\0\0";
 
-const FIRST_LINE: &str = "{\"answer\":\"cell\",\"commit\":1,\"count\":1,\"outcome\":\"ok\",\"outputs\":[{\"name\":\"stdout\",\"output_type\":\"stream\",\"text\":\"3\\n\"}]}\n";
+const FIRST_LINE: &str =
+    "{\"answer\":\"cell\",\"commit\":1,\"count\":1,\"outcome\":\"ok\",\"outputs\":[{\"name\":\"stdout\",\"output_type\":\"stream\",\"text\":\"3\\n\"}]}\n";
 
 fn counted<H: Host, S: Source, L: Ledger>(
     alloc: Global,
@@ -37,17 +39,21 @@ fn words_of(alloc: Global, texts: &[&str]) -> Result<Vec<String>, AllocError> {
     Ok(words)
 }
 
+/// Runs these words in memory, where nobody counts the steps.
+fn run_in_memory(
+    alloc: Global,
+    words: &[String],
+    source: &mut MemSource,
+    host: &mut MemHost,
+) -> Status {
+    counted::<MemHost, MemSource, Brand>(alloc, words, source, host, Blank::new(1))
+}
+
 /// Runs `S cell` with this input.
 fn run_cell_of(alloc: Global, host: &mut MemHost, input: &[u8]) -> Result<Status, AllocError> {
     let words = words_of(alloc, &["S", "cell"])?;
     let mut source = MemSource::new(alloc, input.to_vec(alloc)?, Vec::new(alloc))?;
-    Ok(counted::<MemHost, MemSource, Brand>(
-        alloc,
-        &words,
-        &mut source,
-        host,
-        Blank::new(1),
-    ))
+    Ok(run_in_memory(alloc, &words, &mut source, host))
 }
 
 /// A host over these bytes, with much room.
@@ -88,13 +94,7 @@ fn faults_of_the_first_cell(rt: HostRuntime) -> Result<(), Fail> {
     let words = words_of(alloc, &["S", "cell"])?;
     let mut host = host_over(alloc, &[], Vec::new(alloc), None)?.ok_or("room")?;
     let mut source = MemSource::new(alloc, b"print(1 + 2)".to_vec(alloc)?, vec![in alloc; 1]?)?;
-    let status = counted::<MemHost, MemSource, Brand>(
-        alloc,
-        &words,
-        &mut source,
-        &mut host,
-        Blank::new(1),
-    );
+    let status = run_in_memory(alloc, &words, &mut source, &mut host);
     assert_eq!(rt; (status, status.code()), (Status::InputFault, 6));
     assert_eq!(rt; host.file(), b"".as_slice());
     Ok(())
@@ -105,11 +105,27 @@ fn stores(alloc: Global) -> Result<Vec<(Vec<u8>, Status, Option<&'static str>)>,
     let mut closed = FIRST;
     closed[16] = 0x3c;
     let rows = vec![in alloc;
-        (FIRST.to_vec(alloc)?, Status::Done, Some("\"commit\":2,\"count\":2,")),
-        (closed.to_vec(alloc)?, Status::Done, Some("\"commit\":1,\"count\":1,")),
+        (
+            FIRST.to_vec(alloc)?,
+            Status::Done,
+            Some("\"commit\":2,\"count\":2,")
+        ),
+        (
+            closed.to_vec(alloc)?,
+            Status::Done,
+            Some("\"commit\":1,\"count\":1,")
+        ),
         (FIRST[..40].to_vec(alloc)?, Status::Damaged { at: 16 }, None),
-        (b"xxxxxxxxxxxxxxxxx".to_vec(alloc)?, Status::Done, Some("\"commit\":1,\"count\":1,")),
-        (b"xxxxxxxxxxxxxxxxxx".to_vec(alloc)?, Status::NotAJournal, None),
+        (
+            b"xxxxxxxxxxxxxxxxx".to_vec(alloc)?,
+            Status::Done,
+            Some("\"commit\":1,\"count\":1,")
+        ),
+        (
+            b"xxxxxxxxxxxxxxxxxx".to_vec(alloc)?,
+            Status::NotAJournal,
+            None
+        ),
     ]?;
     Ok(rows)
 }
@@ -140,11 +156,23 @@ fn cells_in_turn(rt: HostRuntime) -> Result<(), Fail> {
     let alloc = rt.alloc();
     let mut host = host_over(alloc, &[], Vec::new(alloc), None)?.ok_or("room")?;
     let rows: [(&str, Status, &str); 5] = [
-        ("x = 2\nprint(x * x + 1)", Status::Done, "{\"answer\":\"cell\",\"commit\":1,\"count\":1,\"outcome\":\"ok\",\"outputs\":[{\"name\":\"stdout\",\"output_type\":\"stream\",\"text\":\"5\\n\"}]}\n"),
+        (
+            "x = 2\nprint(x * x + 1)",
+            Status::Done,
+            "{\"answer\":\"cell\",\"commit\":1,\"count\":1,\"outcome\":\"ok\",\"outputs\":[{\"name\":\"stdout\",\"output_type\":\"stream\",\"text\":\"5\\n\"}]}\n",
+        ),
         ("y", Status::NotYet { line: 1 }, ""),
-        ("print(z)", Status::Done, "{\"answer\":\"cell\",\"commit\":2,\"count\":2,\"outcome\":\"error\",\"outputs\":[{\"ename\":\"NameError\",\"evalue\":\"name 'z' is not defined\",\"output_type\":\"error\",\"traceback\":[\"NameError: name 'z' is not defined\"]}]}\n"),
+        (
+            "print(z)",
+            Status::Done,
+            "{\"answer\":\"cell\",\"commit\":2,\"count\":2,\"outcome\":\"error\",\"outputs\":[{\"ename\":\"NameError\",\"evalue\":\"name 'z' is not defined\",\"output_type\":\"error\",\"traceback\":[\"NameError: name 'z' is not defined\"]}]}\n",
+        ),
         ("a = 1\n\nb = a +", Status::NotYet { line: 3 }, ""),
-        ("", Status::Done, "{\"answer\":\"cell\",\"commit\":3,\"count\":3,\"outcome\":\"ok\",\"outputs\":[]}\n"),
+        (
+            "",
+            Status::Done,
+            "{\"answer\":\"cell\",\"commit\":3,\"count\":3,\"outcome\":\"ok\",\"outputs\":[]}\n",
+        ),
     ];
     let mut told = Vec::new(alloc);
     for (input, want, line) in &rows {
@@ -172,13 +200,7 @@ fn words_and_statuses(rt: HostRuntime) -> Result<(), Fail> {
         let words = words_of(alloc, form)?;
         let mut host = host_over(alloc, &[], Vec::new(alloc), None)?.ok_or("room")?;
         let mut source = MemSource::new(alloc, Vec::new(alloc), Vec::new(alloc))?;
-        let status = counted::<MemHost, MemSource, Brand>(
-            alloc,
-            &words,
-            &mut source,
-            &mut host,
-            Blank::new(1),
-        );
+        let status = run_in_memory(alloc, &words, &mut source, &mut host);
         assert_eq!(rt; status, Status::Usage);
     }
     let texts: [(Status, u8, &str); 9] = [
@@ -238,8 +260,14 @@ fn interrupted(
 fn each_call_stopped_and_failed(rt: HostRuntime) -> Result<(), Fail> {
     let alloc = rt.alloc();
     let mut host = host_over(alloc, &[], Vec::new(alloc), None)?.ok_or("room")?;
-    assert_eq!(rt; run_cell_of(alloc, &mut host, b"a = 7".as_slice())?, Status::Done);
-    assert_eq!(rt; run_cell_of(alloc, &mut host, b"b = a".as_slice())?, Status::Done);
+    assert_eq!(rt;
+        run_cell_of(alloc, &mut host, b"a = 7".as_slice())?,
+        Status::Done
+    );
+    assert_eq!(rt;
+        run_cell_of(alloc, &mut host, b"b = a".as_slice())?,
+        Status::Done
+    );
     let two = host.file().to_vec(alloc)?;
     let mut whole = 0u64;
     for n in 1..60u64 {

@@ -9,7 +9,6 @@ ghost use Rattle.kishu_model.specs.Holds.{Holds, IsForeign, IsBroken};
 ghost use Rattle.kishu_serve.specs.Headline.{IsPart, IsWhole, IsGiven};
 ghost use Rattle.kishu_serve.specs.Words.{texts, form_of};
 ghost use Rattle.kishu_serve.specs.declared.status.Status.TheVariants.{Done, Usage, NotAJournal, Damaged, DiskFault, InputFault, OutputFault, NoMemory, NotYet};
-
 ghost use Rattle.kishu_serve.specs.declared.session.Halt.TheVariants.{DiskFault as HaltDisk, OutputFault as HaltOutput};
 ghost use Rattle.kishu_journal.specs.declared.journal.JournalFault.TheVariants.{NotAJournal as Foreign, Damaged as Broken, DiskFault as NoDisk};
 

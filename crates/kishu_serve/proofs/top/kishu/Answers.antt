@@ -29,18 +29,18 @@ returns-in-Ok-None-clause-settled g c g' given =
     let whole = c.in-Ok.ensures.whole given.source_tells in
     let is = asked (form_of (texts c.args.words.now)) c.plain_text.result.now _ (sym c.is_cell.ensures ∙ c.if-not-is_cell.false) (c.plain_text.ensures ∙ c.deref-in-Ok-None.ensures.value ∙ whole.0) in
     inr (elim (c.run_cell.ensures.settled given.host_tells g' given.holds) [
-      inl fault ↦ inl fault
+      | inl fault ↦ inl fault
       | inr each ↦ inr (λ f now. subst (λ (qs : List Request). IsPart s0 g' qs f (st c.run_cell.new.host).out) is (each f now))
     ])
 
 pub returns-in-Ok-None-clause-complete : goal.returns-in-Ok-None-clause-complete
 returns-in-Ok-None-clause-complete g c g' given form no_disk no_out no_in =
     elim (c.run_cell.ensures.complete given.host_tells g' given.holds) [
-      inl done ↦ inl done
+      | inl done ↦ inl done
       | inr rest ↦ elim rest [
-        inl none ↦ inr (inl none)
+        | inl none ↦ inr (inl none)
         | inr faults ↦ elim faults [
-          inl disk ↦ absurd (no_disk (c.run_cell.ensures.disk_fault disk))
+          | inl disk ↦ absurd (no_disk (c.run_cell.ensures.disk_fault disk))
           | inr out ↦ absurd (no_out (c.run_cell.ensures.output_fault out))
         ]
       ]

@@ -89,9 +89,9 @@ pub returns-in-Err-clause-complete : goal.returns-in-Err-clause-complete
 returns-in-Err-clause-complete g c told g' holds =
     let file = (g.H.Host.state c.args.host.now).file in
     elim c.unopened.ensures.these [
-      inl is ↦ absurd (foreign-holds file g' (c.open.ensures.foreign (c.in-Err.is ∙ ap (λ (f : JournalFault). Err f) (c.unopened.ensures.foreign is)) told) holds)
+      | inl is ↦ absurd (foreign-holds file g' (c.open.ensures.foreign (c.in-Err.is ∙ ap (λ (f : JournalFault). Err f) (c.unopened.ensures.foreign is)) told) holds)
       | inr rest ↦ elim rest [
-        inl is ↦ absurd (broken-holds file is.0 g' (c.open.ensures.damaged is.0 (c.in-Err.is ∙ ap (λ (f : JournalFault). Err f) (c.unopened.ensures.damaged is.0 is.1)) told) holds)
+        | inl is ↦ absurd (broken-holds file is.0 g' (c.open.ensures.damaged is.0 (c.in-Err.is ∙ ap (λ (f : JournalFault). Err f) (c.unopened.ensures.damaged is.0 is.1)) told) holds)
         | inr last ↦ elim last [ inl is ↦ inr (inr (inl is)) | inr is ↦ inr (inl is) ]
       ]
     ]

@@ -12,7 +12,7 @@ append-requires-clause-short g c =
       arith,
       ap length (c.deref.ensures.value ∙ c.in-Ok.ensures.body),
       length-body_of c.args.self.now.commits One c.args.text.now,
-      plain-short c.args.text.now c.requires.plain
+      plain-short c.args.text.now c.requires.plain,
     )
 
 pub returns-in-Err-DiskFault-clause-stop : goal.returns-in-Err-DiskFault-clause-stop

@@ -23,8 +23,8 @@ returns-in-Ok-replay_stored-clause-attached g c told g' holds =
     let good = c.in-Ok.ensures.good told in
     let same : graph_of es ≡ g' = one_graph (st c.args.host.now).file (graph_of es) g' good holds in
     let replayed =
-        subst (λ (x : Graph). Replayed x c.in-Ok-replay_stored.state c.in-Ok-replay_stored.cells) same
-        (subst (λ (l : List _). Replayed (graph_of (entries_of l)) c.in-Ok-replay_stored.state c.in-Ok-replay_stored.cells) c.deref.ensures.value c.in-Ok-replay_stored.ensures.replayed) in
+    subst (λ (x : Graph). Replayed x c.in-Ok-replay_stored.state c.in-Ok-replay_stored.cells) same
+    (subst (λ (l : List _). Replayed (graph_of (entries_of l)) c.in-Ok-replay_stored.state c.in-Ok-replay_stored.cells) c.deref.ensures.value c.in-Ok-replay_stored.ensures.replayed) in
     let many : length es ≡ newest g' = sym linear.newest ∙ ap newest same in
     record {
       entries = es;
