@@ -4,3 +4,4 @@ pub mod Values
 pub mod Plain
 pub mod Meaning
 pub mod PlainLaws
+pub mod Spelling
