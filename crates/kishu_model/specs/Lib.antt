@@ -2,6 +2,16 @@ pub mod Lines
 pub mod Names
 pub mod Values
 pub mod Plain
-pub mod Meaning
 pub mod PlainLaws
 pub mod Spelling
+pub mod Meaning
+pub mod Graph
+pub mod Replay
+pub mod Answers
+pub mod Step
+pub mod Serve
+pub mod Task
+pub mod Record
+pub mod Holds
+pub mod Growth
+pub mod Laws

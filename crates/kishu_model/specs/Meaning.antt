@@ -79,6 +79,6 @@ abbrev pub run_lines : Names → List ℕ → List Line → Ran
 run_lines names out [] = ended names Done (printed out)
 run_lines names out (line ∷ lines) = elim (run_line names line) as (λ r. Ran) [ Ok n ↦ run_lines n.0 (out ++ n.1) lines | Err e ↦ ended names Raised (printed out ++ fault e.class e.text ∷ []) ]
 
--- What a cell's run gives. A text that hasn't the form isn't run: nothing is said of it.
+-- What a cell's run gives. No call runs a text that hasn't the form, and no record holds one: the last case is never met.
 abbrev pub run : Profile → List ℕ → State → Ran
 run profile text state = elim (cell_of text) as (λ o. Ran) [ Some lines ↦ run_lines state.names [] lines | None ↦ ended state.names Raised [] ]

@@ -1,0 +1,133 @@
+//! The store file and the streams of the operating system as a host and a source. They tell nothing
+//! of content, since nothing is proved of what the system gives and takes.
+ghost use Rattle.std.specs.Prelude.{◌≡◌, ◌≤◌, Ok, IfOk, length};
+ghost use Rattle.kishu_host.specs.Host.{HasCause};
+
+use crate::{file, streams};
+use kishu_host::{Failed, Host, Source};
+use std::fs::File;
+use std::io;
+
+/// The store file at a path, and standard output.
+///
+/// The file is opened at the first call that needs it, so a run that needs none makes none. Where it
+/// can't be opened, each such call fails.
+#[derive(Drop)]
+pub struct RealHost<'a> {
+    rt: &'a HostRuntime,
+    path: &'a str,
+    file: Option<File>,
+    disk_faults: u64,
+    out_faults: u64,
+}
+
+impl<'a> RealHost<'a> {
+    pub fn new(rt: &'a HostRuntime, path: &'a str) -> RealHost<'a> {
+        RealHost {
+            rt,
+            path,
+            file: None,
+            disk_faults: 0,
+            out_faults: 0,
+        }
+    }
+}
+
+/// The file, which is opened where it isn't yet.
+fn opened<'f>(rt: &HostRuntime, path: &str, file: &'f mut Option<File>) -> io::Result<&'f File> {
+    if file.is_none() {
+        *file = Some(file::open(rt, path)?);
+    }
+    match file {
+        Some(file) => Ok(file),
+        None => Err(io::ErrorKind::Other.into()),
+    }
+}
+
+/// The answer of a call. An error raises the count, which stands still at 2^64-1.
+fn counted<T: Drop>(answer: io::Result<T>, count: &mut u64) -> Result<T, Failed>
+    ensures same { IfOk result (λ x. answer ≡ Ok x) }
+    ensures cause { HasCause count.old count.new result }
+    ensures no_fall { count.old ≤ count.new }
+{
+    match answer {
+        Ok(x) => Ok(x),
+        Err(_) => {
+            *count = count.saturating_add(1);
+            Err(Failed)
+        }
+    }
+}
+
+impl Host for RealHost<'_> {
+    ghost use Rattle.kishu_cli.specs.Silent.{silent_host, not_told};
+
+    ghost state = { λ s. silent_host s.disk_faults s.out_faults };
+
+    ghost reads_now = { λ s told. tt };
+
+    ghost counts_now = { λ s t c le now. tt };
+
+    ghost only_now = { λ s c o told left. absurd (not_told told) };
+
+    fn len(&mut self) -> Result<u64, Failed> {
+        let answer = match opened(self.rt, self.path, &mut self.file) {
+            Ok(file) => file::length(file),
+            Err(error) => Err(error),
+        };
+        counted(answer, &mut self.disk_faults)
+    }
+
+    fn read_at(&mut self, at: u64, into: &mut [u8]) -> Result<usize, Failed> {
+        let answer = match opened(self.rt, self.path, &mut self.file) {
+            Ok(file) => file::read_all(file, at, into),
+            Err(error) => Err(error),
+        };
+        counted(answer, &mut self.disk_faults)
+    }
+
+    fn write_at(&mut self, at: u64, bytes: &[u8]) -> Result<(), Failed> {
+        let answer = match opened(self.rt, self.path, &mut self.file) {
+            Ok(file) => file::write_all(file, at, bytes),
+            Err(error) => Err(error),
+        };
+        counted(answer, &mut self.disk_faults)
+    }
+
+    fn sync(&mut self) -> Result<(), Failed> {
+        let answer = match opened(self.rt, self.path, &mut self.file) {
+            Ok(file) => file.sync_all(),
+            Err(error) => Err(error),
+        };
+        counted(answer, &mut self.disk_faults)
+    }
+
+    fn put(&mut self, bytes: &[u8]) -> Result<(), Failed> {
+        let answer = streams::put_all(self.rt, bytes);
+        counted(answer, &mut self.out_faults)
+    }
+}
+
+/// Standard input.
+#[derive(Drop)]
+pub struct RealSource<'a> {
+    rt: &'a HostRuntime,
+    in_faults: u64,
+}
+
+impl<'a> RealSource<'a> {
+    pub fn new(rt: &'a HostRuntime) -> RealSource<'a> {
+        RealSource { rt, in_faults: 0 }
+    }
+}
+
+impl Source for RealSource<'_> {
+    ghost use Rattle.kishu_cli.specs.Silent.{silent_source};
+
+    ghost source = { λ s. silent_source s.in_faults };
+
+    fn take(&mut self, into: &mut [u8]) -> Result<usize, Failed> {
+        let answer = streams::take_some(self.rt, into);
+        counted(answer, &mut self.in_faults)
+    }
+}

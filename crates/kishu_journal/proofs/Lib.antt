@@ -1,0 +1,10 @@
+mod Writes
+mod Calls
+mod Behind
+mod Steps
+mod Anew
+mod Gates
+mod Walks
+mod Fitting
+mod Faults
+mod OneSum

@@ -1,0 +1,86 @@
+ghost use Rattle.std.specs.Prelude.{◌≡◌, ◌≤◌, ◌<◌, ◌^◌, ℕ, List, length, map, true, false, IfOk, IfSome, Ok, None};
+ghost use Rattle.std.specs.Rc.{rc_str_bytes};
+ghost use Rattle.kishu_model.specs.Graph.{Graph};
+ghost use Rattle.kishu_model.specs.Record.{Entry as Record, commit, body_of, longest_body, IsCell, AreCells, Fits};
+ghost use Rattle.kishu_model.specs.Laws.{IsLinear};
+ghost use Rattle.kishu_record.specs.Entries.{entry_of};
+
+use crate::Entry;
+use kishu_interp::later_form;
+use kishu_model::Profile;
+use kishu_record::decode;
+use std::alloc::{AllocError, Global};
+use std::rc::RcStr;
+
+const LONGEST_CELL: usize = 1 << 20;
+
+const MOST_RECORDS: u64 = 1_000_000;
+
+/// Whether a text may be a cell of a commit.
+fn is_cell(alloc: Global, text: &[u8]) -> Result<bool, AllocError>
+    ensures yes { result ≡ Ok true → IsCell text.now }
+    ensures no { result ≡ Ok false → IsCell text.now → ⊥ }
+{
+    if text.len() > LONGEST_CELL {
+        return Ok(false);
+    }
+    match later_form(alloc, text)? {
+        Some(_) => Ok(false),
+        None => Ok(true),
+    }
+}
+
+/// Whether each text may be a cell of a commit.
+fn are_cells(alloc: Global, cells: &[RcStr]) -> Result<bool, AllocError>
+    ensures yes { result ≡ Ok true → AreCells (map rc_str_bytes cells.now) }
+    ensures no { result ≡ Ok false → AreCells (map rc_str_bytes cells.now) → ⊥ }
+{
+    for cell in cells {
+        if !is_cell(alloc, cell.as_bytes())? {
+            return Ok(false);
+        }
+    }
+    Ok(true)
+}
+
+/// Whether a commit record fits the graph of so many.
+fn fits(
+    alloc: Global,
+    parent: u32,
+    profile: Profile,
+    cells: &[RcStr],
+    count: u64,
+) -> Result<bool, AllocError>
+    ensures yes { result ≡ Ok true → (g : Graph) → IsLinear g count → Fits g (commit parent profile (map rc_str_bytes cells.now)) }
+    ensures no { result ≡ Ok false → (g : Graph) (e : Record) → IsLinear g count → Fits g e → length (body_of e) ≤ longest_body → body_of (commit parent profile (map rc_str_bytes cells.now)) ≡ body_of e → ⊥ }
+{
+    if count >= MOST_RECORDS || parent as u64 != count {
+        return Ok(false);
+    }
+    if profile != Profile::One || cells.is_empty() {
+        return Ok(false);
+    }
+    are_cells(alloc, cells)
+}
+
+/// The record that a body spells, where it fits the graph of so many.
+pub(crate) fn fitting(alloc: Global, body: &[u8], count: u64) -> Result<Option<Entry>, AllocError>
+    requires short { length body.now ≤ longest_body }
+    ensures found { IfOk result (λ o. IfSome o (λ e. body.now ≡ body_of (entry_of e))) }
+    ensures fits { IfOk result (λ o. IfSome o (λ e. (g : Graph) → IsLinear g count → Fits g (entry_of e))) }
+    ensures none { result ≡ Ok None → (g : Graph) (e : Record) → IsLinear g count → Fits g e → body.now ≡ body_of e → ⊥ }
+{
+    let Some(entry) = decode(alloc, body)? else {
+        return Ok(None);
+    };
+    let Entry::Commit {
+        parent,
+        profile,
+        cells,
+    } = &entry;
+    if fits(alloc, *parent, *profile, cells, count)? {
+        Ok(Some(entry))
+    } else {
+        Ok(None)
+    }
+}

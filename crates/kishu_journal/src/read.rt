@@ -1,0 +1,104 @@
+ghost use Rattle.std.specs.Prelude.{◌≡◌, ◌≢◌, ◌≤◌, ◌<◌, ◌+◌, ◌-◌, ◌∷◌, ℕ, List, length, take, drop, true, false, IfOk, IfSome, OnOk, IsErr, IsErrOf, None, Ok};
+ghost use Rattle.std.specs.Int.{w64, to_be_bytes, from_be_bytes};
+ghost use Rattle.kishu_host.specs.Host.{Told, Only, Rises};
+ghost use Rattle.kishu_model.specs.Record.{longest_body};
+ghost use Rattle.kishu_model.specs.Holds.{open_gate};
+ghost use Rattle.kishu_journal.specs.Going.{IsQuiet, ReadsAtMost};
+ghost use Rattle.kishu_journal.specs.Found.{BeginsBody, before_body};
+ghost use Rattle.kishu_journal.specs.declared.journal.JournalFault.TheVariants.{DiskFault, NotAJournal, Damaged};
+
+use crate::JournalFault;
+use crate::append::OPEN;
+use kishu_host::{Failed, Host};
+use std::alloc::Global;
+
+const LONGEST_BODY: u64 = 1 << 30;
+
+/// The file's length, once all of the file is on the disk.
+pub(crate) fn settle<H: Host>(host: &mut H) -> Result<u64, Failed>
+    ensures quiet { IsQuiet (H.state host.old) (H.state host.new) }
+    ensures len { IfOk result (λ n. Told (H.state host.old) (n ≡ length (H.state host.old).file)) }
+    ensures durable { OnOk result (Told (H.state host.old) (Only (H.state host.new).file (H.state host.new).may_leave)) }
+    ensures failed { IsErr result → Rises (H.state host.old).disk_faults (H.state host.new).disk_faults }
+    ensures reads { ReadsAtMost (H.state host.old).reads (H.state host.new).reads 0 }
+{
+    host.sync()?;
+    host.len()
+}
+
+/// Fills `into` from a place, or answers that the file ends before.
+pub(crate) fn read_exact<H: Host>(host: &mut H, at: u64, into: &mut [u8]) -> Result<bool, Failed>
+    ensures quiet { IsQuiet (H.state host.old) (H.state host.new) }
+    ensures whole { IfOk result (λ b. b ≡ true → Told (H.state host.old) ((length into.old ≤ length (H.state host.old).file - at)
+        × (into.new ≡ take (length into.old) (drop at (H.state host.old).file)))) }
+    ensures short { IfOk result (λ b. b ≡ false → Told (H.state host.old) (length (H.state host.old).file - at < length into.old)) }
+    ensures failed { IsErr result → Rises (H.state host.old).disk_faults (H.state host.new).disk_faults }
+    ensures reads { ReadsAtMost (H.state host.old).reads (H.state host.new).reads (length into.old) }
+{
+    let n = host.read_at(at, into)?;
+    Ok(n == into.len())
+}
+
+/// The number that eight bytes spell, the highest first.
+fn number(bytes: &[u8]) -> u64
+    requires { length bytes.now ≡ 8 }
+    ensures value { result ≡ from_be_bytes w64 bytes.now }
+    ensures back { to_be_bytes w64 result ≡ bytes.now }
+{
+    let mut eight = [0; 8];
+    eight.copy_from_slice(bytes);
+    u64::from_be_bytes(eight)
+}
+
+/// The body behind the gate at a place, or none where that gate is closed.
+pub(crate) fn read_body<H: Host>(
+    alloc: Global,
+    host: &mut H,
+    at: u64,
+    len: u64,
+) -> Result<Option<Vec<u8>>, JournalFault>
+    requires len { Told (H.state host.old) (len ≡ length (H.state host.old).file) }
+    requires inside { at < len }
+    ensures quiet { IsQuiet (H.state host.old) (H.state host.new) }
+    ensures body { IfOk result (λ o. IfSome o (λ b. Told (H.state host.old) (BeginsBody (drop at (H.state host.old).file) b.items))) }
+    ensures fits { IfOk result (λ o. IfSome o (λ b. at + before_body + length b.items < len)) }
+    ensures small { IfOk result (λ o. IfSome o (λ b. length b.items ≤ longest_body)) }
+    ensures closed { result ≡ Ok None → Told (H.state host.old) ((gate : ℕ) × (rest : List ℕ) × (drop at (H.state host.old).file ≡ gate ∷ rest) × (gate ≢ open_gate)) }
+    ensures damaged { (place : ℕ) → IsErrOf result (Damaged place) → Told (H.state host.old) ((place ≡ at) × (rest : List ℕ) × (drop at (H.state host.old).file ≡ open_gate ∷ rest)
+        × ((body : List ℕ) → BeginsBody (open_gate ∷ rest) body → ⊥)) }
+    ensures disk_fault { IsErrOf result DiskFault → Rises (H.state host.old).disk_faults (H.state host.new).disk_faults }
+    ensures not_foreign { IsErrOf result NotAJournal → ⊥ }
+    ensures reads { ReadsAtMost (H.state host.old).reads (H.state host.new).reads (len - at) }
+    ensures reads_body { IfOk result (λ o. IfSome o (λ b. ReadsAtMost (H.state host.old).reads (H.state host.new).reads (before_body + length b.items))) }
+{
+    let mut gate = [0; 1];
+    match read_exact(host, at, &mut gate) {
+        Ok(true) => {}
+        Ok(false) => return Err(JournalFault::Damaged { at }),
+        Err(Failed) => return Err(JournalFault::DiskFault),
+    }
+    if gate[0] != OPEN {
+        return Ok(None);
+    }
+    if len - at < 10 {
+        return Err(JournalFault::Damaged { at });
+    }
+    let mut size = [0; 8];
+    match read_exact(host, at + 1, &mut size) {
+        Ok(true) => {}
+        Ok(false) => return Err(JournalFault::Damaged { at }),
+        Err(Failed) => return Err(JournalFault::DiskFault),
+    }
+    let size = number(&size);
+    if size > LONGEST_BODY || size > len - at - 10 {
+        return Err(JournalFault::Damaged { at });
+    }
+    let Ok(mut body) = vec![in alloc; 0u8; size as usize] else {
+        return Err(JournalFault::NoMemory);
+    };
+    match read_exact(host, at + 9, &mut body) {
+        Ok(true) => Ok(Some(body)),
+        Ok(false) => Err(JournalFault::Damaged { at }),
+        Err(Failed) => Err(JournalFault::DiskFault),
+    }
+}

@@ -1,0 +1,46 @@
+-- How a graph and its replay grow by a commit.
+use Rattle.std.specs.Prelude.{◌≡◌, ◌<◌, ◌≤◌, ℕ, suc, ◌+◌, Bool, true, false, nat_le, ◌==◌, if◌then◌else◌, List, [], ◌∷◌, ◌++◌, length, refl}
+use Rattle.std.proofs.Common.{sym, ◌∙◌, ap, arith}
+use Rattle.std.proofs.lemmas.Bool.Decides.{nat_tests}
+use Rattle.kishu_model.specs.declared.profile.Profile.{Profile}
+use Rattle.kishu_model.specs.Values.{State, empty}
+use Rattle.kishu_model.specs.Graph.{Commit, Graph, Target, newest, with_commit, path, path_in, cell_count, count_of}
+use Rattle.kishu_model.specs.Replay.{after_cells, after_commits, replay}
+use Rattle.kishu_model.specs.Answers.{refused, store_full}
+use Rattle.kishu_model.specs.Step.{Request, cell, step, committed, most_records, Stepped}
+
+is_itself : (n : ℕ) → (n == n) ≡ true
+is_itself n = grind (arith, nat_tests)
+
+-- what a commit with these cells adds to a graph
+abbrev pub commit_on : Profile → List (List ℕ) → Graph → Commit
+commit_on profile cells g = record { parent = g.head.commit; profile = profile; cells = cells }
+
+pub path-with_commit : (profile : Profile) (cells : List (List ℕ)) (g : Graph) → path (with_commit profile cells g) (suc (newest g)) ≡ path g g.head.commit ++ commit_on profile cells g ∷ []
+path-with_commit profile cells g =
+    ap (λ (b : Bool). if b then path_in g.commits g.head.commit ++ commit_on profile cells g ∷ [] else path_in g.commits (suc (newest g))) (is_itself (suc (newest g)))
+
+after_commits-append : (ks : List Commit) (k : Commit) (s : State) → after_commits (ks ++ k ∷ []) s ≡ after_cells k.profile k.cells (after_commits ks s)
+after_commits-append [] k s = refl
+after_commits-append (j ∷ ks) k s = after_commits-append ks k (after_cells j.profile j.cells s)
+
+pub replay-with_commit : (profile : Profile) (cells : List (List ℕ)) (g : Graph) → replay (with_commit profile cells g) (suc (newest g)) ≡ after_cells profile cells (replay g g.head.commit)
+replay-with_commit profile cells g =
+    ap (λ (ks : List Commit). after_commits ks empty) (path-with_commit profile cells g) ∙ after_commits-append (path g g.head.commit) (commit_on profile cells g) empty
+
+cell_count-append : (ks : List Commit) (k : Commit) → cell_count (ks ++ k ∷ []) ≡ cell_count ks + length k.cells
+cell_count-append [] k = omega arith
+cell_count-append (j ∷ ks) k = omega (arith, cell_count-append ks k)
+
+pub count-with_commit : (profile : Profile) (cells : List (List ℕ)) (g : Graph) → count_of (with_commit profile cells g) (suc (newest g)) ≡ count_of g g.head.commit + length cells
+count-with_commit profile cells g = ap cell_count (path-with_commit profile cells g) ∙ cell_count-append (path g g.head.commit) (commit_on profile cells g)
+
+pub step-cell : (g : Graph) (text : List ℕ) → g.records < most_records → step g (cell text) ≡ committed text g
+step-cell g text below =
+    let no : nat_le most_records g.records ≡ false = grind (arith, nat_tests) in
+    ap (λ (b : Bool). if b then record { graph = g; answer = refused store_full } else committed text g) no
+
+pub step-full : (g : Graph) (text : List ℕ) → most_records ≤ g.records → step g (cell text) ≡ record { graph = g; answer = refused store_full }
+step-full g text full =
+    let yes : nat_le most_records g.records ≡ true = grind (arith, nat_tests) in
+    ap (λ (b : Bool). if b then record { graph = g; answer = refused store_full } else committed text g) yes

@@ -1,0 +1,34 @@
+-- One request to the replaying machine: the graph after it, and its answer. A cell of a later form is no request yet: a run that gets one ends before its first step.
+use Rattle.std.specs.Prelude.{ℕ, suc, ◌+◌, Bool, nat_le, if◌then◌else◌, List, [], ◌∷◌}
+use Rattle.kishu_model.specs.declared.profile.Profile.{Profile}
+use Rattle.kishu_model.specs.declared.profile.Profile.TheVariants.{One}
+use Rattle.kishu_model.specs.Values.{Ran}
+use Rattle.kishu_model.specs.Meaning.{run}
+use Rattle.kishu_model.specs.Graph.{Graph, Target, newest, with_commit, count_of}
+use Rattle.kishu_model.specs.Replay.{replay}
+use Rattle.kishu_model.specs.Answers.{Answer, ran_cell, refused, store_full}
+
+pub data Request : Type 0 where
+  cell : (text : List ℕ) → Request
+
+pub record Stepped : Type 0 where
+  pub graph : Graph
+  pub answer : Answer
+
+-- the most records that a store holds
+abbrev pub most_records : ℕ
+most_records = 1000000
+
+-- the profile under which new cells run
+abbrev pub newest_profile : Profile
+newest_profile = One
+
+-- The cell runs on the state of the head's commit, and is committed.
+abbrev pub committed : List ℕ → Graph → Stepped
+committed text g = record {
+  graph = with_commit newest_profile (text ∷ []) g;
+  answer = ran_cell (suc (newest g)) (suc (count_of g g.head.commit)) (run newest_profile text (replay g g.head.commit)).report;
+}
+
+abbrev pub step : Graph → Request → Stepped
+step g (cell text) = if nat_le most_records g.records then record { graph = g; answer = refused store_full } else committed text g

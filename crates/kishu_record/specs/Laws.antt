@@ -1,0 +1,141 @@
+-- What follows from the bytes of a record.
+use Rattle.std.proofs.Common.{◌≡◌, Bool, true, false, ◌&&◌, if◌then◌else◌, nat_lt, nat_le, Option, Some, None, ◌≤◌, ◌<◌, ◌+◌, ◌^◌, ℕ, List, [], ◌∷◌, ◌++◌, length, refl, sym, ap, ◌∙◌, arith, length-append, append_assoc}
+use Rattle.std.proofs.lemmas.Nat.{from_be_bytes-to_be_bytes_4}
+use Rattle.std.proofs.lemmas.Str.{IsUtf8-from_ascii}
+use Rattle.std.proofs.lemmas.Str.Ascii.{IsAscii-from_all}
+use Rattle.std.proofs.lemmas.Bool.{false≢true}
+use Rattle.std.proofs.lemmas.Bool.Decides.{nat_tests}
+use Rattle.std.proofs.lemmas.List.Sums.{AllPass-from_list_all}
+use Rattle.std.specs.List.{list_all, All}
+use Rattle.std.specs.Int.{w32, from_be_bytes}
+use Rattle.kishu_model.specs.declared.profile.Profile.{Profile}
+use Rattle.kishu_model.specs.declared.profile.Profile.TheVariants.{One}
+use Rattle.kishu_model.specs.Record.{Entry, commit, profile_number, four, texts_bytes, head_of, body_of, longest_cell, AreCells}
+use Rattle.kishu_model.specs.Plain.{later_line, is_plain_text, longest_plain}
+use Rattle.std.specs.Str.{IsUtf8}
+use Rattle.kishu_record.specs.Entries.{IsText, AreTexts, KeepsRules, BeginsText, BeginsCommit}
+
+-- the length of a body, and of the head of a commit of one cell
+pub length-body : (e : Entry) → length (body_of e) ≡ 4 + length (head_of e)
+unfolding body_of
+length-body e = omega arith
+
+pub length-one_cell : (parent : ℕ) (profile : Profile) (text : List ℕ) → length (head_of (commit parent profile (text ∷ []))) ≡ 22 + length text
+unfolding head_of
+length-one_cell parent profile text = omega (arith, length-append text [], length-append (text ++ []) (four 0 ++ four 0))
+
+-- a head is longer than its texts, and these are at least as many bytes as texts
+length-texts : (texts : List (List ℕ)) → length texts ≤ length (texts_bytes texts)
+length-texts [] = omega arith
+length-texts (t ∷ ts) = omega (arith, length-texts ts, length-append t (texts_bytes ts))
+
+pub fit_from_head : (parent : ℕ) (profile : Profile) (cells : List (List ℕ)) → length (head_of (commit parent profile cells)) < 2 ^ 32 → (length cells < 2 ^ 32) × (length (texts_bytes cells) < 2 ^ 32)
+unfolding head_of
+fit_from_head parent profile cells h =
+    let long : length (texts_bytes cells) < 2 ^ 32 = omega (arith, length-append (texts_bytes cells) (four 0 ++ four 0)) in
+    (omega (arith, long, length-texts cells), long)
+
+-- ---- the front of some bytes, cut off
+
+pub four-cut : (m n : ℕ) (x y : List ℕ) → m < 2 ^ 32 → n < 2 ^ 32 → four m ++ x ≡ four n ++ y → (m ≡ n) × (x ≡ y)
+four-cut m n x y hm hn e =
+    let same : four m ≡ four n = cc in
+    (sym (from_be_bytes-to_be_bytes_4 m hm) ∙ ap (from_be_bytes w32) same ∙ from_be_bytes-to_be_bytes_4 n hn, cc)
+
+pub append-cut : (a b x y : List ℕ) → length a ≡ length b → a ++ x ≡ b ++ y → (a ≡ b) × (x ≡ y)
+append-cut [] [] x y l e = (refl, e)
+append-cut [] (d ∷ b) x y l e = absurd (omega arith)
+append-cut (c ∷ a) [] x y l e = absurd (omega arith)
+append-cut (c ∷ a) (d ∷ b) x y l e =
+    let tail : a ++ x ≡ b ++ y = cc in
+    let cut = append-cut a b x y (omega arith) tail in
+    let head : c ≡ d = cc in
+    (cc (cut.0, head), cut.1)
+
+pub text-cut : (s t x y : List ℕ) → length s < 2 ^ 32 → length t < 2 ^ 32 → four (length s) ++ (s ++ x) ≡ four (length t) ++ (t ++ y) → (s ≡ t) × (x ≡ y)
+text-cut s t x y hs ht e = let cut = four-cut (length s) (length t) (s ++ x) (t ++ y) hs ht e in append-cut s t x y cut.0 cut.1
+
+-- ---- texts, each behind its length
+
+-- one more text behind others
+pub texts-push : (texts : List (List ℕ)) (text rest : List ℕ) → texts_bytes (texts ++ text ∷ []) ++ rest ≡ texts_bytes texts ++ (four (length text) ++ (text ++ rest))
+texts-push [] text rest = ap (λ (z : List ℕ). four (length text) ++ z) (append_assoc text [] rest)
+texts-push (t ∷ ts) text rest =
+    ap (λ (z : List ℕ). four (length t) ++ z)
+    (append_assoc t (texts_bytes (ts ++ text ∷ [])) rest ∙ ap (λ (z : List ℕ). t ++ z) (texts-push ts text rest) ∙ sym (append_assoc t (texts_bytes ts) (four (length text) ++ (text ++ rest))))
+
+pub AreTexts-push : (texts : List (List ℕ)) (text : List ℕ) → AreTexts texts → IsText text → AreTexts (texts ++ text ∷ [])
+AreTexts-push [] text h fits = (fits, tt)
+AreTexts-push (t ∷ ts) text h fits = (h.0, AreTexts-push ts text h.1 fits)
+
+-- the same texts, where as many were read as there are
+pub texts-cut : (ss ts : List (List ℕ)) (x y : List ℕ) → length ss ≡ length ts → AreTexts ss → AreTexts ts → texts_bytes ss ++ x ≡ texts_bytes ts ++ y → (ss ≡ ts) × (x ≡ y)
+texts-cut [] [] x y l hs ht e = (refl, e)
+texts-cut [] (t ∷ ts) x y l hs ht e = absurd (omega arith)
+texts-cut (s ∷ ss) [] x y l hs ht e = absurd (omega arith)
+texts-cut (s ∷ ss) (t ∷ ts) x y l hs ht e =
+    let moved : four (length s) ++ (s ++ (texts_bytes ss ++ x)) ≡ four (length t) ++ (t ++ (texts_bytes ts ++ y)) =
+    ap (λ (z : List ℕ). four (length s) ++ z) (sym (append_assoc s (texts_bytes ss) x)) ∙ e ∙ ap (λ (z : List ℕ). four (length t) ++ z) (append_assoc t (texts_bytes ts) y) in
+    let cut = text-cut s t (texts_bytes ss ++ x) (texts_bytes ts ++ y) (omega (arith, hs.0.short)) (omega (arith, ht.0.short)) moved in
+    let rest = texts-cut ss ts x y (omega arith) hs.1 ht.1 cut.1 in
+    (cc (cut.0, rest.0), rest.1)
+
+-- a text follows, where fewer were read than there are
+pub texts-follow : (ss ts : List (List ℕ)) (x y : List ℕ) → length ss < length ts → AreTexts ss → AreTexts ts → texts_bytes ss ++ x ≡ texts_bytes ts ++ y → BeginsText x
+texts-follow ss [] x y l hs ht e = absurd (omega arith)
+texts-follow [] (t ∷ ts) x y l hs ht e = record {
+  text = t;
+  rest = texts_bytes ts ++ y;
+  fits = ht.0;
+  is = e ∙ ap (λ (z : List ℕ). four (length t) ++ z) (append_assoc t (texts_bytes ts) y);
+}
+texts-follow (s ∷ ss) (t ∷ ts) x y l hs ht e =
+    let moved : four (length s) ++ (s ++ (texts_bytes ss ++ x)) ≡ four (length t) ++ (t ++ (texts_bytes ts ++ y)) =
+    ap (λ (z : List ℕ). four (length s) ++ z) (sym (append_assoc s (texts_bytes ss) x)) ∙ e ∙ ap (λ (z : List ℕ). four (length t) ++ z) (append_assoc t (texts_bytes ts) y) in
+    let cut = text-cut s t (texts_bytes ss ++ x) (texts_bytes ts ++ y) (omega (arith, hs.0.short)) (omega (arith, ht.0.short)) moved in
+    texts-follow ss ts x y (omega arith) hs.1 ht.1 cut.1
+
+-- ---- cells are texts
+
+and_right : (a b : Bool) → (a && b) ≡ true → b ≡ true
+and_right true b e = e
+and_right false b e = absurd (false≢true e)
+
+plain_if_none : (b : Bool) (o : Option ℕ) → (if b then o else Some 1) ≡ None → b ≡ true
+plain_if_none true o e = refl
+plain_if_none false o e = absurd (cc e)
+
+below_128 : (text : List ℕ) → list_all (λ c. nat_lt c 128) text ≡ true → All (λ c. c < 128) text
+below_128 text h k d lt = let pass = AllPass-from_list_all (λ c. nat_lt c 128) text h k d lt in grind (arith, nat_tests, pass)
+
+pub utf8_from_plain : (text : List ℕ) → later_line text ≡ None → IsUtf8 text
+utf8_from_plain text plain =
+    let is_plain : is_plain_text text ≡ true = plain_if_none (is_plain_text text) _ plain in
+    IsUtf8-from_ascii text (IsAscii-from_all text (below_128 text (and_right (nat_le (length text) longest_plain) _ is_plain)))
+
+pub texts_from_cells : (cells : List (List ℕ)) → AreCells cells → AreTexts cells
+texts_from_cells [] h = tt
+texts_from_cells (c ∷ cs) h = (record { short = h.0.short; utf8 = utf8_from_plain c h.0.plain }, texts_from_cells cs h.1)
+
+-- ---- two entries with one body are one
+
+one_profile : (p q : Profile) → p ≡ q
+one_profile One One = refl
+
+-- a head that a body of at most 2 ^ 30 bytes holds has fewer than 2 ^ 32 texts
+pub head-cut : (a b : Entry) → KeepsRules a → KeepsRules b → length (head_of a) < 2 ^ 32 → head_of a ≡ head_of b → a ≡ b
+unfolding head_of
+head-cut (commit p One ss) (commit q One ts) ha hb short e =
+    let short_b : length (head_of (commit q One ts)) < 2 ^ 32 = omega (arith, ap length e) in
+    let e1 : four p ++ (1 ∷ (four (length ss) ++ (texts_bytes ss ++ (four 0 ++ four 0)))) ≡ four q ++ (1 ∷ (four (length ts) ++ (texts_bytes ts ++ (four 0 ++ four 0)))) = cc in
+    let c1 = four-cut p q _ _ ha.0 hb.0 e1 in
+    let e2 : four (length ss) ++ (texts_bytes ss ++ (four 0 ++ four 0)) ≡ four (length ts) ++ (texts_bytes ts ++ (four 0 ++ four 0)) = cc (c1.1) in
+    let c2 = four-cut (length ss) (length ts) _ _ (fit_from_head p One ss short).0 (fit_from_head q One ts short_b).0 e2 in
+    let c3 = texts-cut ss ts (four 0 ++ four 0) (four 0 ++ four 0) c2.0 ha.2 hb.2 c2.1 in
+    cc (c1.0, c3.0)
+
+pub same_body : (a b : Entry) → KeepsRules a → KeepsRules b → length (body_of a) < 2 ^ 32 → body_of a ≡ body_of b → a ≡ b
+unfolding body_of
+same_body a b ha hb short e =
+    let tail : head_of a ≡ head_of b = cc in
+    head-cut a b ha hb (omega arith) tail

@@ -1,0 +1,96 @@
+-- One cell that is committed.
+use Rattle.std.proofs.Common.{◌≡◌, ◌<◌, ◌≤◌, ◌+◌, ℕ, suc, List, [], ◌∷◌, ◌++◌, refl, sym, ◌∙◌, ap, subst, arith}
+use Rattle.kishu_host.specs.Host.{State, Now, Only, DuringPut, Elapses}
+use Rattle.kishu_host.specs.Going.{weaker, goes_on}
+use Rattle.kishu_model.specs.declared.profile.Profile.TheVariants.{One}
+use Rattle.kishu_model.specs.Values as values
+use Rattle.kishu_model.specs.Meaning.{run}
+use Rattle.kishu_model.specs.Graph.{Graph, newest, with_commit, count_of}
+use Rattle.kishu_model.specs.Replay.{replay}
+use Rattle.kishu_model.specs.Answers.{answer_line, ran_cell}
+use Rattle.kishu_model.specs.Step.{Stepped, cell, step, committed, most_records}
+use Rattle.kishu_model.specs.Record.{Entry, commit, changed, Fits, body_of}
+use Rattle.kishu_model.specs.Plain.{later_line}
+use Rattle.std.proofs.Common.{None}
+use Rattle.kishu_serve.proofs.Bodies.{plain-short}
+use Rattle.kishu_model.specs.Holds.{Holds, Ends, graph_of}
+use Rattle.kishu_model.specs.Serve.{after, answer_of}
+use Rattle.kishu_model.specs.Growth.{step-cell, step-full, replay-with_commit, count-with_commit}
+use Rattle.kishu_model.specs.Laws.{changed-push, ends-holds}
+use Rattle.kishu_model.specs.Graph.{new_graph}
+use Rattle.kishu_journal.specs.Stands.{JournalState, Stands, IsNext, with_entry}
+use Rattle.kishu_journal.specs.Going.{WithOrWithout}
+use Rattle.kishu_serve.specs.declared.session.Session.{Session}
+use Rattle.kishu_serve.specs.Attached.{IsAttached}
+use Rattle.kishu_serve.specs.Headline.{IsPart}
+use Rattle.kishu_serve.proofs.Parts.{part-append, part-put}
+
+abbrev pub entry_for : Session → List ℕ → Entry
+entry_for session text = commit session.commits One (text ∷ [])
+
+module _ (session : Session) (s : State) (g : Graph) (text : List ℕ) (a : IsAttached session s g) (room : session.commits < 1000000) where
+  stepped : step g (cell text) ≡ committed text g
+  stepped = step-cell g text (omega (arith, a.records, a.commits))
+
+  pub after-is : after g (cell text) ≡ with_commit One (text ∷ []) g
+  after-is = ap (λ (x : Stepped). x.graph) stepped
+
+  pub moves : after g (cell text) ≡ changed (graph_of a.entries) (entry_for session text)
+  moves = after-is ∙ ap (λ (x : Graph). with_commit One (text ∷ []) x) a.graph
+
+  fits : later_line text ≡ None → Fits (graph_of a.entries) (entry_for session text)
+  fits plain =
+      subst (λ (x : Graph). Fits x (entry_for session text)) a.graph
+      (omega (arith, a.records, a.commits), a.commits ∙ sym a.head, refl, omega arith, (record { short = omega (arith, plain-short text plain); plain = plain }, tt))
+
+  pub next-is : (journal : JournalState) (body : List ℕ) → later_line text ≡ None → journal ≡ session.journal → body ≡ body_of (entry_for session text) → IsNext journal s.file body a.entries (entry_for session text)
+  next-is journal body plain same is = record { stands = subst (λ (j : JournalState). Stands j s.file a.entries) (sym same) a.stands; fits = fits plain; body_is = is }
+
+  pub line-is : (line : List ℕ) → line ≡ answer_line (ran_cell (session.commits + 1) (session.cells + 1) (run One text session.state).report) → line ≡ answer_of g (cell text)
+  line-is line e =
+      let number : session.commits + 1 ≡ suc (newest g) = omega (arith, a.commits) in
+      let count : session.cells + 1 ≡ suc (count_of g g.head.commit) = omega (arith, a.cells) in
+      e
+      ∙ ap (λ (n : ℕ). answer_line (ran_cell n (session.cells + 1) (run One text session.state).report)) number
+      ∙ ap (λ (n : ℕ). answer_line (ran_cell (suc (newest g)) n (run One text session.state).report)) count
+      ∙ ap (λ (t : values.State). answer_line (ran_cell (suc (newest g)) (suc (count_of g g.head.commit)) (run One text t).report)) a.live
+      ∙ ap (λ (x : Stepped). answer_line x.answer) (sym stepped)
+
+  pub append-stop : (s1 : State) → Elapses s s1 (WithOrWithout s a.entries (entry_for session text)) → Elapses s s1 (IsPart s g (cell text ∷ []))
+  append-stop s1 time = weaker s s1 (IsPart s g (cell text ∷ [])) (WithOrWithout s a.entries (entry_for session text)) time (part-append s g (cell text) a.entries (entry_for session text) a.graph moves)
+
+  module _ (journal : JournalState) (s1 : State) (stands : Stands journal s1.file (with_entry a.entries (entry_for session text))) (only : Only s1.file s1.may_leave) (same : s1.out ≡ s.out) where
+    holds : Holds s1.file (after g (cell text))
+    holds =
+        subst (λ (x : Graph). Holds s1.file x) (changed-push new_graph a.entries (entry_for session text) ∙ sym moves) (ends-holds s1.file (with_entry a.entries (entry_for session text)) stands.ends)
+
+    pub put-stop : (s2 : State) (line : List ℕ) → line ≡ answer_of g (cell text) → Elapses s s1 (WithOrWithout s a.entries (entry_for session text)) → Elapses s1 s2 (DuringPut s1 line) → Elapses s s2 (IsPart s g (cell text ∷ []))
+    put-stop s2 line is first second =
+        goes_on s s1 s2 (IsPart s g (cell text ∷ [])) (DuringPut s1 line) (append-stop s1 first) second (part-put s g (cell text) s1 line is only holds same)
+
+    pub attached-after : (next : Session) (s2 : State) → next.journal ≡ journal → next.commits ≡ session.commits + 1 → next.cells ≡ session.cells + 1 → next.state ≡ (run One text session.state).state
+        → s2.file ≡ s1.file → ((c : List ℕ) → s2.may_leave c → s1.may_leave c) → IsAttached next s2 (after g (cell text))
+    attached-after next s2 same_journal commits cells live file crash =
+        subst (λ (x : Graph). IsAttached next s2 x) (sym after-is)
+        (record {
+          entries = with_entry a.entries (entry_for session text);
+          stands = subst (λ (f : List ℕ). Stands next.journal f (with_entry a.entries (entry_for session text))) (sym file) (subst (λ (j : JournalState). Stands j s1.file (with_entry a.entries (entry_for session text))) (sym same_journal) stands);
+          graph = sym after-is ∙ moves ∙ sym (changed-push new_graph a.entries (entry_for session text));
+          durable = λ f h. only f (crash f h) ∙ sym file;
+          head = refl;
+          records = ap (λ n. suc n) a.records;
+          commits = omega (arith, commits, a.commits);
+          cells = omega (arith, cells, a.cells, count-with_commit One (text ∷ []) g);
+          live = live ∙ ap (λ (t : values.State). (run One text t).state) a.live ∙ sym (replay-with_commit One (text ∷ []) g);
+        })
+
+module _ (session : Session) (s : State) (g : Graph) (text : List ℕ) (a : IsAttached session s g) (full : 1000000 ≤ session.commits) where
+  pub refused-is : after g (cell text) ≡ g
+  refused-is = ap (λ (x : Stepped). x.graph) (step-full g text (omega (arith, full, a.records, a.commits)))
+
+  -- nothing but the refusal goes out
+  pub refused-stop : (s1 : State) → Elapses s s1 (DuringPut s (answer_of g (cell text))) → Elapses s s1 (IsPart s g (cell text ∷ []))
+  refused-stop s1 time =
+      let held : Holds s.file g = subst (λ (x : Graph). Holds s.file x) (sym a.graph) (ends-holds s.file a.entries a.stands.ends) in
+      weaker s s1 (IsPart s g (cell text ∷ [])) (DuringPut s (answer_of g (cell text))) time
+      (part-put s g (cell text) s (answer_of g (cell text)) refl a.durable (subst (λ (x : Graph). Holds s.file x) (sym refused-is) held) refl)

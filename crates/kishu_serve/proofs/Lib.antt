@@ -1,0 +1,5 @@
+mod Items
+mod Bodies
+mod Parts
+mod Commits
+mod Runs

@@ -1,0 +1,59 @@
+-- A run: the opening, and then one request.
+use Rattle.std.proofs.Common.{◌≡◌, ◌⊎◌, ◌≤◌, ◌<◌, inl, inr, ⊎_elim, ℕ, List, [], ◌∷◌, ◌++◌, length, refl, sym, ◌∙◌, ap, subst, arith, Result, Ok, Err, IsOk, OnOk, Option, Some, None, is_some, true}
+use Rattle.std.proofs.lemmas.Bool.{cases_lt}
+use Rattle.std.proofs.lemmas.List.{append-nil}
+use Rattle.kishu_host.specs.Host.{State, Now, Only, Elapses}
+use Rattle.kishu_host.specs.Going.{weaker, goes_on}
+use Rattle.kishu_model.specs.Graph.{Graph, new_graph}
+use Rattle.kishu_model.specs.Step.{Request, cell}
+use Rattle.kishu_model.specs.Task.{Form, one_cell, task}
+use Rattle.kishu_model.specs.Holds.{Holds, graph_of}
+use Rattle.kishu_model.specs.Serve.{after, answer_of, Reached}
+use Rattle.kishu_model.specs.Laws.{ends-holds}
+use Rattle.kishu_serve.specs.declared.session.Session.{Session}
+use Rattle.kishu_serve.specs.Attached.{IsAttached}
+use Rattle.kishu_serve.specs.Headline.{IsPart, IsWhole}
+use Rattle.kishu_serve.proofs.Parts.{part-none}
+
+-- what a stop of the whole run may leave
+abbrev pub RunStop : State → Graph → Request → List ℕ → List ℕ → Type 0
+RunStop s g q c o = Now s c o ⊎ IsPart s g (q ∷ []) c o
+
+-- what opening leaves
+abbrev pub OpenStop : State → Graph → List ℕ → List ℕ → Type 0
+OpenStop s g c o = Now s c o ⊎ (Holds c g × (o ≡ s.out))
+
+-- a file that holds nothing is a long one
+pub long-bad : (file : List ℕ) → ((g : Graph) → Holds file g → ⊥) → 17 < length file
+long-bad file bad = ⊎_elim (λ (l : 17 < length file). l) (λ (l : length file ≤ 17). absurd (bad new_graph (inl (l, refl)))) (cases_lt 17 (length file))
+
+pub attached-holds : (session : Session) (s : State) (g : Graph) → IsAttached session s g → Holds s.file g
+attached-holds session s g a = subst (λ (x : Graph). Holds s.file x) (sym a.graph) (ends-holds s.file a.entries a.stands.ends)
+
+module _ (s0 s1 : State) (g : Graph) (q : Request) (opening : Elapses s0 s1 (OpenStop s0 g)) where
+  pub opening-stop : Elapses s0 s1 (RunStop s0 g q)
+  opening-stop = weaker s0 s1 (RunStop s0 g q) (OpenStop s0 g) opening (λ f o h. ⊎_elim (λ now. inl now) (λ (k : Holds f g × (o ≡ s0.out)). inr (part-none s0 g q f o k.0 k.1)) h)
+
+  module _ (same : s1.out ≡ s0.out) where
+    pub part-from : (f o : List ℕ) → IsPart s1 g (q ∷ []) f o → IsPart s0 g (q ∷ []) f o
+    part-from f o h = record { now = h.now; printed = h.printed; holds = h.holds; out_is = h.out_is ∙ ap (λ (l : List ℕ). l ++ h.printed) same; reached = h.reached }
+
+    pub serving-stop : (s2 : State) → Elapses s1 s2 (IsPart s1 g (q ∷ [])) → Elapses s0 s2 (RunStop s0 g q)
+    serving-stop s2 serving = goes_on s0 s1 s2 (RunStop s0 g q) (IsPart s1 g (q ∷ [])) opening-stop serving (λ f o h. inr (part-from f o h))
+
+    pub whole : (session : Session) (s2 : State) → IsAttached session s2 (after g q) → s2.out ≡ s1.out ++ answer_of g q → IsWhole s0 s2 g (q ∷ [])
+    whole session s2 a answered = record {
+      holds = attached-holds session s2 (after g q) a;
+      out_is = answered ∙ ap (λ (l : List ℕ). l ++ answer_of g q) same ∙ ap (λ (l : List ℕ). s0.out ++ l) (sym (append-nil (answer_of g q)));
+      durable = a.durable;
+    }
+
+-- what holds where a call succeeded, once it has
+pub succeeded : {T E P : Type 0} (r : Result T E) → IsOk r → OnOk r P → P
+succeeded (Ok x) ok p = p
+succeeded (Err e) ok p = absurd (cc ok)
+
+-- what words of a form ask for
+pub asked : (form : Option Form) (text left : List ℕ) → is_some form ≡ true → text ≡ left → cell text ∷ [] ≡ task form left
+asked (Some one_cell) text left some same = ap (λ (t : List ℕ). cell t ∷ []) same
+asked None text left some same = absurd (cc some)

@@ -1,0 +1,14 @@
+use Rattle.std.proofs.Common.{◌≡◌, ◌≤◌, ◌-◌, ◌++◌, true, vec_len}
+use Rattle.kishu_serve.proofs.input.read_input.Given as goal
+
+abbrev pub invariant-loop-buffer : goal.invariant-loop-buffer
+invariant-loop-buffer g l =
+    let st = g.S.Source.source in
+    record {
+      left : (st l.fn.source).tells ≡ true → l.bytes.items ++ (st l.source).left ≡ (st l.fn.source).left;
+      tells : (st l.source).tells ≡ (st l.fn.source).tells;
+      faults : (st l.fn.source).in_faults ≤ (st l.source).in_faults;
+    }
+
+abbrev pub decreases-loop-buffer : goal.decreases-loop-buffer
+decreases-loop-buffer g l = 65537 - vec_len l.bytes

@@ -1,0 +1,69 @@
+use Rattle.std.proofs.Common.{◌≡◌, ◌+◌, ◌<◌, ℕ, List, length, refl, sym, ◌∙◌, ap, subst, arith}
+use Rattle.kishu_model.specs.declared.profile.Profile.TheVariants.{One}
+use Rattle.kishu_model.specs.Record.{body_of}
+use Rattle.kishu_journal.specs.Stands.{JournalState, Stands}
+use Rattle.kishu_serve.proofs.Bodies.{plain-short, length-body_of}
+use Rattle.kishu_serve.proofs.Commits.{entry_for, next-is, append-stop, put-stop, line-is, attached-after}
+use Rattle.kishu_serve.proofs.session.Session.commit_cell.Goals as goal
+
+pub append-requires-clause-short : goal.append-requires-clause-short
+append-requires-clause-short g c =
+    omega (
+      arith,
+      ap length (c.deref.ensures.value ∙ c.in-Ok.ensures.body),
+      length-body_of c.args.self.now.commits One c.args.text.now,
+      plain-short c.args.text.now c.requires.plain
+    )
+
+pub returns-in-Err-DiskFault-clause-stop : goal.returns-in-Err-DiskFault-clause-stop
+returns-in-Err-DiskFault-clause-stop g c told g' a =
+    let st = g.H.Host.state in
+    let self = c.args.self.now in
+    let text = c.args.text.now in
+    let s0 = st c.args.host.now in
+    let room = c.requires.room in
+    let body = c.deref.ensures.value ∙ c.in-Ok.ensures.body in
+    let stop = c.append.ensures.stop told a.durable a.entries (entry_for self text) (next-is self s0 g' text a room _ _ c.requires.plain c.prepared.ensures.rest.0 body) in
+    append-stop self s0 g' text a room (st c.append.new.host) stop
+
+pub returns-in_default-put-clause-stop : goal.returns-in_default-put-clause-stop
+returns-in_default-put-clause-stop g c told g' a =
+    let st = g.H.Host.state in
+    let self = c.args.self.now in
+    let text = c.args.text.now in
+    let s0 = st c.args.host.now in
+    let room = c.requires.room in
+    let body = c.deref.ensures.value ∙ c.in-Ok.ensures.body in
+    let next = next-is self s0 g' text a room _ _ c.requires.plain c.prepared.ensures.rest.0 body in
+    let stop = c.append.ensures.stop told a.durable a.entries (entry_for self text) next in
+    let stands = c.in-Ok-append.ensures.stands told a.entries (entry_for self text) next in
+    let line = line-is self s0 g' text a room _ (c.deref-2.ensures.value ∙ c.in-Ok.ensures.line) in
+    put-stop self s0 g' text a room _ (st c.append.new.host) stands (c.in-Ok-append.ensures.durable told) c.append.ensures.out (st c.put.new.self) _ line stop c.put.ensures.time
+
+pub returns-clause-stop : goal.returns-clause-stop
+returns-clause-stop g c told g' a =
+    let st = g.H.Host.state in
+    let self = c.args.self.now in
+    let text = c.args.text.now in
+    let s0 = st c.args.host.now in
+    let room = c.requires.room in
+    let body = c.deref.ensures.value ∙ c.in-Ok.ensures.body in
+    let next = next-is self s0 g' text a room _ _ c.requires.plain c.prepared.ensures.rest.0 body in
+    let stop = c.append.ensures.stop told a.durable a.entries (entry_for self text) next in
+    let stands = c.in-Ok-append.ensures.stands told a.entries (entry_for self text) next in
+    let line = line-is self s0 g' text a room _ (c.deref-2.ensures.value ∙ c.in-Ok.ensures.line) in
+    put-stop self s0 g' text a room _ (st c.append.new.host) stands (c.in-Ok-append.ensures.durable told) c.append.ensures.out (st c.put.new.self) _ line stop c.put.ensures.time
+
+pub returns-clause-attached : goal.returns-clause-attached
+returns-clause-attached g c told g' a =
+    let st = g.H.Host.state in
+    let self = c.args.self.now in
+    let text = c.args.text.now in
+    let s0 = st c.args.host.now in
+    let room = c.requires.room in
+    let body = c.deref.ensures.value ∙ c.in-Ok.ensures.body in
+    let next = next-is self s0 g' text a room _ _ c.requires.plain c.prepared.ensures.rest.0 body in
+    let stands = c.in-Ok-append.ensures.stands told a.entries (entry_for self text) next in
+    let rest = c.prepared.ensures.rest in
+    attached-after self s0 g' text a room _ (st c.append.new.host) stands (c.in-Ok-append.ensures.durable told) c.append.ensures.out _ (st c.put.new.self)
+    refl (ap (λ n. n + 1) rest.1) (ap (λ n. n + 1) rest.2) c.in-Ok.ensures.state c.put.ensures.kept c.put.ensures.crash

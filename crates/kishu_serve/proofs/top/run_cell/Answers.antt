@@ -1,0 +1,97 @@
+use Rattle.std.proofs.Common.{◌≡◌, ◌⊎◌, inl, inr, ⊎_elim, ℕ, List, [], ◌∷◌, ◌++◌, refl, sym, ◌∙◌, ap, subst, Err}
+use Rattle.kishu_host.specs.Host.{Told, Only}
+use Rattle.kishu_host.specs.Going.{now_has, now_each}
+use Rattle.kishu_model.specs.Step.{cell}
+use Rattle.kishu_model.specs.Holds.{Holds}
+use Rattle.kishu_model.specs.Laws.{broken-holds, foreign-holds}
+use Rattle.kishu_journal.specs.declared.journal.JournalFault.{JournalFault}
+use Rattle.kishu_serve.specs.Headline.{IsPart}
+use Rattle.kishu_serve.proofs.Parts.{part-none, part-now}
+use Rattle.kishu_serve.proofs.Runs.{attached-holds, opening-stop, part-from, serving-stop, whole, succeeded}
+use Rattle.kishu_serve.proofs.top.run_cell.Goals as goal
+
+pub returns-in-Ok-clause-stop : goal.returns-in-Ok-clause-stop
+returns-in-Ok-clause-stop g c told g' holds =
+    let st = g.H.Host.state in
+    let a = c.in-Ok.ensures.attached told g' holds in
+    serving-stop (st c.args.host.now) (st c.open.new.host) g' (cell c.args.text.now) (c.open.ensures.stop told g' holds) c.open.ensures.out (st c.serve.new.host)
+    (c.serve.ensures.stop (c.open.ensures.tells ∙ told) g' a)
+
+pub returns-in-Ok-clause-run : goal.returns-in-Ok-clause-run
+returns-in-Ok-clause-run g c told g' holds =
+    let st = g.H.Host.state in
+    let laws = g.met.H.Host in
+    let q = cell c.args.text.now in
+    let s0 = st c.args.host.now in
+    let s1 = st c.open.new.host in
+    let s2 = st c.serve.new.host in
+    let told1 = c.open.ensures.tells ∙ told in
+    let a = c.in-Ok.ensures.attached told g' holds in
+    let stop = c.serve.ensures.stop told1 g' a in
+    part-from s0 s1 g' q (c.open.ensures.stop told g' holds) c.open.ensures.out s2.file s2.out
+    (now_has s1 s2 (IsPart s1 g' (q ∷ [])) stop (laws.reads_now c.serve.new.host (stop.tells ∙ told1)) (laws.counts_now c.serve.new.host) (λ f o. laws.only_now c.open.new.host f o told1)
+    (part-now s1 g' q (attached-holds _ s1 g' a) a.durable))
+
+pub returns-in-Ok-clause-settled : goal.returns-in-Ok-clause-settled
+returns-in-Ok-clause-settled g c told g' holds =
+    let st = g.H.Host.state in
+    let laws = g.met.H.Host in
+    let q = cell c.args.text.now in
+    let s0 = st c.args.host.now in
+    let s1 = st c.open.new.host in
+    let s2 = st c.serve.new.host in
+    let told1 = c.open.ensures.tells ∙ told in
+    let a = c.in-Ok.ensures.attached told g' holds in
+    inr (λ f now. part-from s0 s1 g' q (c.open.ensures.stop told g' holds) c.open.ensures.out f s2.out
+    (now_each s1 s2 (IsPart s1 g' (q ∷ [])) (c.serve.ensures.stop told1 g' a) (laws.counts_now c.serve.new.host) (λ x o. laws.only_now c.open.new.host x o told1)
+    (part-now s1 g' q (attached-holds _ s1 g' a) a.durable) f now))
+
+pub returns-in-Ok-clause-done : goal.returns-in-Ok-clause-done
+returns-in-Ok-clause-done g c done told g' holds =
+    let st = g.H.Host.state in
+    let q = cell c.args.text.now in
+    let s0 = st c.args.host.now in
+    let s1 = st c.open.new.host in
+    let s2 = st c.serve.new.host in
+    let told1 = c.open.ensures.tells ∙ told in
+    let a = c.in-Ok.ensures.attached told g' holds in
+    let ok = c.served.ensures.done done in
+    whole s0 s1 g' q (c.open.ensures.stop told g' holds) c.open.ensures.out _ s2 (succeeded c.serve.result ok c.serve.ensures.attached told1 g' a) (succeeded c.serve.result ok c.serve.ensures.answered told1 g' a)
+
+pub returns-in-Ok-clause-bad : goal.returns-in-Ok-clause-bad
+returns-in-Ok-clause-bad g c told bad =
+    let good = c.in-Ok.ensures.good told in
+    absurd (bad good.0 good.1)
+
+pub returns-in-Err-clause-run : goal.returns-in-Err-clause-run
+returns-in-Err-clause-run g c told g' holds =
+    let st = g.H.Host.state in
+    part-none (st c.args.host.now) g' (cell c.args.text.now) _ _ (c.open.ensures.held told g' holds) c.open.ensures.out
+
+pub returns-in-Err-clause-stop : goal.returns-in-Err-clause-stop
+returns-in-Err-clause-stop g c told g' holds =
+    let st = g.H.Host.state in
+    opening-stop (st c.args.host.now) (st c.open.new.host) g' (cell c.args.text.now) (c.open.ensures.stop told g' holds)
+
+pub returns-in-Err-clause-settled : goal.returns-in-Err-clause-settled
+returns-in-Err-clause-settled g c told g' holds =
+    let st = g.H.Host.state in
+    let s0 = st c.args.host.now in
+    let s1 = st c.open.new.host in
+    ⊎_elim (λ e. inl (c.unopened.ensures.disk (cc (e, c.in-Err.is))))
+    (λ (d : Told s0 (Only s1.file s1.may_leave)). inr (λ f now. part-none s0 g' (cell c.args.text.now) f s1.out (subst (λ (x : List ℕ). Holds x g') (sym (d told f now)) (c.open.ensures.held told g' holds)) c.open.ensures.out))
+    c.open.ensures.durable
+
+pub returns-in-Err-clause-damaged : goal.returns-in-Err-clause-damaged
+returns-in-Err-clause-damaged g c at is told = c.open.ensures.damaged at (c.in-Err.is ∙ ap (λ (f : JournalFault). Err f) (c.unopened.ensures.damaged at is)) told
+
+pub returns-in-Err-clause-complete : goal.returns-in-Err-clause-complete
+returns-in-Err-clause-complete g c told g' holds =
+    let file = (g.H.Host.state c.args.host.now).file in
+    elim c.unopened.ensures.these [
+      inl is ↦ absurd (foreign-holds file g' (c.open.ensures.foreign (c.in-Err.is ∙ ap (λ (f : JournalFault). Err f) (c.unopened.ensures.foreign is)) told) holds)
+      | inr rest ↦ elim rest [
+        inl is ↦ absurd (broken-holds file is.0 g' (c.open.ensures.damaged is.0 (c.in-Err.is ∙ ap (λ (f : JournalFault). Err f) (c.unopened.ensures.damaged is.0 is.1)) told) holds)
+        | inr last ↦ elim last [ inl is ↦ inr (inr (inl is)) | inr is ↦ inr (inl is) ]
+      ]
+    ]

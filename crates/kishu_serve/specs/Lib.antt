@@ -1,0 +1,6 @@
+pub mod Statuses
+pub mod Words
+pub mod Headline
+pub mod Attached
+pub mod Midway
+pub mod Texts

@@ -1,0 +1,26 @@
+-- How a run can end: the program's exit code and what it says on standard error.
+use Rattle.std.specs.Prelude.{ℕ, List, ◌++◌, codes, decimal}
+use Rattle.kishu_serve.specs.declared.status.Status.{Status}
+use Rattle.kishu_serve.specs.declared.status.Status.TheVariants.{Done, Usage, NotAJournal, Damaged, DiskFault, InputFault, OutputFault, NoMemory, NotYet}
+
+abbrev pub code_of : Status → ℕ
+code_of Done = 0
+code_of Usage = 2
+code_of NotAJournal = 3
+code_of (Damaged at) = 3
+code_of DiskFault = 5
+code_of InputFault = 6
+code_of OutputFault = 7
+code_of NoMemory = 8
+code_of (NotYet line) = 10
+
+abbrev pub text_of : Status → List ℕ
+text_of Done = codes "done"
+text_of Usage = codes "usage: kishu STORE COMMAND"
+text_of NotAJournal = codes "not a journal"
+text_of (Damaged at) = codes "damaged at " ++ decimal at
+text_of DiskFault = codes "disk fault"
+text_of InputFault = codes "input fault"
+text_of OutputFault = codes "output fault"
+text_of NoMemory = codes "no memory"
+text_of (NotYet line) = codes "not yet: line " ++ decimal line

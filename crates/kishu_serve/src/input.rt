@@ -1,0 +1,41 @@
+ghost use Rattle.std.specs.Prelude.{◌≡◌, ◌≤◌, ◌<◌, ◌+◌, ◌-◌, ◌++◌, [], length, take, drop, true, IfOk, IsErrOf};
+ghost use Rattle.kishu_host.specs.Host.{Rises};
+ghost use Rattle.kishu_serve.specs.declared.input.InputStop.TheVariants.{Fault, TooLong};
+
+use kishu_host::Source;
+use std::alloc::Global;
+
+/// Why an input isn't read whole.
+#[derive(Clone, Copy, Debug, PartialEq, Eq)]
+pub(crate) enum InputStop {
+    Fault,
+    TooLong,
+    NoMemory,
+}
+
+/// The longest input, in bytes.
+pub(crate) const LONGEST: usize = 65536;
+
+/// All that a source has left. Reading stops once more than the longest input was taken.
+pub(crate) fn read_input<S: Source>(alloc: Global, source: &mut S) -> Result<Vec<u8>, InputStop>
+    ensures whole { IfOk result (λ v. (S.source source.old).tells ≡ true → (v.items ≡ (S.source source.old).left) × ((S.source source.new).left ≡ [])) }
+    ensures short { IfOk result (λ v. length v.items ≤ LONGEST) }
+    ensures too_long { IsErrOf result TooLong → (S.source source.old).tells ≡ true → LONGEST < length (S.source source.old).left }
+    ensures fault { IsErrOf result Fault → Rises (S.source source.old).in_faults (S.source source.new).in_faults }
+    ensures faults { (S.source source.old).in_faults ≤ (S.source source.new).in_faults }
+{
+    let mut bytes = Vec::new(alloc);
+    let mut buffer = [0; 4096];
+    while bytes.len() <= LONGEST {
+        let Ok(n) = source.take(&mut buffer) else {
+            return Err(InputStop::Fault);
+        };
+        if n == 0 {
+            return Ok(bytes);
+        }
+        let Ok(()) = bytes.extend_from_slice(&buffer[..n]) else {
+            return Err(InputStop::NoMemory);
+        };
+    }
+    Err(InputStop::TooLong)
+}

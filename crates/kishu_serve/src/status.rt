@@ -1,0 +1,62 @@
+ghost use Rattle.std.specs.Prelude.{◌≡◌, IfOk, string_bytes};
+ghost use Rattle.kishu_serve.specs.Statuses.{code_of, text_of};
+
+use std::alloc::{AllocError, Global};
+
+/// How a run ended.
+#[derive(Clone, Copy, Debug, PartialEq, Eq)]
+pub enum Status {
+    /// All was answered, and the input was read to its end.
+    Done,
+    /// The words have no form.
+    Usage,
+    /// The store file has more than 17 bytes and another header.
+    NotAJournal,
+    /// The gate at this byte of the store file is open, and no record that fits follows it.
+    Damaged { at: u64 },
+    /// The disk failed.
+    DiskFault,
+    /// The input failed.
+    InputFault,
+    /// The output failed.
+    OutputFault,
+    /// Memory ran out.
+    NoMemory,
+    /// The cell has a form that isn't built yet; this is the first line, counted from 1, that has it.
+    NotYet { line: u32 },
+}
+
+impl Status {
+    /// The exit code of the program.
+    pub fn code(&self) -> u8
+        ensures { result ≡ code_of self.now }
+    {
+        match self {
+            Status::Done => 0,
+            Status::Usage => 2,
+            Status::NotAJournal | Status::Damaged { .. } => 3,
+            Status::DiskFault => 5,
+            Status::InputFault => 6,
+            Status::OutputFault => 7,
+            Status::NoMemory => 8,
+            Status::NotYet { .. } => 10,
+        }
+    }
+
+    /// What the program says on standard error, without a line feed. Done says nothing there.
+    pub fn text(&self, alloc: Global) -> Result<String, AllocError>
+        ensures { IfOk result (λ t. string_bytes t ≡ text_of self.now) }
+    {
+        match self {
+            Status::Done => String::from_str(alloc, "done"),
+            Status::Usage => String::from_str(alloc, "usage: kishu STORE COMMAND"),
+            Status::NotAJournal => String::from_str(alloc, "not a journal"),
+            Status::Damaged { at } => format!(in alloc; "damaged at {at}"),
+            Status::DiskFault => String::from_str(alloc, "disk fault"),
+            Status::InputFault => String::from_str(alloc, "input fault"),
+            Status::OutputFault => String::from_str(alloc, "output fault"),
+            Status::NoMemory => String::from_str(alloc, "no memory"),
+            Status::NotYet { line } => format!(in alloc; "not yet: line {line}"),
+        }
+    }
+}

@@ -1,0 +1,173 @@
+ghost use Rattle.std.specs.Prelude.{◌≡◌, ◌≤◌, ◌<◌, ◌⊎◌, ◌↔◌, ◌+◌, ◌^◌, ◌++◌, ◌∷◌, [], ℕ, List, length, true, false, Some, None, is_some, IfOk, OnOk, IsOk, IsSome, Err};
+ghost use Rattle.kishu_host.specs.Host.{State, Told, Now, Only, Elapses, Rises};
+ghost use Rattle.kishu_host.specs.Source.{SourceState};
+ghost use Rattle.kishu_model.specs.Plain.{later_line};
+ghost use Rattle.kishu_model.specs.Graph.{Graph};
+ghost use Rattle.kishu_model.specs.Step.{cell};
+ghost use Rattle.kishu_model.specs.Task.{task, one_cell};
+ghost use Rattle.kishu_model.specs.Holds.{Holds, IsForeign, IsBroken};
+ghost use Rattle.kishu_serve.specs.Headline.{IsPart, IsWhole, IsGiven};
+ghost use Rattle.kishu_serve.specs.Words.{texts, form_of};
+ghost use Rattle.kishu_serve.specs.declared.status.Status.TheVariants.{Done, Usage, NotAJournal, Damaged, DiskFault, InputFault, OutputFault, NoMemory, NotYet};
+
+ghost use Rattle.kishu_serve.specs.declared.session.Halt.TheVariants.{DiskFault as HaltDisk, OutputFault as HaltOutput};
+ghost use Rattle.kishu_journal.specs.declared.journal.JournalFault.TheVariants.{NotAJournal as Foreign, Damaged as Broken, DiskFault as NoDisk};
+
+use crate::Status;
+use crate::input::{InputStop, read_input};
+use crate::session::{Halt, Session};
+use crate::words::is_cell;
+use kishu_host::{Host, Source};
+use kishu_interp::later_form;
+use kishu_journal::JournalFault;
+use kishu_model::Steps;
+use std::alloc::{AllocError, Global};
+use std::sync::ledger::Ledger;
+
+/// The input as a text, where it has the form of a cell of sums.
+fn plain_text(input: &[u8]) -> &str
+    requires { later_line input.now ≡ None }
+    ensures { result.now ≡ input.now }
+{
+    match std::str::from_utf8(input) {
+        Ok(text) => text,
+        Err(_) => unreachable!(),
+    }
+}
+
+/// How a run ends whose request was served so.
+fn served(outcome: Result<(), Halt>) -> Status
+    ensures done { result ≡ Done → IsOk outcome }
+    ensures disk_fault { result ≡ DiskFault → outcome ≡ Err HaltDisk }
+    ensures disk { outcome ≡ Err HaltDisk → result ≡ DiskFault }
+    ensures output_fault { result ≡ OutputFault → outcome ≡ Err HaltOutput }
+    ensures these { (result ≡ Done) ⊎ (result ≡ NoMemory) ⊎ (result ≡ DiskFault) ⊎ (result ≡ OutputFault) }
+{
+    match outcome {
+        Ok(()) => Status::Done,
+        Err(Halt::DiskFault) => Status::DiskFault,
+        Err(Halt::OutputFault) => Status::OutputFault,
+        Err(Halt::NoMemory) => Status::NoMemory,
+    }
+}
+
+/// How a run ends whose store isn't opened.
+fn unopened(fault: JournalFault) -> Status
+    ensures foreign { result ≡ NotAJournal → fault ≡ Foreign }
+    ensures damaged { (at : ℕ) → result ≡ Damaged at → fault ≡ Broken at }
+    ensures disk_fault { result ≡ DiskFault → fault ≡ NoDisk }
+    ensures disk { fault ≡ NoDisk → result ≡ DiskFault }
+    ensures these { (result ≡ NotAJournal) ⊎ ((at : ℕ) × (result ≡ Damaged at)) ⊎ (result ≡ DiskFault) ⊎ (result ≡ NoMemory) }
+{
+    match fault {
+        JournalFault::NotAJournal => Status::NotAJournal,
+        JournalFault::Damaged { at } => Status::Damaged { at },
+        JournalFault::DiskFault => Status::DiskFault,
+        JournalFault::NoMemory => Status::NoMemory,
+    }
+}
+
+/// Opens the store, and answers the cell that this text is.
+fn run_cell<H: Host>(alloc: Global, host: &mut H, text: &str) -> Status
+    requires plain { later_line text.now ≡ None }
+
+    ensures run { Told (H.state host.old) ((g : Graph) → Holds (H.state host.old).file g
+        → IsPart (H.state host.old) g (cell text.now ∷ []) (H.state host.new).file (H.state host.new).out) }
+    ensures done { result ≡ Done → Told (H.state host.old) ((g : Graph) → Holds (H.state host.old).file g
+        → IsWhole (H.state host.old) (H.state host.new) g (cell text.now ∷ [])) }
+    ensures stop { Told (H.state host.old) ((g : Graph) → Holds (H.state host.old).file g
+        → Elapses (H.state host.old) (H.state host.new) (λ c o. Now (H.state host.old) c o ⊎ IsPart (H.state host.old) g (cell text.now ∷ []) c o)) }
+    ensures settled { Told (H.state host.old) ((g : Graph) → Holds (H.state host.old).file g
+        → (result ≡ DiskFault) ⊎ ((c : List ℕ) → (H.state host.new).may_leave c → IsPart (H.state host.old) g (cell text.now ∷ []) c (H.state host.new).out)) }
+    ensures good { result ≡ Done → Told (H.state host.old) ((g : Graph) × Holds (H.state host.old).file g) }
+    ensures bad { Told (H.state host.old) (((g : Graph) → Holds (H.state host.old).file g → ⊥) → (H.state host.new).file ≡ (H.state host.old).file) }
+
+    ensures these { (result ≡ Usage → ⊥) × (result ≡ InputFault → ⊥) × ((line : ℕ) → result ≡ NotYet line → ⊥) }
+    ensures foreign { result ≡ NotAJournal → Told (H.state host.old) (IsForeign (H.state host.old).file) }
+    ensures damaged { (at : ℕ) → result ≡ Damaged at → Told (H.state host.old) (IsBroken (H.state host.old).file at) }
+    ensures disk_fault { result ≡ DiskFault → Rises (H.state host.old).disk_faults (H.state host.new).disk_faults }
+    ensures output_fault { result ≡ OutputFault → Rises (H.state host.old).out_faults (H.state host.new).out_faults }
+    ensures complete { Told (H.state host.old) ((g : Graph) → Holds (H.state host.old).file g
+        → (result ≡ Done) ⊎ (result ≡ NoMemory) ⊎ (result ≡ DiskFault) ⊎ (result ≡ OutputFault)) }
+{
+    match Session::open(alloc, host) {
+        Ok(mut session) => served(session.serve(alloc, host, text)),
+        Err(fault) => unopened(fault),
+    }
+}
+
+/// Runs the words over the input and the store, and puts the answers out.
+///
+/// The words are those of the command line without the program's name. `STORE cell` runs the whole
+/// input as one cell: it is committed to the store, and one line tells its number and its outputs.
+/// At `Done` all is answered, and the store holds it whatever happens then. At any other status the
+/// store holds what it held, or the cell besides.
+pub fn kishu<H: Host, S: Source, L: Ledger>(
+    alloc: Global,
+    words: &[String],
+    source: &mut S,
+    host: &mut H,
+    steps: &mut Steps<L>,
+) -> Status
+    // At each exit the store holds the graph after the first requests, and their answers are out, the last in part.
+    ensures run { (g : Graph) → IsGiven (H.state host.old) (S.source source.old) g
+        → IsPart (H.state host.old) g (task (form_of (texts words.now)) (S.source source.old).left) (H.state host.new).file (H.state host.new).out }
+
+    // Done: all requests are answered, nothing is pending, and the input was read to its end.
+    ensures done { result ≡ Done → (g : Graph) → IsGiven (H.state host.old) (S.source source.old) g
+        → IsWhole (H.state host.old) (H.state host.new) g (task (form_of (texts words.now)) (S.source source.old).left) × ((S.source source.new).left ≡ []) }
+
+    // A stop at any moment leaves what a stop at the start could leave, or so.
+    ensures stop { (g : Graph) → IsGiven (H.state host.old) (S.source source.old) g
+        → Elapses (H.state host.old) (H.state host.new)
+        (λ c o. Now (H.state host.old) c o ⊎ IsPart (H.state host.old) g (task (form_of (texts words.now)) (S.source source.old).left) c o) }
+
+    // Once a sync has succeeded, a stop leaves nothing but that.
+    ensures settled { (g : Graph) → IsGiven (H.state host.old) (S.source source.old) g
+        → (host.new ≡ host.old) ⊎ (result ≡ DiskFault)
+        ⊎ ((c : List ℕ) → (H.state host.new).may_leave c → IsPart (H.state host.old) g (task (form_of (texts words.now)) (S.source source.old).left) c (H.state host.new).out) }
+
+    // Each status has its cause.
+    ensures usage { result ≡ Usage ↔ (form_of (texts words.now) ≡ None) }
+    ensures unread { result ≡ Usage → source.new ≡ source.old }
+    ensures untouched { (result ≡ Usage) ⊎ (result ≡ InputFault) ⊎ ((line : ℕ) × (result ≡ NotYet line)) → host.new ≡ host.old }
+    ensures foreign { result ≡ NotAJournal → Told (H.state host.old) (IsForeign (H.state host.old).file) }
+    ensures damaged { (at : ℕ) → result ≡ Damaged at → Told (H.state host.old) (IsBroken (H.state host.old).file at) }
+    ensures disk_fault { result ≡ DiskFault → Rises (H.state host.old).disk_faults (H.state host.new).disk_faults }
+    ensures input_fault { result ≡ InputFault → Rises (S.source source.old).in_faults (S.source source.new).in_faults }
+    ensures output_fault { result ≡ OutputFault → Rises (H.state host.old).out_faults (H.state host.new).out_faults }
+
+    // A cell of a later form is told by its line, unless the input fails or memory runs out before.
+    ensures not_yet { (line : ℕ) → result ≡ NotYet line → (S.source source.old).tells ≡ true → later_line (S.source source.old).left ≡ Some line }
+    ensures later { (line : ℕ) → (S.source source.old).tells ≡ true → later_line (S.source source.old).left ≡ Some line
+        → (result ≡ NotYet line) ⊎ (result ≡ Usage) ⊎ (result ≡ InputFault) ⊎ (result ≡ NoMemory) }
+
+    // Where no fault came, it does its work, or memory ran out.
+    ensures complete { (g : Graph) → IsGiven (H.state host.old) (S.source source.old) g → IsSome (form_of (texts words.now))
+        → (Rises (H.state host.old).disk_faults (H.state host.new).disk_faults → ⊥)
+        → (Rises (H.state host.old).out_faults (H.state host.new).out_faults → ⊥)
+        → (Rises (S.source source.old).in_faults (S.source source.new).in_faults → ⊥)
+        → (result ≡ Done) ⊎ (result ≡ NoMemory) ⊎ ((line : ℕ) × (result ≡ NotYet line)) }
+
+    // Over a file that holds no graph it isn't done, and the file stays.
+    ensures good { result ≡ Done → Told (H.state host.old) ((g : Graph) × Holds (H.state host.old).file g) }
+    ensures bad { Told (H.state host.old) (((g : Graph) → Holds (H.state host.old).file g → ⊥) → (H.state host.new).file ≡ (H.state host.old).file) }
+
+    // Nothing is counted yet.
+    ensures counted { steps.new ≡ steps.old }
+{
+    if !is_cell(words) {
+        return Status::Usage;
+    }
+    let input = match read_input(alloc, source) {
+        Ok(input) => input,
+        Err(InputStop::Fault) => return Status::InputFault,
+        Err(InputStop::TooLong) => return Status::NotYet { line: 1 },
+        Err(InputStop::NoMemory) => return Status::NoMemory,
+    };
+    match later_form(alloc, &input) {
+        Ok(None) => run_cell(alloc, host, plain_text(&input)),
+        Ok(Some(line)) => Status::NotYet { line },
+        Err(AllocError) => Status::NoMemory,
+    }
+}
