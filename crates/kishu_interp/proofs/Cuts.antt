@@ -69,7 +69,7 @@ begins c ((d ∷ ds) ∷ pieces) =
     [ true ↦ (d ∷ ds, pieces, refl) | false ↦ ([], (d ∷ ds) ∷ pieces, refl) ]
 
 -- two characters that aren't both of words are of two pieces
-parted : (c d : ℕ) (ds : List ℕ) → (is_word_char c && is_word_char d) ≡ false → pieces_of (c ∷ d ∷ ds) ≡ (c ∷ []) ∷ pieces_of (d ∷ ds)
+pub parted : (c d : ℕ) (ds : List ℕ) → (is_word_char c && is_word_char d) ≡ false → pieces_of (c ∷ d ∷ ds) ≡ (c ∷ []) ∷ pieces_of (d ∷ ds)
 parted c d ds h = let first = begins d (pieces_of ds) in rw (first.2, h) refl
 
 pub lone_piece : (c : ℕ) (cs : List ℕ) → is_word_char c ≡ false → pieces_of (c ∷ cs) ≡ (c ∷ []) ∷ pieces_of cs

@@ -39,7 +39,7 @@ digits_word (d ∷ ds) h =
 tells : IsDigitsTest (λ ds. list_all is_digit ds ≡ true)
 tells = search rules
 
-own : IsNumeralModel (λ ds. list_all is_digit ds ≡ true) (digits_value 10)
+pub own : IsNumeralModel (λ ds. list_all is_digit ds ≡ true) (digits_value 10)
 own = numerals_by_value _ tells
 
 wide_step : (v : ℕ) (b : Bool) → nat_lt v (2 ^ 127) ≡ b → (v < 2 ^ 128 → ⊥) → b ≡ false

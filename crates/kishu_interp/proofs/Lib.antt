@@ -5,3 +5,6 @@ pub mod Glue
 pub mod Shapes
 pub mod Later
 pub mod Ran
+pub mod Numerals
+pub mod Spelled
+pub mod Spacing

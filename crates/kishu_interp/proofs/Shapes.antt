@@ -36,7 +36,7 @@ open_step c cs (Some blank) h = refl
 open_step c cs (Some (assign x s)) h = rw h refl
 open_step c cs (Some (print s)) h = rw h refl
 
-not_indented : (text : List ℕ) → is_indented text ≡ false → line_of text ≡ line_from (tokens_of text)
+pub not_indented : (text : List ℕ) → is_indented text ≡ false → line_of text ≡ line_from (tokens_of text)
 not_indented [] h = refl
 not_indented (c ∷ cs) h = open_step c cs (line_from (tokens_of (c ∷ cs))) h
 

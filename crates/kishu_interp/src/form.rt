@@ -1,6 +1,7 @@
-ghost use Rattle.std.specs.Prelude.{◌≡◌, ◌≤◌, length, nat_lt, is_some, IfOk, IsNone, IsSome, ◌↔◌};
+ghost use Rattle.std.specs.Prelude.{IsTrue, ◌≡◌, ◌≤◌, length, nat_lt, is_some, IfOk, IsNone, IsSome, ◌↔◌};
 ghost use Rattle.std.specs.List.{list_all};
 ghost use Rattle.kishu_model.specs.Lines.{lines_of};
+ghost use Rattle.kishu_model.specs.Spelling.{IsSpelling, IsSpelled};
 ghost use Rattle.kishu_model.specs.Plain.{line_of, is_plain_text, first_later, later_line, cell_of};
 
 use crate::lines::read_line;
@@ -69,4 +70,15 @@ pub fn later_form(alloc: Global, text: &[u8]) -> Result<Option<u32>, AllocError>
     } else {
         Ok(Some(1))
     }
+}
+
+/// Whether a line can be run by `run_plain`: whether some line of the form is spelled so. A text
+/// spells one line at most.
+///
+/// The only error is want of memory.
+pub fn is_line(alloc: Global, line: &[u8]) -> Result<bool, AllocError>
+    ensures line { IfOk result (λ b. IsTrue b ↔ IsSpelled line.now) }
+    ensures spelling { IsSpelling line.now }
+{
+    has_form(alloc, line)
 }

@@ -1,4 +1,6 @@
-//! Runs cells of the language.
+//! Tells which cells are of sums alone, and runs them: each line is blank, `NAME = SUM` or
+//! `print(SUM)`. A run gives exactly the outcome, the outputs and the names that `kishu_model`'s
+//! definition of a cell's run says. No call recurses, however long a sum is.
 #![tactic(auto)]
 
 mod form;
@@ -11,7 +13,7 @@ mod tree;
 mod values;
 mod words;
 
-pub use form::later_form;
+pub use form::{is_line, later_form};
 pub use run::run_plain;
 pub use state::PlainState;
 

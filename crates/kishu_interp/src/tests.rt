@@ -1,4 +1,4 @@
-use crate::{PlainState, later_form, run_plain};
+use crate::{PlainState, is_line, later_form, run_plain};
 use kishu_model::{CellResult, Outcome, Output};
 use std::alloc::Global;
 use std::test::Fail;
@@ -26,6 +26,8 @@ fn texts_of_one_line(rt: HostRuntime) -> Result<(), Fail> {
         assert_eq!(rt; later_form(alloc, text.as_bytes())?, None, "at {text}");
     }
     assert_eq!(rt; later_form(alloc, b"x = \xff")?, Some(1));
+    assert!(rt; is_line(alloc, b"x = 1")?);
+    assert!(rt; !is_line(alloc, b"x = 1\n")?);
     Ok(())
 }
 

@@ -3,6 +3,7 @@ pub mod Names
 pub mod Values
 pub mod Plain
 pub mod PlainLaws
+pub mod Spelling
 pub mod Meaning
 pub mod Graph
 pub mod Replay
