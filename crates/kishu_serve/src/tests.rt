@@ -91,6 +91,13 @@ fn faults_of_the_first_cell(rt: HostRuntime) -> Result<(), Fail> {
     assert_eq!(rt; host.out(), b"".as_slice());
     assert_eq!(rt; host.file(), FIRST.as_slice());
 
+    // The seventh call is the second write of the append, which opens the gate.
+    let mut host = host_over(alloc, &[], vec![in alloc; 7]?, None)?.ok_or("room")?;
+    let status = run_cell_of(alloc, &mut host, b"print(1 + 2)".as_slice())?;
+    assert_eq!(rt; (status, status.code()), (Status::DiskFault, 5));
+    assert_eq!(rt; host.out(), b"".as_slice());
+    assert_eq!(rt; next_commit(&rt, alloc, host.file())?, b'1');
+
     let words = words_of(alloc, &["S", "cell"])?;
     let mut host = host_over(alloc, &[], Vec::new(alloc), None)?.ok_or("room")?;
     let mut source = MemSource::new(alloc, b"print(1 + 2)".to_vec(alloc)?, vec![in alloc; 1]?)?;
@@ -174,6 +181,9 @@ fn cells_in_turn(rt: HostRuntime) -> Result<(), Fail> {
             "{\"answer\":\"cell\",\"commit\":3,\"count\":3,\"outcome\":\"ok\",\"outputs\":[]}\n",
         ),
     ];
+    let status = run_cell_of(alloc, &mut host, b"y".as_slice())?;
+    assert_eq!(rt; (status, status.code()), (Status::NotYet { line: 1 }, 10));
+    assert_eq!(rt; host.file(), b"".as_slice());
     let mut told = Vec::new(alloc);
     for (input, want, line) in &rows {
         let status = run_cell_of(alloc, &mut host, input.as_bytes())?;
