@@ -1,5 +1,6 @@
 pub mod Lines
 pub mod Names
+pub mod Numbers
 pub mod Values
 pub mod Plain
 pub mod PlainLaws
