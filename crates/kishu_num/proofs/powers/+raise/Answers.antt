@@ -1,12 +1,16 @@
 use Rattle.std.proofs.Common.{◌≡◌, ◌/◌, ◌*ℤ◌, refl, sym, ap, ◌∙◌, arith, rules, FitsSigned}
 use Rattle.std.specs.Int.{w128}
 use Rattle.std.proofs.lemmas.Int.{to_z-of_z}
+use Rattle.std.proofs.lemmas.Int.Digits.{length-digits_of_step}
 use Rattle.std.proofs.lemmas.Result.{err_from_is_err_and}
 use Rattle.kishu_model.specs.Numbers.{power}
 use Rattle.kishu_num.specs.Results.{in_range}
 use Rattle.kishu_num.proofs.Ranges.{from_ok}
 use Rattle.kishu_num.proofs.Halves.{power_zero, beyond, beyond_square, even_power, odd_power}
 use Rattle.kishu_num.proofs.powers.+raise.Goals as goal
+
+pub raise-requires : goal.raise-requires
+raise-requires t c = (omega (arith, length-digits_of_step 2 c.args.exponent (omega arith) (omega arith)), tt)
 
 pub returns-then-exponent-eq0 : goal.returns-then-exponent-eq0
 returns-then-exponent-eq0 t c = rw (c.if-exponent-eq0.true, power_zero c.args.base) refl

@@ -1,7 +1,7 @@
 use Rattle.std.specs.Int.{w128}
 use Rattle.std.proofs.lemmas.Int.{to_z-of_z}
 use Rattle.kishu_num.proofs.Division.{rest_down, rest_up}
-use Rattle.kishu_num.proofs.quotients.rest.Goals as goal
+use Rattle.kishu_num.proofs.rests.rest.Goals as goal
 
 pub returns-then-b-gt0 : goal.returns-then-b-gt0
 returns-then-b-gt0 c =
