@@ -169,11 +169,20 @@ def reading(text):
     return f"Some({rust(result)})" if LEAST <= result <= GREATEST else "None"
 
 
+def row(*parts):
+    """A row as rustfmt lays it out."""
+    line = ", ".join(parts)
+    if len(line) <= 58:
+        print(f"    ({line}),")
+    else:
+        print("    (", *(f"        {part}," for part in parts), "    ),", sep="\n")
+
+
 for a, operator, b in OPERATIONS:
-    print(f"    ({rust(a)}, {operator}, {rust(b)}, {operation(a, operator, b)}),")
+    row(rust(a), operator, rust(b), operation(a, operator, b))
 print()
 for text in TEXTS:
-    print(f"    ({quoted(text)}, {reading(text)}),")
+    row(quoted(text), reading(text))
 print()
 for n in NUMBERS:
-    print(f'    ({rust(n)}, "{n}"),')
+    row(rust(n), f'"{n}"')

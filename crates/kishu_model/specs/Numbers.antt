@@ -23,18 +23,18 @@ floor_quotient a (pos b) = floor_over a b
 floor_quotient a (negsuc b) = floor_over (neg_ℤ a) (suc b)
 
 -- what the divisor, taken that many times, leaves
-abbrev pub floor_rest : ℤ → ℤ → ℤ
-floor_rest a b = a -ℤ floor_quotient a b *ℤ b
+abbrev pub floor_remainder : ℤ → ℤ → ℤ
+floor_remainder a b = a -ℤ floor_quotient a b *ℤ b
 
 -- r is 0, or it has b's sign and lies nearer to 0
-abbrev pub IsRest : ℤ → ℤ → Type 0
-IsRest (pos b) r = (pos 0 ≤ℤ r) × (r <ℤ pos b)
-IsRest (negsuc b) r = (negsuc b <ℤ r) × (r ≤ℤ pos 0)
+abbrev pub IsRemainder : ℤ → ℤ → Type 0
+IsRemainder (pos b) r = (pos 0 ≤ℤ r) × (r <ℤ pos b)
+IsRemainder (negsuc b) r = (negsuc b <ℤ r) × (r ≤ℤ pos 0)
 
 -- What joins `//` and `%`: a is q times b and r more, and r is what a division by b may leave. No other q and r are so.
 pub record IsDivision (a b q r : ℤ) : Type 0 where
   pub parts : a ≡ q *ℤ b +ℤ r
-  pub rest : IsRest b r
+  pub remainder : IsRemainder b r
 
 -- ---- `**`
 

@@ -6,9 +6,9 @@ ghost use Rattle.kishu_num.specs.Results.{in_range, raised_to};
 use crate::fault::NumFault;
 use crate::sums::mul;
 
-// Half the exponent first, whose power is then squared, so that each binary digit of the exponent takes at most two
-// multiplications. Each number on the way is a power that is no further from 0 than the last one, so a power that is too
-// large on the way is too large at the end.
+// The power of half the exponent is squared, and multiplied once more where the exponent is odd. So there are as many calls
+// as the exponent has binary digits, and two multiplications at most in each. No power on the way has a greater exponent
+// than the last one has, so where one of them is too large, the last one is.
 fn raise(base: i128, exponent: u128) -> Result<i128, NumFault>
     ensures { result ≡ in_range (power base exponent) }
 {
