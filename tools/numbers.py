@@ -172,7 +172,7 @@ def reading(text):
 def row(*parts):
     """A row as rustfmt lays it out."""
     line = ", ".join(parts)
-    if len(line) <= 58:
+    if len(line) <= 60:
         print(f"    ({line}),")
     else:
         print("    (", *(f"        {part}," for part in parts), "    ),", sep="\n")

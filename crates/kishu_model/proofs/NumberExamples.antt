@@ -1,5 +1,5 @@
 -- Worked numbers, computed on the definitions.
-use Rattle.std.proofs.Common.{◌≡◌, ◌-◌, ◌^◌, ℤ, pos, negsuc, [], ◌∷◌, codes, Some, None, true, false, refl}
+use Rattle.std.proofs.Common.{◌≡◌, ◌-◌, ◌^◌, pos, negsuc, [], ◌∷◌, codes, Some, None, true, false, refl}
 use Rattle.kishu_model.specs.Numbers.{is_whole, floor_quotient, floor_remainder, power, number_read}
 
 greatest : is_whole (pos (2 ^ 127 - 1)) ≡ true

@@ -1,13 +1,13 @@
 -- How the code comes to the quotient that is rounded down, and to what it leaves.
-use Rattle.std.proofs.Common.{◌≡◌, ◌≢◌, ℕ, zero, suc, ◌+◌, ◌-◌, ◌*◌, ◌/◌, ◌%◌, ◌^◌, ◌<◌, ◌≤◌, ℤ, pos, negsuc, neg_ℤ, ◌+ℤ◌, ◌-ℤ◌, ◌*ℤ◌, ◌≤ℤ◌, ◌<ℤ◌, Bool, true, false, refl, sym, ap, ◌∙◌, arith, to_z, of_z}
+use Rattle.std.proofs.Common.{◌≡◌, ◌≢◌, ℕ, zero, suc, ◌/◌, ◌%◌, ◌^◌, ◌<◌, ℤ, pos, negsuc, neg_ℤ, ◌+ℤ◌, ◌-ℤ◌, ◌*ℤ◌, true, refl, sym, ap, ◌∙◌, arith, to_z, of_z}
 use Rattle.std.specs.Prelude.{Result, Ok, Err, IfOk, int_lt, unsigned_abs}
 use Rattle.std.specs.Int.RustNames.{int_div, int_rem, FitsSigned}
 use Rattle.std.specs.Int.{w128}
 use Rattle.std.proofs.Math.Nat.{div-le_self, zero-mod}
-use Rattle.std.proofs.lemmas.Int.{ints, to_z-of_z}
+use Rattle.std.proofs.lemmas.Int.{ints}
 use borrow.Author.Tests.{ltb-true}
 use Rattle.kishu_model.specs.NumberLaws.{division}
-use Rattle.kishu_model.specs.Numbers.{floor_over, floor_quotient, floor_remainder, IsRemainder, IsDivision}
+use Rattle.kishu_model.specs.Numbers.{floor_quotient, floor_remainder, IsDivision}
 use Rattle.kishu_num.specs.declared.fault.NumFault.{NumFault}
 use Rattle.kishu_num.specs.Results.{in_range}
 use Rattle.kishu_num.proofs.Ranges.{ok_in_range, from_ok}

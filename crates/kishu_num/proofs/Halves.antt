@@ -1,15 +1,14 @@
 -- Powers by halves, and powers that are too great.
-use Rattle.std.proofs.Common.{◌≡◌, ◌≢◌, ◌⊎◌, inl, inr, ℕ, zero, suc, ◌+◌, ◌*◌, ◌/◌, ◌%◌, ◌^◌, ◌<◌, ◌≤◌, ℤ, pos, negsuc, ◌*ℤ◌, true, false, refl, sym, ap, ◌∙◌, arith, add-zero, add-suc}
-use Rattle.std.specs.Prelude.{Result, Ok, Err, unsigned_abs}
+use Rattle.std.proofs.Common.{◌≡◌, ◌≢◌, ◌⊎◌, inl, inr, ℕ, zero, suc, ◌+◌, ◌*◌, ◌/◌, ◌%◌, ◌^◌, ◌<◌, ◌≤◌, ℤ, pos, ◌*ℤ◌, false, refl, sym, ap, ◌∙◌, arith, add-zero, add-suc}
+use Rattle.std.specs.Prelude.{Err, unsigned_abs}
 use Rattle.std.proofs.Math.Nat.{pow-zero, pow-suc, pow-le-pow_left, pow-le-pow_right, eq-or-lt_of_le}
-use Rattle.std.proofs.Math.IntN.{*ℤ-one, *ℤ_comm}
+use Rattle.std.proofs.Math.IntN.{*ℤ-one}
 use Rattle.std.proofs.lemmas.Nat.{mul-le}
 use Rattle.std.proofs.lemmas.Int.{unsigned_abs-mul}
 use Rattle.kishu_model.specs.Numbers.{is_whole, power}
 use Rattle.kishu_num.specs.declared.fault.NumFault.{NumFault}
-use Rattle.kishu_num.specs.declared.fault.NumFault.TheVariants.{Overflow}
 use Rattle.kishu_num.specs.Results.{in_range}
-use Rattle.kishu_num.proofs.Ranges.{outside, too_great, from_ok, from_err}
+use Rattle.kishu_num.proofs.Ranges.{outside, too_great, from_err}
 use Rattle.kishu_num.proofs.Products.{grouped}
 
 times_one : (z : ℤ) → z *ℤ pos 1 ≡ z

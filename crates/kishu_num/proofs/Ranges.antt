@@ -1,12 +1,12 @@
 -- The range of whole numbers, and the answers that it gives.
-use Rattle.std.proofs.Common.{◌≡◌, ◌≢◌, ℕ, suc, ◌+◌, ◌-◌, ◌*◌, ◌^◌, ◌<◌, ◌≤◌, ℤ, pos, negsuc, Bool, true, false, refl, sym, ap, ◌∙◌, arith}
-use Rattle.std.specs.Prelude.{Result, Ok, Err, ◌&&◌, unsigned_abs}
+use Rattle.std.proofs.Common.{◌≡◌, ◌^◌, ◌<◌, ◌≤◌, ℤ, pos, negsuc, Bool, true, false, refl, sym, ap, ◌∙◌, arith}
+use Rattle.std.specs.Prelude.{Ok, Err, unsigned_abs}
 use Rattle.std.specs.Int.RustNames.{FitsSigned}
 use Rattle.std.specs.Int.{w128}
 use Rattle.std.proofs.lemmas.Bool.Decides.{nat_tests}
 use Rattle.kishu_model.specs.Numbers.{is_whole}
 use Rattle.kishu_num.specs.declared.fault.NumFault.{NumFault}
-use Rattle.kishu_num.specs.declared.fault.NumFault.TheVariants.{Overflow, ZeroDivisor, NegativePower}
+use Rattle.kishu_num.specs.declared.fault.NumFault.TheVariants.{Overflow}
 use Rattle.kishu_num.specs.Results.{in_range}
 
 pub whole_fits : (z : ℤ) → FitsSigned w128 z → is_whole z ≡ true

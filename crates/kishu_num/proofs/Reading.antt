@@ -1,6 +1,6 @@
 -- What `parse` reads is what the rule of `int` reads, and all that it reads is UTF-8.
-use Rattle.std.proofs.Common.{◌≡◌, ◌≢◌, ℕ, zero, suc, ◌+◌, ◌<◌, ◌≤◌, ◌^◌, ℤ, pos, negsuc, neg_ℤ, Bool, true, false, List, [], ◌∷◌, length, get_or, drop, refl, sym, ap, ◌∙◌, arith, rules, Option, Some, None}
-use Rattle.std.specs.Prelude.{Result, Ok, Err, option_map, ◌==◌, ◌&&◌, not, if◌then◌else◌}
+use Rattle.std.proofs.Common.{◌≡◌, ℕ, zero, suc, ◌<◌, ◌≤◌, ◌^◌, ℤ, pos, neg_ℤ, Bool, true, false, List, [], ◌∷◌, length, refl, ap, arith, rules, Some, None}
+use Rattle.std.specs.Prelude.{Result, Ok, Err, option_map, ◌==◌, ◌&&◌, if◌then◌else◌}
 use Rattle.std.specs.Result.{result_ok, OkIff}
 use Rattle.std.specs.Int.{w128}
 use Rattle.std.specs.List.{list_all}

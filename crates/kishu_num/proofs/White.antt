@@ -1,6 +1,6 @@
 -- White space at the ends of a text.
-use Rattle.std.proofs.Common.{◌≡◌, ◌≢◌, ℕ, zero, suc, ◌+◌, ◌-◌, ◌<◌, ◌≤◌, Bool, true, false, List, [], ◌∷◌, ◌++◌, length, take, drop, get_or, refl, sym, ap, ◌∙◌, arith, add-one, drop-cons, take-suc}
-use Rattle.kishu_model.specs.Numbers.{is_white, without_leading_white, onto_stripped, without_trailing_white}
+use Rattle.std.proofs.Common.{◌≡◌, ℕ, zero, suc, ◌-◌, ◌<◌, ◌≤◌, true, false, List, [], ◌∷◌, ◌++◌, length, take, get_or, refl, sym, ap, ◌∙◌, arith, take-suc}
+use Rattle.kishu_model.specs.Numbers.{is_white, onto_stripped, without_trailing_white}
 
 pub trailing_white : (cs : List ℕ) (c : ℕ) → is_white c ≡ true → without_trailing_white (cs ++ c ∷ []) ≡ without_trailing_white cs
 trailing_white [] c h = rw h refl
@@ -14,7 +14,7 @@ pub trailing_other : (cs : List ℕ) (c : ℕ) → is_white c ≡ false → with
 trailing_other [] c h = rw h refl
 trailing_other (d ∷ ds) c h = ap (onto_stripped d) (trailing_other ds c h) ∙ onto_kept d c ds
 
--- the first n + 1 elements
+-- the first n elements, of which the last is the one before n
 snoc : (text : List ℕ) (n : ℕ) → 0 < n → n ≤ length text → take n text ≡ take (n - 1) text ++ get_or text (n - 1) 0 ∷ []
 snoc text zero p l = absurd (omega arith)
 snoc text (suc n) p l = let one : suc n - 1 ≡ n = omega arith in rw (one, take-suc text n 0 l) refl

@@ -1,5 +1,4 @@
-use Rattle.std.proofs.Common.{◌≤◌, length, sym, ◌∙◌, ap, take, arith}
-use Rattle.kishu_model.specs.Numbers.{without_trailing_white}
+use Rattle.std.proofs.Common.{sym, ◌∙◌, arith}
 use Rattle.kishu_num.proofs.White.{next_trailing, last_trailing, none_trailing}
 use Rattle.kishu_num.proofs.text.without_trailing_white.Goals as goal
 use Rattle.kishu_num.proofs.text.without_trailing_white.Goals.{then-loop-end-test+else-is_white, else-loop-end-test}
