@@ -32,14 +32,14 @@ abbrev pub output_data : ℕ → Output → Data
 output_data count (stream text) = object (member (codes "name") (string (codes "stdout")) (member (codes "output_type") (string (codes "stream")) (member (codes "text") (string text) no_members)))
 output_data count (shown text) =
     object (
-      member (codes "data") (object (member (codes "text/plain") (string text) no_members))
-      (member (codes "execution_count") (number (unsigned count)) (member (codes "metadata") (object no_members) (member (codes "output_type") (string (codes "execute_result")) no_members)))
+    member (codes "data") (object (member (codes "text/plain") (string text) no_members))
+    (member (codes "execution_count") (number (unsigned count)) (member (codes "metadata") (object no_members) (member (codes "output_type") (string (codes "execute_result")) no_members)))
     )
 output_data count (fault ename evalue) =
     object (
-      member (codes "ename") (string ename)
-      (member (codes "evalue") (string evalue)
-      (member (codes "output_type") (string (codes "error")) (member (codes "traceback") (array (item (string (ename ++ codes ": " ++ evalue)) no_items)) no_members)))
+    member (codes "ename") (string ename)
+    (member (codes "evalue") (string evalue)
+    (member (codes "output_type") (string (codes "error")) (member (codes "traceback") (array (item (string (ename ++ codes ": " ++ evalue)) no_items)) no_members)))
     )
 
 abbrev pub outputs_data : ℕ → List Output → Items
@@ -49,10 +49,10 @@ outputs_data count (o ∷ os) = item (output_data count o) (outputs_data count o
 abbrev pub answer_data : Answer → Data
 answer_data (ran_cell commit count report) =
     object (
-      member (codes "answer") (string (codes "cell"))
-      (member (codes "commit") (number (unsigned commit))
-      (member (codes "count") (number (unsigned count))
-      (member (codes "outcome") (string (outcome_word report.outcome)) (member (codes "outputs") (array (outputs_data count report.outputs)) no_members))))
+    member (codes "answer") (string (codes "cell"))
+    (member (codes "commit") (number (unsigned commit))
+    (member (codes "count") (number (unsigned count))
+    (member (codes "outcome") (string (outcome_word report.outcome)) (member (codes "outputs") (array (outputs_data count report.outputs)) no_members))))
     )
 answer_data (refused r) =
     object (member (codes "answer") (string (codes "refused")) (member (codes "number") (number (unsigned (refusal_number r))) (member (codes "reason") (string (refusal_name r)) no_members)))
