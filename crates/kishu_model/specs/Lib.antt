@@ -1,5 +1,7 @@
 pub mod Lines
 pub mod Names
+pub mod Numbers
+pub mod NumberLaws
 pub mod Values
 pub mod Plain
 pub mod PlainLaws

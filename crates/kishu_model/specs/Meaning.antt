@@ -1,11 +1,12 @@
 -- What a cell means: the state, the outcome and the outputs that its run gives (Python Language Reference 3, "Assignment statements", "Binary arithmetic operations" and "Exceptions").
-use Rattle.std.specs.Prelude.{ℕ, ◌-◌, ◌^◌, ℤ, pos, negsuc, ◌+ℤ◌, ◌-ℤ◌, ◌*ℤ◌, int_le, Bool, ◌&&◌, if◌then◌else◌, List, [], ◌∷◌, ◌++◌, codes, Option, Some, None}
+use Rattle.std.specs.Prelude.{ℕ, ℤ, pos, ◌+ℤ◌, ◌-ℤ◌, ◌*ℤ◌, if◌then◌else◌, List, [], ◌∷◌, ◌++◌, codes, Option, Some, None}
 use Rattle.std.specs.Prelude.{Result, Ok, Err}
 use Rattle.std.specs.Fmt.{signed_decimal}
 use Rattle.kishu_model.specs.declared.profile.Profile.{Profile}
 use Rattle.kishu_model.specs.declared.result.Outcome.{Outcome}
 use Rattle.kishu_model.specs.declared.result.Outcome.TheVariants.{Done, Raised}
 use Rattle.kishu_model.specs.Lines.{line_feed}
+use Rattle.kishu_model.specs.Numbers.{is_whole}
 use Rattle.kishu_model.specs.Values.{Value, integer, Names, find, bind, State, Output, stream, fault, Ran}
 use Rattle.kishu_model.specs.Plain.{Item, number, name, Product, Sign, plus, minus, Sum, Line, blank, assign, print, cell_of}
 
@@ -24,10 +25,6 @@ overflow_error = record { class = codes "OverflowError"; text = codes "whole num
 abbrev pub then_with : {A B : Type 0} → Result A Exception → (A → Result B Exception) → Result B Exception
 then_with (Ok a) f = f a
 then_with (Err e) f = Err e
-
--- Whole numbers lie in -2^127 to 2^127-1.
-abbrev pub is_whole : ℤ → Bool
-is_whole z = int_le (negsuc (2 ^ 127 - 1)) z && int_le z (pos (2 ^ 127 - 1))
 
 abbrev pub whole : ℤ → Result ℤ Exception
 whole z = if is_whole z then Ok z else Err overflow_error
