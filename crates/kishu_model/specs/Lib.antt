@@ -15,3 +15,4 @@ pub mod Record
 pub mod Holds
 pub mod Growth
 pub mod Laws
+pub mod Texts
