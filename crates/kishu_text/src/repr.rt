@@ -1,12 +1,12 @@
 // The repr of a text.
-ghost use Rattle.std.specs.Prelude.{◌≡◌, ◌<◌, ◌==◌, ◌++◌, ◌∷◌, IfOk, OnOk};
+ghost use Rattle.std.specs.Prelude.{◌≡◌, ◌<◌, ◌/◌, ◌%◌, ◌==◌, ◌++◌, [], ◌∷◌, None, IfOk, OnOk};
 ghost use Rattle.std.specs.Char.{digit_char};
 ghost use Rattle.std.specs.List.{list_any};
 ghost use Rattle.std.specs.Str.{chars};
 ghost use Rattle.std.specs.String.{string_bytes};
-ghost use Rattle.kishu_model.specs.Texts.{quote_of, letter_of, is_control, escaped, quoted};
+ghost use Rattle.kishu_model.specs.Texts.{quote_of, backslash, letter_of, is_control, escaped, escaped_by, quoted};
 
-use crate::cursor::{first_char, push_char, push_text};
+use crate::cursor::{first_char, push_char};
 use std::alloc::{AllocError, Global};
 
 fn holds(text: &str, mark: char) -> bool
@@ -58,20 +58,43 @@ fn hex_digit(d: u32) -> char
     if d < 10 { (b'0' + d as u8) as char } else { (b'a' + (d as u8 - 10)) as char }
 }
 
+// Puts a backslash and a letter behind what is there.
+fn push_letter(out: &mut String, letter: char) -> Result<(), AllocError>
+    ensures { OnOk result (chars (string_bytes out.new) ≡ chars (string_bytes out.old) ++ backslash ∷ letter ∷ []) }
+{
+    push_char(out, '\\')?;
+    push_char(out, letter)
+}
+
+// Puts `\x` and the two hexadecimal digits of a character behind what is there.
+fn push_hex(out: &mut String, c: char) -> Result<(), AllocError>
+    requires { c < 256 }
+    ensures { OnOk result (chars (string_bytes out.new) ≡ chars (string_bytes out.old) ++ backslash ∷ 120 ∷ digit_char (c / 16) ∷ digit_char (c % 16) ∷ []) }
+{
+    push_letter(out, 'x')?;
+    push_char(out, hex_digit(c as u32 / 16))?;
+    push_char(out, hex_digit(c as u32 % 16))
+}
+
+// Puts a character that has no letter as it stands between quotes behind what is there.
+fn push_plain(out: &mut String, c: char) -> Result<(), AllocError>
+    ensures { OnOk result (chars (string_bytes out.new) ≡ chars (string_bytes out.old) ++ escaped_by None c) }
+{
+    if is_control(c) {
+        push_hex(out, c)
+    } else {
+        push_char(out, c)
+    }
+}
+
 // Puts a character as it stands between quotes behind what is there.
 fn push_escaped(out: &mut String, quote: char, c: char) -> Result<(), AllocError>
     ensures { OnOk result (chars (string_bytes out.new) ≡ chars (string_bytes out.old) ++ escaped quote c) }
 {
-    if let Some(letter) = letter_of(quote, c) {
-        push_char(out, '\\')?;
-        return push_char(out, letter);
+    match letter_of(quote, c) {
+        Some(letter) => push_letter(out, letter),
+        None => push_plain(out, c),
     }
-    if !is_control(c) {
-        return push_char(out, c);
-    }
-    push_text(out, "\\x")?;
-    push_char(out, hex_digit(c as u32 / 16))?;
-    push_char(out, hex_digit(c as u32 % 16))
 }
 
 /// The text as a literal that gives it back, the repr of Python: in `'`, or in `"` where it has `'`
