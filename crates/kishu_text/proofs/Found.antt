@@ -35,9 +35,9 @@ drop_behind text xs ys e = ap (λ (l : List ℕ). drop (length xs) l) e ∙ drop
 nowhere : (part text : List ℕ) → IsUtf8 part → IsUtf8 text → ((i : ℕ) → i ≤ length text → LacksTextAt part text i) → first_place (chars part) (chars text) ≡ None
 nowhere part text up ut h =
     place_none (chars part) (chars text) (λ us vs e.
-        let around = bytes_around part text us vs up ut e in
-        let size : length text ≡ length (encode_utf8_all us) + length (part ++ encode_utf8_all vs) = ap length around ∙ length-append (encode_utf8_all us) (part ++ encode_utf8_all vs) in
-        h (length (encode_utf8_all us)) (omega arith) (encode_utf8_all vs) (drop_behind text (encode_utf8_all us) (part ++ encode_utf8_all vs) around))
+    let around = bytes_around part text us vs up ut e in
+    let size : length text ≡ length (encode_utf8_all us) + length (part ++ encode_utf8_all vs) = ap length around ∙ length-append (encode_utf8_all us) (part ++ encode_utf8_all vs) in
+    h (length (encode_utf8_all us)) (omega arith) (encode_utf8_all vs) (drop_behind text (encode_utf8_all us) (part ++ encode_utf8_all vs) around))
 
 -- the parts of a text round the bytes from i to j
 pub record Around (part text : List ℕ) (i j : ℕ) : Type 0 where
@@ -53,13 +53,13 @@ somewhere part text i j up ut li h at =
     let ys = chars (drop j text) in
     let whole : text ≡ take i text ++ (part ++ drop j text) = sym (take-append-drop i text) ∙ ap (λ (l : List ℕ). take i text ++ l) at.split in
     let cut : chars text ≡ xs ++ (chars part ++ ys) =
-        ap chars whole ∙ chars-append (take i text) (part ++ drop j text) front ∙ ap (λ (l : List ℕ). xs ++ l) (chars-append part (drop j text) up) in
+    ap chars whole ∙ chars-append (take i text) (part ++ drop j text) front ∙ ap (λ (l : List ℕ). xs ++ l) (chars-append part (drop j text) up) in
     let size : length (encode_utf8_all xs) ≡ i = ap length (encodes-chars (take i text) front) ∙ length-take-le i text li in
     let first : first_place (chars part) (xs ++ (chars part ++ ys)) ≡ Some (length xs) =
-        place_some (chars part) xs ys (λ us vs l e.
-            let around = bytes_around part text us vs up ut (cut ∙ e) in
-            let shorter = shorter_front us (chars part ++ vs) xs (chars part ++ ys) (sym e) l in
-            h (length (encode_utf8_all us)) (omega arith) (encode_utf8_all vs) (drop_behind text (encode_utf8_all us) (part ++ encode_utf8_all vs) around)) in
+    place_some (chars part) xs ys (λ us vs l e.
+    let around = bytes_around part text us vs up ut (cut ∙ e) in
+    let shorter = shorter_front us (chars part ++ vs) xs (chars part ++ ys) (sym e) l in
+    h (length (encode_utf8_all us)) (omega arith) (encode_utf8_all vs) (drop_behind text (encode_utf8_all us) (part ++ encode_utf8_all vs) around)) in
     record { place = ap (first_place (chars part)) cut ∙ first; cut = cut }
 
 abbrev pub IsCutAtText : List ℕ → List ℕ → Option (Bor (List ℕ) × Bor (List ℕ)) → Type 0

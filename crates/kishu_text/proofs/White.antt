@@ -39,8 +39,8 @@ cut_at text i j c u li none white_c at =
     let behind : IsUtf8 (drop i text) = subst IsUtf8 (sym at.split) (IsUtf8-append (encode_utf8 c) (drop j text) (IsUtf8-encode c (white_scalar c white_c)) back) in
     let front : IsUtf8 (take i text) = IsUtf8-take text i u (IsCharBoundary-from_drop text i li behind) in
     let whole : chars text ≡ chars (take i text) ++ c ∷ chars (drop j text) =
-        ap chars (sym (take-append-drop i text)) ∙ chars-append (take i text) (drop i text) front
-        ∙ ap (λ (l : List ℕ). chars (take i text) ++ l) (chars_past_char (drop i text) (drop j text) c behind at.split) in
+    ap chars (sym (take-append-drop i text)) ∙ chars-append (take i text) (drop i text) front
+    ∙ ap (λ (l : List ℕ). chars (take i text) ++ l) (chars_past_char (drop i text) (drop j text) c behind at.split) in
     ap (slice_split is_white) whole ∙ cut_behind is_white (chars (take i text)) c (chars (drop j text)) (none_pass is_white (take i text) front none) white_c
 
 abbrev pub FindsWhite : List ℕ → Option (ℕ × ℕ) → Type 0

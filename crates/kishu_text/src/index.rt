@@ -66,9 +66,9 @@ pub fn slice(
     requires { LieWithin (length (chars text.now)) (places start step len) }
     ensures { IfOk result (λ s. chars (string_bytes s) ≡ picked (chars text.now) (places start step len)) }
 {
-    let characters: Vec<char> = text.chars().collect(alloc)?;
     if len == 0 {
         return Ok(String::new(alloc));
     }
+    let characters: Vec<char> = text.chars().collect(alloc)?;
     pick(alloc, &characters, start as usize, step, len)
 }

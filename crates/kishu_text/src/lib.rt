@@ -13,3 +13,8 @@ pub use index::{at, count, slice};
 pub use repr::quote;
 pub use search::{find, occurrences, replace, split};
 pub use space::{split_space, strip};
+
+#[cfg(test)]
+mod tables;
+#[cfg(test)]
+mod tests;

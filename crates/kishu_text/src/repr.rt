@@ -25,7 +25,11 @@ fn holds(text: &str, mark: char) -> bool
 fn quote_of(text: &str) -> char
     ensures { result ≡ quote_of (chars text.now) }
 {
-    if holds(text, '\'') && !holds(text, '"') { '"' } else { '\'' }
+    if holds(text, '\'') && !holds(text, '"') {
+        '"'
+    } else {
+        '\''
+    }
 }
 
 // What stands behind a backslash for a character.
@@ -55,7 +59,11 @@ fn hex_digit(d: u32) -> char
     requires { d < 16 }
     ensures { result ≡ digit_char d }
 {
-    if d < 10 { (b'0' + d as u8) as char } else { (b'a' + (d as u8 - 10)) as char }
+    if d < 10 {
+        (b'0' + d as u8) as char
+    } else {
+        (b'a' + (d as u8 - 10)) as char
+    }
 }
 
 // Puts a backslash and a letter behind what is there.

@@ -56,10 +56,10 @@ loop-k-preserved c =
     let in_range = first_within (length cs) (pos place) step m (omega arith) c.loop-k.invariant.0 in
     let below : place < length cs = omega (arith, ints, in_range.1) in
     let on : 0 < n → pos next ≡ pos place +ℤ step = λ some.
-        elim c.if-k-len.branch [ then-k-len w ↦ ap pos w.place-is ∙ w.next_place-place.ensures | else-k-len w ↦ absurd (omega arith) ] in
+    elim c.if-k-len.branch [ then-k-len w ↦ ap pos w.place-is ∙ w.next_place-place.ensures | else-k-len w ↦ absurd (omega arith) ] in
     let grown : chars (string_bytes c.push_char.new.out) ≡ chars (string_bytes c.loop-k.picked) ++ x ∷ [] = c.in_ok-push_char.ensures in
     let rest = picked cs (places (pos next) step n) in (
       rest_within (length cs) (pos place) (pos next) step m n more on c.loop-k.invariant.0,
       ap (λ (l : List ℕ). l ++ rest) grown ∙ (append_assoc (chars (string_bytes c.loop-k.picked)) (x ∷ []) rest
-      ∙ (ap (λ (l : List ℕ). chars (string_bytes c.loop-k.picked) ++ l) (sym (picked_more cs place (pos next) step m n x more below c.index-characters-place.is on)) ∙ c.loop-k.invariant.1)),
+          ∙ (ap (λ (l : List ℕ). chars (string_bytes c.loop-k.picked) ++ l) (sym (picked_more cs place (pos next) step m n x more below c.index-characters-place.is on)) ∙ c.loop-k.invariant.1)),
     )

@@ -4,7 +4,7 @@ use Rattle.std.specs.Str.{chars}
 use Rattle.std.specs.String.{string_bytes}
 use Rattle.std.proofs.lemmas.Bool.Decides.{nat_tests}
 use Rattle.std.proofs.lemmas.Int.{ints, to_z-of_z}
-use Rattle.std.proofs.lemmas.Str.{chars_from_encodes}
+use Rattle.std.proofs.lemmas.Str.{chars-nil, chars_from_encodes}
 use Rattle.kishu_model.specs.Texts.{places, LieWithin, picked}
 use Rattle.kishu_text.proofs.Places.{first_within, fits, same_place, moved, same_picked}
 use Rattle.kishu_text.proofs.index.slice.Goals as goal
@@ -27,7 +27,7 @@ pick-requires c =
     let items : c.in_ok-characters.characters.items ≡ chars c.args.text.now = search (rules, chars_from_encodes) in
     let in_range = first_within (length (chars c.args.text.now)) start c.args.step c.args.len some c.requires in
     moved c.deref.result.now (chars c.args.text.now) (pos (nat_abs (to_z w128 (of_z w128 start)))) start (to_z w128 (of_z w128 c.args.step)) c.args.step c.args.len
-        (c.deref.ensures.value ∙ items) (ap (λ (z : ℤ). pos (nat_abs z)) same ∙ same_place start in_range.0) (to_z-of_z w128 c.args.step (search rules)) c.requires
+    (c.deref.ensures.value ∙ items) (ap (λ (z : ℤ). pos (nat_abs z)) same ∙ same_place start in_range.0) (to_z-of_z w128 c.args.step (search rules)) c.requires
 
 pub returns : goal.returns
 returns c =
@@ -37,5 +37,10 @@ returns c =
     let items : c.in_ok-characters.characters.items ≡ chars c.args.text.now = search (rules, chars_from_encodes) in
     let in_range = first_within (length (chars c.args.text.now)) start c.args.step c.args.len some c.requires in
     let all = same_picked c.deref.result.now (chars c.args.text.now) (pos (nat_abs (to_z w128 (of_z w128 start)))) start (to_z w128 (of_z w128 c.args.step)) c.args.step c.args.len
-        (c.deref.ensures.value ∙ items) (ap (λ (z : ℤ). pos (nat_abs z)) same ∙ same_place start in_range.0) (to_z-of_z w128 c.args.step (search rules)) in
+    (c.deref.ensures.value ∙ items) (ap (λ (z : ℤ). pos (nat_abs z)) same ∙ same_place start in_range.0) (to_z-of_z w128 c.args.step (search rules)) in
     subst (λ (l : List ℕ). IfOk c.pick.result (λ s. chars (string_bytes s) ≡ l)) all c.pick.ensures
+
+pub returns-then-len-eq0 : goal.returns-then-len-eq0
+returns-then-len-eq0 c =
+    let none : c.args.len ≡ 0 = grind (arith, nat_tests, c.if-len-eq0.true) in
+    ap chars c.new.ensures.bytes ∙ chars-nil ∙ sym (ap (λ (n : ℕ). picked (chars c.args.text.now) (places c.args.start c.args.step n)) none)

@@ -21,7 +21,7 @@ loop-piece-preserved c =
     let left = pieces part (chars c.in-Some.behind.now) in
     let grown : chars (string_bytes c.push_text-in-Some.new.out) ≡ (out ++ piece) ++ by = c.in_ok-push_text-2.ensures ∙ ap (λ (x : List ℕ). x ++ by) c.in_ok-push_text.ensures in
     let rest : joined by (pieces part (chars c.loop-piece.rest.now)) ≡ (piece ++ by) ++ joined by left =
-        ap (joined by) (c.in-Some.ensures.pieces c.requires) ∙ joined_more by piece left (pieces-some part 0 (chars c.in-Some.behind.now)) in
+    ap (joined by) (c.in-Some.ensures.pieces c.requires) ∙ joined_more by piece left (pieces-some part 0 (chars c.in-Some.behind.now)) in
     let same : chars (string_bytes c.push_text-in-Some.new.out) ++ joined by left ≡ out ++ joined by (pieces part (chars c.loop-piece.rest.now)) =
-        ap (λ (x : List ℕ). x ++ joined by left) (grown ∙ append_assoc out piece by) ∙ (append_assoc out (piece ++ by) (joined by left) ∙ ap (λ (x : List ℕ). out ++ x) (sym rest)) in
+    ap (λ (x : List ℕ). x ++ joined by left) (grown ∙ append_assoc out piece by) ∙ (append_assoc out (piece ++ by) (joined by left) ∙ ap (λ (x : List ℕ). out ++ x) (sym rest)) in
     (search rules, same ∙ c.loop-piece.invariant.1)
