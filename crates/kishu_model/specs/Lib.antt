@@ -17,3 +17,4 @@ pub mod Record
 pub mod Holds
 pub mod Growth
 pub mod Laws
+pub mod Texts

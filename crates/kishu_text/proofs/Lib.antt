@@ -1,0 +1,5 @@
+mod Ends
+mod Cuts
+mod Found
+mod White
+mod Places

@@ -1,0 +1,8 @@
+use Rattle.kishu_model.specs.Texts.{places, LieWithin}
+use Rattle.kishu_text.proofs.tests.fits.Given as goal
+
+abbrev pub invariant-loop-left : goal.invariant-loop-left
+invariant-loop-left l = LieWithin l.size (places l.place l.step l.left) → LieWithin l.size (places l.fn.start l.step l.fn.len)
+
+abbrev pub decreases-loop-left : goal.decreases-loop-left
+decreases-loop-left l = l.left
