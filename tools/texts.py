@@ -1,6 +1,9 @@
+#!/usr/bin/env python3
 """Prints the tables that kishu_text's tests hold, from what CPython answers.
 
     python3 tools/texts.py > crates/kishu_text/src/tables.rt
+
+and `rt fmt` in that crate lays them out.
 
 White space is that of `bytes`, which are space, \\t, \\n, \\r, \\v and \\f; that of `str` is wider.
 A repr leaves each character from U+0080 on as it is, so that the tables hold of every release.

@@ -1,7 +1,9 @@
 -- Where a part begins, and the pieces between its occurrences.
-use Rattle.std.proofs.Common.{◌≡◌, ◌∙◌, ◌<◌, ◌-◌, ap, sym, refl, arith, ℕ, zero, suc, Bool, true, false, ◌&&◌, eqb, eqb-true, eq-eqb, List, [], ◌∷◌, ◌++◌, length, Option, Some, None, option_map, if◌then◌else◌, append_assoc, flat_map}
+use Rattle.std.proofs.Common.{◌≡◌, ◌∙◌, ◌<◌, ◌≤◌, ◌+◌, ◌-◌, ap, sym, refl, arith, ℕ, zero, suc, Bool, true, false, ◌&&◌, eqb, eqb-true, eq-eqb, List, [], ◌∷◌, ◌++◌, length, Option, Some, None, option_map, MatchOption, if◌then◌else◌, append_assoc, flat_map, subst, inl, inr, length-append}
+use Rattle.std.proofs.lemmas.Bool.{cases_Bool}
 use Rattle.std.proofs.lemmas.List.{append-nil}
 use Rattle.std.specs.List.{onto_first}
+use Rattle.kishu_text.specs.Places.{IsFirstPlace}
 use Rattle.kishu_model.specs.Texts.{begins, first_place, pieces_behind, pieces, joined}
 
 and_both : (a b : Bool) → (a && b) ≡ true → (a ≡ true) × (b ≡ true)
@@ -104,3 +106,73 @@ joined_more by piece (next ∷ more) l =
 
 pub joined_last : (by piece : List ℕ) → joined by (piece ∷ []) ≡ piece
 joined_last by piece = append-nil piece
+
+-- ---- the pieces, with the part between them, are the text
+
+record Found (part cs : List ℕ) (i : ℕ) : Type 0 where
+  front : List ℕ
+  back : List ℕ
+  size : i ≡ length front
+  whole : cs ≡ front ++ (part ++ back)
+
+found_here : (part cs : List ℕ) → begins part cs ≡ true → Found part cs 0
+found_here part cs e = let rest = begins-rest part cs e in record { front = []; back = rest.0; size = refl; whole = rest.1 }
+
+found_behind : (part cs : List ℕ) (c : ℕ) (o : Option ℕ) (i : ℕ) → ((n : ℕ) → o ≡ Some n → Found part cs n) → option_map suc o ≡ Some i → Found part (c ∷ cs) i
+found_behind part cs c None i h e = absurd (cc e)
+found_behind part cs c (Some n) i h e =
+    let found = h n refl in
+    let at : suc n ≡ i = cc e in
+    record { front = c ∷ found.front; back = found.back; size = omega (arith, found.size); whole = ap (λ (l : List ℕ). c ∷ l) found.whole }
+
+found : (part cs : List ℕ) (i : ℕ) → first_place part cs ≡ Some i → Found part cs i
+found part [] i e =
+    elim (cases_Bool (begins part [])) [
+      | inl here ↦ let at : Some 0 ≡ Some i = sym (ap (λ (b : Bool). if b then Some 0 else None) here) ∙ e in let same : 0 ≡ i = cc at in subst (Found part []) same (found_here part [] here)
+      | inr past ↦ let at : None ≡ Some i = sym (ap (λ (b : Bool). if b then Some 0 else None) past) ∙ e in absurd (cc at)
+    ]
+found part (c ∷ cs) i e =
+    let step = λ (b : Bool). if b then Some 0 else option_map suc (first_place part cs) in
+    elim (cases_Bool (begins part (c ∷ cs))) [
+      | inl here ↦ let at : Some 0 ≡ Some i = sym (ap step here) ∙ e in let same : 0 ≡ i = cc at in subst (Found part (c ∷ cs)) same (found_here part (c ∷ cs) here)
+      | inr past ↦ found_behind part cs c (first_place part cs) i (found part cs) (sym (ap step past) ∙ e)
+    ]
+
+joined_by : (part : List ℕ) (k : ℕ) (cs : List ℕ) (o : Option ℕ) → 0 < length part → length cs ≤ k → first_place part cs ≡ o → joined part (pieces part cs) ≡ cs
+joined_by part k cs None some l e = ap (joined part) (pieces_none part cs e) ∙ joined_last part cs
+joined_by part zero cs (Some i) some l e =
+    let at = found part cs i e in
+    let size : length cs ≡ length at.front + (length part + length at.back) = ap length at.whole ∙ (length-append at.front (part ++ at.back) ∙ ap (λ (n : ℕ). length at.front + n) (length-append part at.back)) in
+    absurd (omega arith)
+joined_by part (suc k) cs (Some i) some l e =
+    let at = found part cs i e in
+    let size : length cs ≡ length at.front + (length part + length at.back) = ap length at.whole ∙ (length-append at.front (part ++ at.back) ∙ ap (λ (n : ℕ). length at.front + n) (length-append part at.back)) in
+    let first : first_place part (at.front ++ (part ++ at.back)) ≡ Some (length at.front) = sym (ap (first_place part) at.whole) ∙ (e ∙ ap Some at.size) in
+    ap (λ (l : List ℕ). joined part (pieces part l)) at.whole
+    ∙ (ap (joined part) (pieces_some part at.front at.back some first) ∙ joined_more part at.front (pieces part at.back) (pieces-some part 0 at.back)
+    ∙ (ap (λ (l : List ℕ). (at.front ++ part) ++ l) (joined_by part k at.back (first_place part at.back) some (omega arith) refl) ∙ (append_assoc at.front part at.back ∙ sym at.whole)))
+
+pub joined_pieces : (part cs : List ℕ) → 0 < length part → joined part (pieces part cs) ≡ cs
+joined_pieces part cs some = joined_by part (length cs) cs (first_place part cs) some (omega arith) refl
+
+-- ---- no place before the first
+
+here_or_behind : (b : Bool) (o : Option ℕ) (k : ℕ) → MatchOption o ⊥ (λ i. i ≤ k) → MatchOption (if b then Some 0 else option_map suc o) ⊥ (λ i. i ≤ suc k)
+here_or_behind true o k h = omega arith
+here_or_behind false None k h = h
+here_or_behind false (Some n) k h = omega arith
+
+no_later : (part us vs : List ℕ) → MatchOption (first_place part (us ++ (part ++ vs))) ⊥ (λ i. i ≤ length us)
+no_later part [] vs = subst (λ (o : Option ℕ). MatchOption o ⊥ (λ i. i ≤ 0)) (sym (place_here part (part ++ vs) (begins-front part vs))) (omega arith)
+no_later part (u ∷ us) vs = here_or_behind (begins part (u ∷ (us ++ (part ++ vs)))) (first_place part (us ++ (part ++ vs))) (length us) (no_later part us vs)
+
+first_by : (part cs : List ℕ) (o : Option ℕ) → first_place part cs ≡ o → IsFirstPlace part cs o
+first_by part cs None e = λ us vs at. subst (λ (o : Option ℕ). MatchOption o ⊥ (λ i. i ≤ length us)) (sym (ap (first_place part) at) ∙ e) (no_later part us vs)
+first_by part cs (Some i) e =
+    let at = found part cs i e in (
+      (at.front, at.back, sym at.size, at.whole),
+      λ us vs whole. subst (λ (o : Option ℕ). MatchOption o ⊥ (λ j. j ≤ length us)) (sym (ap (first_place part) whole) ∙ e) (no_later part us vs),
+    )
+
+pub first_place-is : (part cs : List ℕ) (o : Option ℕ) → o ≡ first_place part cs → IsFirstPlace part cs o
+first_place-is part cs o e = first_by part cs o (sym e)

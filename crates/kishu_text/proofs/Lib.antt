@@ -3,3 +3,4 @@ mod Cuts
 mod Found
 mod White
 mod Places
+mod Examples

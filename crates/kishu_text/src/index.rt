@@ -53,6 +53,12 @@ fn pick(
     Ok(picked)
 }
 
+fn characters(alloc: Global, text: &str) -> Result<Vec<char>, AllocError>
+    ensures { IfOk result (λ v. v.items ≡ chars text.now) }
+{
+    text.chars().collect(alloc)
+}
+
 /// The code points at `len` places, as a text: the first place is `start`, and each other one is
 /// `step` behind the one before it (Library Reference, "Common Sequence Operations"). These places
 /// must lie in the text. An error says that no memory is left.
@@ -69,6 +75,6 @@ pub fn slice(
     if len == 0 {
         return Ok(String::new(alloc));
     }
-    let characters: Vec<char> = text.chars().collect(alloc)?;
+    let characters = characters(alloc, text)?;
     pick(alloc, &characters, start as usize, step, len)
 }

@@ -2,7 +2,8 @@
 ghost use Rattle.std.specs.Prelude.{◌≡◌, ◌<◌, [], ◌∷◌, Some, None, length, MatchOption, IfSome, IfOk};
 ghost use Rattle.std.specs.Str.{chars};
 ghost use Rattle.std.specs.String.{string_bytes};
-ghost use Rattle.kishu_model.specs.Texts.{code_points, first_place, occurrences, pieces, replaced};
+ghost use Rattle.kishu_text.specs.Places.{IsFirstPlace};
+ghost use Rattle.kishu_model.specs.Texts.{code_points, first_place, joined, occurrences, pieces, replaced};
 
 use crate::cursor::{owned, push_text};
 use crate::index::count;
@@ -22,7 +23,8 @@ fn cut_once<'a>(text: &'a str, part: &str) -> Option<(&'a str, &'a str)>
 /// The first place at which a text has a part, or `None` where it doesn't have it. The empty part
 /// stands at place 0 (Library Reference, "String Methods": find).
 pub fn find(text: &str, part: &str) -> Option<usize>
-    ensures { result ≡ first_place (chars part.now) (chars text.now) }
+    ensures place { result ≡ first_place (chars part.now) (chars text.now) }
+    ensures first { IsFirstPlace (chars part.now) (chars text.now) result }
 {
     match cut_once(text, part) {
         Some((front, _)) => Some(count(front)),
@@ -50,7 +52,8 @@ pub fn occurrences(text: &str, part: &str) -> usize
 /// is left.
 pub fn split(alloc: Global, text: &str, part: &str) -> Result<Vec<String>, AllocError>
     requires { 0 < length part.now }
-    ensures { IfOk result (λ v. code_points v.items ≡ pieces (chars part.now) (chars text.now)) }
+    ensures pieces { IfOk result (λ v. code_points v.items ≡ pieces (chars part.now) (chars text.now)) }
+    ensures whole { IfOk result (λ v. joined (chars part.now) (code_points v.items) ≡ chars text.now) }
 {
     let mut pieces = Vec::new(alloc);
     let mut rest = text;

@@ -4,7 +4,7 @@ use Rattle.std.specs.Str.{chars}
 use Rattle.std.specs.String.{string_bytes}
 use Rattle.std.proofs.lemmas.Bool.Decides.{nat_tests}
 use Rattle.std.proofs.lemmas.Int.{to_z-of_z}
-use Rattle.std.proofs.lemmas.Str.{chars-nil, chars_from_encodes}
+use Rattle.std.proofs.lemmas.Str.{chars-nil}
 use Rattle.kishu_model.specs.Texts.{places, picked}
 use Rattle.kishu_text.proofs.Places.{first_within, fits, same_place, moved, same_picked}
 use Rattle.kishu_text.proofs.index.slice.Goals as goal
@@ -14,7 +14,7 @@ overflow_cast-start c =
     let start = c.args.start in
     let same : to_z w128 (of_z w128 start) ≡ start = to_z-of_z w128 start (search rules) in
     let some : 0 < c.args.len = grind (arith, nat_tests, c.if-len-eq0.false) in
-    let items : c.in_ok-characters.characters.items ≡ chars c.args.text.now = search (rules, chars_from_encodes) in
+    let items : c.in_ok-characters.characters.items ≡ chars c.args.text.now = c.in_ok-characters.ensures in
     let size : length (chars c.args.text.now) < 2 ^ 64 = subst (λ (l : List ℕ). length l < 2 ^ 64) items (search rules) in
     let in_range = first_within (length (chars c.args.text.now)) start c.args.step c.args.len some c.requires in
     fits (to_z w128 (of_z w128 start)) (length (chars c.args.text.now)) size (subst (λ (z : ℤ). pos 0 ≤ℤ z) (sym same) in_range.0, subst (λ (z : ℤ). z <ℤ pos (length (chars c.args.text.now))) (sym same) in_range.1)
@@ -24,7 +24,7 @@ pick-requires c =
     let start = c.args.start in
     let same : to_z w128 (of_z w128 start) ≡ start = to_z-of_z w128 start (search rules) in
     let some : 0 < c.args.len = grind (arith, nat_tests, c.if-len-eq0.false) in
-    let items : c.in_ok-characters.characters.items ≡ chars c.args.text.now = search (rules, chars_from_encodes) in
+    let items : c.in_ok-characters.characters.items ≡ chars c.args.text.now = c.in_ok-characters.ensures in
     let in_range = first_within (length (chars c.args.text.now)) start c.args.step c.args.len some c.requires in
     moved c.deref.result.now (chars c.args.text.now) (pos (nat_abs (to_z w128 (of_z w128 start)))) start (to_z w128 (of_z w128 c.args.step)) c.args.step c.args.len
     (c.deref.ensures.value ∙ items) (ap (λ (z : ℤ). pos (nat_abs z)) same ∙ same_place start in_range.0) (to_z-of_z w128 c.args.step (search rules)) c.requires
@@ -34,7 +34,7 @@ returns c =
     let start = c.args.start in
     let same : to_z w128 (of_z w128 start) ≡ start = to_z-of_z w128 start (search rules) in
     let some : 0 < c.args.len = grind (arith, nat_tests, c.if-len-eq0.false) in
-    let items : c.in_ok-characters.characters.items ≡ chars c.args.text.now = search (rules, chars_from_encodes) in
+    let items : c.in_ok-characters.characters.items ≡ chars c.args.text.now = c.in_ok-characters.ensures in
     let in_range = first_within (length (chars c.args.text.now)) start c.args.step c.args.len some c.requires in
     let all = same_picked c.deref.result.now (chars c.args.text.now) (pos (nat_abs (to_z w128 (of_z w128 start)))) start (to_z w128 (of_z w128 c.args.step)) c.args.step c.args.len
     (c.deref.ensures.value ∙ items) (ap (λ (z : ℤ). pos (nat_abs z)) same ∙ same_place start in_range.0) (to_z-of_z w128 c.args.step (search rules)) in
