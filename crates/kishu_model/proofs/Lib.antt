@@ -1,3 +1,5 @@
 mod Examples
 mod FirstCell
 mod NumberExamples
+mod TokenExamples
+mod MarkExamples

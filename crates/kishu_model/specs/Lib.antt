@@ -2,6 +2,15 @@ pub mod Lines
 pub mod Names
 pub mod Numbers
 pub mod NumberLaws
+pub mod PlainLines
+pub mod Marks
+pub mod Numerals
+pub mod Quoted
+pub mod Lexemes
+pub mod Layout
+pub mod Tokens
+pub mod Places
+pub mod LineRules
 pub mod Values
 pub mod Plain
 pub mod PlainLaws

@@ -7,10 +7,12 @@ mod names;
 mod profile;
 mod result;
 mod steps;
+mod token;
 mod value;
 
 pub use names::{is_builtin, is_reserved};
 pub use profile::Profile;
 pub use result::{CellResult, Outcome, Output};
 pub use steps::Steps;
+pub use token::{Mark, Token, TokenKind};
 pub use value::Value;

@@ -1,0 +1,370 @@
+-- What reading from the front takes, the rules of lines allow: brackets.
+use Rattle.std.proofs.Common.{◌≡◌, ℕ, zero, suc, ◌+◌, ◌-◌, ◌<◌, ◌≤◌, Bool, true, false, cond, List, [], ◌∷◌, ◌++◌, length, replicate, Some, refl, sym, ap, subst, ◌∙◌, arith}
+use Rattle.std.specs.Prelude.{Result, Ok, Err, IfOk, nat_eq}
+use Rattle.kishu_model.specs.declared.token.Token as rust
+use Rattle.kishu_lexer.specs.declared.fault.SyntaxFault.{SyntaxFault}
+use Rattle.kishu_lexer.specs.Machine.{Answers, tokens_of}
+use Rattle.std.specs.Str.{bytes_eq}
+use Rattle.std.specs.List.{starts_with}
+use Rattle.kishu_model.specs.declared.token.Mark.{Mark}
+use Rattle.kishu_model.specs.Lexemes.{Lexeme, blank, comment, joined, feed, word, number, string, sign, bad}
+use Rattle.kishu_model.specs.Layout as y
+use Rattle.kishu_model.specs.Layout.{◌>>=◌, Outcome, State, Start, fresh, led, inside, Kind, Token, Item, End, newline, indent, dedent, token, mark, top, dedents, dedented, indented, finish, begin, bracket, is_opening, is_closing, closes, step, steps, cut, end_of, layout}
+use Rattle.kishu_model.specs.LineRules as r
+use Rattle.kishu_model.specs.LineRules.{is_quiet, value, begins, token_at, Quiet, Inside, Line, Lead, Back, Indentation, Lines, HasTokens}
+use Rattle.kishu_lexer.proofs.Rules.{St, done, listed, last_of, run, after, quiet_step, feed_step, value_step, open_step, close_step, inside_takes, line_takes, first_step, begin_is, indentation_takes, comment_first, led_step, blank_first, joined_first, lines_take}
+
+-- the bracket that closes b, and what stands before it
+pub record Closes (is : List Item) (b : Mark × ℕ) : Type 0 where
+  closer : Item
+  others : List Item
+  found : List Token
+  kind : Mark
+  inner : Inside is (closer ∷ others) found
+  what : closer.what ≡ sign kind
+  closed : closes b.0 kind ≡ true
+  shorter : length others < length is
+
+abbrev pub Closing : ℕ → Type 0
+Closing n = (is : List Item) (out : List Token) (b : Mark × ℕ) (bs : List (Mark × ℕ)) (vs : List (List ℕ)) (t : State) → length is ≤ n → steps is (St inside out (b ∷ bs) vs) ≡ done t → t.brackets ≡ [] → Closes is b
+
+bind_ok : (o : Outcome State) (f : State → Outcome State) (t : State) → o >>= f ≡ done t → (b : State) × ((o ≡ done b) × (f b ≡ done t))
+bind_ok (Ok b) f t e = (b, (refl, e))
+bind_ok (Err l) f t e = absurd cc
+
+-- from what one step gives to what the rest does
+along : (is : List Item) (o : Outcome State) (s t : State) → o ≡ done s → o >>= steps is ≡ done t → steps is s ≡ done t
+along is o s t e h = sym (ap (λ v. v >>= steps is) e) ∙ h
+
+skipped : (i : Item) (is : List Item) (b : Mark × ℕ) → is_quiet i.what ≡ true → Closes is b → Closes (i ∷ is) b
+skipped i is b h c = record { closer = c.closer; others = c.others; found = c.found; kind = c.kind; inner = r.skip h c.inner; what = c.what; closed = c.closed; shorter = omega (arith, c.shorter) }
+
+lined : (i : Item) (is : List Item) (b : Mark × ℕ) → i.what ≡ feed → Closes is b → Closes (i ∷ is) b
+lined i is b h c = record { closer = c.closer; others = c.others; found = c.found; kind = c.kind; inner = r.new_line h c.inner; what = c.what; closed = c.closed; shorter = omega (arith, c.shorter) }
+
+valued : (i : Item) (k : Kind) (is : List Item) (b : Mark × ℕ) → value i.what ≡ Some k → Closes is b → Closes (i ∷ is) b
+valued i k is b h c = record { closer = c.closer; others = c.others; found = token_at k i ∷ c.found; kind = c.kind; inner = r.one h c.inner; what = c.what; closed = c.closed; shorter = omega (arith, c.shorter) }
+
+-- a whole step, from a piece and the rest
+abbrev whole : Item → List Item → State → Outcome State
+whole i is s = step i.what i.line i.start i.end s >>= steps is
+
+quiet_case : (n : ℕ) → Closing n → (i : Item) (is : List Item) (out : List Token) (b : Mark × ℕ) (bs : List (Mark × ℕ)) (vs : List (List ℕ)) (t : State) → length is ≤ n
+    → whole i is (St inside out (b ∷ bs) vs) ≡ done t → t.brackets ≡ [] → is_quiet i.what ≡ true → Closes (i ∷ is) b
+quiet_case n hyp i is out b bs vs t small h none q =
+    skipped i is b q (hyp is out b bs vs t small (along is _ (St inside out (b ∷ bs) vs) t (quiet_step i.what i.line i.start i.end out (b ∷ bs) vs q) h) none)
+
+value_case : (n : ℕ) → Closing n → (i : Item) (k : Kind) (is : List Item) (out : List Token) (b : Mark × ℕ) (bs : List (Mark × ℕ)) (vs : List (List ℕ)) (t : State) → length is ≤ n
+    → whole i is (St inside out (b ∷ bs) vs) ≡ done t → t.brackets ≡ [] → value i.what ≡ Some k → Closes (i ∷ is) b
+value_case n hyp i k is out b bs vs t small h none q =
+    valued i k is b q (hyp is (out ++ token_at k i ∷ []) b bs vs t small (along is _ (St inside (out ++ token_at k i ∷ []) (b ∷ bs) vs) t (value_step i.what k i.line i.start i.end out (b ∷ bs) vs q) h) none)
+
+open_case : (n : ℕ) → Closing n → (i : Item) (o : Mark) (is : List Item) (out : List Token) (b : Mark × ℕ) (bs : List (Mark × ℕ)) (vs : List (List ℕ)) (t : State) → length is ≤ n
+    → whole i is (St inside out (b ∷ bs) vs) ≡ done t → t.brackets ≡ [] → i.what ≡ sign o → is_opening o ≡ true → Closes (i ∷ is) b
+open_case n hyp i o is out b bs vs t small h none q op =
+    let opened = out ++ token_at (mark o) i ∷ [] in
+    let here : steps is (St inside opened ((o, i.line) ∷ b ∷ bs) vs) ≡ done t = along is _ (St inside opened ((o, i.line) ∷ b ∷ bs) vs) t (open_step i o out (b ∷ bs) vs q op) h in
+    let c = hyp is opened (o, i.line) (b ∷ bs) vs t small here none in
+    let shut = (opened ++ c.found) ++ token_at (mark c.kind) c.closer ∷ [] in
+    let next : steps c.others (St inside shut (b ∷ bs) vs) ≡ done t =
+    along c.others _ (St inside shut (b ∷ bs) vs) t (close_step c.closer o c.kind i.line (opened ++ c.found) (b ∷ bs) vs c.what c.closed) (sym (inside_takes opened (o, i.line) (b ∷ bs) vs c.inner) ∙ here) in
+    let d = hyp c.others shut b bs vs t (omega (arith, c.shorter)) next none in
+    record { closer = d.closer; others = d.others; found = token_at (mark o) i ∷ (c.found ++ token_at (mark c.kind) c.closer ∷ d.found); kind = d.kind; inner = r.group q c.what op c.closed c.inner d.inner; what = d.what; closed = d.closed; shorter = omega (arith, c.shorter, d.shorter) }
+
+wrong_close : (k : Mark) (n a e : ℕ) (out : List Token) (b : Mark × ℕ) (bs : List (Mark × ℕ)) (vs : List (List ℕ)) → is_opening k ≡ false → is_closing k ≡ true → closes b.0 k ≡ false → step (sign k) n a e (St inside out (b ∷ bs) vs) ≡ Err n
+unfolding step begin bracket
+wrong_close k n a e out b bs vs h j q = rw (h, j, q) refl
+
+close_case : (i : Item) (k : Mark) (is : List Item) (out : List Token) (b : Mark × ℕ) (bs : List (Mark × ℕ)) (vs : List (List ℕ)) (t : State) → whole i is (St inside out (b ∷ bs) vs) ≡ done t
+    → i.what ≡ sign k → is_opening k ≡ false → is_closing k ≡ true → Closes (i ∷ is) b
+close_case i k is out b bs vs t h q apart cl = go (closes b.0 k) refl
+  where
+    stuck : Err i.line >>= steps is ≡ done t → ⊥
+    stuck e = cc
+
+    go : (p : Bool) → closes b.0 k ≡ p → Closes (i ∷ is) b
+    go true e = record { closer = i; others = is; found = []; kind = k; inner = r.nothing; what = q; closed = e; shorter = omega arith }
+    go false e = absurd (stuck (sym (ap (λ v. v >>= steps is) (ap (λ l. step l i.line i.start i.end (St inside out (b ∷ bs) vs)) q ∙ wrong_close k i.line i.start i.end out b bs vs apart cl e)) ∙ h))
+
+plain_value : (k : Mark) → is_opening k ≡ false → is_closing k ≡ false → value (sign k) ≡ Some (mark k)
+plain_value k h j = rw (h, j) refl
+
+sign_case : (n : ℕ) → Closing n → (i : Item) (k : Mark) (is : List Item) (out : List Token) (b : Mark × ℕ) (bs : List (Mark × ℕ)) (vs : List (List ℕ)) (t : State) → length is ≤ n
+    → whole i is (St inside out (b ∷ bs) vs) ≡ done t → t.brackets ≡ [] → i.what ≡ sign k → Closes (i ∷ is) b
+sign_case n hyp i k is out b bs vs t small h none q = go (is_opening k) (is_closing k) refl refl
+  where
+    go : (p c : Bool) → is_opening k ≡ p → is_closing k ≡ c → Closes (i ∷ is) b
+    go true c e f = open_case n hyp i k is out b bs vs t small h none q e
+    go false true e f = close_case i k is out b bs vs t h q e f
+    go false false e f = value_case n hyp i (mark k) is out b bs vs t small h none (ap value q ∙ plain_value k e f)
+
+bad_step : (below n a e : ℕ) (s : State) → step (bad below) n a e s ≡ Err (n + below)
+unfolding step
+bad_step below n a e s = refl
+
+piece_case : (n : ℕ) → Closing n → (i : Item) (l : Lexeme) (is : List Item) (out : List Token) (b : Mark × ℕ) (bs : List (Mark × ℕ)) (vs : List (List ℕ)) (t : State) → length is ≤ n
+    → whole i is (St inside out (b ∷ bs) vs) ≡ done t → t.brackets ≡ [] → i.what ≡ l → Closes (i ∷ is) b
+piece_case n hyp i (blank w) is out b bs vs t small h none q = quiet_case n hyp i is out b bs vs t small h none (ap is_quiet q)
+piece_case n hyp i comment is out b bs vs t small h none q = quiet_case n hyp i is out b bs vs t small h none (ap is_quiet q)
+piece_case n hyp i joined is out b bs vs t small h none q = quiet_case n hyp i is out b bs vs t small h none (ap is_quiet q)
+piece_case n hyp i feed is out b bs vs t small h none q =
+    lined i is b q (hyp is out b bs vs t small (along is _ (St inside out (b ∷ bs) vs) t (feed_step i.what i.line i.start i.end out b bs vs q) h) none)
+piece_case n hyp i (word w) is out b bs vs t small h none q = value_case n hyp i (y.word_kind w) is out b bs vs t small h none (ap value q)
+piece_case n hyp i (number z) is out b bs vs t small h none q = value_case n hyp i (y.integer z) is out b bs vs t small h none (ap value q)
+piece_case n hyp i (string u) is out b bs vs t small h none q = value_case n hyp i (y.quoted u) is out b bs vs t small h none (ap value q)
+piece_case n hyp i (sign k) is out b bs vs t small h none q = sign_case n hyp i k is out b bs vs t small h none q
+piece_case n hyp i (bad below) is out b bs vs t small h none q = absurd (stuck (sym (ap (λ v. v >>= steps is) (ap (λ l. step l i.line i.start i.end (St inside out (b ∷ bs) vs)) q ∙ bad_step below i.line i.start i.end (St inside out (b ∷ bs) vs))) ∙ h))
+  where
+    stuck : Err (i.line + below) >>= steps is ≡ done t → ⊥
+    stuck e = cc
+
+-- What reads to an end inside a bracket meets the bracket that closes it, and what stands before that one is allowed.
+pub closing_met : (n : ℕ) → Closing n
+closing_met n [] out b bs vs t small h none = absurd (stuck h none)
+  where
+    stuck : done (St inside out (b ∷ bs) vs) ≡ done t → t.brackets ≡ [] → ⊥
+    stuck e f = cc
+closing_met zero (i ∷ is) out b bs vs t small h none = absurd (omega arith)
+closing_met (suc n) (i ∷ is) out b bs vs t small h none = piece_case n (closing_met n) i i.what is out b bs vs t (omega arith) h none refl
+
+-- ---- a line
+
+abbrev After : Type 0
+After = State → Outcome (List Token)
+
+bind_list : (o : Outcome State) (f : After) (us : List Token) → o >>= f ≡ listed us → (t : State) × ((o ≡ done t) × (f t ≡ listed us))
+bind_list (Ok t) f us e = (t, (refl, e))
+bind_list (Err l) f us e = absurd cc
+
+bind_ok_list : (o : Outcome State) (is : List Item) (at : End) (us : List Token) → after at is o ≡ listed us → (t : State) × (o ≡ done t)
+bind_ok_list (Ok t) is at us e = (t, refl)
+bind_ok_list (Err l) is at us e = absurd cc
+
+finish_none : (bs : List (Mark × ℕ)) (at : End) (t : State) (us : List Token) → finish bs at t ≡ listed us → bs ≡ []
+finish_none [] at t us e = refl
+finish_none (b ∷ bs) at t us e = absurd cc
+
+-- the end of the logical line, and what stands before it
+record Ended (at : End) (is : List Item) : Type 0 where
+  others : List Item
+  found : List Token
+  read : Line at is others found
+  shorter : length others ≤ length is - 1
+
+abbrev Ending : ℕ → Type 0
+Ending n = (at : End) (is : List Item) (out : List Token) (vs : List (List ℕ)) (us : List Token) → length is ≤ n → run at is (St inside out [] vs) ≡ listed us → Ended at is
+
+line_quiet : (n : ℕ) → Ending n → (at : End) (i : Item) (is : List Item) (out : List Token) (vs : List (List ℕ)) (us : List Token) → length is ≤ n → run at (i ∷ is) (St inside out [] vs) ≡ listed us → is_quiet i.what ≡ true → Ended at (i ∷ is)
+line_quiet n hyp at i is out vs us small h q =
+    let c = hyp at is out vs us small (sym (ap (after at is) (quiet_step i.what i.line i.start i.end out [] vs q)) ∙ h) in
+    record { others = c.others; found = c.found; read = r.skip_in q c.read; shorter = omega (arith, c.shorter) }
+
+line_value : (n : ℕ) → Ending n → (at : End) (i : Item) (k : Kind) (is : List Item) (out : List Token) (vs : List (List ℕ)) (us : List Token) → length is ≤ n → run at (i ∷ is) (St inside out [] vs) ≡ listed us → value i.what ≡ Some k → Ended at (i ∷ is)
+line_value n hyp at i k is out vs us small h q =
+    let c = hyp at is (out ++ token_at k i ∷ []) vs us small (sym (ap (after at is) (value_step i.what k i.line i.start i.end out [] vs q)) ∙ h) in
+    record { others = c.others; found = token_at k i ∷ c.found; read = r.one_in q c.read; shorter = omega (arith, c.shorter) }
+
+line_open : (n : ℕ) → Ending n → (at : End) (i : Item) (o : Mark) (is : List Item) (out : List Token) (vs : List (List ℕ)) (us : List Token) → length is ≤ n → run at (i ∷ is) (St inside out [] vs) ≡ listed us → i.what ≡ sign o → is_opening o ≡ true → Ended at (i ∷ is)
+line_open n hyp at i o is out vs us small h q op =
+    let opened = out ++ token_at (mark o) i ∷ [] in
+    let here : run at is (St inside opened ((o, i.line) ∷ []) vs) ≡ listed us = sym (ap (after at is) (open_step i o out [] vs q op)) ∙ h in
+    let p = bind_list (steps is (St inside opened ((o, i.line) ∷ []) vs)) (last_of at) us here in
+    let c = closing_met n is opened (o, i.line) [] vs p.0 small p.1.0 (finish_none p.0.brackets at p.0 us p.1.1) in
+    let shut = (opened ++ c.found) ++ token_at (mark c.kind) c.closer ∷ [] in
+    let next : run at c.others (St inside shut [] vs) ≡ listed us =
+    sym (ap (after at c.others) (close_step c.closer o c.kind i.line (opened ++ c.found) [] vs c.what c.closed)) ∙ sym (ap (λ v. v >>= last_of at) (inside_takes opened (o, i.line) [] vs c.inner)) ∙ here in
+    let d = hyp at c.others shut vs us (omega (arith, c.shorter)) next in
+    record { others = d.others; found = token_at (mark o) i ∷ (c.found ++ token_at (mark c.kind) c.closer ∷ d.found); read = r.group_in q c.what op c.closed c.inner d.read; shorter = omega (arith, c.shorter, d.shorter) }
+
+never : (at : End) (is : List Item) (line : ℕ) (us : List Token) → after at is (Err line) ≡ listed us → ⊥
+never at is line us e = cc
+
+no_bracket_to_close : (k : Mark) (n a e : ℕ) (out : List Token) (vs : List (List ℕ)) → is_opening k ≡ false → is_closing k ≡ true → step (sign k) n a e (St inside out [] vs) ≡ Err n
+unfolding step begin bracket
+no_bracket_to_close k n a e out vs h j = rw (h, j) refl
+
+line_sign : (n : ℕ) → Ending n → (at : End) (i : Item) (k : Mark) (is : List Item) (out : List Token) (vs : List (List ℕ)) (us : List Token) → length is ≤ n → run at (i ∷ is) (St inside out [] vs) ≡ listed us → i.what ≡ sign k → Ended at (i ∷ is)
+line_sign n hyp at i k is out vs us small h q = go (is_opening k) (is_closing k) refl refl
+  where
+    go : (p c : Bool) → is_opening k ≡ p → is_closing k ≡ c → Ended at (i ∷ is)
+    go true c e f = line_open n hyp at i k is out vs us small h q e
+    go false true e f = absurd (never at is i.line us (sym (ap (after at is) (ap (λ l. step l i.line i.start i.end (St inside out [] vs)) q ∙ no_bracket_to_close k i.line i.start i.end out vs e f)) ∙ h))
+    go false false e f = line_value n hyp at i (mark k) is out vs us small h (ap value q ∙ plain_value k e f)
+
+line_piece : (n : ℕ) → Ending n → (at : End) (i : Item) (l : Lexeme) (is : List Item) (out : List Token) (vs : List (List ℕ)) (us : List Token) → length is ≤ n → run at (i ∷ is) (St inside out [] vs) ≡ listed us → i.what ≡ l → Ended at (i ∷ is)
+line_piece n hyp at i (blank w) is out vs us small h q = line_quiet n hyp at i is out vs us small h (ap is_quiet q)
+line_piece n hyp at i comment is out vs us small h q = line_quiet n hyp at i is out vs us small h (ap is_quiet q)
+line_piece n hyp at i joined is out vs us small h q = line_quiet n hyp at i is out vs us small h (ap is_quiet q)
+line_piece n hyp at i feed is out vs us small h q = record { others = is; found = token_at newline i ∷ []; read = r.ends q; shorter = omega arith }
+line_piece n hyp at i (word w) is out vs us small h q = line_value n hyp at i (y.word_kind w) is out vs us small h (ap value q)
+line_piece n hyp at i (number z) is out vs us small h q = line_value n hyp at i (y.integer z) is out vs us small h (ap value q)
+line_piece n hyp at i (string u) is out vs us small h q = line_value n hyp at i (y.quoted u) is out vs us small h (ap value q)
+line_piece n hyp at i (sign k) is out vs us small h q = line_sign n hyp at i k is out vs us small h q
+line_piece n hyp at i (bad below) is out vs us small h q =
+    absurd (never at is (i.line + below) us (sym (ap (after at is) (ap (λ l. step l i.line i.start i.end (St inside out [] vs)) q ∙ bad_step below i.line i.start i.end (St inside out [] vs))) ∙ h))
+
+line_met : (n : ℕ) → Ending n
+line_met n at [] out vs us small h = record { others = []; found = token newline at.0 at.1 at.1 ∷ []; read = r.last; shorter = omega arith }
+line_met zero at (i ∷ is) out vs us small h = absurd (omega arith)
+line_met (suc n) at (i ∷ is) out vs us small h = line_piece n (line_met n) at i i.what is out vs us (omega arith) h refl
+
+-- ---- indentation
+
+Off : List ℕ → ℕ → ℕ → List (List ℕ) → Type 0
+Off w n a vs = (us : List (List ℕ)) × ((ts : List Token) × Back w n a vs us ts)
+
+back_met : (w : List ℕ) (n a : ℕ) (vs : List (List ℕ)) (out : List Token) (p : List (List ℕ) × List Token) → dedents w n a vs out ≡ Ok p → Off w n a vs
+unfolding Off
+back_met w n a [] out p e = go (bytes_eq w []) refl e
+  where
+    go : (b : Bool) → bytes_eq w [] ≡ b → cond b (Ok ([], out)) (Err n) ≡ Ok p → Off w n a []
+    go true q e = ([], ([], r.bottom q))
+    go false q e = absurd cc
+back_met w n a (v ∷ vs) out p e = go (bytes_eq w v) refl e (back_met w n a vs (out ++ token dedent n a a ∷ []) p)
+  where
+    go : (b : Bool) → bytes_eq w v ≡ b → cond b (Ok (v ∷ vs, out)) (dedents w n a vs (out ++ token dedent n a a ∷ [])) ≡ Ok p → (dedents w n a vs (out ++ token dedent n a a ∷ []) ≡ Ok p → Off w n a vs) → Off w n a (v ∷ vs)
+    go true q e next = (v ∷ vs, ([], r.found q))
+    go false q e next = let t = next e in (t.0, (token dedent n a a ∷ t.1.0, r.off q t.1.1))
+
+Deep : List ℕ → ℕ → ℕ → ℕ → ℕ → List (List ℕ) → Type 0
+Deep w from to n a vs = (us : List (List ℕ)) × ((ts : List Token) × Indentation w from to n a vs us ts)
+
+taken_off : (s t : State) (o : Outcome (List (List ℕ) × List Token)) → dedented s o ≡ done t → (p : List (List ℕ) × List Token) × (o ≡ Ok p)
+taken_off s t (Ok p) e = (p, refl)
+taken_off s t (Err l) e = absurd cc
+
+indentation_met : (w : List ℕ) (from to n a : ℕ) (vs : List (List ℕ)) (out : List Token) (t : State) → indented w from to n a (St inside out [] vs) ≡ done t → Deep w from to n a vs
+unfolding indented Deep Off
+indentation_met w from to n a vs out t e = go (bytes_eq w (top vs)) (starts_with nat_eq w (top vs)) refl refl e
+  where
+    go : (p q : Bool) → bytes_eq w (top vs) ≡ p → starts_with nat_eq w (top vs) ≡ q
+        → cond p (done (St inside out [] vs)) (cond q (done (y.deeper w n from to (St inside out [] vs))) (dedented (St inside out [] vs) (dedents w n a vs out))) ≡ done t → Deep w from to n a vs
+    go true q e f h = (vs, ([], r.equal e))
+    go false true e f h = (w ∷ vs, (token indent n from to ∷ [], r.longer e f))
+    go false false e f h = let p = taken_off (St inside out [] vs) t (dedents w n a vs out) h in let b = back_met w n a vs out p.0 p.1 in (b.0, (b.1.0, r.lower e f b.1.1))
+
+-- the first piece of a line begins it
+from_begin : (l : Lexeme) (n a e : ℕ) (s t : State) → begins l ≡ true → step l n a e s ≡ done t → (b : State) × (begin n a s ≡ done b)
+unfolding step
+from_begin (word w) n a e s t h q = let p = bind_ok (begin n a s) (λ b. done (y.emit (token (y.word_kind w) n a e) b)) t q in (p.0, p.1.0)
+from_begin (number z) n a e s t h q = let p = bind_ok (begin n a s) (λ b. done (y.emit (token (y.integer z) n a e) b)) t q in (p.0, p.1.0)
+from_begin (string u) n a e s t h q = let p = bind_ok (begin n a s) (λ b. done (y.emit (token (y.quoted u) n a e) b)) t q in (p.0, p.1.0)
+from_begin (sign k) n a e s t h q = let p = bind_ok (begin n a s) (λ b. bracket k n b >>= (λ c. done (y.emit (token (mark k) n a e) c))) t q in (p.0, p.1.0)
+from_begin (blank w) n a e s t h q = absurd cc
+from_begin comment n a e s t h q = absurd cc
+from_begin joined n a e s t h q = absurd cc
+from_begin feed n a e s t h q = absurd cc
+from_begin (bad b) n a e s t h q = absurd cc
+
+begin_by : (v : Start) (n a : ℕ) (out : List Token) (vs : List (List ℕ)) (b : State) → begin n a (St v out [] vs) ≡ done b → y.begin_at v n a (St v out [] vs) ≡ done b
+unfolding begin
+begin_by v n a out vs b h = h
+
+-- ---- lines
+
+Readable : End → List (List ℕ) → List Item → Type 0
+Readable at vs is = (ts : List Token) × Lines at vs is ts
+
+abbrev Reading : ℕ → Type 0
+Reading n = (at : End) (is : List Item) (out : List Token) (vs : List (List ℕ)) (us : List Token) → length is ≤ n → run at is (St fresh out [] vs) ≡ listed us → Readable at vs is
+
+logical : (n : ℕ) → Reading n → (at : End) (before : List Item) (i : Item) (is : List Item) (v : Start) (w : List ℕ) (from to : ℕ) (out : List Token) (vs : List (List ℕ)) (us : List Token) → length is ≤ n
+    → Lead before (i ∷ is) w from to → begins i.what ≡ true → y.begin_at v i.line i.start (St v out [] vs) ≡ indented w from to i.line i.start (St inside out [] vs)
+    → run at (i ∷ is) (St v out [] vs) ≡ listed us → Readable at vs before
+unfolding Readable Deep
+logical n hyp at before i is v w from to out vs us small lead b begun h =
+    let p = bind_ok_list (step i.what i.line i.start i.end (St v out [] vs)) is at us h in
+    let q = from_begin i.what i.line i.start i.end (St v out [] vs) p.0 b p.1 in
+    let d = indentation_met w from to i.line i.start vs out q.0 (sym begun ∙ begin_by v i.line i.start out vs q.0 q.1) in
+    let same : y.begin_at v i.line i.start (St v out [] vs) ≡ done (St inside (out ++ d.1.0) [] d.0) = begun ∙ indentation_takes out d.1.1 in
+    let here : run at (i ∷ is) (St inside (out ++ d.1.0) [] d.0) ≡ listed us =
+    sym (ap (after at is) (first_step i.what i.line i.start i.end (St v out [] vs) (St inside (out ++ d.1.0) [] d.0) b (begin_is v i.line i.start out d.1.0 vs d.0 same))) ∙ h in
+    let c = line_met (suc n) at (i ∷ is) (out ++ d.1.0) d.0 us (omega arith) here in
+    let rest = hyp at c.others ((out ++ d.1.0) ++ c.found) d.0 us (omega (arith, c.shorter)) (sym (line_takes (out ++ d.1.0) d.0 c.read) ∙ here) in
+    (d.1.0 ++ (c.found ++ rest.0), r.line lead d.1.1 c.read rest.1)
+
+led_feed : (l : Lexeme) (n a e : ℕ) (w : List ℕ) (from to : ℕ) (out : List Token) (vs : List (List ℕ)) → l ≡ feed → step l n a e (St (led w from to) out [] vs) ≡ done (St fresh out [] vs)
+unfolding step
+led_feed l n a e w from to out vs h = ap (λ x. step x n a e (St (led w from to) out [] vs)) h
+
+fresh_feed : (l : Lexeme) (n a e : ℕ) (out : List Token) (vs : List (List ℕ)) → l ≡ feed → step l n a e (St fresh out [] vs) ≡ done (St fresh out [] vs)
+unfolding step
+fresh_feed l n a e out vs h = ap (λ x. step x n a e (St fresh out [] vs)) h
+
+bad_never : (at : End) (i : Item) (below : ℕ) (is : List Item) (s : State) (us : List Token) → i.what ≡ bad below → run at (i ∷ is) s ≡ listed us → ⊥
+bad_never at i below is s us q h = never at is (i.line + below) us (sym (ap (after at is) (ap (λ l. step l i.line i.start i.end s) q ∙ bad_step below i.line i.start i.end s)) ∙ h)
+
+-- after the leading blanks of a line
+led_piece : (n : ℕ) → Reading n → (at : End) (before : List Item) (i : Item) (l : Lexeme) (is : List Item) (w : List ℕ) (from to : ℕ) (out : List Token) (vs : List (List ℕ)) (us : List Token) → length is ≤ n
+    → ((js : List Item) → Quiet (i ∷ is) js → Quiet before js) → (begins i.what ≡ true → Lead before (i ∷ is) w from to)
+    → (is_quiet i.what ≡ true → run at is (St (led w from to) out [] vs) ≡ listed us → Readable at vs before)
+    → run at (i ∷ is) (St (led w from to) out [] vs) ≡ listed us → i.what ≡ l → Readable at vs before
+unfolding Readable
+led_piece n hyp at before i (blank x) is w from to out vs us small quiet lead next h q =
+    next (ap is_quiet q) (sym (ap (after at is) (led_step i.what i.line i.start i.end w from to out vs (ap is_quiet q))) ∙ h)
+led_piece n hyp at before i comment is w from to out vs us small quiet lead next h q =
+    next (ap is_quiet q) (sym (ap (after at is) (led_step i.what i.line i.start i.end w from to out vs (ap is_quiet q))) ∙ h)
+led_piece n hyp at before i joined is w from to out vs us small quiet lead next h q =
+    next (ap is_quiet q) (sym (ap (after at is) (led_step i.what i.line i.start i.end w from to out vs (ap is_quiet q))) ∙ h)
+led_piece n hyp at before i feed is w from to out vs us small quiet lead next h q =
+    let rest = hyp at is out vs us small (sym (ap (after at is) (led_feed i.what i.line i.start i.end w from to out vs q)) ∙ h) in
+    (rest.0, r.blank_line (quiet (i ∷ is) r.here) q rest.1)
+led_piece n hyp at before i (word x) is w from to out vs us small quiet lead next h q = logical n hyp at before i is (led w from to) w from to out vs us small (lead (ap begins q)) (ap begins q) refl h
+led_piece n hyp at before i (number z) is w from to out vs us small quiet lead next h q = logical n hyp at before i is (led w from to) w from to out vs us small (lead (ap begins q)) (ap begins q) refl h
+led_piece n hyp at before i (string u) is w from to out vs us small quiet lead next h q = logical n hyp at before i is (led w from to) w from to out vs us small (lead (ap begins q)) (ap begins q) refl h
+led_piece n hyp at before i (sign k) is w from to out vs us small quiet lead next h q = logical n hyp at before i is (led w from to) w from to out vs us small (lead (ap begins q)) (ap begins q) refl h
+led_piece n hyp at before i (bad b) is w from to out vs us small quiet lead next h q = absurd (bad_never at i b is (St (led w from to) out [] vs) us q h)
+
+led_met : (n : ℕ) → Reading n → (at : End) (before is : List Item) (w : List ℕ) (from to : ℕ) (out : List Token) (vs : List (List ℕ)) (us : List Token) → length is ≤ n
+    → ((js : List Item) → Quiet is js → Quiet before js) → ((j : Item) (js : List Item) → Quiet is (j ∷ js) → begins j.what ≡ true → Lead before (j ∷ js) w from to)
+    → run at is (St (led w from to) out [] vs) ≡ listed us → Readable at vs before
+unfolding Readable
+led_met n hyp at before [] w from to out vs us small quiet lead h = (replicate (length vs) (token dedent at.0 at.1 at.1), r.over_all (quiet [] r.here))
+led_met n hyp at before (i ∷ is) w from to out vs us small quiet lead h =
+    led_piece n hyp at before i i.what is w from to out vs us (omega arith) quiet (λ b. lead i is r.here b)
+    (λ q k. led_met n hyp at before is w from to out vs us (omega arith) (λ js t. quiet js (r.over q t)) (λ j js t b. lead j js (r.over q t) b) k) h refl
+
+comment_before : {at : End} {vs : List (List ℕ)} {is : List Item} {ts : List Token} (i : Item) → i.what ≡ comment → Lines at vs is ts → Lines at vs (i ∷ is) ts
+comment_before i e (r.over_all q) = r.over_all (r.over (ap is_quiet e) q)
+comment_before i e (r.blank_line q f t) = r.blank_line (r.over (ap is_quiet e) q) f t
+comment_before i e (r.line l n b t) = r.line (r.past e l) n b t
+
+fresh_piece : (n : ℕ) → Reading n → (at : End) (i : Item) (l : Lexeme) (is : List Item) (out : List Token) (vs : List (List ℕ)) (us : List Token) → length is ≤ n
+    → run at (i ∷ is) (St fresh out [] vs) ≡ listed us → i.what ≡ l → Readable at vs (i ∷ is)
+unfolding Readable
+fresh_piece n hyp at i (blank w) is out vs us small h q =
+    led_met n hyp at (i ∷ is) is w i.start i.end out vs us small (λ js t. r.over (ap is_quiet q) t) (λ j js t b. r.blanks q t b) (sym (ap (after at is) (blank_first i.what i.line i.start i.end w out vs q)) ∙ h)
+fresh_piece n hyp at i joined is out vs us small h q =
+    led_met n hyp at (i ∷ is) is [] i.start i.start out vs us small (λ js t. r.over (ap is_quiet q) t) (λ j js t b. r.joint q t b) (sym (ap (after at is) (joined_first i.what i.line i.start i.end out vs q)) ∙ h)
+fresh_piece n hyp at i comment is out vs us small h q =
+    let rest = hyp at is out vs us small (sym (ap (after at is) (ap (λ x. step x i.line i.start i.end (St fresh out [] vs)) q ∙ comment_first i.line i.start i.end out vs)) ∙ h) in
+    (rest.0, comment_before i q rest.1)
+fresh_piece n hyp at i feed is out vs us small h q =
+    let rest = hyp at is out vs us small (sym (ap (after at is) (fresh_feed i.what i.line i.start i.end out vs q)) ∙ h) in
+    (rest.0, r.blank_line r.here q rest.1)
+fresh_piece n hyp at i (word x) is out vs us small h q = logical n hyp at (i ∷ is) i is fresh [] i.start i.start out vs us small (r.bare (ap begins q)) (ap begins q) refl h
+fresh_piece n hyp at i (number z) is out vs us small h q = logical n hyp at (i ∷ is) i is fresh [] i.start i.start out vs us small (r.bare (ap begins q)) (ap begins q) refl h
+fresh_piece n hyp at i (string u) is out vs us small h q = logical n hyp at (i ∷ is) i is fresh [] i.start i.start out vs us small (r.bare (ap begins q)) (ap begins q) refl h
+fresh_piece n hyp at i (sign k) is out vs us small h q = logical n hyp at (i ∷ is) i is fresh [] i.start i.start out vs us small (r.bare (ap begins q)) (ap begins q) refl h
+fresh_piece n hyp at i (bad b) is out vs us small h q = absurd (bad_never at i b is (St fresh out [] vs) us q h)
+
+lines_met : (n : ℕ) → Reading n
+unfolding Readable
+lines_met n at [] out vs us small h = (replicate (length vs) (token dedent at.0 at.1 at.1), r.over_all r.here)
+lines_met zero at (i ∷ is) out vs us small h = absurd (omega arith)
+lines_met (suc n) at (i ∷ is) out vs us small h = fresh_piece n (lines_met n) at i i.what is out vs us (omega arith) h refl
+
+same_list : (us ts : List Token) → listed us ≡ listed ts → us ≡ ts
+same_list us ts q = cc
+
+-- the tokens that reading from the front gives are those that the rules give
+pub read_tokens : (cs : List ℕ) (ts : List Token) → layout cs ≡ Ok ts → HasTokens cs ts
+unfolding layout Readable
+read_tokens cs ts e =
+    let p = lines_met (length (cut 1 0 cs)) (end_of 1 0 cs) (cut 1 0 cs) [] [] ts (omega arith) e in
+    subst (λ v. HasTokens cs v) (same_list p.0 ts (sym (lines_take [] p.1) ∙ e)) p.1
+
+-- the same of what a call answers
+pub by_reading : {Z : Type 0} (cs chars : List ℕ) (r : Result Z SyntaxFault) (items : Z → List rust.Token) → cs ≡ chars → Answers (layout cs) r items → IfOk r (λ v. HasTokens chars (tokens_of (items v)))
+by_reading cs chars (Ok v) items e h = read_tokens chars (tokens_of (items v)) (ap layout (sym e) ∙ h)
+by_reading cs chars (Err l) items e h = tt

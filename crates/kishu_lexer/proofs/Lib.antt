@@ -1,0 +1,10 @@
+pub mod Texts
+pub mod Values
+pub mod Words
+pub mod Bodies
+pub mod Sums
+pub mod Whole
+pub mod Turns
+pub mod Order
+pub mod Rules
+pub mod Complete

@@ -1,0 +1,16 @@
+use Rattle.std.proofs.Common.{◌∙◌}
+use Rattle.std.specs.Str.{chars}
+use Rattle.kishu_model.specs.PlainLines.{plain_lines}
+use Rattle.kishu_lexer.proofs.Order.{placed}
+use Rattle.kishu_lexer.proofs.Rules.{by_rules}
+use Rattle.kishu_lexer.proofs.Complete.{by_reading}
+use Rattle.kishu_lexer.proofs.cutting.tokens.Goals as goal
+
+pub returns-clause-places : goal.returns-clause-places
+returns-clause-places c = placed c.as_slice.result.now (plain_lines (chars c.args.text.now)) c.layout.result (λ v. v.items) (c.as_slice.ensures.value ∙ c.in_ok-plain.ensures.value) c.layout.ensures
+
+pub returns-clause-only : goal.returns-clause-only
+returns-clause-only c = λ ts t. by_rules c.as_slice.result.now (plain_lines (chars c.args.text.now)) ts c.layout.result (λ v. v.items) (c.as_slice.ensures.value ∙ c.in_ok-plain.ensures.value) c.layout.ensures t
+
+pub returns-clause-rules : goal.returns-clause-rules
+returns-clause-rules c = by_reading c.as_slice.result.now (plain_lines (chars c.args.text.now)) c.layout.result (λ v. v.items) (c.as_slice.ensures.value ∙ c.in_ok-plain.ensures.value) c.layout.ensures

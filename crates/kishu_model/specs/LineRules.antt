@@ -1,0 +1,101 @@
+-- The rules of lines, brackets and indentation as a language of pieces, apart from the reading in `Layout` (Python Language Reference 3, "Line structure").
+use Rattle.std.specs.Prelude.{◌≡◌, ℕ, Bool, true, false, if◌then◌else◌, List, [], ◌∷◌, ◌++◌, length, replicate, Option, Some, None, nat_eq}
+use Rattle.std.specs.Str.{bytes_eq}
+use Rattle.std.specs.List.{starts_with}
+use Rattle.kishu_model.specs.declared.token.Mark.{Mark}
+use Rattle.kishu_model.specs.Lexemes.{Lexeme, blank, comment, joined, feed, word, number, string, sign, bad}
+use Rattle.kishu_model.specs.Layout.{Kind, integer, quoted, newline, indent, dedent, mark, Token, token, Item, End, end_of, cut, word_kind, top, is_opening, is_closing, closes}
+
+-- a piece that gives no token and ends no line
+abbrev pub is_quiet : Lexeme → Bool
+is_quiet (blank w) = true
+is_quiet comment = true
+is_quiet joined = true
+is_quiet feed = false
+is_quiet (word w) = false
+is_quiet (number z) = false
+is_quiet (string t) = false
+is_quiet (sign k) = false
+is_quiet (bad below) = false
+
+-- the token of a piece that is no bracket
+abbrev pub value : Lexeme → Option Kind
+value (word w) = Some (word_kind w)
+value (number z) = Some (integer z)
+value (string t) = Some (quoted t)
+value (sign k) = if is_opening k then None else (if is_closing k then None else Some (mark k))
+value (blank w) = None
+value comment = None
+value joined = None
+value feed = None
+value (bad below) = None
+
+abbrev pub token_at : Kind → Item → Token
+token_at k i = token k i.line i.start i.end
+
+-- only pieces that give nothing stand from the first list to the second
+pub data Quiet : List Item → List Item → Type 0 where
+  here : {is : List Item} → Quiet is is
+  over : {i : Item} {is js : List Item} → is_quiet i.what ≡ true → Quiet is js → Quiet (i ∷ is) js
+
+-- what stands between brackets: a line may end there
+pub data Inside : List Item → List Item → List Token → Type 0 where
+  nothing : {is : List Item} → Inside is is []
+  skip : {i : Item} {is js : List Item} {ts : List Token} → is_quiet i.what ≡ true → Inside is js ts → Inside (i ∷ is) js ts
+  new_line : {i : Item} {is js : List Item} {ts : List Token} → i.what ≡ feed → Inside is js ts → Inside (i ∷ is) js ts
+  one : {i : Item} {is js : List Item} {ts : List Token} {k : Kind} → value i.what ≡ Some k → Inside is js ts → Inside (i ∷ is) js (token_at k i ∷ ts)
+  group : {i j : Item} {o c : Mark} {is js ks : List Item} {ts us : List Token} → i.what ≡ sign o → j.what ≡ sign c → is_opening o ≡ true → closes o c ≡ true
+      → Inside is (j ∷ js) ts → Inside js ks us → Inside (i ∷ is) ks (token_at (mark o) i ∷ (ts ++ token_at (mark c) j ∷ us))
+
+-- a logical line outside brackets, up to its line feed or the end of the text
+pub data Line : End → List Item → List Item → List Token → Type 0 where
+  last : {at : End} → Line at [] [] (token newline at.0 at.1 at.1 ∷ [])
+  ends : {at : End} {i : Item} {is : List Item} → i.what ≡ feed → Line at (i ∷ is) is (token_at newline i ∷ [])
+  skip_in : {at : End} {i : Item} {is js : List Item} {ts : List Token} → is_quiet i.what ≡ true → Line at is js ts → Line at (i ∷ is) js ts
+  one_in : {at : End} {i : Item} {is js : List Item} {ts : List Token} {k : Kind} → value i.what ≡ Some k → Line at is js ts → Line at (i ∷ is) js (token_at k i ∷ ts)
+  group_in : {at : End} {i j : Item} {o c : Mark} {is js ks : List Item} {ts us : List Token} → i.what ≡ sign o → j.what ≡ sign c → is_opening o ≡ true → closes o c ≡ true
+      → Inside is (j ∷ js) ts → Line at js ks us → Line at (i ∷ is) ks (token_at (mark o) i ∷ (ts ++ token_at (mark c) j ∷ us))
+
+-- a piece with which a logical line may begin
+abbrev pub begins : Lexeme → Bool
+begins (word w) = true
+begins (number z) = true
+begins (string t) = true
+begins (sign k) = true
+begins (blank w) = false
+begins comment = false
+begins joined = false
+begins feed = false
+begins (bad below) = false
+
+-- what stands before the first token of a line: the indentation is the blanks that come first, with their places
+pub data Lead : List Item → List Item → List ℕ → ℕ → ℕ → Type 0 where
+  past : {i : Item} {is js : List Item} {w : List ℕ} {from to : ℕ} → i.what ≡ comment → Lead is js w from to → Lead (i ∷ is) js w from to
+  bare : {i : Item} {is : List Item} → begins i.what ≡ true → Lead (i ∷ is) (i ∷ is) [] i.start i.start
+  blanks : {i j : Item} {is js : List Item} {w : List ℕ} → i.what ≡ blank w → Quiet is (j ∷ js) → begins j.what ≡ true → Lead (i ∷ is) (j ∷ js) w i.start i.end
+  joint : {i j : Item} {is js : List Item} → i.what ≡ joined → Quiet is (j ∷ js) → begins j.what ≡ true → Lead (i ∷ is) (j ∷ js) [] i.start i.start
+
+-- Entries are taken off the stack of indentations, one DEDENT each, down to the one that is equal; the empty one is below all.
+pub data Back : List ℕ → ℕ → ℕ → List (List ℕ) → List (List ℕ) → List Token → Type 0 where
+  found : {w v : List ℕ} {line at : ℕ} {vs : List (List ℕ)} → bytes_eq w v ≡ true → Back w line at (v ∷ vs) (v ∷ vs) []
+  bottom : {w : List ℕ} {line at : ℕ} → bytes_eq w [] ≡ true → Back w line at [] [] []
+  off : {w v : List ℕ} {line at : ℕ} {vs us : List (List ℕ)} {ts : List Token} → bytes_eq w v ≡ false → Back w line at vs us ts → Back w line at (v ∷ vs) us (token dedent line at at ∷ ts)
+
+-- an indentation w at the places `from` and `to`, before a token on this line at this place: the stack before and after, and the tokens
+pub data Indentation : List ℕ → ℕ → ℕ → ℕ → ℕ → List (List ℕ) → List (List ℕ) → List Token → Type 0 where
+  equal : {w : List ℕ} {from to line at : ℕ} {vs : List (List ℕ)} → bytes_eq w (top vs) ≡ true → Indentation w from to line at vs vs []
+  longer : {w : List ℕ} {from to line at : ℕ} {vs : List (List ℕ)} → bytes_eq w (top vs) ≡ false → starts_with nat_eq w (top vs) ≡ true
+      → Indentation w from to line at vs (w ∷ vs) (token indent line from to ∷ [])
+  lower : {w : List ℕ} {from to line at : ℕ} {vs us : List (List ℕ)} {ts : List Token} → bytes_eq w (top vs) ≡ false → starts_with nat_eq w (top vs) ≡ false → Back w line at vs us ts
+      → Indentation w from to line at vs us ts
+
+-- the lines of a text, with the indentations that are open before them
+pub data Lines : End → List (List ℕ) → List Item → List Token → Type 0 where
+  over_all : {at : End} {vs : List (List ℕ)} {is : List Item} → Quiet is [] → Lines at vs is (replicate (length vs) (token dedent at.0 at.1 at.1))
+  blank_line : {at : End} {vs : List (List ℕ)} {i : Item} {is js : List Item} {ts : List Token} → Quiet is (i ∷ js) → i.what ≡ feed → Lines at vs js ts → Lines at vs is ts
+  line : {at : End} {vs us : List (List ℕ)} {w : List ℕ} {from to : ℕ} {i : Item} {is js ks : List Item} {ts before after : List Token} → Lead is (i ∷ js) w from to
+      → Indentation w from to i.line i.start vs us before → Line at (i ∷ js) ks ts → Lines at us ks after → Lines at vs is (before ++ (ts ++ after))
+
+-- a text with plain line ends has these tokens
+abbrev pub HasTokens : List ℕ → List Token → Type 0
+HasTokens cs ts = Lines (end_of 1 0 cs) [] (cut 1 0 cs) ts
