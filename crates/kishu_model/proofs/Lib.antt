@@ -3,3 +3,5 @@ mod FirstCell
 mod NumberExamples
 mod TokenExamples
 mod MarkExamples
+mod TreeExamples
+mod FaultExamples

@@ -8,6 +8,7 @@ mod profile;
 mod result;
 mod steps;
 mod token;
+mod tree;
 mod value;
 
 pub use names::{is_builtin, is_reserved};
@@ -15,4 +16,8 @@ pub use profile::Profile;
 pub use result::{CellResult, Outcome, Output};
 pub use steps::Steps;
 pub use token::{Mark, Token, TokenKind};
+pub use tree::{
+    Argument, Arm, Comparison, Def, Expr, Handler, Link, Operand, Operator, Pair, Program, Sign,
+    Stmt, Trailer,
+};
 pub use value::Value;
