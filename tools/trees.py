@@ -2,8 +2,8 @@
 """Makes the table of texts with their trees or the lines of their faults by which the grammar is
 tested.
 
-Usage: tools/trees.py antt TREES FAULTS    (crates/kishu_model/proofs/TreeExamples.antt and
-                                            crates/kishu_model/proofs/FaultExamples.antt)
+Usage: tools/trees.py antt TREES FAULTS OTHERS    (TreeExamples.antt, FaultExamples.antt and
+                                                   OtherExamples.antt in crates/kishu_model/proofs)
 
 The trees come from CPython's `ast.parse`; parentheses, which leave a trace in our trees, from
 `tokenize`. Of SAME and OTHER CPython must accept each text, and of BOTH_REFUSE none; OTHER are the
@@ -72,6 +72,26 @@ SAME = [
     "def f():\n  for x in a:\n    if x: return\n  return x\n",
     "def f():\n  global a\n  global a\n  a = 1\n",
     "(\n  a,\n  b\n)\n",
+    "# c\n",
+    "def f(): a;\n",
+    "if a:\n  def f():\n\n    b ;  # c\n\n# d\nelse: e\n",
+    "for x, in a: b; c;\n",
+    "for (x) in a in b: c\n",
+    "for [x, y] in a: b\n",
+    "[a, b,] = [c] = (d)[0] = [e].f = g\n",
+    "del a[1,], (b).c\n",
+    "a[1,] += b,\n",
+    "x if a else (y if b else z) if c else w\n",
+    "a < -b ** +c, not a in b, (not a) in b\n",
+    "f(a if b else c, d=e or f)(a == 1)\n",
+    "def f(a=b, c=a):\n  global b, f\n  b = f = 1\n",
+    "def f():\n  if a: global b\n  else: b = 1\n",
+    "def f():\n  x.a(b=1)\n  global a, b, a\n",
+    "while a:\n  try: b\n  except: break\n  else: continue\n  finally: break\n",
+    "while a:\n  def f():\n    for b in c:\n      return b\n  break\n",
+    "try: a\nexcept A:\n  while b:\n    if c: raise\n",
+    "def f():\n  try: a\n  except:\n    try: raise\n    finally: raise\n",
+    "try: a\nexcept A: b\n\n# c\nelse: d\n\nfinally: e\n",
 ]
 
 # Refused by Python and by this language, with the line of the fault.
@@ -91,6 +111,18 @@ BOTH_REFUSE = [
     ("try: a\nexcept: b\nexcept A: c\n", 1), ("from types import\n", 1), ("global\n", 1),
     ("assert a, b, c\n", 1), ("x = yield = 1\n", 1), ("raise a, b\n", 1), ("x = (pass)\n", 1),
     ("x\n\n# c\nif a:\n  b\n\n  c +\nd\n", 4),
+    ("x += y = z\n", 1), ("x = y += z\n", 1), ("if a: if b: c\n", 1), ("for x in a: while b: c\n", 1), ("if a: b\n  c\n", 1),
+    ("x\n\nelse: y\nz\n", 1), ("x\nif a: b\nexcept: c\n", 2), ("x\nif a: b\n\nelif c: d\nelse: e\nelse: f\ng\n", 2),
+    ("else: x\ny\n", 1), ("\n\n  x\ny\n", 3), ("x\n(\n  a\n) b\n", 2), ("pass\n;\n", 2), ("x;;\n", 1),
+    ("def f():\n  if a:\n    b\n  global b\n", 1), ("def f():\n  global a; a = 1; global a\n", 1),
+    ("def f():\n  try: a\n  except A as b: global b\n", 1), ("def f():\n  a.b = c\n  global d, c\n", 1),
+    ("def f():\n  for a in b: global a\n", 1), ("def f():\n  del a\n  global a\n", 1), ("def f():\n  a += 1\n  global a\n", 1),
+    ("try: a\nfinally: b\nexcept: c\n", 1), ("try: a\nexcept A, B: c\n", 1), ("try: a\nexcept as b: c\n", 1), ("try: a\n", 1),
+    ("global a,\n", 1), ("assert a,\n", 1), ("x if a\n", 1), ("x if a if b else c else d\n", 1), ("a = not = b\n", 1),
+    ("{a: b: c}\n", 1), ("f(a b)\n", 1), ("f(1=a)\n", 1), ("f(a.b=1)\n", 1), ("a..b\n", 1), ("a[1:2:3:4]\n", 1), ("None = 1\n", 1),
+    ("(a + b) = 1\n", 1), ("'a' = b\n", 1), ("for a + b in c: d\n", 1), ("for x in a b: c\n", 1), ("def f(a b): c\n", 1), ("def f(a.b): c\n", 1),
+    ("def f()\n  a\n", 1), ("while a:\n  if b:\n    c\n    def f(): continue\n", 1), ("if a:\n", 1), ("from types import SimpleNamespace as\n", 1), ("from types import SimpleNamespace,\n", 1),
+    ("def f(a=1, b=2, c): d\n", 1), ("def f(a, b, a): c\n", 1), ("def f(): return\nreturn\n", 2), ("f(a=1, b, c=2)\n", 1),
 ]
 
 # Accepted by Python, and refused here, with the line of the fault.
@@ -101,6 +133,12 @@ OTHER = [
     ("{a, b}\n", 1), ("class A: pass\n", 1), ("import types\n", 1), ("from types import FunctionType\n", 1),
     ("while a: b\nelse: c\n", 1), ("for a in b: c\nelse: d\n", 1), ("def f(a) -> b: pass\n", 1), ("a: b\n", 1),
     ("a, *b = c\n", 1), ("x = yield_ = (yield_ := 1)\n", 1), ("with a: b\n", 1), ("try:\n  a\nexcept A:\n  def f(): raise\n", 1),
+    ("try: a\nexcept A: b\nelse: raise\n", 1), ("try: a\nexcept A: b\nfinally: raise\n", 1), ("def f(): raise\n", 1), ("if a:\n  def f():\n    if b:\n      def g(): c\n", 1),
+    ("(a, b)[0:1] += 1\n", 1), ("[] = () = a\n", 1), ("for () in a: b\n", 1), ("del [a]\n", 1), ("del (a, b)\n", 1), ("(a): b = 1\n", 1),
+    ("a[1:2, 3] = b\n", 1), ("{**a}\n", 1), ("(a for b in c)\n", 1), ("def f(a, /, b): c\n", 1), ("def f(*a): b\n", 1), ("def f(a: b): c\n", 1),
+    ("def f():\n  from types import SimpleNamespace as a\n  global a\n", 1),
+    ("def f():\n  from types import SimpleNamespace\n  global SimpleNamespace\n", 1),
+    ("from types import (SimpleNamespace)\n", 1), ("nonlocal_ = 1\nimport a\n", 2), ("try: a\nexcept* A: b\n", 1),
     ("nonlocals = 1; async_ = 2\nassert (a, b), c, \n", 2),
 ]
 OTHER = [row for row in OTHER if not row[0].startswith("nonlocals")]
@@ -290,6 +328,10 @@ class Trees:
         defaults = [None] * (len(args) - len(x.args.defaults)) + x.args.defaults
         found = ["(%s, %s)" % (codes(a.arg), some(d and self.expr(d))) for a, d in zip(args, defaults)]
         code = ast.get_source_segment(self.text, x)
+        # CPython leaves out a `;` at the end of the body.
+        last = self.span(x)[1]
+        if last + 1 < len(self.tokens) and self.tokens[last + 1].string == ";":
+            code += self.text.split("\n")[x.end_lineno - 1].encode()[x.end_col_offset:self.tokens[last + 1].end[1]].decode()
         return "t.define %s %s %s %s" % (codes(x.name), listed(found), self.block(x.body), codes(code))
 
     def program(self):
@@ -299,6 +341,7 @@ class Trees:
 def nested(n):
     """Texts with n nestings around their innermost point."""
     blocks = "".join("  " * i + "if a:\n" for i in range(n)) + "  " * n + "b\n"
+    in_line = "".join("  " * i + "if a:\n" for i in range(n - 1)) + "  " * (n - 1) + "if a: pass\n"
     return [
         "(" * n + "a" + ")" * n + "\n",
         "[" * n + "a" + "]" * n + "\n",
@@ -310,6 +353,7 @@ def nested(n):
         "a if b else " * n + "a\n",
         "(" * n + "a" + ")" * n + " = b\n",
         blocks,
+        in_line,
     ]
 
 
@@ -324,7 +368,9 @@ def deep_tree(n):
     def value(e):
         return "Ok (t.assign [] %s ∷ [])" % e
 
-    block = around("t.assign [] %s" % b, lambda x: "t.choose (arms ((%s, statements (%s ∷ [])) ∷ [])) (statements [])" % (a, x))
+    def blocks(x):
+        return "Ok (%s ∷ [])" % around(x, lambda x: "t.choose (arms ((%s, statements (%s ∷ [])) ∷ [])) (statements [])" % (a, x))
+
     return [
         value(around(a, lambda x: "(t.paren %s)" % x)),
         value(around(a, lambda x: "(t.list (expressions (%s ∷ [])))" % x)),
@@ -335,7 +381,8 @@ def deep_tree(n):
         value(around(a, lambda x: "(t.power %s %s)" % (a, x))),
         value(around(a, lambda x: "(t.conditional %s %s %s)" % (a, b, x))),
         "Ok (t.assign (%s ∷ []) %s ∷ [])" % (around(a, lambda x: "(t.paren %s)" % x), b),
-        "Ok (%s ∷ [])" % block,
+        blocks("t.assign [] %s" % b),
+        blocks("t.pass"),
     ]
 
 
@@ -361,7 +408,7 @@ TREE_IMPORTS = (
 )
 FAULT_IMPORTS = ("codes, Err", "", "")
 EXPRESSIONS = "keyword_begins another argument attribute call slice_after item_or_slice trailer parenthesised list pair dict atom primary_parts primary power unary_level term sum compared negated_level conjunction disjunction expr_level exprs_level phrase"
-STATEMENTS = "primary_at another_simple raise return assertion delete global import update_of assignment_of update_or_assignment simple simples block block_after arm choice while for caught handler handled finished try parameter definition define compound chunk program"
+STATEMENTS = "primary_at another_simple raise return assertion delete global import update_of assignment_of update_or_assignment simple simples line block block_after arm choice while for caught handler handled finished try parameter definition define compound chunk program"
 UNFOLDING = (
     "unfolding reserved_marks delimiter operator numeral Q.escape Q.item Q.closes Q.body Q.quoted token_piece lexeme cut indented begin bracket step layout encode_utf8 code_of "
     + " ".join("E." + x for x in EXPRESSIONS.split()) + " " + " ".join("S." + x for x in STATEMENTS.split()) + " R.piece read_chars"
@@ -385,16 +432,18 @@ def accepts(text):
 
 
 def main():
-    for text in SAME + nested(60)[:-1] + [row[0] for row in OTHER]:
+    for text in SAME + nested(60)[:-2] + [row[0] for row in OTHER]:
         if not accepts(text):
             print("refused by Python: %r" % text, file=sys.stderr)
     for text, _ in BOTH_REFUSE:
         if accepts(text):
             print("accepted by Python: %r" % text, file=sys.stderr)
     trees = [(text, same_tree(text)) for text in SAME] + list(zip(nested(60), deep_tree(60)))
-    faults = [(text, "Err %d" % line) for text, line in BOTH_REFUSE + OTHER + [(text, 1) for text in nested(61)]]
+    faults = [(text, "Err %d" % line) for text, line in BOTH_REFUSE]
+    others = [(text, "Err %d" % line) for text, line in OTHER + [(text, 1) for text in nested(61)]]
     write(sys.argv[2], "Which trees some texts have", TREE_IMPORTS, "tree", trees)
     write(sys.argv[3], "On which line some texts have a fault", FAULT_IMPORTS, "fault", faults)
+    write(sys.argv[4], "On which line texts that Python reads have a fault", FAULT_IMPORTS, "other", others)
 
 
 main()

@@ -5,3 +5,4 @@ mod TokenExamples
 mod MarkExamples
 mod TreeExamples
 mod FaultExamples
+mod OtherExamples
