@@ -352,6 +352,12 @@ def nested(n):
         "a ** " * n + "a\n",
         "a if b else " * n + "a\n",
         "(" * n + "a" + ")" * n + " = b\n",
+        # Empty brackets count as well.
+        "(" * n + ")" * n + "\n",
+        "[" * n + "]" * n + "\n",
+        "f(" * n + ")" * n + "\n",
+        "a[" * n + ":" + "]" * n + "\n",
+        "{a: " * (n - 1) + "{" + "}" * n + "\n",
         blocks,
         in_line,
     ]
@@ -360,8 +366,8 @@ def nested(n):
 def deep_tree(n):
     a, b, f = ('(t.name (codes "%s"))' % x for x in "abf")
 
-    def around(inside, wrap):
-        for _ in range(n):
+    def around(inside, wrap, times=n):
+        for _ in range(times):
             inside = wrap(inside)
         return inside
 
@@ -381,6 +387,11 @@ def deep_tree(n):
         value(around(a, lambda x: "(t.power %s %s)" % (a, x))),
         value(around(a, lambda x: "(t.conditional %s %s %s)" % (a, b, x))),
         "Ok (t.assign (%s ∷ []) %s ∷ [])" % (around(a, lambda x: "(t.paren %s)" % x), b),
+        value(around("(t.tuple (expressions []))", lambda x: "(t.paren %s)" % x, n - 1)),
+        value(around("(t.list (expressions []))", lambda x: "(t.list (expressions (%s ∷ [])))" % x, n - 1)),
+        value(around("(t.primary %s (trailers (t.call (arguments []) ∷ [])))" % f, lambda x: "(t.primary %s (trailers (t.call (arguments (t.plain %s ∷ [])) ∷ [])))" % (f, x), n - 1)),
+        value(around("(t.primary %s (trailers (t.slice absent absent absent ∷ [])))" % a, lambda x: "(t.primary %s (trailers (t.index %s ∷ [])))" % (a, x), n - 1)),
+        value(around("(t.dict (pairs []))", lambda x: "(t.dict (pairs ((%s, %s) ∷ [])))" % (a, x), n - 1)),
         blocks("t.assign [] %s" % b),
         blocks("t.pass"),
     ]

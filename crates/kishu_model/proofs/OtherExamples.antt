@@ -242,10 +242,30 @@ other_57 : read_chars One (codes "((((((((((((((((((((((((((((((((((((((((((((((
 unfolding reserved_marks delimiter operator numeral Q.escape Q.item Q.closes Q.body Q.quoted token_piece lexeme cut indented begin bracket step layout encode_utf8 code_of E.keyword_begins E.another E.argument E.attribute E.call E.slice_after E.item_or_slice E.trailer E.parenthesised E.list E.pair E.dict E.atom E.primary_parts E.primary E.power E.unary_level E.term E.sum E.compared E.negated_level E.conjunction E.disjunction E.expr_level E.exprs_level E.phrase S.primary_at S.another_simple S.raise S.return S.assertion S.delete S.global S.import S.update_of S.assignment_of S.update_or_assignment S.simple S.simples S.line S.block S.block_after S.arm S.choice S.while S.for S.caught S.handler S.handled S.finished S.try S.parameter S.definition S.define S.compound S.chunk S.program R.piece read_chars
 other_57 = refl
 
-other_58 : read_chars One (codes "if a:\n  if a:\n    if a:\n      if a:\n        if a:\n          if a:\n            if a:\n              if a:\n                if a:\n                  if a:\n                    if a:\n                      if a:\n                        if a:\n                          if a:\n                            if a:\n                              if a:\n                                if a:\n                                  if a:\n                                    if a:\n                                      if a:\n                                        if a:\n                                          if a:\n                                            if a:\n                                              if a:\n                                                if a:\n                                                  if a:\n                                                    if a:\n                                                      if a:\n                                                        if a:\n                                                          if a:\n                                                            if a:\n                                                              if a:\n                                                                if a:\n                                                                  if a:\n                                                                    if a:\n                                                                      if a:\n                                                                        if a:\n                                                                          if a:\n                                                                            if a:\n                                                                              if a:\n                                                                                if a:\n                                                                                  if a:\n                                                                                    if a:\n                                                                                      if a:\n                                                                                        if a:\n                                                                                          if a:\n                                                                                            if a:\n                                                                                              if a:\n                                                                                                if a:\n                                                                                                  if a:\n                                                                                                    if a:\n                                                                                                      if a:\n                                                                                                        if a:\n                                                                                                          if a:\n                                                                                                            if a:\n                                                                                                              if a:\n                                                                                                                if a:\n                                                                                                                  if a:\n                                                                                                                    if a:\n                                                                                                                      if a:\n                                                                                                                        if a:\n                                                                                                                          b\n") ≡ Err 1
+other_58 : read_chars One (codes "((((((((((((((((((((((((((((((((((((((((((((((((((((((((((((()))))))))))))))))))))))))))))))))))))))))))))))))))))))))))))\n") ≡ Err 1
 unfolding reserved_marks delimiter operator numeral Q.escape Q.item Q.closes Q.body Q.quoted token_piece lexeme cut indented begin bracket step layout encode_utf8 code_of E.keyword_begins E.another E.argument E.attribute E.call E.slice_after E.item_or_slice E.trailer E.parenthesised E.list E.pair E.dict E.atom E.primary_parts E.primary E.power E.unary_level E.term E.sum E.compared E.negated_level E.conjunction E.disjunction E.expr_level E.exprs_level E.phrase S.primary_at S.another_simple S.raise S.return S.assertion S.delete S.global S.import S.update_of S.assignment_of S.update_or_assignment S.simple S.simples S.line S.block S.block_after S.arm S.choice S.while S.for S.caught S.handler S.handled S.finished S.try S.parameter S.definition S.define S.compound S.chunk S.program R.piece read_chars
 other_58 = refl
 
-other_59 : read_chars One (codes "if a:\n  if a:\n    if a:\n      if a:\n        if a:\n          if a:\n            if a:\n              if a:\n                if a:\n                  if a:\n                    if a:\n                      if a:\n                        if a:\n                          if a:\n                            if a:\n                              if a:\n                                if a:\n                                  if a:\n                                    if a:\n                                      if a:\n                                        if a:\n                                          if a:\n                                            if a:\n                                              if a:\n                                                if a:\n                                                  if a:\n                                                    if a:\n                                                      if a:\n                                                        if a:\n                                                          if a:\n                                                            if a:\n                                                              if a:\n                                                                if a:\n                                                                  if a:\n                                                                    if a:\n                                                                      if a:\n                                                                        if a:\n                                                                          if a:\n                                                                            if a:\n                                                                              if a:\n                                                                                if a:\n                                                                                  if a:\n                                                                                    if a:\n                                                                                      if a:\n                                                                                        if a:\n                                                                                          if a:\n                                                                                            if a:\n                                                                                              if a:\n                                                                                                if a:\n                                                                                                  if a:\n                                                                                                    if a:\n                                                                                                      if a:\n                                                                                                        if a:\n                                                                                                          if a:\n                                                                                                            if a:\n                                                                                                              if a:\n                                                                                                                if a:\n                                                                                                                  if a:\n                                                                                                                    if a:\n                                                                                                                      if a:\n                                                                                                                        if a: pass\n") ≡ Err 1
+other_59 : read_chars One (codes "[[[[[[[[[[[[[[[[[[[[[[[[[[[[[[[[[[[[[[[[[[[[[[[[[[[[[[[[[[[[[]]]]]]]]]]]]]]]]]]]]]]]]]]]]]]]]]]]]]]]]]]]]]]]]]]]]]]]]]]]]]\n") ≡ Err 1
 unfolding reserved_marks delimiter operator numeral Q.escape Q.item Q.closes Q.body Q.quoted token_piece lexeme cut indented begin bracket step layout encode_utf8 code_of E.keyword_begins E.another E.argument E.attribute E.call E.slice_after E.item_or_slice E.trailer E.parenthesised E.list E.pair E.dict E.atom E.primary_parts E.primary E.power E.unary_level E.term E.sum E.compared E.negated_level E.conjunction E.disjunction E.expr_level E.exprs_level E.phrase S.primary_at S.another_simple S.raise S.return S.assertion S.delete S.global S.import S.update_of S.assignment_of S.update_or_assignment S.simple S.simples S.line S.block S.block_after S.arm S.choice S.while S.for S.caught S.handler S.handled S.finished S.try S.parameter S.definition S.define S.compound S.chunk S.program R.piece read_chars
 other_59 = refl
+
+other_60 : read_chars One (codes "f(f(f(f(f(f(f(f(f(f(f(f(f(f(f(f(f(f(f(f(f(f(f(f(f(f(f(f(f(f(f(f(f(f(f(f(f(f(f(f(f(f(f(f(f(f(f(f(f(f(f(f(f(f(f(f(f(f(f(f(f()))))))))))))))))))))))))))))))))))))))))))))))))))))))))))))\n") ≡ Err 1
+unfolding reserved_marks delimiter operator numeral Q.escape Q.item Q.closes Q.body Q.quoted token_piece lexeme cut indented begin bracket step layout encode_utf8 code_of E.keyword_begins E.another E.argument E.attribute E.call E.slice_after E.item_or_slice E.trailer E.parenthesised E.list E.pair E.dict E.atom E.primary_parts E.primary E.power E.unary_level E.term E.sum E.compared E.negated_level E.conjunction E.disjunction E.expr_level E.exprs_level E.phrase S.primary_at S.another_simple S.raise S.return S.assertion S.delete S.global S.import S.update_of S.assignment_of S.update_or_assignment S.simple S.simples S.line S.block S.block_after S.arm S.choice S.while S.for S.caught S.handler S.handled S.finished S.try S.parameter S.definition S.define S.compound S.chunk S.program R.piece read_chars
+other_60 = refl
+
+other_61 : read_chars One (codes "a[a[a[a[a[a[a[a[a[a[a[a[a[a[a[a[a[a[a[a[a[a[a[a[a[a[a[a[a[a[a[a[a[a[a[a[a[a[a[a[a[a[a[a[a[a[a[a[a[a[a[a[a[a[a[a[a[a[a[a[a[:]]]]]]]]]]]]]]]]]]]]]]]]]]]]]]]]]]]]]]]]]]]]]]]]]]]]]]]]]]]]]\n") ≡ Err 1
+unfolding reserved_marks delimiter operator numeral Q.escape Q.item Q.closes Q.body Q.quoted token_piece lexeme cut indented begin bracket step layout encode_utf8 code_of E.keyword_begins E.another E.argument E.attribute E.call E.slice_after E.item_or_slice E.trailer E.parenthesised E.list E.pair E.dict E.atom E.primary_parts E.primary E.power E.unary_level E.term E.sum E.compared E.negated_level E.conjunction E.disjunction E.expr_level E.exprs_level E.phrase S.primary_at S.another_simple S.raise S.return S.assertion S.delete S.global S.import S.update_of S.assignment_of S.update_or_assignment S.simple S.simples S.line S.block S.block_after S.arm S.choice S.while S.for S.caught S.handler S.handled S.finished S.try S.parameter S.definition S.define S.compound S.chunk S.program R.piece read_chars
+other_61 = refl
+
+other_62 : read_chars One (codes "{a: {a: {a: {a: {a: {a: {a: {a: {a: {a: {a: {a: {a: {a: {a: {a: {a: {a: {a: {a: {a: {a: {a: {a: {a: {a: {a: {a: {a: {a: {a: {a: {a: {a: {a: {a: {a: {a: {a: {a: {a: {a: {a: {a: {a: {a: {a: {a: {a: {a: {a: {a: {a: {a: {a: {a: {a: {a: {a: {a: {}}}}}}}}}}}}}}}}}}}}}}}}}}}}}}}}}}}}}}}}}}}}}}}}}}}}}}}}}}}}}\n") ≡ Err 1
+unfolding reserved_marks delimiter operator numeral Q.escape Q.item Q.closes Q.body Q.quoted token_piece lexeme cut indented begin bracket step layout encode_utf8 code_of E.keyword_begins E.another E.argument E.attribute E.call E.slice_after E.item_or_slice E.trailer E.parenthesised E.list E.pair E.dict E.atom E.primary_parts E.primary E.power E.unary_level E.term E.sum E.compared E.negated_level E.conjunction E.disjunction E.expr_level E.exprs_level E.phrase S.primary_at S.another_simple S.raise S.return S.assertion S.delete S.global S.import S.update_of S.assignment_of S.update_or_assignment S.simple S.simples S.line S.block S.block_after S.arm S.choice S.while S.for S.caught S.handler S.handled S.finished S.try S.parameter S.definition S.define S.compound S.chunk S.program R.piece read_chars
+other_62 = refl
+
+other_63 : read_chars One (codes "if a:\n  if a:\n    if a:\n      if a:\n        if a:\n          if a:\n            if a:\n              if a:\n                if a:\n                  if a:\n                    if a:\n                      if a:\n                        if a:\n                          if a:\n                            if a:\n                              if a:\n                                if a:\n                                  if a:\n                                    if a:\n                                      if a:\n                                        if a:\n                                          if a:\n                                            if a:\n                                              if a:\n                                                if a:\n                                                  if a:\n                                                    if a:\n                                                      if a:\n                                                        if a:\n                                                          if a:\n                                                            if a:\n                                                              if a:\n                                                                if a:\n                                                                  if a:\n                                                                    if a:\n                                                                      if a:\n                                                                        if a:\n                                                                          if a:\n                                                                            if a:\n                                                                              if a:\n                                                                                if a:\n                                                                                  if a:\n                                                                                    if a:\n                                                                                      if a:\n                                                                                        if a:\n                                                                                          if a:\n                                                                                            if a:\n                                                                                              if a:\n                                                                                                if a:\n                                                                                                  if a:\n                                                                                                    if a:\n                                                                                                      if a:\n                                                                                                        if a:\n                                                                                                          if a:\n                                                                                                            if a:\n                                                                                                              if a:\n                                                                                                                if a:\n                                                                                                                  if a:\n                                                                                                                    if a:\n                                                                                                                      if a:\n                                                                                                                        if a:\n                                                                                                                          b\n") ≡ Err 1
+unfolding reserved_marks delimiter operator numeral Q.escape Q.item Q.closes Q.body Q.quoted token_piece lexeme cut indented begin bracket step layout encode_utf8 code_of E.keyword_begins E.another E.argument E.attribute E.call E.slice_after E.item_or_slice E.trailer E.parenthesised E.list E.pair E.dict E.atom E.primary_parts E.primary E.power E.unary_level E.term E.sum E.compared E.negated_level E.conjunction E.disjunction E.expr_level E.exprs_level E.phrase S.primary_at S.another_simple S.raise S.return S.assertion S.delete S.global S.import S.update_of S.assignment_of S.update_or_assignment S.simple S.simples S.line S.block S.block_after S.arm S.choice S.while S.for S.caught S.handler S.handled S.finished S.try S.parameter S.definition S.define S.compound S.chunk S.program R.piece read_chars
+other_63 = refl
+
+other_64 : read_chars One (codes "if a:\n  if a:\n    if a:\n      if a:\n        if a:\n          if a:\n            if a:\n              if a:\n                if a:\n                  if a:\n                    if a:\n                      if a:\n                        if a:\n                          if a:\n                            if a:\n                              if a:\n                                if a:\n                                  if a:\n                                    if a:\n                                      if a:\n                                        if a:\n                                          if a:\n                                            if a:\n                                              if a:\n                                                if a:\n                                                  if a:\n                                                    if a:\n                                                      if a:\n                                                        if a:\n                                                          if a:\n                                                            if a:\n                                                              if a:\n                                                                if a:\n                                                                  if a:\n                                                                    if a:\n                                                                      if a:\n                                                                        if a:\n                                                                          if a:\n                                                                            if a:\n                                                                              if a:\n                                                                                if a:\n                                                                                  if a:\n                                                                                    if a:\n                                                                                      if a:\n                                                                                        if a:\n                                                                                          if a:\n                                                                                            if a:\n                                                                                              if a:\n                                                                                                if a:\n                                                                                                  if a:\n                                                                                                    if a:\n                                                                                                      if a:\n                                                                                                        if a:\n                                                                                                          if a:\n                                                                                                            if a:\n                                                                                                              if a:\n                                                                                                                if a:\n                                                                                                                  if a:\n                                                                                                                    if a:\n                                                                                                                      if a:\n                                                                                                                        if a: pass\n") ≡ Err 1
+unfolding reserved_marks delimiter operator numeral Q.escape Q.item Q.closes Q.body Q.quoted token_piece lexeme cut indented begin bracket step layout encode_utf8 code_of E.keyword_begins E.another E.argument E.attribute E.call E.slice_after E.item_or_slice E.trailer E.parenthesised E.list E.pair E.dict E.atom E.primary_parts E.primary E.power E.unary_level E.term E.sum E.compared E.negated_level E.conjunction E.disjunction E.expr_level E.exprs_level E.phrase S.primary_at S.another_simple S.raise S.return S.assertion S.delete S.global S.import S.update_of S.assignment_of S.update_or_assignment S.simple S.simples S.line S.block S.block_after S.arm S.choice S.while S.for S.caught S.handler S.handled S.finished S.try S.parameter S.definition S.define S.compound S.chunk S.program R.piece read_chars
+other_64 = refl

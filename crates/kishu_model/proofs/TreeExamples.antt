@@ -347,10 +347,30 @@ tree_82 : read_chars One (codes "(((((((((((((((((((((((((((((((((((((((((((((((
 unfolding reserved_marks delimiter operator numeral Q.escape Q.item Q.closes Q.body Q.quoted token_piece lexeme cut indented begin bracket step layout encode_utf8 code_of E.keyword_begins E.another E.argument E.attribute E.call E.slice_after E.item_or_slice E.trailer E.parenthesised E.list E.pair E.dict E.atom E.primary_parts E.primary E.power E.unary_level E.term E.sum E.compared E.negated_level E.conjunction E.disjunction E.expr_level E.exprs_level E.phrase S.primary_at S.another_simple S.raise S.return S.assertion S.delete S.global S.import S.update_of S.assignment_of S.update_or_assignment S.simple S.simples S.line S.block S.block_after S.arm S.choice S.while S.for S.caught S.handler S.handled S.finished S.try S.parameter S.definition S.define S.compound S.chunk S.program R.piece read_chars
 tree_82 = refl
 
-tree_83 : read_chars One (codes "if a:\n  if a:\n    if a:\n      if a:\n        if a:\n          if a:\n            if a:\n              if a:\n                if a:\n                  if a:\n                    if a:\n                      if a:\n                        if a:\n                          if a:\n                            if a:\n                              if a:\n                                if a:\n                                  if a:\n                                    if a:\n                                      if a:\n                                        if a:\n                                          if a:\n                                            if a:\n                                              if a:\n                                                if a:\n                                                  if a:\n                                                    if a:\n                                                      if a:\n                                                        if a:\n                                                          if a:\n                                                            if a:\n                                                              if a:\n                                                                if a:\n                                                                  if a:\n                                                                    if a:\n                                                                      if a:\n                                                                        if a:\n                                                                          if a:\n                                                                            if a:\n                                                                              if a:\n                                                                                if a:\n                                                                                  if a:\n                                                                                    if a:\n                                                                                      if a:\n                                                                                        if a:\n                                                                                          if a:\n                                                                                            if a:\n                                                                                              if a:\n                                                                                                if a:\n                                                                                                  if a:\n                                                                                                    if a:\n                                                                                                      if a:\n                                                                                                        if a:\n                                                                                                          if a:\n                                                                                                            if a:\n                                                                                                              if a:\n                                                                                                                if a:\n                                                                                                                  if a:\n                                                                                                                    if a:\n                                                                                                                      if a:\n                                                                                                                        b\n") ≡ Ok (t.choose (arms (((t.name (codes "a")), statements (t.choose (arms (((t.name (codes "a")), statements (t.choose (arms (((t.name (codes "a")), statements (t.choose (arms (((t.name (codes "a")), statements (t.choose (arms (((t.name (codes "a")), statements (t.choose (arms (((t.name (codes "a")), statements (t.choose (arms (((t.name (codes "a")), statements (t.choose (arms (((t.name (codes "a")), statements (t.choose (arms (((t.name (codes "a")), statements (t.choose (arms (((t.name (codes "a")), statements (t.choose (arms (((t.name (codes "a")), statements (t.choose (arms (((t.name (codes "a")), statements (t.choose (arms (((t.name (codes "a")), statements (t.choose (arms (((t.name (codes "a")), statements (t.choose (arms (((t.name (codes "a")), statements (t.choose (arms (((t.name (codes "a")), statements (t.choose (arms (((t.name (codes "a")), statements (t.choose (arms (((t.name (codes "a")), statements (t.choose (arms (((t.name (codes "a")), statements (t.choose (arms (((t.name (codes "a")), statements (t.choose (arms (((t.name (codes "a")), statements (t.choose (arms (((t.name (codes "a")), statements (t.choose (arms (((t.name (codes "a")), statements (t.choose (arms (((t.name (codes "a")), statements (t.choose (arms (((t.name (codes "a")), statements (t.choose (arms (((t.name (codes "a")), statements (t.choose (arms (((t.name (codes "a")), statements (t.choose (arms (((t.name (codes "a")), statements (t.choose (arms (((t.name (codes "a")), statements (t.choose (arms (((t.name (codes "a")), statements (t.choose (arms (((t.name (codes "a")), statements (t.choose (arms (((t.name (codes "a")), statements (t.choose (arms (((t.name (codes "a")), statements (t.choose (arms (((t.name (codes "a")), statements (t.choose (arms (((t.name (codes "a")), statements (t.choose (arms (((t.name (codes "a")), statements (t.choose (arms (((t.name (codes "a")), statements (t.choose (arms (((t.name (codes "a")), statements (t.choose (arms (((t.name (codes "a")), statements (t.choose (arms (((t.name (codes "a")), statements (t.choose (arms (((t.name (codes "a")), statements (t.choose (arms (((t.name (codes "a")), statements (t.choose (arms (((t.name (codes "a")), statements (t.choose (arms (((t.name (codes "a")), statements (t.choose (arms (((t.name (codes "a")), statements (t.choose (arms (((t.name (codes "a")), statements (t.choose (arms (((t.name (codes "a")), statements (t.choose (arms (((t.name (codes "a")), statements (t.choose (arms (((t.name (codes "a")), statements (t.choose (arms (((t.name (codes "a")), statements (t.choose (arms (((t.name (codes "a")), statements (t.choose (arms (((t.name (codes "a")), statements (t.choose (arms (((t.name (codes "a")), statements (t.choose (arms (((t.name (codes "a")), statements (t.choose (arms (((t.name (codes "a")), statements (t.choose (arms (((t.name (codes "a")), statements (t.choose (arms (((t.name (codes "a")), statements (t.choose (arms (((t.name (codes "a")), statements (t.choose (arms (((t.name (codes "a")), statements (t.choose (arms (((t.name (codes "a")), statements (t.assign [] (t.name (codes "b")) ∷ [])) ∷ [])) (statements []) ∷ [])) ∷ [])) (statements []) ∷ [])) ∷ [])) (statements []) ∷ [])) ∷ [])) (statements []) ∷ [])) ∷ [])) (statements []) ∷ [])) ∷ [])) (statements []) ∷ [])) ∷ [])) (statements []) ∷ [])) ∷ [])) (statements []) ∷ [])) ∷ [])) (statements []) ∷ [])) ∷ [])) (statements []) ∷ [])) ∷ [])) (statements []) ∷ [])) ∷ [])) (statements []) ∷ [])) ∷ [])) (statements []) ∷ [])) ∷ [])) (statements []) ∷ [])) ∷ [])) (statements []) ∷ [])) ∷ [])) (statements []) ∷ [])) ∷ [])) (statements []) ∷ [])) ∷ [])) (statements []) ∷ [])) ∷ [])) (statements []) ∷ [])) ∷ [])) (statements []) ∷ [])) ∷ [])) (statements []) ∷ [])) ∷ [])) (statements []) ∷ [])) ∷ [])) (statements []) ∷ [])) ∷ [])) (statements []) ∷ [])) ∷ [])) (statements []) ∷ [])) ∷ [])) (statements []) ∷ [])) ∷ [])) (statements []) ∷ [])) ∷ [])) (statements []) ∷ [])) ∷ [])) (statements []) ∷ [])) ∷ [])) (statements []) ∷ [])) ∷ [])) (statements []) ∷ [])) ∷ [])) (statements []) ∷ [])) ∷ [])) (statements []) ∷ [])) ∷ [])) (statements []) ∷ [])) ∷ [])) (statements []) ∷ [])) ∷ [])) (statements []) ∷ [])) ∷ [])) (statements []) ∷ [])) ∷ [])) (statements []) ∷ [])) ∷ [])) (statements []) ∷ [])) ∷ [])) (statements []) ∷ [])) ∷ [])) (statements []) ∷ [])) ∷ [])) (statements []) ∷ [])) ∷ [])) (statements []) ∷ [])) ∷ [])) (statements []) ∷ [])) ∷ [])) (statements []) ∷ [])) ∷ [])) (statements []) ∷ [])) ∷ [])) (statements []) ∷ [])) ∷ [])) (statements []) ∷ [])) ∷ [])) (statements []) ∷ [])) ∷ [])) (statements []) ∷ [])) ∷ [])) (statements []) ∷ [])) ∷ [])) (statements []) ∷ [])) ∷ [])) (statements []) ∷ [])) ∷ [])) (statements []) ∷ [])) ∷ [])) (statements []) ∷ [])) ∷ [])) (statements []) ∷ [])) ∷ [])) (statements []) ∷ [])) ∷ [])) (statements []) ∷ [])) ∷ [])) (statements []) ∷ [])) ∷ [])) (statements []) ∷ [])
+tree_83 : read_chars One (codes "(((((((((((((((((((((((((((((((((((((((((((((((((((((((((((())))))))))))))))))))))))))))))))))))))))))))))))))))))))))))\n") ≡ Ok (t.assign [] (t.paren (t.paren (t.paren (t.paren (t.paren (t.paren (t.paren (t.paren (t.paren (t.paren (t.paren (t.paren (t.paren (t.paren (t.paren (t.paren (t.paren (t.paren (t.paren (t.paren (t.paren (t.paren (t.paren (t.paren (t.paren (t.paren (t.paren (t.paren (t.paren (t.paren (t.paren (t.paren (t.paren (t.paren (t.paren (t.paren (t.paren (t.paren (t.paren (t.paren (t.paren (t.paren (t.paren (t.paren (t.paren (t.paren (t.paren (t.paren (t.paren (t.paren (t.paren (t.paren (t.paren (t.paren (t.paren (t.paren (t.paren (t.paren (t.paren (t.tuple (expressions []))))))))))))))))))))))))))))))))))))))))))))))))))))))))))))) ∷ [])
 unfolding reserved_marks delimiter operator numeral Q.escape Q.item Q.closes Q.body Q.quoted token_piece lexeme cut indented begin bracket step layout encode_utf8 code_of E.keyword_begins E.another E.argument E.attribute E.call E.slice_after E.item_or_slice E.trailer E.parenthesised E.list E.pair E.dict E.atom E.primary_parts E.primary E.power E.unary_level E.term E.sum E.compared E.negated_level E.conjunction E.disjunction E.expr_level E.exprs_level E.phrase S.primary_at S.another_simple S.raise S.return S.assertion S.delete S.global S.import S.update_of S.assignment_of S.update_or_assignment S.simple S.simples S.line S.block S.block_after S.arm S.choice S.while S.for S.caught S.handler S.handled S.finished S.try S.parameter S.definition S.define S.compound S.chunk S.program R.piece read_chars
 tree_83 = refl
 
-tree_84 : read_chars One (codes "if a:\n  if a:\n    if a:\n      if a:\n        if a:\n          if a:\n            if a:\n              if a:\n                if a:\n                  if a:\n                    if a:\n                      if a:\n                        if a:\n                          if a:\n                            if a:\n                              if a:\n                                if a:\n                                  if a:\n                                    if a:\n                                      if a:\n                                        if a:\n                                          if a:\n                                            if a:\n                                              if a:\n                                                if a:\n                                                  if a:\n                                                    if a:\n                                                      if a:\n                                                        if a:\n                                                          if a:\n                                                            if a:\n                                                              if a:\n                                                                if a:\n                                                                  if a:\n                                                                    if a:\n                                                                      if a:\n                                                                        if a:\n                                                                          if a:\n                                                                            if a:\n                                                                              if a:\n                                                                                if a:\n                                                                                  if a:\n                                                                                    if a:\n                                                                                      if a:\n                                                                                        if a:\n                                                                                          if a:\n                                                                                            if a:\n                                                                                              if a:\n                                                                                                if a:\n                                                                                                  if a:\n                                                                                                    if a:\n                                                                                                      if a:\n                                                                                                        if a:\n                                                                                                          if a:\n                                                                                                            if a:\n                                                                                                              if a:\n                                                                                                                if a:\n                                                                                                                  if a:\n                                                                                                                    if a:\n                                                                                                                      if a: pass\n") ≡ Ok (t.choose (arms (((t.name (codes "a")), statements (t.choose (arms (((t.name (codes "a")), statements (t.choose (arms (((t.name (codes "a")), statements (t.choose (arms (((t.name (codes "a")), statements (t.choose (arms (((t.name (codes "a")), statements (t.choose (arms (((t.name (codes "a")), statements (t.choose (arms (((t.name (codes "a")), statements (t.choose (arms (((t.name (codes "a")), statements (t.choose (arms (((t.name (codes "a")), statements (t.choose (arms (((t.name (codes "a")), statements (t.choose (arms (((t.name (codes "a")), statements (t.choose (arms (((t.name (codes "a")), statements (t.choose (arms (((t.name (codes "a")), statements (t.choose (arms (((t.name (codes "a")), statements (t.choose (arms (((t.name (codes "a")), statements (t.choose (arms (((t.name (codes "a")), statements (t.choose (arms (((t.name (codes "a")), statements (t.choose (arms (((t.name (codes "a")), statements (t.choose (arms (((t.name (codes "a")), statements (t.choose (arms (((t.name (codes "a")), statements (t.choose (arms (((t.name (codes "a")), statements (t.choose (arms (((t.name (codes "a")), statements (t.choose (arms (((t.name (codes "a")), statements (t.choose (arms (((t.name (codes "a")), statements (t.choose (arms (((t.name (codes "a")), statements (t.choose (arms (((t.name (codes "a")), statements (t.choose (arms (((t.name (codes "a")), statements (t.choose (arms (((t.name (codes "a")), statements (t.choose (arms (((t.name (codes "a")), statements (t.choose (arms (((t.name (codes "a")), statements (t.choose (arms (((t.name (codes "a")), statements (t.choose (arms (((t.name (codes "a")), statements (t.choose (arms (((t.name (codes "a")), statements (t.choose (arms (((t.name (codes "a")), statements (t.choose (arms (((t.name (codes "a")), statements (t.choose (arms (((t.name (codes "a")), statements (t.choose (arms (((t.name (codes "a")), statements (t.choose (arms (((t.name (codes "a")), statements (t.choose (arms (((t.name (codes "a")), statements (t.choose (arms (((t.name (codes "a")), statements (t.choose (arms (((t.name (codes "a")), statements (t.choose (arms (((t.name (codes "a")), statements (t.choose (arms (((t.name (codes "a")), statements (t.choose (arms (((t.name (codes "a")), statements (t.choose (arms (((t.name (codes "a")), statements (t.choose (arms (((t.name (codes "a")), statements (t.choose (arms (((t.name (codes "a")), statements (t.choose (arms (((t.name (codes "a")), statements (t.choose (arms (((t.name (codes "a")), statements (t.choose (arms (((t.name (codes "a")), statements (t.choose (arms (((t.name (codes "a")), statements (t.choose (arms (((t.name (codes "a")), statements (t.choose (arms (((t.name (codes "a")), statements (t.choose (arms (((t.name (codes "a")), statements (t.choose (arms (((t.name (codes "a")), statements (t.choose (arms (((t.name (codes "a")), statements (t.choose (arms (((t.name (codes "a")), statements (t.choose (arms (((t.name (codes "a")), statements (t.choose (arms (((t.name (codes "a")), statements (t.choose (arms (((t.name (codes "a")), statements (t.pass ∷ [])) ∷ [])) (statements []) ∷ [])) ∷ [])) (statements []) ∷ [])) ∷ [])) (statements []) ∷ [])) ∷ [])) (statements []) ∷ [])) ∷ [])) (statements []) ∷ [])) ∷ [])) (statements []) ∷ [])) ∷ [])) (statements []) ∷ [])) ∷ [])) (statements []) ∷ [])) ∷ [])) (statements []) ∷ [])) ∷ [])) (statements []) ∷ [])) ∷ [])) (statements []) ∷ [])) ∷ [])) (statements []) ∷ [])) ∷ [])) (statements []) ∷ [])) ∷ [])) (statements []) ∷ [])) ∷ [])) (statements []) ∷ [])) ∷ [])) (statements []) ∷ [])) ∷ [])) (statements []) ∷ [])) ∷ [])) (statements []) ∷ [])) ∷ [])) (statements []) ∷ [])) ∷ [])) (statements []) ∷ [])) ∷ [])) (statements []) ∷ [])) ∷ [])) (statements []) ∷ [])) ∷ [])) (statements []) ∷ [])) ∷ [])) (statements []) ∷ [])) ∷ [])) (statements []) ∷ [])) ∷ [])) (statements []) ∷ [])) ∷ [])) (statements []) ∷ [])) ∷ [])) (statements []) ∷ [])) ∷ [])) (statements []) ∷ [])) ∷ [])) (statements []) ∷ [])) ∷ [])) (statements []) ∷ [])) ∷ [])) (statements []) ∷ [])) ∷ [])) (statements []) ∷ [])) ∷ [])) (statements []) ∷ [])) ∷ [])) (statements []) ∷ [])) ∷ [])) (statements []) ∷ [])) ∷ [])) (statements []) ∷ [])) ∷ [])) (statements []) ∷ [])) ∷ [])) (statements []) ∷ [])) ∷ [])) (statements []) ∷ [])) ∷ [])) (statements []) ∷ [])) ∷ [])) (statements []) ∷ [])) ∷ [])) (statements []) ∷ [])) ∷ [])) (statements []) ∷ [])) ∷ [])) (statements []) ∷ [])) ∷ [])) (statements []) ∷ [])) ∷ [])) (statements []) ∷ [])) ∷ [])) (statements []) ∷ [])) ∷ [])) (statements []) ∷ [])) ∷ [])) (statements []) ∷ [])) ∷ [])) (statements []) ∷ [])) ∷ [])) (statements []) ∷ [])) ∷ [])) (statements []) ∷ [])) ∷ [])) (statements []) ∷ [])) ∷ [])) (statements []) ∷ [])) ∷ [])) (statements []) ∷ [])) ∷ [])) (statements []) ∷ [])) ∷ [])) (statements []) ∷ [])) ∷ [])) (statements []) ∷ [])) ∷ [])) (statements []) ∷ [])
+tree_84 : read_chars One (codes "[[[[[[[[[[[[[[[[[[[[[[[[[[[[[[[[[[[[[[[[[[[[[[[[[[[[[[[[[[[[]]]]]]]]]]]]]]]]]]]]]]]]]]]]]]]]]]]]]]]]]]]]]]]]]]]]]]]]]]]]\n") ≡ Ok (t.assign [] (t.list (expressions ((t.list (expressions ((t.list (expressions ((t.list (expressions ((t.list (expressions ((t.list (expressions ((t.list (expressions ((t.list (expressions ((t.list (expressions ((t.list (expressions ((t.list (expressions ((t.list (expressions ((t.list (expressions ((t.list (expressions ((t.list (expressions ((t.list (expressions ((t.list (expressions ((t.list (expressions ((t.list (expressions ((t.list (expressions ((t.list (expressions ((t.list (expressions ((t.list (expressions ((t.list (expressions ((t.list (expressions ((t.list (expressions ((t.list (expressions ((t.list (expressions ((t.list (expressions ((t.list (expressions ((t.list (expressions ((t.list (expressions ((t.list (expressions ((t.list (expressions ((t.list (expressions ((t.list (expressions ((t.list (expressions ((t.list (expressions ((t.list (expressions ((t.list (expressions ((t.list (expressions ((t.list (expressions ((t.list (expressions ((t.list (expressions ((t.list (expressions ((t.list (expressions ((t.list (expressions ((t.list (expressions ((t.list (expressions ((t.list (expressions ((t.list (expressions ((t.list (expressions ((t.list (expressions ((t.list (expressions ((t.list (expressions ((t.list (expressions ((t.list (expressions ((t.list (expressions ((t.list (expressions ((t.list (expressions [])) ∷ []))) ∷ []))) ∷ []))) ∷ []))) ∷ []))) ∷ []))) ∷ []))) ∷ []))) ∷ []))) ∷ []))) ∷ []))) ∷ []))) ∷ []))) ∷ []))) ∷ []))) ∷ []))) ∷ []))) ∷ []))) ∷ []))) ∷ []))) ∷ []))) ∷ []))) ∷ []))) ∷ []))) ∷ []))) ∷ []))) ∷ []))) ∷ []))) ∷ []))) ∷ []))) ∷ []))) ∷ []))) ∷ []))) ∷ []))) ∷ []))) ∷ []))) ∷ []))) ∷ []))) ∷ []))) ∷ []))) ∷ []))) ∷ []))) ∷ []))) ∷ []))) ∷ []))) ∷ []))) ∷ []))) ∷ []))) ∷ []))) ∷ []))) ∷ []))) ∷ []))) ∷ []))) ∷ []))) ∷ []))) ∷ []))) ∷ []))) ∷ []))) ∷ []))) ∷ [])
 unfolding reserved_marks delimiter operator numeral Q.escape Q.item Q.closes Q.body Q.quoted token_piece lexeme cut indented begin bracket step layout encode_utf8 code_of E.keyword_begins E.another E.argument E.attribute E.call E.slice_after E.item_or_slice E.trailer E.parenthesised E.list E.pair E.dict E.atom E.primary_parts E.primary E.power E.unary_level E.term E.sum E.compared E.negated_level E.conjunction E.disjunction E.expr_level E.exprs_level E.phrase S.primary_at S.another_simple S.raise S.return S.assertion S.delete S.global S.import S.update_of S.assignment_of S.update_or_assignment S.simple S.simples S.line S.block S.block_after S.arm S.choice S.while S.for S.caught S.handler S.handled S.finished S.try S.parameter S.definition S.define S.compound S.chunk S.program R.piece read_chars
 tree_84 = refl
+
+tree_85 : read_chars One (codes "f(f(f(f(f(f(f(f(f(f(f(f(f(f(f(f(f(f(f(f(f(f(f(f(f(f(f(f(f(f(f(f(f(f(f(f(f(f(f(f(f(f(f(f(f(f(f(f(f(f(f(f(f(f(f(f(f(f(f(f())))))))))))))))))))))))))))))))))))))))))))))))))))))))))))\n") ≡ Ok (t.assign [] (t.primary (t.name (codes "f")) (trailers (t.call (arguments (t.plain (t.primary (t.name (codes "f")) (trailers (t.call (arguments (t.plain (t.primary (t.name (codes "f")) (trailers (t.call (arguments (t.plain (t.primary (t.name (codes "f")) (trailers (t.call (arguments (t.plain (t.primary (t.name (codes "f")) (trailers (t.call (arguments (t.plain (t.primary (t.name (codes "f")) (trailers (t.call (arguments (t.plain (t.primary (t.name (codes "f")) (trailers (t.call (arguments (t.plain (t.primary (t.name (codes "f")) (trailers (t.call (arguments (t.plain (t.primary (t.name (codes "f")) (trailers (t.call (arguments (t.plain (t.primary (t.name (codes "f")) (trailers (t.call (arguments (t.plain (t.primary (t.name (codes "f")) (trailers (t.call (arguments (t.plain (t.primary (t.name (codes "f")) (trailers (t.call (arguments (t.plain (t.primary (t.name (codes "f")) (trailers (t.call (arguments (t.plain (t.primary (t.name (codes "f")) (trailers (t.call (arguments (t.plain (t.primary (t.name (codes "f")) (trailers (t.call (arguments (t.plain (t.primary (t.name (codes "f")) (trailers (t.call (arguments (t.plain (t.primary (t.name (codes "f")) (trailers (t.call (arguments (t.plain (t.primary (t.name (codes "f")) (trailers (t.call (arguments (t.plain (t.primary (t.name (codes "f")) (trailers (t.call (arguments (t.plain (t.primary (t.name (codes "f")) (trailers (t.call (arguments (t.plain (t.primary (t.name (codes "f")) (trailers (t.call (arguments (t.plain (t.primary (t.name (codes "f")) (trailers (t.call (arguments (t.plain (t.primary (t.name (codes "f")) (trailers (t.call (arguments (t.plain (t.primary (t.name (codes "f")) (trailers (t.call (arguments (t.plain (t.primary (t.name (codes "f")) (trailers (t.call (arguments (t.plain (t.primary (t.name (codes "f")) (trailers (t.call (arguments (t.plain (t.primary (t.name (codes "f")) (trailers (t.call (arguments (t.plain (t.primary (t.name (codes "f")) (trailers (t.call (arguments (t.plain (t.primary (t.name (codes "f")) (trailers (t.call (arguments (t.plain (t.primary (t.name (codes "f")) (trailers (t.call (arguments (t.plain (t.primary (t.name (codes "f")) (trailers (t.call (arguments (t.plain (t.primary (t.name (codes "f")) (trailers (t.call (arguments (t.plain (t.primary (t.name (codes "f")) (trailers (t.call (arguments (t.plain (t.primary (t.name (codes "f")) (trailers (t.call (arguments (t.plain (t.primary (t.name (codes "f")) (trailers (t.call (arguments (t.plain (t.primary (t.name (codes "f")) (trailers (t.call (arguments (t.plain (t.primary (t.name (codes "f")) (trailers (t.call (arguments (t.plain (t.primary (t.name (codes "f")) (trailers (t.call (arguments (t.plain (t.primary (t.name (codes "f")) (trailers (t.call (arguments (t.plain (t.primary (t.name (codes "f")) (trailers (t.call (arguments (t.plain (t.primary (t.name (codes "f")) (trailers (t.call (arguments (t.plain (t.primary (t.name (codes "f")) (trailers (t.call (arguments (t.plain (t.primary (t.name (codes "f")) (trailers (t.call (arguments (t.plain (t.primary (t.name (codes "f")) (trailers (t.call (arguments (t.plain (t.primary (t.name (codes "f")) (trailers (t.call (arguments (t.plain (t.primary (t.name (codes "f")) (trailers (t.call (arguments (t.plain (t.primary (t.name (codes "f")) (trailers (t.call (arguments (t.plain (t.primary (t.name (codes "f")) (trailers (t.call (arguments (t.plain (t.primary (t.name (codes "f")) (trailers (t.call (arguments (t.plain (t.primary (t.name (codes "f")) (trailers (t.call (arguments (t.plain (t.primary (t.name (codes "f")) (trailers (t.call (arguments (t.plain (t.primary (t.name (codes "f")) (trailers (t.call (arguments (t.plain (t.primary (t.name (codes "f")) (trailers (t.call (arguments (t.plain (t.primary (t.name (codes "f")) (trailers (t.call (arguments (t.plain (t.primary (t.name (codes "f")) (trailers (t.call (arguments (t.plain (t.primary (t.name (codes "f")) (trailers (t.call (arguments (t.plain (t.primary (t.name (codes "f")) (trailers (t.call (arguments (t.plain (t.primary (t.name (codes "f")) (trailers (t.call (arguments (t.plain (t.primary (t.name (codes "f")) (trailers (t.call (arguments (t.plain (t.primary (t.name (codes "f")) (trailers (t.call (arguments []) ∷ []))) ∷ [])) ∷ []))) ∷ [])) ∷ []))) ∷ [])) ∷ []))) ∷ [])) ∷ []))) ∷ [])) ∷ []))) ∷ [])) ∷ []))) ∷ [])) ∷ []))) ∷ [])) ∷ []))) ∷ [])) ∷ []))) ∷ [])) ∷ []))) ∷ [])) ∷ []))) ∷ [])) ∷ []))) ∷ [])) ∷ []))) ∷ [])) ∷ []))) ∷ [])) ∷ []))) ∷ [])) ∷ []))) ∷ [])) ∷ []))) ∷ [])) ∷ []))) ∷ [])) ∷ []))) ∷ [])) ∷ []))) ∷ [])) ∷ []))) ∷ [])) ∷ []))) ∷ [])) ∷ []))) ∷ [])) ∷ []))) ∷ [])) ∷ []))) ∷ [])) ∷ []))) ∷ [])) ∷ []))) ∷ [])) ∷ []))) ∷ [])) ∷ []))) ∷ [])) ∷ []))) ∷ [])) ∷ []))) ∷ [])) ∷ []))) ∷ [])) ∷ []))) ∷ [])) ∷ []))) ∷ [])) ∷ []))) ∷ [])) ∷ []))) ∷ [])) ∷ []))) ∷ [])) ∷ []))) ∷ [])) ∷ []))) ∷ [])) ∷ []))) ∷ [])) ∷ []))) ∷ [])) ∷ []))) ∷ [])) ∷ []))) ∷ [])) ∷ []))) ∷ [])) ∷ []))) ∷ [])) ∷ []))) ∷ [])) ∷ []))) ∷ [])) ∷ []))) ∷ [])) ∷ []))) ∷ [])) ∷ []))) ∷ [])) ∷ []))) ∷ [])) ∷ []))) ∷ [])) ∷ []))) ∷ [])) ∷ []))) ∷ [])) ∷ []))) ∷ [])) ∷ []))) ∷ [])) ∷ []))) ∷ [])) ∷ []))) ∷ [])) ∷ []))) ∷ [])
+unfolding reserved_marks delimiter operator numeral Q.escape Q.item Q.closes Q.body Q.quoted token_piece lexeme cut indented begin bracket step layout encode_utf8 code_of E.keyword_begins E.another E.argument E.attribute E.call E.slice_after E.item_or_slice E.trailer E.parenthesised E.list E.pair E.dict E.atom E.primary_parts E.primary E.power E.unary_level E.term E.sum E.compared E.negated_level E.conjunction E.disjunction E.expr_level E.exprs_level E.phrase S.primary_at S.another_simple S.raise S.return S.assertion S.delete S.global S.import S.update_of S.assignment_of S.update_or_assignment S.simple S.simples S.line S.block S.block_after S.arm S.choice S.while S.for S.caught S.handler S.handled S.finished S.try S.parameter S.definition S.define S.compound S.chunk S.program R.piece read_chars
+tree_85 = refl
+
+tree_86 : read_chars One (codes "a[a[a[a[a[a[a[a[a[a[a[a[a[a[a[a[a[a[a[a[a[a[a[a[a[a[a[a[a[a[a[a[a[a[a[a[a[a[a[a[a[a[a[a[a[a[a[a[a[a[a[a[a[a[a[a[a[a[a[a[:]]]]]]]]]]]]]]]]]]]]]]]]]]]]]]]]]]]]]]]]]]]]]]]]]]]]]]]]]]]]\n") ≡ Ok (t.assign [] (t.primary (t.name (codes "a")) (trailers (t.index (t.primary (t.name (codes "a")) (trailers (t.index (t.primary (t.name (codes "a")) (trailers (t.index (t.primary (t.name (codes "a")) (trailers (t.index (t.primary (t.name (codes "a")) (trailers (t.index (t.primary (t.name (codes "a")) (trailers (t.index (t.primary (t.name (codes "a")) (trailers (t.index (t.primary (t.name (codes "a")) (trailers (t.index (t.primary (t.name (codes "a")) (trailers (t.index (t.primary (t.name (codes "a")) (trailers (t.index (t.primary (t.name (codes "a")) (trailers (t.index (t.primary (t.name (codes "a")) (trailers (t.index (t.primary (t.name (codes "a")) (trailers (t.index (t.primary (t.name (codes "a")) (trailers (t.index (t.primary (t.name (codes "a")) (trailers (t.index (t.primary (t.name (codes "a")) (trailers (t.index (t.primary (t.name (codes "a")) (trailers (t.index (t.primary (t.name (codes "a")) (trailers (t.index (t.primary (t.name (codes "a")) (trailers (t.index (t.primary (t.name (codes "a")) (trailers (t.index (t.primary (t.name (codes "a")) (trailers (t.index (t.primary (t.name (codes "a")) (trailers (t.index (t.primary (t.name (codes "a")) (trailers (t.index (t.primary (t.name (codes "a")) (trailers (t.index (t.primary (t.name (codes "a")) (trailers (t.index (t.primary (t.name (codes "a")) (trailers (t.index (t.primary (t.name (codes "a")) (trailers (t.index (t.primary (t.name (codes "a")) (trailers (t.index (t.primary (t.name (codes "a")) (trailers (t.index (t.primary (t.name (codes "a")) (trailers (t.index (t.primary (t.name (codes "a")) (trailers (t.index (t.primary (t.name (codes "a")) (trailers (t.index (t.primary (t.name (codes "a")) (trailers (t.index (t.primary (t.name (codes "a")) (trailers (t.index (t.primary (t.name (codes "a")) (trailers (t.index (t.primary (t.name (codes "a")) (trailers (t.index (t.primary (t.name (codes "a")) (trailers (t.index (t.primary (t.name (codes "a")) (trailers (t.index (t.primary (t.name (codes "a")) (trailers (t.index (t.primary (t.name (codes "a")) (trailers (t.index (t.primary (t.name (codes "a")) (trailers (t.index (t.primary (t.name (codes "a")) (trailers (t.index (t.primary (t.name (codes "a")) (trailers (t.index (t.primary (t.name (codes "a")) (trailers (t.index (t.primary (t.name (codes "a")) (trailers (t.index (t.primary (t.name (codes "a")) (trailers (t.index (t.primary (t.name (codes "a")) (trailers (t.index (t.primary (t.name (codes "a")) (trailers (t.index (t.primary (t.name (codes "a")) (trailers (t.index (t.primary (t.name (codes "a")) (trailers (t.index (t.primary (t.name (codes "a")) (trailers (t.index (t.primary (t.name (codes "a")) (trailers (t.index (t.primary (t.name (codes "a")) (trailers (t.index (t.primary (t.name (codes "a")) (trailers (t.index (t.primary (t.name (codes "a")) (trailers (t.index (t.primary (t.name (codes "a")) (trailers (t.index (t.primary (t.name (codes "a")) (trailers (t.index (t.primary (t.name (codes "a")) (trailers (t.index (t.primary (t.name (codes "a")) (trailers (t.index (t.primary (t.name (codes "a")) (trailers (t.slice absent absent absent ∷ []))) ∷ []))) ∷ []))) ∷ []))) ∷ []))) ∷ []))) ∷ []))) ∷ []))) ∷ []))) ∷ []))) ∷ []))) ∷ []))) ∷ []))) ∷ []))) ∷ []))) ∷ []))) ∷ []))) ∷ []))) ∷ []))) ∷ []))) ∷ []))) ∷ []))) ∷ []))) ∷ []))) ∷ []))) ∷ []))) ∷ []))) ∷ []))) ∷ []))) ∷ []))) ∷ []))) ∷ []))) ∷ []))) ∷ []))) ∷ []))) ∷ []))) ∷ []))) ∷ []))) ∷ []))) ∷ []))) ∷ []))) ∷ []))) ∷ []))) ∷ []))) ∷ []))) ∷ []))) ∷ []))) ∷ []))) ∷ []))) ∷ []))) ∷ []))) ∷ []))) ∷ []))) ∷ []))) ∷ []))) ∷ []))) ∷ []))) ∷ []))) ∷ []))) ∷ []))) ∷ [])
+unfolding reserved_marks delimiter operator numeral Q.escape Q.item Q.closes Q.body Q.quoted token_piece lexeme cut indented begin bracket step layout encode_utf8 code_of E.keyword_begins E.another E.argument E.attribute E.call E.slice_after E.item_or_slice E.trailer E.parenthesised E.list E.pair E.dict E.atom E.primary_parts E.primary E.power E.unary_level E.term E.sum E.compared E.negated_level E.conjunction E.disjunction E.expr_level E.exprs_level E.phrase S.primary_at S.another_simple S.raise S.return S.assertion S.delete S.global S.import S.update_of S.assignment_of S.update_or_assignment S.simple S.simples S.line S.block S.block_after S.arm S.choice S.while S.for S.caught S.handler S.handled S.finished S.try S.parameter S.definition S.define S.compound S.chunk S.program R.piece read_chars
+tree_86 = refl
+
+tree_87 : read_chars One (codes "{a: {a: {a: {a: {a: {a: {a: {a: {a: {a: {a: {a: {a: {a: {a: {a: {a: {a: {a: {a: {a: {a: {a: {a: {a: {a: {a: {a: {a: {a: {a: {a: {a: {a: {a: {a: {a: {a: {a: {a: {a: {a: {a: {a: {a: {a: {a: {a: {a: {a: {a: {a: {a: {a: {a: {a: {a: {a: {a: {}}}}}}}}}}}}}}}}}}}}}}}}}}}}}}}}}}}}}}}}}}}}}}}}}}}}}}}}}}}}\n") ≡ Ok (t.assign [] (t.dict (pairs (((t.name (codes "a")), (t.dict (pairs (((t.name (codes "a")), (t.dict (pairs (((t.name (codes "a")), (t.dict (pairs (((t.name (codes "a")), (t.dict (pairs (((t.name (codes "a")), (t.dict (pairs (((t.name (codes "a")), (t.dict (pairs (((t.name (codes "a")), (t.dict (pairs (((t.name (codes "a")), (t.dict (pairs (((t.name (codes "a")), (t.dict (pairs (((t.name (codes "a")), (t.dict (pairs (((t.name (codes "a")), (t.dict (pairs (((t.name (codes "a")), (t.dict (pairs (((t.name (codes "a")), (t.dict (pairs (((t.name (codes "a")), (t.dict (pairs (((t.name (codes "a")), (t.dict (pairs (((t.name (codes "a")), (t.dict (pairs (((t.name (codes "a")), (t.dict (pairs (((t.name (codes "a")), (t.dict (pairs (((t.name (codes "a")), (t.dict (pairs (((t.name (codes "a")), (t.dict (pairs (((t.name (codes "a")), (t.dict (pairs (((t.name (codes "a")), (t.dict (pairs (((t.name (codes "a")), (t.dict (pairs (((t.name (codes "a")), (t.dict (pairs (((t.name (codes "a")), (t.dict (pairs (((t.name (codes "a")), (t.dict (pairs (((t.name (codes "a")), (t.dict (pairs (((t.name (codes "a")), (t.dict (pairs (((t.name (codes "a")), (t.dict (pairs (((t.name (codes "a")), (t.dict (pairs (((t.name (codes "a")), (t.dict (pairs (((t.name (codes "a")), (t.dict (pairs (((t.name (codes "a")), (t.dict (pairs (((t.name (codes "a")), (t.dict (pairs (((t.name (codes "a")), (t.dict (pairs (((t.name (codes "a")), (t.dict (pairs (((t.name (codes "a")), (t.dict (pairs (((t.name (codes "a")), (t.dict (pairs (((t.name (codes "a")), (t.dict (pairs (((t.name (codes "a")), (t.dict (pairs (((t.name (codes "a")), (t.dict (pairs (((t.name (codes "a")), (t.dict (pairs (((t.name (codes "a")), (t.dict (pairs (((t.name (codes "a")), (t.dict (pairs (((t.name (codes "a")), (t.dict (pairs (((t.name (codes "a")), (t.dict (pairs (((t.name (codes "a")), (t.dict (pairs (((t.name (codes "a")), (t.dict (pairs (((t.name (codes "a")), (t.dict (pairs (((t.name (codes "a")), (t.dict (pairs (((t.name (codes "a")), (t.dict (pairs (((t.name (codes "a")), (t.dict (pairs (((t.name (codes "a")), (t.dict (pairs (((t.name (codes "a")), (t.dict (pairs (((t.name (codes "a")), (t.dict (pairs (((t.name (codes "a")), (t.dict (pairs (((t.name (codes "a")), (t.dict (pairs (((t.name (codes "a")), (t.dict (pairs (((t.name (codes "a")), (t.dict (pairs []))) ∷ [])))) ∷ [])))) ∷ [])))) ∷ [])))) ∷ [])))) ∷ [])))) ∷ [])))) ∷ [])))) ∷ [])))) ∷ [])))) ∷ [])))) ∷ [])))) ∷ [])))) ∷ [])))) ∷ [])))) ∷ [])))) ∷ [])))) ∷ [])))) ∷ [])))) ∷ [])))) ∷ [])))) ∷ [])))) ∷ [])))) ∷ [])))) ∷ [])))) ∷ [])))) ∷ [])))) ∷ [])))) ∷ [])))) ∷ [])))) ∷ [])))) ∷ [])))) ∷ [])))) ∷ [])))) ∷ [])))) ∷ [])))) ∷ [])))) ∷ [])))) ∷ [])))) ∷ [])))) ∷ [])))) ∷ [])))) ∷ [])))) ∷ [])))) ∷ [])))) ∷ [])))) ∷ [])))) ∷ [])))) ∷ [])))) ∷ [])))) ∷ [])))) ∷ [])))) ∷ [])))) ∷ [])))) ∷ [])))) ∷ [])))) ∷ [])))) ∷ [])))) ∷ []))) ∷ [])
+unfolding reserved_marks delimiter operator numeral Q.escape Q.item Q.closes Q.body Q.quoted token_piece lexeme cut indented begin bracket step layout encode_utf8 code_of E.keyword_begins E.another E.argument E.attribute E.call E.slice_after E.item_or_slice E.trailer E.parenthesised E.list E.pair E.dict E.atom E.primary_parts E.primary E.power E.unary_level E.term E.sum E.compared E.negated_level E.conjunction E.disjunction E.expr_level E.exprs_level E.phrase S.primary_at S.another_simple S.raise S.return S.assertion S.delete S.global S.import S.update_of S.assignment_of S.update_or_assignment S.simple S.simples S.line S.block S.block_after S.arm S.choice S.while S.for S.caught S.handler S.handled S.finished S.try S.parameter S.definition S.define S.compound S.chunk S.program R.piece read_chars
+tree_87 = refl
+
+tree_88 : read_chars One (codes "if a:\n  if a:\n    if a:\n      if a:\n        if a:\n          if a:\n            if a:\n              if a:\n                if a:\n                  if a:\n                    if a:\n                      if a:\n                        if a:\n                          if a:\n                            if a:\n                              if a:\n                                if a:\n                                  if a:\n                                    if a:\n                                      if a:\n                                        if a:\n                                          if a:\n                                            if a:\n                                              if a:\n                                                if a:\n                                                  if a:\n                                                    if a:\n                                                      if a:\n                                                        if a:\n                                                          if a:\n                                                            if a:\n                                                              if a:\n                                                                if a:\n                                                                  if a:\n                                                                    if a:\n                                                                      if a:\n                                                                        if a:\n                                                                          if a:\n                                                                            if a:\n                                                                              if a:\n                                                                                if a:\n                                                                                  if a:\n                                                                                    if a:\n                                                                                      if a:\n                                                                                        if a:\n                                                                                          if a:\n                                                                                            if a:\n                                                                                              if a:\n                                                                                                if a:\n                                                                                                  if a:\n                                                                                                    if a:\n                                                                                                      if a:\n                                                                                                        if a:\n                                                                                                          if a:\n                                                                                                            if a:\n                                                                                                              if a:\n                                                                                                                if a:\n                                                                                                                  if a:\n                                                                                                                    if a:\n                                                                                                                      if a:\n                                                                                                                        b\n") ≡ Ok (t.choose (arms (((t.name (codes "a")), statements (t.choose (arms (((t.name (codes "a")), statements (t.choose (arms (((t.name (codes "a")), statements (t.choose (arms (((t.name (codes "a")), statements (t.choose (arms (((t.name (codes "a")), statements (t.choose (arms (((t.name (codes "a")), statements (t.choose (arms (((t.name (codes "a")), statements (t.choose (arms (((t.name (codes "a")), statements (t.choose (arms (((t.name (codes "a")), statements (t.choose (arms (((t.name (codes "a")), statements (t.choose (arms (((t.name (codes "a")), statements (t.choose (arms (((t.name (codes "a")), statements (t.choose (arms (((t.name (codes "a")), statements (t.choose (arms (((t.name (codes "a")), statements (t.choose (arms (((t.name (codes "a")), statements (t.choose (arms (((t.name (codes "a")), statements (t.choose (arms (((t.name (codes "a")), statements (t.choose (arms (((t.name (codes "a")), statements (t.choose (arms (((t.name (codes "a")), statements (t.choose (arms (((t.name (codes "a")), statements (t.choose (arms (((t.name (codes "a")), statements (t.choose (arms (((t.name (codes "a")), statements (t.choose (arms (((t.name (codes "a")), statements (t.choose (arms (((t.name (codes "a")), statements (t.choose (arms (((t.name (codes "a")), statements (t.choose (arms (((t.name (codes "a")), statements (t.choose (arms (((t.name (codes "a")), statements (t.choose (arms (((t.name (codes "a")), statements (t.choose (arms (((t.name (codes "a")), statements (t.choose (arms (((t.name (codes "a")), statements (t.choose (arms (((t.name (codes "a")), statements (t.choose (arms (((t.name (codes "a")), statements (t.choose (arms (((t.name (codes "a")), statements (t.choose (arms (((t.name (codes "a")), statements (t.choose (arms (((t.name (codes "a")), statements (t.choose (arms (((t.name (codes "a")), statements (t.choose (arms (((t.name (codes "a")), statements (t.choose (arms (((t.name (codes "a")), statements (t.choose (arms (((t.name (codes "a")), statements (t.choose (arms (((t.name (codes "a")), statements (t.choose (arms (((t.name (codes "a")), statements (t.choose (arms (((t.name (codes "a")), statements (t.choose (arms (((t.name (codes "a")), statements (t.choose (arms (((t.name (codes "a")), statements (t.choose (arms (((t.name (codes "a")), statements (t.choose (arms (((t.name (codes "a")), statements (t.choose (arms (((t.name (codes "a")), statements (t.choose (arms (((t.name (codes "a")), statements (t.choose (arms (((t.name (codes "a")), statements (t.choose (arms (((t.name (codes "a")), statements (t.choose (arms (((t.name (codes "a")), statements (t.choose (arms (((t.name (codes "a")), statements (t.choose (arms (((t.name (codes "a")), statements (t.choose (arms (((t.name (codes "a")), statements (t.choose (arms (((t.name (codes "a")), statements (t.choose (arms (((t.name (codes "a")), statements (t.choose (arms (((t.name (codes "a")), statements (t.choose (arms (((t.name (codes "a")), statements (t.choose (arms (((t.name (codes "a")), statements (t.choose (arms (((t.name (codes "a")), statements (t.assign [] (t.name (codes "b")) ∷ [])) ∷ [])) (statements []) ∷ [])) ∷ [])) (statements []) ∷ [])) ∷ [])) (statements []) ∷ [])) ∷ [])) (statements []) ∷ [])) ∷ [])) (statements []) ∷ [])) ∷ [])) (statements []) ∷ [])) ∷ [])) (statements []) ∷ [])) ∷ [])) (statements []) ∷ [])) ∷ [])) (statements []) ∷ [])) ∷ [])) (statements []) ∷ [])) ∷ [])) (statements []) ∷ [])) ∷ [])) (statements []) ∷ [])) ∷ [])) (statements []) ∷ [])) ∷ [])) (statements []) ∷ [])) ∷ [])) (statements []) ∷ [])) ∷ [])) (statements []) ∷ [])) ∷ [])) (statements []) ∷ [])) ∷ [])) (statements []) ∷ [])) ∷ [])) (statements []) ∷ [])) ∷ [])) (statements []) ∷ [])) ∷ [])) (statements []) ∷ [])) ∷ [])) (statements []) ∷ [])) ∷ [])) (statements []) ∷ [])) ∷ [])) (statements []) ∷ [])) ∷ [])) (statements []) ∷ [])) ∷ [])) (statements []) ∷ [])) ∷ [])) (statements []) ∷ [])) ∷ [])) (statements []) ∷ [])) ∷ [])) (statements []) ∷ [])) ∷ [])) (statements []) ∷ [])) ∷ [])) (statements []) ∷ [])) ∷ [])) (statements []) ∷ [])) ∷ [])) (statements []) ∷ [])) ∷ [])) (statements []) ∷ [])) ∷ [])) (statements []) ∷ [])) ∷ [])) (statements []) ∷ [])) ∷ [])) (statements []) ∷ [])) ∷ [])) (statements []) ∷ [])) ∷ [])) (statements []) ∷ [])) ∷ [])) (statements []) ∷ [])) ∷ [])) (statements []) ∷ [])) ∷ [])) (statements []) ∷ [])) ∷ [])) (statements []) ∷ [])) ∷ [])) (statements []) ∷ [])) ∷ [])) (statements []) ∷ [])) ∷ [])) (statements []) ∷ [])) ∷ [])) (statements []) ∷ [])) ∷ [])) (statements []) ∷ [])) ∷ [])) (statements []) ∷ [])) ∷ [])) (statements []) ∷ [])) ∷ [])) (statements []) ∷ [])) ∷ [])) (statements []) ∷ [])) ∷ [])) (statements []) ∷ [])) ∷ [])) (statements []) ∷ [])) ∷ [])) (statements []) ∷ [])) ∷ [])) (statements []) ∷ [])) ∷ [])) (statements []) ∷ [])) ∷ [])) (statements []) ∷ [])) ∷ [])) (statements []) ∷ [])) ∷ [])) (statements []) ∷ [])
+unfolding reserved_marks delimiter operator numeral Q.escape Q.item Q.closes Q.body Q.quoted token_piece lexeme cut indented begin bracket step layout encode_utf8 code_of E.keyword_begins E.another E.argument E.attribute E.call E.slice_after E.item_or_slice E.trailer E.parenthesised E.list E.pair E.dict E.atom E.primary_parts E.primary E.power E.unary_level E.term E.sum E.compared E.negated_level E.conjunction E.disjunction E.expr_level E.exprs_level E.phrase S.primary_at S.another_simple S.raise S.return S.assertion S.delete S.global S.import S.update_of S.assignment_of S.update_or_assignment S.simple S.simples S.line S.block S.block_after S.arm S.choice S.while S.for S.caught S.handler S.handled S.finished S.try S.parameter S.definition S.define S.compound S.chunk S.program R.piece read_chars
+tree_88 = refl
+
+tree_89 : read_chars One (codes "if a:\n  if a:\n    if a:\n      if a:\n        if a:\n          if a:\n            if a:\n              if a:\n                if a:\n                  if a:\n                    if a:\n                      if a:\n                        if a:\n                          if a:\n                            if a:\n                              if a:\n                                if a:\n                                  if a:\n                                    if a:\n                                      if a:\n                                        if a:\n                                          if a:\n                                            if a:\n                                              if a:\n                                                if a:\n                                                  if a:\n                                                    if a:\n                                                      if a:\n                                                        if a:\n                                                          if a:\n                                                            if a:\n                                                              if a:\n                                                                if a:\n                                                                  if a:\n                                                                    if a:\n                                                                      if a:\n                                                                        if a:\n                                                                          if a:\n                                                                            if a:\n                                                                              if a:\n                                                                                if a:\n                                                                                  if a:\n                                                                                    if a:\n                                                                                      if a:\n                                                                                        if a:\n                                                                                          if a:\n                                                                                            if a:\n                                                                                              if a:\n                                                                                                if a:\n                                                                                                  if a:\n                                                                                                    if a:\n                                                                                                      if a:\n                                                                                                        if a:\n                                                                                                          if a:\n                                                                                                            if a:\n                                                                                                              if a:\n                                                                                                                if a:\n                                                                                                                  if a:\n                                                                                                                    if a:\n                                                                                                                      if a: pass\n") ≡ Ok (t.choose (arms (((t.name (codes "a")), statements (t.choose (arms (((t.name (codes "a")), statements (t.choose (arms (((t.name (codes "a")), statements (t.choose (arms (((t.name (codes "a")), statements (t.choose (arms (((t.name (codes "a")), statements (t.choose (arms (((t.name (codes "a")), statements (t.choose (arms (((t.name (codes "a")), statements (t.choose (arms (((t.name (codes "a")), statements (t.choose (arms (((t.name (codes "a")), statements (t.choose (arms (((t.name (codes "a")), statements (t.choose (arms (((t.name (codes "a")), statements (t.choose (arms (((t.name (codes "a")), statements (t.choose (arms (((t.name (codes "a")), statements (t.choose (arms (((t.name (codes "a")), statements (t.choose (arms (((t.name (codes "a")), statements (t.choose (arms (((t.name (codes "a")), statements (t.choose (arms (((t.name (codes "a")), statements (t.choose (arms (((t.name (codes "a")), statements (t.choose (arms (((t.name (codes "a")), statements (t.choose (arms (((t.name (codes "a")), statements (t.choose (arms (((t.name (codes "a")), statements (t.choose (arms (((t.name (codes "a")), statements (t.choose (arms (((t.name (codes "a")), statements (t.choose (arms (((t.name (codes "a")), statements (t.choose (arms (((t.name (codes "a")), statements (t.choose (arms (((t.name (codes "a")), statements (t.choose (arms (((t.name (codes "a")), statements (t.choose (arms (((t.name (codes "a")), statements (t.choose (arms (((t.name (codes "a")), statements (t.choose (arms (((t.name (codes "a")), statements (t.choose (arms (((t.name (codes "a")), statements (t.choose (arms (((t.name (codes "a")), statements (t.choose (arms (((t.name (codes "a")), statements (t.choose (arms (((t.name (codes "a")), statements (t.choose (arms (((t.name (codes "a")), statements (t.choose (arms (((t.name (codes "a")), statements (t.choose (arms (((t.name (codes "a")), statements (t.choose (arms (((t.name (codes "a")), statements (t.choose (arms (((t.name (codes "a")), statements (t.choose (arms (((t.name (codes "a")), statements (t.choose (arms (((t.name (codes "a")), statements (t.choose (arms (((t.name (codes "a")), statements (t.choose (arms (((t.name (codes "a")), statements (t.choose (arms (((t.name (codes "a")), statements (t.choose (arms (((t.name (codes "a")), statements (t.choose (arms (((t.name (codes "a")), statements (t.choose (arms (((t.name (codes "a")), statements (t.choose (arms (((t.name (codes "a")), statements (t.choose (arms (((t.name (codes "a")), statements (t.choose (arms (((t.name (codes "a")), statements (t.choose (arms (((t.name (codes "a")), statements (t.choose (arms (((t.name (codes "a")), statements (t.choose (arms (((t.name (codes "a")), statements (t.choose (arms (((t.name (codes "a")), statements (t.choose (arms (((t.name (codes "a")), statements (t.choose (arms (((t.name (codes "a")), statements (t.choose (arms (((t.name (codes "a")), statements (t.choose (arms (((t.name (codes "a")), statements (t.choose (arms (((t.name (codes "a")), statements (t.choose (arms (((t.name (codes "a")), statements (t.pass ∷ [])) ∷ [])) (statements []) ∷ [])) ∷ [])) (statements []) ∷ [])) ∷ [])) (statements []) ∷ [])) ∷ [])) (statements []) ∷ [])) ∷ [])) (statements []) ∷ [])) ∷ [])) (statements []) ∷ [])) ∷ [])) (statements []) ∷ [])) ∷ [])) (statements []) ∷ [])) ∷ [])) (statements []) ∷ [])) ∷ [])) (statements []) ∷ [])) ∷ [])) (statements []) ∷ [])) ∷ [])) (statements []) ∷ [])) ∷ [])) (statements []) ∷ [])) ∷ [])) (statements []) ∷ [])) ∷ [])) (statements []) ∷ [])) ∷ [])) (statements []) ∷ [])) ∷ [])) (statements []) ∷ [])) ∷ [])) (statements []) ∷ [])) ∷ [])) (statements []) ∷ [])) ∷ [])) (statements []) ∷ [])) ∷ [])) (statements []) ∷ [])) ∷ [])) (statements []) ∷ [])) ∷ [])) (statements []) ∷ [])) ∷ [])) (statements []) ∷ [])) ∷ [])) (statements []) ∷ [])) ∷ [])) (statements []) ∷ [])) ∷ [])) (statements []) ∷ [])) ∷ [])) (statements []) ∷ [])) ∷ [])) (statements []) ∷ [])) ∷ [])) (statements []) ∷ [])) ∷ [])) (statements []) ∷ [])) ∷ [])) (statements []) ∷ [])) ∷ [])) (statements []) ∷ [])) ∷ [])) (statements []) ∷ [])) ∷ [])) (statements []) ∷ [])) ∷ [])) (statements []) ∷ [])) ∷ [])) (statements []) ∷ [])) ∷ [])) (statements []) ∷ [])) ∷ [])) (statements []) ∷ [])) ∷ [])) (statements []) ∷ [])) ∷ [])) (statements []) ∷ [])) ∷ [])) (statements []) ∷ [])) ∷ [])) (statements []) ∷ [])) ∷ [])) (statements []) ∷ [])) ∷ [])) (statements []) ∷ [])) ∷ [])) (statements []) ∷ [])) ∷ [])) (statements []) ∷ [])) ∷ [])) (statements []) ∷ [])) ∷ [])) (statements []) ∷ [])) ∷ [])) (statements []) ∷ [])) ∷ [])) (statements []) ∷ [])) ∷ [])) (statements []) ∷ [])) ∷ [])) (statements []) ∷ [])) ∷ [])) (statements []) ∷ [])) ∷ [])) (statements []) ∷ [])) ∷ [])) (statements []) ∷ [])) ∷ [])) (statements []) ∷ [])) ∷ [])) (statements []) ∷ [])) ∷ [])) (statements []) ∷ [])) ∷ [])) (statements []) ∷ [])
+unfolding reserved_marks delimiter operator numeral Q.escape Q.item Q.closes Q.body Q.quoted token_piece lexeme cut indented begin bracket step layout encode_utf8 code_of E.keyword_begins E.another E.argument E.attribute E.call E.slice_after E.item_or_slice E.trailer E.parenthesised E.list E.pair E.dict E.atom E.primary_parts E.primary E.power E.unary_level E.term E.sum E.compared E.negated_level E.conjunction E.disjunction E.expr_level E.exprs_level E.phrase S.primary_at S.another_simple S.raise S.return S.assertion S.delete S.global S.import S.update_of S.assignment_of S.update_or_assignment S.simple S.simples S.line S.block S.block_after S.arm S.choice S.while S.for S.caught S.handler S.handled S.finished S.try S.parameter S.definition S.define S.compound S.chunk S.program R.piece read_chars
+tree_89 = refl

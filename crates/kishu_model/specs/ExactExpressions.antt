@@ -1,5 +1,5 @@
 -- Each production of expressions is read exactly.
-use Rattle.std.specs.Prelude.{◌≡◌, ℕ, suc, ◌<◌, Bool, true, false, not, ◌&&◌, List, [], ◌∷◌, Option, Some, None, is_some}
+use Rattle.std.specs.Prelude.{◌≡◌, ℕ, suc, ◌<◌, Bool, true, false, not, ◌&&◌, List, [], ◌∷◌, Option, Some, None, is_some, length}
 use Rattle.std.proofs.Common.{refl, sym, ap, subst, ◌∙◌, arith, inl, inr, ⊎_elim}
 use Rattle.kishu_model.specs.declared.token.Mark.{Mark}
 use Rattle.kishu_model.specs.declared.token.Mark.TheVariants as m
@@ -463,7 +463,16 @@ unseen_atom n test is ts lt = not_true (test ts) (λ h. omega (arith, is ts h))
 abbrev pub EndsArgument : Tokens → Type 0
 EndsArgument ts = Stop 8 ts × (sees m.Assign ts ≡ false)
 
-module _ (inner : Phrase → Language Expression) (read : Phrase → Reader Expression) (deeper : Inner inner read) where
+guarded_reads : {A : Type 0} {room : Bool} {p : Language A} {q : Reader A} {S : Tokens → Type 0} → Reads p q S → Reads (g.bracketed room p) (f.bracketed room q) S
+guarded_reads reads = bind_reads anything where_reads (λ _. reads) (λ a ts us b h s. tt)
+
+guarded_begins : {A : Type 0} {room : Bool} {p : Language A} {test : Tokens → Bool} → Begins p test → Begins (g.bracketed room p) test
+guarded_begins {test = test} begins = record {
+  begins = λ ts us a h. ap test h.2.0 ∙ begins.begins h.0 us a h.3;
+  shorter = λ ts us a h. omega (arith, ap length h.2.0, begins.shorter h.0 us a h.3);
+}
+
+module _ (room : Bool) (inner : Phrase → Language Expression) (read : Phrase → Reader Expression) (deeper : Inner inner read) where
   attribute_reads : Reads (g.attribute inner) (f.attribute read) anything
   unfolding g.attribute f.attribute
   attribute_reads = bind_reads anything mark_reads (λ _. bind_reads anything (token_reads name_finds) (λ x. pure_reads) (λ a ts us b h s. tt)) (λ a ts us b h s. tt)
@@ -654,19 +663,23 @@ module _ (inner : Phrase → Language Expression) (read : Phrase → Reader Expr
   item_or_slice_begins : Begins (l.◌or◌ (g.item inner) (g.slice inner)) (sees m.LeftBracket)
   item_or_slice_begins = same_begins bracket_begins to_brackets
 
-  trailer_reads : Reads (g.trailer inner) (f.trailer read) anything
+  trailer_reads : Reads (g.trailer room inner) (f.trailer room read) anything
   unfolding g.trailer f.trailer
   trailer_reads = either_reads attribute_reads
+      (guarded_reads
       (either_reads call_reads item_or_slice_reads (λ ts us a h s. call_begins.begins ts us a h)
-      (λ ts us a h s. other_mark m.LeftBracket m.LeftParenthesis ts (item_or_slice_begins.begins ts us a h) refl))
+      (λ ts us a h s. other_mark m.LeftBracket m.LeftParenthesis ts (item_or_slice_begins.begins ts us a h) refl)))
       (λ ts us a h s. attribute_begins.begins ts us a h)
-      (λ ts us a h s. ⊎_elim (λ k. other_mark m.LeftParenthesis m.Dot ts (call_begins.begins ts us a k) refl) (λ k. other_mark m.LeftBracket m.Dot ts (item_or_slice_begins.begins ts us a k) refl) h)
+      (λ ts us a h s. ap (sees m.Dot) h.2.0 ∙ ⊎_elim
+      (λ k. other_mark m.LeftParenthesis m.Dot h.0 (call_begins.begins h.0 us a k) refl)
+      (λ k. other_mark m.LeftBracket m.Dot h.0 (item_or_slice_begins.begins h.0 us a k) refl) h.3)
 
-  trailer_begins : Begins (g.trailer inner) (sees_one begins_trailer)
+  trailer_begins : Begins (g.trailer room inner) (sees_one begins_trailer)
   unfolding g.trailer
   trailer_begins = begins_or (begins_by attribute_begins (λ ts h. sees_table begins_trailer m.Dot tt ts refl h))
+      (guarded_begins
       (begins_or (begins_by call_begins (λ ts h. sees_table begins_trailer m.LeftParenthesis tt ts refl h))
-      (begins_by item_or_slice_begins (λ ts h. sees_table begins_trailer m.LeftBracket tt ts refl h)))
+      (begins_by item_or_slice_begins (λ ts h. sees_table begins_trailer m.LeftBracket tt ts refl h))))
 
   -- ---- atoms in brackets
 
@@ -735,23 +748,23 @@ module _ (inner : Phrase → Language Expression) (read : Phrase → Reader Expr
   constant_is : (ts us : Tokens) (a : Expression) → l.one_of g.constant_of ts us a → which_atom ts ≡ 6
   constant_is ts us a h = ap which_atom h.2 ∙ ap kind_atom h.3 ∙ constant_atom h.1 a h.4
 
-  dict_is : (ts us : Tokens) (a : Expression) → g.dict inner ts us a → which_atom ts ≡ 5
-  dict_is ts us a h = sees_atom m.LeftBrace ts (dict_begins.begins ts us a h)
+  dict_is : (ts us : Tokens) (a : Expression) → g.bracketed room (g.dict inner) ts us a → which_atom ts ≡ 5
+  dict_is ts us a h = sees_atom m.LeftBrace ts ((guarded_begins dict_begins).begins ts us a h)
 
-  list_is : (ts us : Tokens) (a : Expression) → g.list inner ts us a → which_atom ts ≡ 4
-  list_is ts us a h = sees_atom m.LeftBracket ts (list_atom_begins.begins ts us a h)
+  list_is : (ts us : Tokens) (a : Expression) → g.bracketed room (g.list inner) ts us a → which_atom ts ≡ 4
+  list_is ts us a h = sees_atom m.LeftBracket ts ((guarded_begins list_atom_begins).begins ts us a h)
 
-  parenthesised_is : (ts us : Tokens) (a : Expression) → g.parenthesised inner ts us a → which_atom ts ≡ 3
-  parenthesised_is ts us a h = sees_atom m.LeftParenthesis ts (parenthesised_begins.begins ts us a h)
+  parenthesised_is : (ts us : Tokens) (a : Expression) → g.bracketed room (g.parenthesised inner) ts us a → which_atom ts ≡ 3
+  parenthesised_is ts us a h = sees_atom m.LeftParenthesis ts ((guarded_begins parenthesised_begins).begins ts us a h)
 
   abbrev from_dict : Language Expression
-  from_dict = l.◌or◌ (g.dict inner) (l.one_of g.constant_of)
+  from_dict = l.◌or◌ (g.bracketed room (g.dict inner)) (l.one_of g.constant_of)
 
   abbrev from_list : Language Expression
-  from_list = l.◌or◌ (g.list inner) from_dict
+  from_list = l.◌or◌ (g.bracketed room (g.list inner)) from_dict
 
   abbrev from_parenthesised : Language Expression
-  from_parenthesised = l.◌or◌ (g.parenthesised inner) from_list
+  from_parenthesised = l.◌or◌ (g.bracketed room (g.parenthesised inner)) from_list
 
   abbrev from_text : Language Expression
   from_text = l.◌or◌ g.text from_parenthesised
@@ -774,18 +787,18 @@ module _ (inner : Phrase → Language Expression) (read : Phrase → Reader Expr
   integer_least : (ts us : Tokens) (a : Expression) → from_integer ts us a → 0 < which_atom ts
   integer_least ts us a h = ⊎_elim (λ k. omega (arith, integer_atom ts (integer_begins.begins ts us a k))) (λ k. omega (arith, text_least ts us a k)) h
 
-  atom_reads : Reads (g.atom inner) (f.atom read) (Stop 0)
+  atom_reads : Reads (g.atom room inner) (f.atom room read) (Stop 0)
   unfolding g.atom f.atom
   atom_reads =
       either_reads (fewer_ends name_reads (λ ts s. tt))
       (either_reads (fewer_ends integer_reads (λ ts s. tt))
       (either_reads text_reads
-      (either_reads (fewer_ends parenthesised_reads (λ ts s. tt))
-      (either_reads (fewer_ends list_atom_reads (λ ts s. tt))
-      (either_reads (fewer_ends dict_reads (λ ts s. tt)) (one_of_reads g.constant_of)
-      (λ ts us a h s. dict_begins.begins ts us a h) (λ ts us a h s. unseen_atom 5 (sees m.LeftBrace) (sees_atom m.LeftBrace) ts (omega (arith, constant_is ts us a h))))
-      (λ ts us a h s. list_atom_begins.begins ts us a h) (λ ts us a h s. unseen_atom 4 (sees m.LeftBracket) (sees_atom m.LeftBracket) ts (dict_least ts us a h)))
-      (λ ts us a h s. parenthesised_begins.begins ts us a h) (λ ts us a h s. unseen_atom 3 (sees m.LeftParenthesis) (sees_atom m.LeftParenthesis) ts (list_least ts us a h)))
+      (either_reads (fewer_ends (guarded_reads parenthesised_reads) (λ ts s. tt))
+      (either_reads (fewer_ends (guarded_reads list_atom_reads) (λ ts s. tt))
+      (either_reads (fewer_ends (guarded_reads dict_reads) (λ ts s. tt)) (one_of_reads g.constant_of)
+      (λ ts us a h s. (guarded_begins dict_begins).begins ts us a h) (λ ts us a h s. unseen_atom 5 (sees m.LeftBrace) (sees_atom m.LeftBrace) ts (omega (arith, constant_is ts us a h))))
+      (λ ts us a h s. (guarded_begins list_atom_begins).begins ts us a h) (λ ts us a h s. unseen_atom 4 (sees m.LeftBracket) (sees_atom m.LeftBracket) ts (dict_least ts us a h)))
+      (λ ts us a h s. (guarded_begins parenthesised_begins).begins ts us a h) (λ ts us a h s. unseen_atom 3 (sees m.LeftParenthesis) (sees_atom m.LeftParenthesis) ts (list_least ts us a h)))
       (λ ts us a h s. text_begins.begins ts us a h) (λ ts us a h s. unseen_atom 2 (sees_some r.a_text) text_atom ts (parenthesised_least ts us a h)))
       (λ ts us a h s. integer_begins.begins ts us a h) (λ ts us a h s. unseen_atom 1 (sees_some r.an_integer) integer_atom ts (text_least ts us a h)))
       (λ ts us a h s. name_begins.begins ts us a h) (λ ts us a h s. unseen_atom 0 (sees_some r.a_name) name_atom ts (integer_least ts us a h))
@@ -793,15 +806,15 @@ module _ (inner : Phrase → Language Expression) (read : Phrase → Reader Expr
   mark_operand : (k : Mark) → begins_operand k ≡ true → (ts : Tokens) → sees k ts ≡ true → starts_with begins_operand ts ≡ true
   mark_operand k is ts h = sees_starts begins_operand k ts h ∙ is
 
-  atom_begins : Begins (g.atom inner) (starts_with begins_operand)
+  atom_begins : Begins (g.atom room inner) (starts_with begins_operand)
   unfolding g.atom
   atom_begins =
       begins_or (begins_by name_begins name_operand)
       (begins_or (begins_by integer_begins integer_operand)
       (begins_or (begins_by text_begins text_operand)
-      (begins_or (begins_by parenthesised_begins (mark_operand m.LeftParenthesis refl))
-      (begins_or (begins_by list_atom_begins (mark_operand m.LeftBracket refl))
-      (begins_or (begins_by dict_begins (mark_operand m.LeftBrace refl))
+      (begins_or (begins_by (guarded_begins parenthesised_begins) (mark_operand m.LeftParenthesis refl))
+      (begins_or (begins_by (guarded_begins list_atom_begins) (mark_operand m.LeftBracket refl))
+      (begins_or (begins_by (guarded_begins dict_begins) (mark_operand m.LeftBrace refl))
       (record {
         begins = λ ts us a h. ap (starts_with begins_operand) h.2 ∙ ap (f.kind_begins begins_operand) h.3 ∙ constant_operand h.1 a h.4;
         shorter = λ ts us a h. (one_of_begins g.constant_of).shorter ts us a h;
@@ -812,30 +825,30 @@ module _ (inner : Phrase → Language Expression) (read : Phrase → Reader Expr
   trailer_end : (ts : Tokens) → Stop 1 ts → (sees_one begins_trailer ts ≡ false) × Stop 0 ts
   trailer_end ts s = (stop_sees_one begins_trailer 1 trailer_bound ts s, omega arith)
 
-  trailer_goes_on : (ts us : Tokens) (a : Trailer) → g.trailer inner ts us a → Stop 0 ts
+  trailer_goes_on : (ts us : Tokens) (a : Trailer) → g.trailer room inner ts us a → Stop 0 ts
   trailer_goes_on ts us a h = omega (arith, sees_one_follow begins_trailer 1 trailer_bound ts (trailer_begins.begins ts us a h))
 
-  trailers_reads : Reads (l.many (g.trailer inner)) (r.many (sees_one begins_trailer) (f.trailer read)) (Stop 1)
+  trailers_reads : Reads (l.many (g.trailer room inner)) (r.many (sees_one begins_trailer) (f.trailer room read)) (Stop 1)
   trailers_reads = list_reads (Stop 0) (fewer_ends trailer_reads (λ ts s. tt)) (sees_one begins_trailer) (Stop 1) trailer_begins trailer_end trailer_goes_on []
 
-  found_reads_of : (first : Expression) → Reads {A = Expression × List Trailer} (l.◌>>=◌ (l.many (g.trailer inner)) (λ found. l.pure (first, found)))
-      (r.◌>>=◌ (r.many (sees_one begins_trailer) (f.trailer read)) (λ found. r.pure (first, found))) (Stop 1)
+  found_reads_of : (first : Expression) → Reads {A = Expression × List Trailer} (l.◌>>=◌ (l.many (g.trailer room inner)) (λ found. l.pure (first, found)))
+      (r.◌>>=◌ (r.many (sees_one begins_trailer) (f.trailer room read)) (λ found. r.pure (first, found))) (Stop 1)
   found_reads_of first = bind_reads (Stop 1) trailers_reads (λ found. pure_reads) (λ a ts us b h s. subst (Stop 1) (sym h.0) s)
 
-  primary_parts_reads : Reads (g.primary_parts inner) (f.primary_parts read) (Stop 1)
+  primary_parts_reads : Reads (g.primary_parts room inner) (f.primary_parts room read) (Stop 1)
   unfolding g.primary_parts f.primary_parts
   primary_parts_reads = bind_reads (Stop 0) atom_reads found_reads_of
       (λ first ts us b h s. list_after (Stop 0) (fewer_ends trailer_reads (λ ts s. tt)) (sees_one begins_trailer) (Stop 1) trailer_begins trailer_end trailer_goes_on [] h.1 ts h.0 h.2 (subst (Stop 1) (sym h.3.0) s))
 
-  primary_parts_begins : Begins (g.primary_parts inner) (starts_with begins_operand)
+  primary_parts_begins : Begins (g.primary_parts room inner) (starts_with begins_operand)
   unfolding g.primary_parts
   primary_parts_begins = begins_then _ (Stop 1) atom_begins found_reads_of
 
-  pub primary_reads : Reads (g.primary inner) (f.primary read) (Stop 1)
+  pub primary_reads : Reads (g.primary room inner) (f.primary room read) (Stop 1)
   unfolding g.primary f.primary
   primary_reads = bind_reads (Stop 1) primary_parts_reads (λ parts. pure_reads) (λ a ts us b h s. subst (Stop 1) (sym h.0) s)
 
-  pub primary_begins : Begins (g.primary inner) (starts_with begins_operand)
+  pub primary_begins : Begins (g.primary room inner) (starts_with begins_operand)
   unfolding g.primary
   primary_begins = begins_then _ (Stop 1) primary_parts_begins (λ parts. pure_reads)
 
@@ -848,102 +861,102 @@ module _ (inner : Phrase → Language Expression) (read : Phrase → Reader Expr
   raised_ends : (base : Expression) (ts us : Tokens) (b : Expression) → l.◌or◌ (l.pure base) (l.◌>>◌ (l.mark m.Power) (l.◌>>=◌ (inner unary) (λ exponent. l.pure (t.power base exponent)))) ts us b → Stop 2 us → Stop 1 ts
   raised_ends base ts us b h s = ⊎_elim (λ k. subst (Stop 1) (sym k.0) (omega arith)) (λ k. omega (arith, sees_follow m.Power ts (mark_begins.begins ts k.0 k.1 k.2))) h
 
-  power_reads : Reads (g.power inner) (f.power read) (Stop 2)
+  power_reads : Reads (g.power room inner) (f.power room read) (Stop 2)
   unfolding g.power f.power
   power_reads = bind_reads (Stop 1) primary_reads raised_reads raised_ends
 
-  power_begins : Begins (g.power inner) (starts_with begins_operand)
+  power_begins : Begins (g.power room inner) (starts_with begins_operand)
   unfolding g.power
   power_begins = begins_then _ (Stop 2) primary_begins raised_reads
 
   signed_tail : (before : Sign) → Reads (l.◌>>=◌ (inner unary) (λ operand. l.pure (t.signed before operand))) (r.◌>>=◌ (read unary) (λ operand. r.pure (t.signed before operand))) (Stop 2)
   signed_tail before = bind_reads (Stop 2) (deeper.reads unary) (λ _. pure_reads) (λ a ts us b h s. subst (Stop 2) (sym h.0) s)
 
-  pub unary_reads : Reads (g.unary_level inner) (f.unary_level read) (Stop 2)
+  pub unary_reads : Reads (g.unary_level room inner) (f.unary_level room read) (Stop 2)
   unfolding g.unary_level f.unary_level
   unary_reads = either_reads (bind_reads anything (one_of_reads g.sign) signed_tail (λ a ts us b h s. tt)) power_reads
       (λ ts us a h s. (one_of_begins g.sign).begins ts h.0 h.1 h.2) (λ ts us a h s. operand_no_sign ts (power_begins.begins ts us a h))
 
-  pub unary_begins : Begins (g.unary_level inner) (starts_with begins_unary)
+  pub unary_begins : Begins (g.unary_level room inner) (starts_with begins_unary)
   unfolding g.unary_level
   unary_begins = begins_or (begins_by (begins_then _ (Stop 2) (one_of_begins g.sign) signed_tail) sign_is_unary) (begins_by power_begins operand_is_unary)
 
-  term_reads : Reads (g.term inner) (f.term read) (Stop 3)
+  term_reads : Reads (g.term room inner) (f.term room read) (Stop 3)
   unfolding g.term f.term
-  term_reads = operated_reads (g.unary_level inner) (f.unary_level read) 2 (starts_with begins_unary) (l.one_of g.product_operator) (r.one_of g.product_operator) (sees_one g.product_operator) anything g.multiplied unary_reads unary_begins (one_of_reads g.product_operator) (one_of_begins g.product_operator) (sees_one_follow g.product_operator 3 product_bound) (λ ts h. tt)
+  term_reads = operated_reads (g.unary_level room inner) (f.unary_level room read) 2 (starts_with begins_unary) (l.one_of g.product_operator) (r.one_of g.product_operator) (sees_one g.product_operator) anything g.multiplied unary_reads unary_begins (one_of_reads g.product_operator) (one_of_begins g.product_operator) (sees_one_follow g.product_operator 3 product_bound) (λ ts h. tt)
 
-  term_begins : Begins (g.term inner) (starts_with begins_unary)
+  term_begins : Begins (g.term room inner) (starts_with begins_unary)
   unfolding g.term
-  term_begins = operated_begins (g.unary_level inner) (f.unary_level read) 2 (starts_with begins_unary) (l.one_of g.product_operator) (r.one_of g.product_operator) (sees_one g.product_operator) anything g.multiplied unary_reads unary_begins (one_of_reads g.product_operator) (one_of_begins g.product_operator) (sees_one_follow g.product_operator 3 product_bound) (λ ts h. tt)
+  term_begins = operated_begins (g.unary_level room inner) (f.unary_level room read) 2 (starts_with begins_unary) (l.one_of g.product_operator) (r.one_of g.product_operator) (sees_one g.product_operator) anything g.multiplied unary_reads unary_begins (one_of_reads g.product_operator) (one_of_begins g.product_operator) (sees_one_follow g.product_operator 3 product_bound) (λ ts h. tt)
 
-  sum_reads : Reads (g.sum inner) (f.sum read) (Stop 4)
+  sum_reads : Reads (g.sum room inner) (f.sum room read) (Stop 4)
   unfolding g.sum f.sum
-  sum_reads = operated_reads (g.term inner) (f.term read) 3 (starts_with begins_unary) (l.one_of g.sum_operator) (r.one_of g.sum_operator) (sees_one g.sum_operator) anything g.summed term_reads term_begins (one_of_reads g.sum_operator) (one_of_begins g.sum_operator) (sees_one_follow g.sum_operator 4 sum_bound) (λ ts h. tt)
+  sum_reads = operated_reads (g.term room inner) (f.term room read) 3 (starts_with begins_unary) (l.one_of g.sum_operator) (r.one_of g.sum_operator) (sees_one g.sum_operator) anything g.summed term_reads term_begins (one_of_reads g.sum_operator) (one_of_begins g.sum_operator) (sees_one_follow g.sum_operator 4 sum_bound) (λ ts h. tt)
 
-  sum_begins : Begins (g.sum inner) (starts_with begins_unary)
+  sum_begins : Begins (g.sum room inner) (starts_with begins_unary)
   unfolding g.sum
-  sum_begins = operated_begins (g.term inner) (f.term read) 3 (starts_with begins_unary) (l.one_of g.sum_operator) (r.one_of g.sum_operator) (sees_one g.sum_operator) anything g.summed term_reads term_begins (one_of_reads g.sum_operator) (one_of_begins g.sum_operator) (sees_one_follow g.sum_operator 4 sum_bound) (λ ts h. tt)
+  sum_begins = operated_begins (g.term room inner) (f.term room read) 3 (starts_with begins_unary) (l.one_of g.sum_operator) (r.one_of g.sum_operator) (sees_one g.sum_operator) anything g.summed term_reads term_begins (one_of_reads g.sum_operator) (one_of_begins g.sum_operator) (sees_one_follow g.sum_operator 4 sum_bound) (λ ts h. tt)
 
-  compared_reads : Reads (g.compared inner) (f.compared read) (Stop 5)
+  compared_reads : Reads (g.compared room inner) (f.compared room read) (Stop 5)
   unfolding g.compared f.compared
-  compared_reads = operated_reads (g.sum inner) (f.sum read) 4 (starts_with begins_unary) g.comparison f.comparison (sees_one begins_comparison) NoNot g.compared_with sum_reads sum_begins comparison_reads comparison_begins (sees_one_follow begins_comparison 5 comparison_bound) (λ ts h. starts_unseen begins_unary m.Not ts h refl)
+  compared_reads = operated_reads (g.sum room inner) (f.sum room read) 4 (starts_with begins_unary) g.comparison f.comparison (sees_one begins_comparison) NoNot g.compared_with sum_reads sum_begins comparison_reads comparison_begins (sees_one_follow begins_comparison 5 comparison_bound) (λ ts h. starts_unseen begins_unary m.Not ts h refl)
 
-  compared_begins : Begins (g.compared inner) (starts_with begins_unary)
+  compared_begins : Begins (g.compared room inner) (starts_with begins_unary)
   unfolding g.compared
-  compared_begins = operated_begins (g.sum inner) (f.sum read) 4 (starts_with begins_unary) g.comparison f.comparison (sees_one begins_comparison) NoNot g.compared_with sum_reads sum_begins comparison_reads comparison_begins (sees_one_follow begins_comparison 5 comparison_bound) (λ ts h. starts_unseen begins_unary m.Not ts h refl)
+  compared_begins = operated_begins (g.sum room inner) (f.sum room read) 4 (starts_with begins_unary) g.comparison f.comparison (sees_one begins_comparison) NoNot g.compared_with sum_reads sum_begins comparison_reads comparison_begins (sees_one_follow begins_comparison 5 comparison_bound) (λ ts h. starts_unseen begins_unary m.Not ts h refl)
 
   not_tail : Reads (l.◌>>=◌ (inner negated) (λ operand. l.pure (t.not operand))) (r.◌>>=◌ (read negated) (λ operand. r.pure (t.not operand))) (Stop 5)
   not_tail = bind_reads (Stop 5) (deeper.reads negated) (λ _. pure_reads) (λ a ts us b h s. subst (Stop 5) (sym h.0) s)
 
-  pub negated_reads : Reads (g.negated_level inner) (f.negated_level read) (Stop 5)
+  pub negated_reads : Reads (g.negated_level room inner) (f.negated_level room read) (Stop 5)
   unfolding g.negated_level f.negated_level
   negated_reads = either_reads (marked_reads m.Not not_tail) compared_reads
       (λ ts us a h s. mark_begins.begins ts h.0 h.1 h.2) (λ ts us a h s. starts_unseen begins_unary m.Not ts (compared_begins.begins ts us a h) refl)
 
-  pub negated_begins : Begins (g.negated_level inner) expr_begins
+  pub negated_begins : Begins (g.negated_level room inner) expr_begins
   unfolding g.negated_level
   negated_begins = begins_or (begins_by (marked_begins m.Not not_tail) (λ ts h. sees_starts begins_expr m.Not ts h)) (begins_by compared_begins unary_is_expr)
 
-  conjunction_reads : Reads (g.conjunction inner) (f.conjunction read) (Stop 6)
+  conjunction_reads : Reads (g.conjunction room inner) (f.conjunction room read) (Stop 6)
   unfolding g.conjunction f.conjunction
-  conjunction_reads = operated_reads (g.negated_level inner) (f.negated_level read) 5 expr_begins (l.mark m.And) (r.mark m.And) (sees m.And) anything g.all_of negated_reads negated_begins mark_reads mark_begins (sees_follow m.And) (λ ts h. tt)
+  conjunction_reads = operated_reads (g.negated_level room inner) (f.negated_level room read) 5 expr_begins (l.mark m.And) (r.mark m.And) (sees m.And) anything g.all_of negated_reads negated_begins mark_reads mark_begins (sees_follow m.And) (λ ts h. tt)
 
-  conjunction_begins : Begins (g.conjunction inner) expr_begins
+  conjunction_begins : Begins (g.conjunction room inner) expr_begins
   unfolding g.conjunction
-  conjunction_begins = operated_begins (g.negated_level inner) (f.negated_level read) 5 expr_begins (l.mark m.And) (r.mark m.And) (sees m.And) anything g.all_of negated_reads negated_begins mark_reads mark_begins (sees_follow m.And) (λ ts h. tt)
+  conjunction_begins = operated_begins (g.negated_level room inner) (f.negated_level room read) 5 expr_begins (l.mark m.And) (r.mark m.And) (sees m.And) anything g.all_of negated_reads negated_begins mark_reads mark_begins (sees_follow m.And) (λ ts h. tt)
 
-  disjunction_reads : Reads (g.disjunction inner) (f.disjunction read) (Stop 7)
+  disjunction_reads : Reads (g.disjunction room inner) (f.disjunction room read) (Stop 7)
   unfolding g.disjunction f.disjunction
-  disjunction_reads = operated_reads (g.conjunction inner) (f.conjunction read) 6 expr_begins (l.mark m.Or) (r.mark m.Or) (sees m.Or) anything g.any_of conjunction_reads conjunction_begins mark_reads mark_begins (sees_follow m.Or) (λ ts h. tt)
+  disjunction_reads = operated_reads (g.conjunction room inner) (f.conjunction room read) 6 expr_begins (l.mark m.Or) (r.mark m.Or) (sees m.Or) anything g.any_of conjunction_reads conjunction_begins mark_reads mark_begins (sees_follow m.Or) (λ ts h. tt)
 
-  disjunction_begins : Begins (g.disjunction inner) expr_begins
+  disjunction_begins : Begins (g.disjunction room inner) expr_begins
   unfolding g.disjunction
-  disjunction_begins = operated_begins (g.conjunction inner) (f.conjunction read) 6 expr_begins (l.mark m.Or) (r.mark m.Or) (sees m.Or) anything g.any_of conjunction_reads conjunction_begins mark_reads mark_begins (sees_follow m.Or) (λ ts h. tt)
+  disjunction_begins = operated_begins (g.conjunction room inner) (f.conjunction room read) 6 expr_begins (l.mark m.Or) (r.mark m.Or) (sees m.Or) anything g.any_of conjunction_reads conjunction_begins mark_reads mark_begins (sees_follow m.Or) (λ ts h. tt)
 
-  choice_reads : (value : Expression) → Reads (l.◌or◌ (l.pure value) (l.◌>>◌ (l.mark m.If) (l.◌>>=◌ (g.disjunction inner) (λ test. l.◌>>◌ (l.mark m.Else) (l.◌>>=◌ (inner expr) (λ other. l.pure (t.conditional value test other)))))))
-      (r.either (sees m.If) (r.◌>>◌ (r.mark m.If) (r.◌>>=◌ (f.disjunction read) (λ test. r.◌>>◌ (r.mark m.Else) (r.◌>>=◌ (read expr) (λ other. r.pure (t.conditional value test other)))))) (r.pure value)) (Stop 8)
+  choice_reads : (value : Expression) → Reads (l.◌or◌ (l.pure value) (l.◌>>◌ (l.mark m.If) (l.◌>>=◌ (g.disjunction room inner) (λ test. l.◌>>◌ (l.mark m.Else) (l.◌>>=◌ (inner expr) (λ other. l.pure (t.conditional value test other)))))))
+      (r.either (sees m.If) (r.◌>>◌ (r.mark m.If) (r.◌>>=◌ (f.disjunction room read) (λ test. r.◌>>◌ (r.mark m.Else) (r.◌>>=◌ (read expr) (λ other. r.pure (t.conditional value test other)))))) (r.pure value)) (Stop 8)
   choice_reads value = either_swapped
       (bind_reads anything mark_reads (λ _. bind_reads (Stop 7) disjunction_reads
       (λ test. bind_reads anything mark_reads (λ _. bind_reads (Stop 8) (deeper.reads expr) (λ _. pure_reads) (λ a ts us b h s. subst (Stop 8) (sym h.0) s)) (λ a ts us b h s. tt))
       (λ test ts us b h s. omega (arith, sees_follow m.Else ts (mark_begins.begins ts h.0 h.1 h.2)))) (λ a ts us b h s. tt))
       pure_reads (λ ts us a h s. mark_begins.begins ts h.0 h.1 h.2) (λ ts us a h s. subst (λ v. sees m.If v ≡ false) (sym h.0) (stop_sees 8 m.If us s (omega arith)))
 
-  pub expr_reads : Reads (g.expr_level inner) (f.expr_level read) (Stop 8)
+  pub expr_reads : Reads (g.expr_level room inner) (f.expr_level room read) (Stop 8)
   unfolding g.expr_level f.expr_level
   expr_reads = bind_reads (Stop 7) disjunction_reads choice_reads
       (λ value ts us b h s. ⊎_elim (λ k. subst (Stop 7) (sym k.0) (omega arith)) (λ k. omega (arith, sees_follow m.If ts (mark_begins.begins ts k.0 k.1 k.2))) h)
 
-  pub expr_starts : Begins (g.expr_level inner) expr_begins
+  pub expr_starts : Begins (g.expr_level room inner) expr_begins
   unfolding g.expr_level
   expr_starts = begins_then _ (Stop 8) disjunction_begins choice_reads
 
   exprs_end : (ts : Tokens) → Ends_phrase exprs ts → (sees m.Comma ts ≡ false) × Stop 8 ts × (expr_begins ts ≡ false)
   exprs_end ts s = (stop_sees 9 m.Comma ts s.0 (omega arith), omega (arith, s.0), s.1)
 
-  pub exprs_reads : Reads (g.exprs_level inner) (f.exprs_level read) (Ends_phrase exprs)
+  pub exprs_reads : Reads (g.exprs_level room inner) (f.exprs_level room read) (Ends_phrase exprs)
   unfolding g.exprs_level f.exprs_level
-  exprs_reads = listed_reads (g.expr_level inner) (f.expr_level read) (Stop 8) (Ends_phrase exprs) g.alone g.several expr_reads expr_starts comma_expr exprs_end
+  exprs_reads = listed_reads (g.expr_level room inner) (f.expr_level room read) (Stop 8) (Ends_phrase exprs) g.alone g.several expr_reads expr_starts comma_expr exprs_end
 
-  pub exprs_start : Begins (g.exprs_level inner) expr_begins
+  pub exprs_start : Begins (g.exprs_level room inner) expr_begins
   unfolding g.exprs_level
-  exprs_start = listed_begins (g.expr_level inner) (f.expr_level read) (Stop 8) (Ends_phrase exprs) g.alone g.several expr_reads expr_starts comma_expr exprs_end
+  exprs_start = listed_begins (g.expr_level room inner) (f.expr_level room read) (Stop 8) (Ends_phrase exprs) g.alone g.several expr_reads expr_starts comma_expr exprs_end

@@ -39,48 +39,48 @@ constant_single m.True a h = sym (ap is_several (some_is h))
 constant_single m.False a h = sym (ap is_several (some_is h))
 constant_single _ a h = absurd cc
 
-module _ (inner : Phrase → Language Expression) where
-  atom_single : Single (g.atom inner)
+module _ (room : Bool) (inner : Phrase → Language Expression) where
+  atom_single : Single (g.atom room inner)
   unfolding g.atom g.parenthesised g.list g.dict
   atom_single ts us a h = ⊎_elim (λ k. sym (ap is_several k.3.1))
       (λ h. ⊎_elim (λ k. sym (ap is_several k.3.1))
       (λ h. ⊎_elim (λ k. sym (ap is_several k.3.1))
-      (λ h. ⊎_elim (λ k. sym (ap is_several k.3.3.3.1) ∙ ⊎_elim (λ j. sym (ap is_several j.1)) (λ j. sym (ap is_several j.3.1)) k.3.2)
-      (λ h. ⊎_elim (λ k. sym (ap is_several k.3.3.3.1))
-      (λ h. ⊎_elim (λ k. sym (ap is_several k.3.3.3.1)) (λ k. constant_single k.1 a k.4) h) h) h) h) h) h
+      (λ h. ⊎_elim (λ k. sym (ap is_several k.3.3.3.3.1) ∙ ⊎_elim (λ j. sym (ap is_several j.1)) (λ j. sym (ap is_several j.3.1)) k.3.3.2)
+      (λ h. ⊎_elim (λ k. sym (ap is_several k.3.3.3.3.1))
+      (λ h. ⊎_elim (λ k. sym (ap is_several k.3.3.3.3.1)) (λ k. constant_single k.1 a k.4) h) h) h) h) h) h
 
-  primary_single : Single (g.primary inner)
+  primary_single : Single (g.primary room inner)
   unfolding g.primary g.primary_parts
   primary_single ts us a h = sym (ap is_several h.3.1) ∙ sym (ap (λ (p : Expression × List Trailer). is_several (g.with_trailers p.0 p.1)) h.2.3.3.1)
       ∙ alone_or_made (λ atom found. t.primary atom (t.trailers found)) (λ first x xs. refl) h.2.1 h.2.3.1 (atom_single ts h.2.0 h.2.1 h.2.2)
 
-  power_single : Single (g.power inner)
+  power_single : Single (g.power room inner)
   unfolding g.power
   power_single ts us a h = ⊎_elim (λ k. sym (ap is_several k.1) ∙ primary_single ts h.0 h.1 h.2) (λ k. sym (ap is_several k.3.3.1)) h.3
 
-  unary_single : Single (g.unary_level inner)
+  unary_single : Single (g.unary_level room inner)
   unfolding g.unary_level
   unary_single ts us a h = ⊎_elim (λ k. sym (ap is_several k.3.3.1)) (power_single ts us a) h
 
-  compared_single : Single (g.compared inner)
+  compared_single : Single (g.compared room inner)
   unfolding g.compared g.sum g.term
-  compared_single = operated_single (g.sum inner) g.comparison g.compared_with
-      (operated_single (g.term inner) (l.one_of g.sum_operator) g.summed
-      (operated_single (g.unary_level inner) (l.one_of g.product_operator) g.multiplied unary_single (λ first x xs. refl))
+  compared_single = operated_single (g.sum room inner) g.comparison g.compared_with
+      (operated_single (g.term room inner) (l.one_of g.sum_operator) g.summed
+      (operated_single (g.unary_level room inner) (l.one_of g.product_operator) g.multiplied unary_single (λ first x xs. refl))
       (λ first x xs. refl))
       (λ first x xs. refl)
 
-  negated_single : Single (g.negated_level inner)
+  negated_single : Single (g.negated_level room inner)
   unfolding g.negated_level
   negated_single ts us a h = ⊎_elim (λ k. sym (ap is_several k.3.3.1)) (compared_single ts us a) h
 
-  disjunction_single : Single (g.disjunction inner)
+  disjunction_single : Single (g.disjunction room inner)
   unfolding g.disjunction g.conjunction
-  disjunction_single = operated_single (g.conjunction inner) (l.mark m.Or) g.any_of
-      (operated_single (g.negated_level inner) (l.mark m.And) g.all_of negated_single (λ first x xs. refl))
+  disjunction_single = operated_single (g.conjunction room inner) (l.mark m.Or) g.any_of
+      (operated_single (g.negated_level room inner) (l.mark m.And) g.all_of negated_single (λ first x xs. refl))
       (λ first x xs. refl)
 
-  pub expr_single : Single (g.expr_level inner)
+  pub expr_single : Single (g.expr_level room inner)
   unfolding g.expr_level
   expr_single ts us a h = ⊎_elim (λ k. sym (ap is_several k.1) ∙ disjunction_single ts h.0 h.1 h.2) (λ k. sym (ap is_several k.3.3.3.3.1)) h.3
 
@@ -106,40 +106,40 @@ module _ (item : Language Expression) where
   first_or_long done is = inl (refl, sym is)
   first_or_long {first = first} (more h k) is = inr (stays_long k (first, h.1, [], sym h.3.1 ∙ ap (λ (v : List Expression). v ++ h.1 ∷ []) is))
 
-pub widen_level : (inner : Phrase → Language Expression) (ts us : Tokens) (a : Expression) → g.expr_level inner ts us a → g.exprs_level inner ts us a
+pub widen_level : (room : Bool) (inner : Phrase → Language Expression) (ts us : Tokens) (a : Expression) → g.expr_level room inner ts us a → g.exprs_level room inner ts us a
 unfolding g.exprs_level
-widen_level inner ts us a h = (us, a ∷ [], (us, a, h, done), inl (refl, refl))
+widen_level room inner ts us a h = (us, a ∷ [], (us, a, h, done), inl (refl, refl))
 
-pub narrow_level : (inner : Phrase → Language Expression) (ts us : Tokens) (a : Expression) → g.exprs_level inner ts us a → is_several a ≡ false → g.expr_level inner ts us a
+pub narrow_level : (room : Bool) (inner : Phrase → Language Expression) (ts us : Tokens) (a : Expression) → g.exprs_level room inner ts us a → is_several a ≡ false → g.expr_level room inner ts us a
 unfolding g.exprs_level
-narrow_level inner ts us a h single = ⊎_elim
+narrow_level room inner ts us a h single = ⊎_elim
     (λ e. ⊎_elim
-    (λ s. subst (λ v. g.expr_level inner ts v a) (s.0 ∙ e.0) (subst (g.expr_level inner ts h.2.0) (ap g.alone s.1 ∙ e.1) h.2.2))
+    (λ s. subst (λ v. g.expr_level room inner ts v a) (s.0 ∙ e.0) (subst (g.expr_level room inner ts h.2.0) (ap g.alone s.1 ∙ e.1) h.2.2))
     (λ long. (let p : true ≡ false = sym (long_several h.1 long) ∙ ap is_several e.1 ∙ single in absurd cc)) all)
     (λ e. ⊎_elim
     (λ s. (let p : true ≡ false = ap (λ (v : List Expression). is_several (g.several v)) s.1 ∙ ap is_several e.3.1 ∙ single in absurd cc))
     (λ long. (let p : true ≡ false = sym (ap (λ (v : List Expression). is_several (g.several v)) long.3) ∙ ap is_several e.3.1 ∙ single in absurd cc)) all) h.3
   where
     all : ((h.2.0 ≡ h.0) × (h.2.1 ∷ [] ≡ h.1)) ⊎ IsLong h.1
-    all = first_or_long (l.◌>>◌ (l.mark m.Comma) (g.expr_level inner)) h.2.3 refl
+    all = first_or_long (l.◌>>◌ (l.mark m.Comma) (g.expr_level room inner)) h.2.3 refl
 
 -- ---- a name before `=`
 
-computes : (read : Phrase → Reader Expression) (x : List ℕ) (l1 s1 e1 l2 s2 e2 : ℕ) (ts : Tokens)
-    → f.expr_level read (token (kind.name x) l1 s1 e1 ∷ token (kind.mark m.Assign) l2 s2 e2 ∷ ts) ≡ Some (t.name x, token (kind.mark m.Assign) l2 s2 e2 ∷ ts)
+computes : (room : Bool) (read : Phrase → Reader Expression) (x : List ℕ) (l1 s1 e1 l2 s2 e2 : ℕ) (ts : Tokens)
+    → f.expr_level room read (token (kind.name x) l1 s1 e1 ∷ token (kind.mark m.Assign) l2 s2 e2 ∷ ts) ≡ Some (t.name x, token (kind.mark m.Assign) l2 s2 e2 ∷ ts)
 unfolding f.expr_level f.disjunction f.conjunction f.negated_level f.compared f.sum f.term f.unary_level f.power f.primary f.primary_parts f.atom f.trailer
-computes read x l1 s1 e1 l2 s2 e2 ts = refl
+computes room read x l1 s1 e1 l2 s2 e2 ts = refl
 
 and_both : (a b : Bool) → (a && b) ≡ true → (a ≡ true) × (b ≡ true)
 and_both true true h = (refl, refl)
 and_both true false h = absurd cc
 and_both false b h = absurd cc
 
-reads_name : (read : Phrase → Reader Expression) (ts : Tokens) → f.keyword_begins ts ≡ true → (x : Expression) × (vs : Tokens) × (f.expr_level read ts ≡ Some (x, vs)) × (sees m.Assign vs ≡ true)
+reads_name : (room : Bool) (read : Phrase → Reader Expression) (ts : Tokens) → f.keyword_begins ts ≡ true → (x : Expression) × (vs : Tokens) × (f.expr_level room read ts ≡ Some (x, vs)) × (sees m.Assign vs ≡ true)
 unfolding f.keyword_begins
-reads_name read [] h = absurd cc
-reads_name read (u ∷ []) h = absurd (let b = (and_both (is_some (r.a_name u.kind)) false h).1 in cc)
-reads_name read (u ∷ v ∷ ts) h =
+reads_name room read [] h = absurd cc
+reads_name room read (u ∷ []) h = absurd (let b = (and_both (is_some (r.a_name u.kind)) false h).1 in cc)
+reads_name room read (u ∷ v ∷ ts) h =
     let b = and_both (is_some (r.a_name u.kind)) (sees m.Assign (v ∷ ts)) h in
     let n = some_value (r.a_name u.kind) b.0 in
     let first = name_finds.only u.kind n.0 n.1 in
@@ -147,34 +147,34 @@ reads_name read (u ∷ v ∷ ts) h =
     let second = (mark_finds m.Assign).only v.kind k.0 k.1 in (
       t.name n.0,
       v ∷ ts,
-      ap (λ c. f.expr_level read (token c u.line u.start u.end ∷ v ∷ ts)) first
-          ∙ ap (λ c. f.expr_level read (token (kind.name n.0) u.line u.start u.end ∷ token c v.line v.start v.end ∷ ts)) second
-          ∙ computes read n.0 u.line u.start u.end v.line v.start v.end ts
+      ap (λ c. f.expr_level room read (token c u.line u.start u.end ∷ v ∷ ts)) first
+          ∙ ap (λ c. f.expr_level room read (token (kind.name n.0) u.line u.start u.end ∷ token c v.line v.start v.end ∷ ts)) second
+          ∙ computes room read n.0 u.line u.start u.end v.line v.start v.end ts
           ∙ ap (λ c. Some (t.name n.0, token c v.line v.start v.end ∷ ts)) (sym second),
       b.1,
     )
 
-named_level : (inner : Phrase → Language Expression) (read : Phrase → Reader Expression) → Reads (g.expr_level inner) (f.expr_level read) (Stop 8)
-    → (ts us : Tokens) (a : Expression) → g.expr_level inner ts us a → Stop 8 us → f.keyword_begins ts ≡ true → sees m.Assign us ≡ true
-named_level inner read reads ts us a h s e =
-    let n = reads_name read ts e in
+named_level : (room : Bool) (inner : Phrase → Language Expression) (read : Phrase → Reader Expression) → Reads (g.expr_level room inner) (f.expr_level room read) (Stop 8)
+    → (ts us : Tokens) (a : Expression) → g.expr_level room inner ts us a → Stop 8 us → f.keyword_begins ts ≡ true → sees m.Assign us ≡ true
+named_level room inner read reads ts us a h s e =
+    let n = reads_name room read ts e in
     let k : ◌≡◌ {A = Expression × Tokens} (a, us) (n.0, n.1) = some_is (sym (reads.complete ts us a h s) ∙ n.2) in
     ap (λ p. sees m.Assign p.1) k ∙ n.3
 
 -- ---- each phrase
 
-module _ (inner : Phrase → Language Expression) (read : Phrase → Reader Expression) (deeper : Inner inner read) where
-  level_reads : (p : Phrase) → Reads (g.level inner p) (f.level read p) (Ends_phrase p)
-  level_reads exprs = exprs_reads inner read deeper
-  level_reads expr = expr_reads inner read deeper
-  level_reads negated = negated_reads inner read deeper
-  level_reads unary = unary_reads inner read deeper
+module _ (room : Bool) (inner : Phrase → Language Expression) (read : Phrase → Reader Expression) (deeper : Inner inner read) where
+  level_reads : (p : Phrase) → Reads (g.level room inner p) (f.level room read p) (Ends_phrase p)
+  level_reads exprs = exprs_reads room inner read deeper
+  level_reads expr = expr_reads room inner read deeper
+  level_reads negated = negated_reads room inner read deeper
+  level_reads unary = unary_reads room inner read deeper
 
-  level_begins : (p : Phrase) → Begins (g.level inner p) expr_begins
-  level_begins exprs = exprs_start inner read deeper
-  level_begins expr = expr_starts inner read deeper
-  level_begins negated = negated_begins inner read deeper
-  level_begins unary = begins_by (unary_begins inner read deeper) unary_is_expr
+  level_begins : (p : Phrase) → Begins (g.level room inner p) expr_begins
+  level_begins exprs = exprs_start room inner read deeper
+  level_begins expr = expr_starts room inner read deeper
+  level_begins negated = negated_begins room inner read deeper
+  level_begins unary = begins_by (unary_begins room inner read deeper) unary_is_expr
 
 pub phrases : (n : ℕ) → Inner (g.phrase n) (f.phrase n)
 unfolding g.phrase f.phrase
@@ -187,12 +187,12 @@ phrases zero = record {
   named = λ ts us a h s e. absurd h;
 }
 phrases (suc n) = record {
-  reads = level_reads (g.phrase n) (f.phrase n) (phrases n);
-  begins = level_begins (g.phrase n) (f.phrase n) (phrases n);
-  widen = widen_level (g.phrase n);
-  narrow = narrow_level (g.phrase n);
-  single = expr_single (g.phrase n);
-  named = named_level (g.phrase n) (f.phrase n) (expr_reads (g.phrase n) (f.phrase n) (phrases n));
+  reads = level_reads (g.has_room n) (g.phrase n) (f.phrase n) (phrases n);
+  begins = level_begins (g.has_room n) (g.phrase n) (f.phrase n) (phrases n);
+  widen = widen_level (g.has_room n) (g.phrase n);
+  narrow = narrow_level (g.has_room n) (g.phrase n);
+  single = expr_single (g.has_room n) (g.phrase n);
+  named = named_level (g.has_room n) (g.phrase n) (f.phrase n) (expr_reads (g.has_room n) (g.phrase n) (f.phrase n) (phrases n));
 }
 
 nothing_left : (p : Phrase) → Ends_phrase p []

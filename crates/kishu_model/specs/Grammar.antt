@@ -156,6 +156,10 @@ arguments_fit found = fits_after [] found
 
 -- ---- the levels
 
+-- what stands in brackets, where there is room for it
+abbrev pub bracketed : {A : Type 0} → Bool → Language A → Language A
+bracketed room p = where_true room >> p
+
 -- what may stand one nesting deeper: in brackets, after `else`, after `not`, and after a sign or `**`
 pub data Phrase : Type 0 where
   exprs : Phrase
@@ -213,9 +217,6 @@ module _ (inner : Phrase → Language Expression) where
     mark m.RightBracket
     pure (t.slice (bound_of start) (bound_of stop) (bound_of step))
 
-  unfoldable pub trailer : Language Trailer
-  trailer = attribute or call or item or slice
-
   -- "(" [ exprs ] ")"
   unfoldable pub parenthesised : Language Expression
   parenthesised = do
@@ -250,9 +251,14 @@ module _ (inner : Phrase → Language Expression) where
     mark m.RightBrace
     pure (t.dict (pairs found))
 
+-- Brackets need room for one more nesting, even where nothing stands in them.
+module _ (room : Bool) (inner : Phrase → Language Expression) where
+  unfoldable pub trailer : Language Trailer
+  trailer = attribute inner or bracketed room (call inner or item inner or slice inner)
+
   -- NAME | INT | STR { STR } | "(" [ exprs ] ")" | "[" [ exprs ] "]" | "{" [ pair { "," pair } [ "," ] ] "}" | "None" | "True" | "False"
   unfoldable pub atom : Language Expression
-  atom = name or integer or text or parenthesised or list or dict or one_of constant_of
+  atom = name or integer or text or bracketed room (parenthesised inner) or bracketed room (list inner) or bracketed room (dict inner) or one_of constant_of
 
   -- atom { trailer }, in its parts
   unfoldable pub primary_parts : Language (Expression × List Trailer)
@@ -324,16 +330,21 @@ module _ (inner : Phrase → Language Expression) where
   unfoldable pub exprs_level : Language Expression
   exprs_level = listed expr_level alone several
 
-abbrev pub level : (Phrase → Language Expression) → Phrase → Language Expression
-level inner exprs = exprs_level inner
-level inner expr = expr_level inner
-level inner negated = negated_level inner
-level inner unary = unary_level inner
+abbrev pub level : Bool → (Phrase → Language Expression) → Phrase → Language Expression
+level room inner exprs = exprs_level room inner
+level room inner expr = expr_level room inner
+level room inner negated = negated_level room inner
+level room inner unary = unary_level room inner
+
+-- one nesting more is left
+abbrev pub has_room : ℕ → Bool
+has_room zero = false
+has_room (suc depth) = true
 
 -- A phrase with so many nestings, its own among them.
 unfoldable pub phrase : ℕ → Phrase → Language Expression
 phrase zero p = none
-phrase (suc depth) p = level (phrase depth) p
+phrase (suc depth) p = level (has_room depth) (phrase depth) p
 
 -- at most 60 nestings around a point
 abbrev pub deepest : ℕ

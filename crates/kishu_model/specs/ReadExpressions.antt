@@ -9,7 +9,7 @@ use Rattle.kishu_model.specs.Layout as kind
 use Rattle.kishu_model.specs.Tree.{Expression, Trailer, Argument, plain, keyword, expressions, pairs, arguments, bound_of}
 use Rattle.kishu_model.specs.Tree as t
 use Rattle.kishu_model.specs.Language.{Tokens}
-use Rattle.kishu_model.specs.Grammar.{Phrase, exprs, expr, negated, unary, alone, several, unless_alone, sum_operator, product_operator, sign, comparison_mark, any_of, all_of, compared_with, summed, multiplied, joined, constant_of, with_trailers, arguments_fit}
+use Rattle.kishu_model.specs.Grammar.{Phrase, exprs, expr, negated, unary, alone, several, unless_alone, sum_operator, product_operator, sign, comparison_mark, any_of, all_of, compared_with, summed, multiplied, joined, constant_of, with_trailers, arguments_fit, has_room}
 use Rattle.kishu_model.specs.Reader.{Reader, ◌>>=◌, ◌>>◌, pure, refuse, where_true, rest, token, sees_some, a_name, an_integer, a_text, mark, sees, one_of, sees_one, either, optional, turns, one_more, many, some, sees_more}
 
 -- ---- how things begin
@@ -129,6 +129,10 @@ abbrev pub is_several : Expression → Bool
 is_several (t.tuple (t.more_expressions e es)) = true
 is_several _ = false
 
+-- what stands in brackets, where there is room for it
+abbrev pub bracketed : {A : Type 0} → Bool → Reader A → Reader A
+bracketed room p = where_true room >> p
+
 module _ (inner : Phrase → Reader Expression) where
   unfoldable pub argument : Reader Argument
   argument = either keyword_begins (do
@@ -173,9 +177,6 @@ module _ (inner : Phrase → Reader Expression) where
     mark m.RightBracket
     pure found
 
-  unfoldable pub trailer : Reader Trailer
-  trailer = either (sees m.Dot) attribute (either (sees m.LeftParenthesis) call item_or_slice)
-
   unfoldable pub parenthesised : Reader Expression
   parenthesised = do
     mark m.LeftParenthesis
@@ -206,14 +207,18 @@ module _ (inner : Phrase → Reader Expression) where
     mark m.RightBrace
     pure (t.dict (pairs found))
 
+module _ (room : Bool) (inner : Phrase → Reader Expression) where
+  unfoldable pub trailer : Reader Trailer
+  trailer = either (sees m.Dot) (attribute inner) (bracketed room (either (sees m.LeftParenthesis) (call inner) (item_or_slice inner)))
+
   unfoldable pub atom : Reader Expression
   atom =
       either (sees_some a_name) name
       (either (sees_some an_integer) integer
       (either (sees_some a_text) text
-      (either (sees m.LeftParenthesis) parenthesised
-      (either (sees m.LeftBracket) list
-      (either (sees m.LeftBrace) dict (one_of constant_of))))))
+      (either (sees m.LeftParenthesis) (bracketed room (parenthesised inner))
+      (either (sees m.LeftBracket) (bracketed room (list inner))
+      (either (sees m.LeftBrace) (bracketed room (dict inner)) (one_of constant_of))))))
 
   unfoldable pub primary_parts : Reader (Expression × List Trailer)
   primary_parts = do
@@ -274,12 +279,12 @@ module _ (inner : Phrase → Reader Expression) where
   unfoldable pub exprs_level : Reader Expression
   exprs_level = listed expr_level alone several
 
-abbrev pub level : (Phrase → Reader Expression) → Phrase → Reader Expression
-level inner exprs = exprs_level inner
-level inner expr = expr_level inner
-level inner negated = negated_level inner
-level inner unary = unary_level inner
+abbrev pub level : Bool → (Phrase → Reader Expression) → Phrase → Reader Expression
+level room inner exprs = exprs_level room inner
+level room inner expr = expr_level room inner
+level room inner negated = negated_level room inner
+level room inner unary = unary_level room inner
 
 unfoldable pub phrase : ℕ → Phrase → Reader Expression
 phrase zero p = refuse
-phrase (suc depth) p = level (phrase depth) p
+phrase (suc depth) p = level (has_room depth) (phrase depth) p

@@ -6,7 +6,7 @@ use Rattle.kishu_model.specs.declared.token.Mark.TheVariants as m
 use Rattle.kishu_model.specs.Tree.{Text, Expression, Parameter, Statement, Statements, Arm, Handler, Definition, statements, arms, handlers}
 use Rattle.kishu_model.specs.Tree as t
 use Rattle.kishu_model.specs.Language.{Tokens}
-use Rattle.kishu_model.specs.Grammar.{exprs, expr, alone, several, deepest}
+use Rattle.kishu_model.specs.Grammar.{exprs, expr, alone, several, has_room, deepest}
 use Rattle.kishu_model.specs.Targets.{is_place, is_target}
 use Rattle.kishu_model.specs.Refusals.{Around, top, in_function, in_loop, in_handler, parameters_fit, globals_fit, handlers_fit}
 use Rattle.kishu_model.specs.Code.{code_of}
@@ -21,7 +21,7 @@ Assigned = List Expression × Expression
 -- A primary at this depth; what is read of it is tested.
 unfoldable pub primary_at : ℕ → Reader Expression
 primary_at zero = refuse
-primary_at (suc depth) = primary (phrase depth)
+primary_at (suc depth) = primary (has_room depth) (phrase depth)
 
 abbrev pub where_place : Expression → Reader Expression
 where_place e = where_true (is_place e) >> pure e

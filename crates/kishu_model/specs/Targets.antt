@@ -4,17 +4,17 @@ use Rattle.kishu_model.specs.declared.token.Mark.TheVariants as m
 use Rattle.kishu_model.specs.Tree.{Expression, Expressions, Trailer, Trailers, no_expressions, more_expressions, no_trailers, more_trailers, expressions}
 use Rattle.kishu_model.specs.Tree as t
 use Rattle.kishu_model.specs.Language.{Language, pure, ◌>>=◌, ◌>>◌, ◌or◌, none, mark}
-use Rattle.kishu_model.specs.Grammar.{Phrase, alone, several, listed, with_trailers, name, attribute, item, primary_parts, phrase}
+use Rattle.kishu_model.specs.Grammar.{Phrase, alone, several, listed, with_trailers, name, attribute, item, primary_parts, has_room, phrase}
 
-module _ (inner : Phrase → Language Expression) where
+module _ (room : Bool) (inner : Phrase → Language Expression) where
   -- NAME | primary "." NAME | primary "[" exprs "]"
   unfoldable pub place_level : Language Expression
   place_level = name or (do
-    parts ← primary_parts inner
+    parts ← primary_parts room inner
     last ← attribute inner or item inner
     pure (with_trailers parts.0 (parts.1 ++ last ∷ [])))
 
-module _ (inner : Phrase → Language Expression) (inner_target : Language Expression) where
+module _ (room : Bool) (inner : Phrase → Language Expression) (inner_target : Language Expression) where
   -- "(" targets ")"
   unfoldable pub target_in_parentheses : Language Expression
   target_in_parentheses = do
@@ -33,16 +33,16 @@ module _ (inner : Phrase → Language Expression) (inner_target : Language Expre
 
   -- place | "(" targets ")" | "[" targets "]"
   unfoldable pub target_level : Language Expression
-  target_level = place_level inner or target_in_parentheses or target_in_brackets
+  target_level = place_level room inner or target_in_parentheses or target_in_brackets
 
 -- with so many nestings, its own among them
 unfoldable pub place : ℕ → Language Expression
 place zero = none
-place (suc depth) = place_level (phrase depth)
+place (suc depth) = place_level (has_room depth) (phrase depth)
 
 unfoldable pub target : ℕ → Language Expression
 target zero = none
-target (suc depth) = target_level (phrase depth) (target depth)
+target (suc depth) = target_level (has_room depth) (phrase depth) (target depth)
 
 -- target { "," target } [ "," ]
 unfoldable pub targets : ℕ → Language Expression
