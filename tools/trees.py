@@ -139,9 +139,7 @@ OTHER = [
     ("def f():\n  from types import SimpleNamespace as a\n  global a\n", 1),
     ("def f():\n  from types import SimpleNamespace\n  global SimpleNamespace\n", 1),
     ("from types import (SimpleNamespace)\n", 1), ("nonlocal_ = 1\nimport a\n", 2), ("try: a\nexcept* A: b\n", 1),
-    ("nonlocals = 1; async_ = 2\nassert (a, b), c, \n", 2),
 ]
-OTHER = [row for row in OTHER if not row[0].startswith("nonlocals")]
 
 
 def same_tree(text):

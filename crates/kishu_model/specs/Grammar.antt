@@ -341,11 +341,11 @@ abbrev pub has_room : ℕ → Bool
 has_room zero = false
 has_room (suc depth) = true
 
--- A phrase with so many nestings, its own among them.
+-- A phrase with so many levels, its own among them: each nesting in it is one level deeper.
 unfoldable pub phrase : ℕ → Phrase → Language Expression
 phrase zero p = none
 phrase (suc depth) p = level (has_room depth) (phrase depth) p
 
--- at most 60 nestings around a point
+-- at most 60 nestings around a point, and the level of the point itself
 abbrev pub deepest : ℕ
 deepest = 61

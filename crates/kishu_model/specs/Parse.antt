@@ -27,3 +27,9 @@ Line profile text line =
 -- The text is the code of this function and nothing else.
 abbrev pub ParseDef : Profile → Text → Definition → Type 0
 ParseDef profile text d = Parse profile text (t.define d.title d.parameters d.body text ∷ [])
+
+-- The text is no function's code, and its fault is on this line: its own where it has no tree, and else the first.
+abbrev pub LineDef : Profile → Text → ℕ → Type 0
+LineDef profile text line =
+    Line profile text line
+    ⊎ ((tree : List Statement) × Parse profile text tree × ((d : Definition) → ParseDef profile text d → ⊥) × (line ≡ 1))
