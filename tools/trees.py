@@ -395,7 +395,7 @@ def deep_tree(n):
     ]
 
 
-IMPORTS = """use Rattle.std.proofs.Common.{◌≡◌, ◌∷◌, [], refl}
+IMPORTS = """use Rattle.std.proofs.Common.{%s}
 use Rattle.std.specs.Prelude.{%s}
 use Rattle.std.specs.Char.{encode_utf8}
 use Rattle.kishu_model.specs.declared.profile.Profile.TheVariants.{One}
@@ -411,11 +411,12 @@ use Rattle.kishu_model.specs.ReadText as R
 use Rattle.kishu_model.specs.ReadText.{read_chars}
 """
 TREE_IMPORTS = (
-    "pos, codes, Option, Some, None, Ok",
+    "◌≡◌, ◌∷◌, [], refl",
+    "pos, codes, Some, None, Ok",
     "use Rattle.kishu_model.specs.declared.tree.Operator.TheVariants as o\nuse Rattle.kishu_model.specs.declared.tree.Sign.TheVariants as s\nuse Rattle.kishu_model.specs.declared.tree.Comparison.TheVariants as c\n",
     "use Rattle.kishu_model.specs.Tree.{expressions, operands, links, pairs, trailers, arguments, statements, arms, handlers, absent, bound}\nuse Rattle.kishu_model.specs.Tree as t\n",
 )
-FAULT_IMPORTS = ("codes, Err", "", "")
+FAULT_IMPORTS = ("◌≡◌, refl", "codes, Err", "", "")
 EXPRESSIONS = "keyword_begins another argument attribute call slice_after item_or_slice trailer parenthesised list pair dict atom primary_parts primary power unary_level term sum compared negated_level conjunction disjunction expr_level exprs_level phrase"
 STATEMENTS = "primary_at another_simple raise return assertion delete global import update_of assignment_of update_or_assignment simple simples line block block_after arm choice while for caught handler handled finished try parameter definition define compound chunk program"
 UNFOLDING = (

@@ -1,5 +1,5 @@
 -- On which line some texts have a fault: computed on the definition. Made by tools/trees.py.
-use Rattle.std.proofs.Common.{◌≡◌, ◌∷◌, [], refl}
+use Rattle.std.proofs.Common.{◌≡◌, refl}
 use Rattle.std.specs.Prelude.{codes, Err}
 use Rattle.std.specs.Char.{encode_utf8}
 use Rattle.kishu_model.specs.declared.profile.Profile.TheVariants.{One}

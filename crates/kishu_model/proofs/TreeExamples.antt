@@ -1,6 +1,6 @@
 -- Which trees some texts have: computed on the definition. Made by tools/trees.py.
 use Rattle.std.proofs.Common.{◌≡◌, ◌∷◌, [], refl}
-use Rattle.std.specs.Prelude.{pos, codes, Option, Some, None, Ok}
+use Rattle.std.specs.Prelude.{pos, codes, Some, None, Ok}
 use Rattle.std.specs.Char.{encode_utf8}
 use Rattle.kishu_model.specs.declared.profile.Profile.TheVariants.{One}
 use Rattle.kishu_model.specs.declared.tree.Operator.TheVariants as o
