@@ -29,6 +29,10 @@ pub mod Follow
 pub mod ExactExpressions
 pub mod ExactPhrases
 pub mod ExactStatements
+pub mod Carries
+pub mod CarriesPhrases
+pub mod CarriesStatements
+pub mod TreeLaws
 pub mod Values
 pub mod Plain
 pub mod PlainLaws
