@@ -33,6 +33,11 @@ pub mod Carries
 pub mod CarriesPhrases
 pub mod CarriesStatements
 pub mod TreeLaws
+pub mod Gives
+pub mod Height
+pub mod HeightPhrases
+pub mod HeightStatements
+pub mod HeightLaws
 pub mod Values
 pub mod Plain
 pub mod PlainLaws
