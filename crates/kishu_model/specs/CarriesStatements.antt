@@ -179,7 +179,7 @@ module _ (source : Text) (n k : ℕ) (under : n ≤ k) {inner inner' : Around �
     body ← block (in_loop around)
     pure
 
-  caught : Carries (s.caught source n inner) (s.caught source k inner')
+  pub caught : Carries (s.caught source n inner) (s.caught source k inner')
   unfolding s.caught
   caught = do
     class ← phrases (suc n) (suc k) above expr
@@ -220,7 +220,7 @@ module _ (source : Text) (n k : ℕ) (under : n ≤ k) {inner inner' : Around �
     body ← block around
     handled body around or finished body around
 
-  parameter : Carries (s.parameter source n inner) (s.parameter source k inner')
+  pub parameter : Carries (s.parameter source n inner) (s.parameter source k inner')
   unfolding s.parameter
   parameter = do
     x ← token

@@ -3,40 +3,57 @@ use Rattle.std.specs.Prelude.{List, [], ◌∷◌, ◌++◌, Option, Some, None}
 use Rattle.std.specs.List.{flat_map}
 use Rattle.std.proofs.Common.{subst, ⊎_elim}
 use Rattle.kishu_model.specs.declared.token.Mark.{Mark}
+use Rattle.kishu_model.specs.Layout.{Token}
 use Rattle.kishu_model.specs.Tree.{Expression}
 use Rattle.kishu_model.specs.Language.{Tokens, Language, Many, done, more}
 use Rattle.kishu_model.specs.Language as l
 use Rattle.kishu_model.specs.Grammar as g
 
-pub record Gives {A : Type 0} (p : Language A) (P : A → Type 0) : Type 0 where
-  pub given : (ts us : Tokens) (a : A) → p ts us a → P a
+-- Read where this holds of the tokens to come, it holds of those that are left, and that of the value.
+pub record Leads {A : Type 0} (I : List Token → Type 0) (p : Language A) (P : A → Type 0) : Type 0 where
+  pub leads : (ts us : Tokens) (a : A) → I ts → p ts us a → I us × P a
+
+abbrev pub anywhere : Tokens → Type 0
+anywhere ts = Unit {0}
+
+abbrev pub Gives : {A : Type 0} → Language A → (A → Type 0) → Type 0
+Gives p P = Leads anywhere p P
+
+pub given : {A : Type 0} {p : Language A} {P : A → Type 0} → Gives p P → (ts us : Tokens) (a : A) → p ts us a → P a
+given one ts us a h = (one.leads ts us a tt h).1
+
+pub gives : {A : Type 0} {p : Language A} {P : A → Type 0} → ((ts us : Tokens) (a : A) → p ts us a → P a) → Gives p P
+gives has = record { leads = λ ts us a i h. (tt, has ts us a h) }
+
+-- a value that nothing need be known of
+pub whatever : {A : Type 0} {p : Language A} → Gives p (λ _. Unit {0})
+whatever = gives (λ ts us a h. tt)
 
 -- ---- one law a combinator
 
-pub pure : {A : Type 0} {a : A} {P : A → Type 0} → P a → Gives (l.pure a) P
-pure {P = P} so = record { given = λ ts us b h. subst P h.1 so }
+pub pure : {A : Type 0} {I : Tokens → Type 0} {a : A} {P : A → Type 0} → P a → Leads I (l.pure a) P
+pure {I = I} {P = P} so = record { leads = λ ts us b i h. (subst I h.0 i, subst P h.1 so) }
 
-pub none : {A : Type 0} {P : A → Type 0} → Gives l.none P
-none = record { given = λ ts us a h. absurd h }
-
--- of a value that nothing need be known of
-pub whatever : {A : Type 0} {p : Language A} → Gives p (λ _. Unit {0})
-whatever = record { given = λ ts us a h. tt }
+pub none : {A : Type 0} {I : Tokens → Type 0} {P : A → Type 0} → Leads I l.none P
+none = record { leads = λ ts us a i h. absurd h }
 
 infixl 10 ◌>>=◌
-pub ◌>>=◌ : {A B : Type 0} {p : Language A} {q : A → Language B} {P : A → Type 0} {Q : B → Type 0} → Gives p P → ((x : (a : A) × P a) → Gives (q x.0) Q) → Gives (l.◌>>=◌ p q) Q
-first >>= second = record { given = λ ts us b h. (second (h.1, first.given ts h.0 h.1 h.2)).given h.0 us b h.3 }
+pub ◌>>=◌ : {A B : Type 0} {I : Tokens → Type 0} {p : Language A} {q : A → Language B} {P : A → Type 0} {Q : B → Type 0}
+    → Leads I p P → ((x : (a : A) × P a) → Leads I (q x.0) Q) → Leads I (l.◌>>=◌ p q) Q
+first >>= second = record {
+  leads = λ ts us b i h. (let k = first.leads ts h.0 h.1 i h.2 in (second (h.1, k.1)).leads h.0 us b k.0 h.3);
+}
 
 infixl 10 ◌>>◌
-pub ◌>>◌ : {A B : Type 0} {p : Language A} {q : Language B} {P : A → Type 0} {Q : B → Type 0} → Gives p P → Gives q Q → Gives (l.◌>>◌ p q) Q
+pub ◌>>◌ : {A B : Type 0} {I : Tokens → Type 0} {p : Language A} {q : Language B} {P : A → Type 0} {Q : B → Type 0} → Leads I p P → Leads I q Q → Leads I (l.◌>>◌ p q) Q
 first >> second = first >>= (λ _. second)
 
 infixr 5 ◌or◌
-pub ◌or◌ : {A : Type 0} {p q : Language A} {P : A → Type 0} → Gives p P → Gives q P → Gives (l.◌or◌ p q) P
-first or second = record { given = λ ts us a h. ⊎_elim (first.given ts us a) (second.given ts us a) h }
+pub ◌or◌ : {A : Type 0} {I : Tokens → Type 0} {p q : Language A} {P : A → Type 0} → Leads I p P → Leads I q P → Leads I (l.◌or◌ p q) P
+first or second = record { leads = λ ts us a i h. ⊎_elim (first.leads ts us a i) (second.leads ts us a i) h }
 
-pub so_too : {A : Type 0} {p : Language A} {P Q : A → Type 0} → Gives p P → ((a : A) → P a → Q a) → Gives p Q
-so_too one implies = record { given = λ ts us a h. implies a (one.given ts us a h) }
+pub so_too : {A : Type 0} {I : Tokens → Type 0} {p : Language A} {P Q : A → Type 0} → Leads I p P → ((a : A) → P a → Q a) → Leads I p Q
+so_too one implies = record { leads = λ ts us a i h. (let k = one.leads ts us a i h in (k.0, implies a k.1)) }
 
 -- ---- lists
 
@@ -61,23 +78,25 @@ module _ {A : Type 0} (P : A → Type 0) where
   in_parts [] h = tt
   in_parts (part ∷ parts) h = both_lists part _ h.0 (in_parts parts h.1)
 
-module _ {A : Type 0} {item : Language A} {P : A → Type 0} (one : Gives item P) where
-  each_turn : {all found : List A} {ts us : Tokens} → Many (l.one_more item) all ts us found → Each P all → Each P found
-  each_turn done so = so
-  each_turn (more {a = all} h k) so = each_turn k (subst (Each P) h.3.1 (one_longer P all h.1 so (one.given _ _ _ h.2)))
+module _ {A : Type 0} {I : Tokens → Type 0} {item : Language A} {P : A → Type 0} (one : Leads I item P) where
+  turns : {all found : List A} {ts us : Tokens} → Many (l.one_more item) all ts us found → I ts → Each P all → I us × Each P found
+  turns done i so = (i, so)
+  turns (more {a = all} {ts = ts} h k) i so =
+      let n = one.leads ts h.0 h.1 i h.2 in
+      turns k (subst I h.3.0 n.0) (subst (Each P) h.3.1 (one_longer P all h.1 so n.1))
 
-  pub many_from : (all : List A) → Each P all → Gives (Many (l.one_more item) all) (Each P)
-  many_from all so = record { given = λ ts us found h. each_turn h so }
+  pub many_from : (all : List A) → Each P all → Leads I (Many (l.one_more item) all) (Each P)
+  many_from all so = record { leads = λ ts us found i h. turns h i so }
 
-  pub many : Gives (l.many item) (Each P)
+  pub many : Leads I (l.many item) (Each P)
   many = many_from [] tt
 
-  pub some : Gives (l.some item) (Each P)
+  pub some : Leads I (l.some item) (Each P)
   some = do
     (first, so) ← one
     many_from (first ∷ []) (so, tt)
 
-  pub optional : Gives (l.optional item) (IfAny P)
+  pub optional : Leads I (l.optional item) (IfAny P)
   optional = pure tt or (do
     (found, so) ← one
     pure so)

@@ -14,7 +14,7 @@ use Rattle.kishu_model.specs.Grammar.{Phrase, exprs, expr, negated, unary}
 use Rattle.kishu_model.specs.Grammar as g
 use Rattle.kishu_model.specs.Targets as a
 use Rattle.kishu_model.specs.Height.{of_expression, of_operands, of_links, of_pairs, of_trailers, of_trailer, of_bound, of_arguments, of_argument, of_list}
-use Rattle.kishu_model.specs.Gives.{Gives, pure, none, whatever, ◌>>=◌, ◌>>◌, ◌or◌, so_too, Each, IfAny, one_longer, many, optional, listed, any_listed, operated}
+use Rattle.kishu_model.specs.Gives.{Gives, gives, pure, none, whatever, ◌>>=◌, ◌>>◌, ◌or◌, so_too, Each, IfAny, one_longer, many, optional, listed, any_listed, operated}
 
 -- ---- lists
 
@@ -189,7 +189,7 @@ module _ {inner : Phrase → Language Expression} (n : ℕ) (low : (p : Phrase) 
   low_constant _ e h = absurd cc
 
   constant : Gives (l.one_of g.constant_of) (Low (suc n))
-  constant = record { given = λ ts us e h. low_constant h.1 e h.4 }
+  constant = gives (λ ts us e h. low_constant h.1 e h.4)
 
   atom : Gives (g.atom inner) (Low (suc n))
   unfolding g.atom
@@ -336,5 +336,5 @@ target (suc depth) = so_too (above_target depth (target depth)) (λ e h. omega (
 
 pub targets : (depth : ℕ) → Gives (a.targets depth) (Low (10 * depth))
 unfolding a.targets a.target
-targets zero = record { given = λ ts us e h. absurd h.2.2 }
+targets zero = gives (λ ts us e h. absurd h.2.2)
 targets (suc depth) = so_too (several (2 + 10 * depth) (above_target depth (target depth))) (λ e h. omega (arith, h))

@@ -11,7 +11,7 @@ use Rattle.kishu_model.specs.Grammar.{exprs, expr, deepest}
 use Rattle.kishu_model.specs.Refusals.{Around, top, in_function, in_loop, in_handler}
 use Rattle.kishu_model.specs.Statements as s
 use Rattle.kishu_model.specs.Height.{of_optional, of_parameters, of_statement, of_statements, of_arms, of_handlers}
-use Rattle.kishu_model.specs.Gives.{Gives, pure, none, whatever, ◌>>=◌, ◌>>◌, ◌or◌, so_too, Each, IfAny, in_parts, many, many_from, some, optional, separated, any_listed}
+use Rattle.kishu_model.specs.Gives.{Gives, given, gives, pure, none, whatever, ◌>>=◌, ◌>>◌, ◌or◌, so_too, Each, IfAny, in_parts, many, many_from, some, optional, separated, any_listed}
 use Rattle.kishu_model.specs.HeightPhrases.{Low, low_list, phrases, place, targets}
 
 -- no higher than this
@@ -283,7 +283,7 @@ module _ (source : Text) (depth : ℕ) {inner : Around → Language (List Statem
     pure (low_parameters most all first, second)
 
   spelled_definition : Gives (l.spelled (s.definition source depth inner)) (λ f. (of_parameters f.0.parameters ≤ most) × (of_statements f.0.body ≤ most))
-  spelled_definition = record { given = λ ts us f h. definition.given ts us f.0 h.0 }
+  spelled_definition = gives (λ ts us f h. given definition ts us f.0 h.0)
 
   define : (around : Around) → Gives (s.define source depth inner around) (Short (suc most))
   unfolding s.define

@@ -38,6 +38,9 @@ pub mod Height
 pub mod HeightPhrases
 pub mod HeightStatements
 pub mod HeightLaws
+pub mod Inside
+pub mod InsideStatements
+pub mod FunctionLaws
 pub mod Values
 pub mod Plain
 pub mod PlainLaws
