@@ -1,37 +1,37 @@
--- Each production of statements looks only at the tokens that it takes, and keeps a reading under a deeper limit.
-use Rattle.std.specs.Prelude.{◌≤◌, ℕ, zero, suc, List, [], ◌∷◌}
-use Rattle.std.proofs.Common.{arith}
+-- Each production of statements looks only at the kinds of the tokens that it takes, but for the code of a function, and keeps a reading under a deeper limit.
+use Rattle.std.specs.Prelude.{◌≡◌, Bool, true, false, not, ◌≤◌, ℕ, zero, suc, List, [], ◌∷◌}
+use Rattle.std.proofs.Common.{refl, arith}
 use Rattle.kishu_model.specs.declared.token.Mark.{Mark}
 use Rattle.kishu_model.specs.Tree.{Text, Statement, Statements}
 use Rattle.kishu_model.specs.Language.{Language}
 use Rattle.kishu_model.specs.Grammar.{exprs, expr, deepest}
 use Rattle.kishu_model.specs.Refusals.{Around, top, in_function, in_loop, in_handler}
 use Rattle.kishu_model.specs.Statements as s
-use Rattle.kishu_model.specs.Carries.{Carries, pure, none, where_true, token, one_of, perhaps, ◌>>=◌, ◌>>◌, ◌or◌, many, many_from, some, optional, spelled, separated, any_listed}
+use Rattle.kishu_model.specs.Carries.{Likeness, same, Carries, pure, none, where_true, token, one_of, perhaps, ◌>>=◌, ◌>>◌, ◌or◌, many, many_from, some, optional, spelled, separated, any_listed}
 use Rattle.kishu_model.specs.CarriesPhrases.{phrases, place, targets}
 
 -- ---- simple statements
 
-module _ (around : Around) (n k : ℕ) (under : n ≤ k) where
-  pass : Carries (s.pass around n) (s.pass around k)
+module _ {L : Likeness} (around : Around) (n k : ℕ) (under : n ≤ k) where
+  pass : Carries L (s.pass around n) (s.pass around k)
   unfolding s.pass
   pass = token >> pure
 
-  break : Carries (s.break around n) (s.break around k)
+  break : Carries L (s.break around n) (s.break around k)
   unfolding s.break
   break = do
     token
     where_true
     pure
 
-  continue : Carries (s.continue around n) (s.continue around k)
+  continue : Carries L (s.continue around n) (s.continue around k)
   unfolding s.continue
   continue = do
     token
     where_true
     pure
 
-  return : Carries (s.return around n) (s.return around k)
+  return : Carries L (s.return around n) (s.return around k)
   unfolding s.return
   return = do
     token
@@ -39,21 +39,21 @@ module _ (around : Around) (n k : ℕ) (under : n ≤ k) where
     value ← optional (phrases n k under exprs)
     pure
 
-  raise_again : Carries (s.raise_again around n) (s.raise_again around k)
+  raise_again : Carries L (s.raise_again around n) (s.raise_again around k)
   unfolding s.raise_again
   raise_again = do
     token
     where_true
     pure
 
-  raise : Carries (s.raise around n) (s.raise around k)
+  raise : Carries L (s.raise around n) (s.raise around k)
   unfolding s.raise
   raise = do
     token
     value ← phrases n k under expr
     pure
 
-  assertion : Carries (s.assertion around n) (s.assertion around k)
+  assertion : Carries L (s.assertion around n) (s.assertion around k)
   unfolding s.assertion
   assertion = do
     token
@@ -61,14 +61,14 @@ module _ (around : Around) (n k : ℕ) (under : n ≤ k) where
     message ← optional (token >> phrases n k under expr)
     pure
 
-  delete : Carries (s.delete around n) (s.delete around k)
+  delete : Carries L (s.delete around n) (s.delete around k)
   unfolding s.delete
   delete = do
     token
     places ← separated (place n k under)
     pure
 
-  global : Carries (s.global around n) (s.global around k)
+  global : Carries L (s.global around n) (s.global around k)
   unfolding s.global
   global = do
     token
@@ -76,7 +76,7 @@ module _ (around : Around) (n k : ℕ) (under : n ≤ k) where
     names ← separated token
     pure
 
-  import : Carries (s.import around n) (s.import around k)
+  import : Carries L (s.import around n) (s.import around k)
   unfolding s.import
   import = do
     token
@@ -86,7 +86,7 @@ module _ (around : Around) (n k : ℕ) (under : n ≤ k) where
     found ← optional (token >> token)
     pure
 
-  update : Carries (s.update around n) (s.update around k)
+  update : Carries L (s.update around n) (s.update around k)
   unfolding s.update
   update = do
     at ← place n k under
@@ -94,7 +94,7 @@ module _ (around : Around) (n k : ℕ) (under : n ≤ k) where
     value ← phrases n k under exprs
     pure
 
-  assignment : Carries (s.assignment around n) (s.assignment around k)
+  assignment : Carries L (s.assignment around n) (s.assignment around k)
   unfolding s.assignment
   assignment = do
     all ← many (do
@@ -104,11 +104,11 @@ module _ (around : Around) (n k : ℕ) (under : n ≤ k) where
     value ← phrases n k under exprs
     pure
 
-  pub simple : Carries (s.simple around n) (s.simple around k)
+  pub simple : Carries L (s.simple around n) (s.simple around k)
   unfolding s.simple
   simple = pass or break or continue or return or raise_again or raise or assertion or delete or global or import or update or assignment
 
-  pub simples : Carries (s.simples around n) (s.simples around k)
+  pub simples : Carries L (s.simples around n) (s.simples around k)
   unfolding s.simples
   simples = do
     all ← separated simple
@@ -118,116 +118,129 @@ module _ (around : Around) (n k : ℕ) (under : n ≤ k) where
 
 -- ---- compound statements
 
--- what may stand in a block
-abbrev pub Blocks : (Around → Language (List Statement)) → (Around → Language (List Statement)) → Type 0
-Blocks inner inner' = (around : Around) → Carries (inner around) (inner' around)
+-- where statements may stand
+pub record Arounds : Type 1 where
+  pub Fine : Around → Type 0
+  pub function : Fine in_function
+  pub loop : (around : Around) → Fine around → Fine (in_loop around)
+  pub handler : (around : Around) → Fine around → Fine (in_handler around)
 
-module _ (source : Text) (n k : ℕ) (under : n ≤ k) {inner inner' : Around → Language (List Statement)} (deeper : Blocks inner inner') where
+abbrev pub everywhere : Arounds
+everywhere = record { Fine = λ around. Unit {0}; function = tt; loop = λ around fine. tt; handler = λ around fine. tt }
+
+abbrev pub in_functions : Arounds
+in_functions = record { Fine = λ around. around.function ≡ true; function = refl; loop = λ around fine. fine; handler = λ around fine. fine }
+
+-- what may stand in a block
+abbrev pub Blocks : Likeness → Arounds → (Around → Language (List Statement)) → (Around → Language (List Statement)) → Type 0
+Blocks L P inner inner' = (around : Around) → P.Fine around → Carries L (inner around) (inner' around)
+
+module _ {L : Likeness} (P : Arounds) (source source' : Text) (n k : ℕ) (under : n ≤ k) {inner inner' : Around → Language (List Statement)} (deeper : Blocks L P inner inner') where
   above : suc n ≤ suc k
   above = omega (arith, under)
 
-  block : (around : Around) → Carries (s.block source n inner around) (s.block source k inner' around)
+  block : (around : Around) → P.Fine around → Carries L (s.block source n inner around) (s.block source' k inner' around)
   unfolding s.block
-  block around = (do
+  block around fine = (do
     all ← simples around n k under
     pure) or (do
       token
       token
-      parts ← some (deeper around)
+      parts ← some (deeper around fine)
       token
       pure)
 
-  block_after : (before : Mark) (around : Around) → Carries (s.block_after source n inner before around) (s.block_after source k inner' before around)
+  block_after : (before : Mark) (around : Around) → P.Fine around → Carries L (s.block_after source n inner before around) (s.block_after source' k inner' before around)
   unfolding s.block_after
-  block_after before around = pure or (do
+  block_after before around fine = pure or (do
     token
     token
-    block around)
+    block around fine)
 
-  arm : (around : Around) → Carries (s.arm source n inner around) (s.arm source k inner' around)
+  arm : (around : Around) → P.Fine around → Carries L (s.arm source n inner around) (s.arm source' k inner' around)
   unfolding s.arm
-  arm around = do
+  arm around fine = do
     test ← phrases (suc n) (suc k) above expr
     token
-    body ← block around
+    body ← block around fine
     pure
 
-  choice : (around : Around) → Carries (s.choice source n inner around) (s.choice source k inner' around)
+  choice : (around : Around) → P.Fine around → Carries L (s.choice source n inner around) (s.choice source' k inner' around)
   unfolding s.choice
-  choice around = do
+  choice around fine = do
     token
-    first ← arm around
-    all ← many_from (token >> arm around) (first ∷ [])
-    other ← block_after _ around
+    first ← arm around fine
+    all ← many_from (token >> arm around fine) (first ∷ [])
+    other ← block_after _ around fine
     pure
 
-  while : (around : Around) → Carries (s.while source n inner around) (s.while source k inner' around)
+  while : (around : Around) → P.Fine around → Carries L (s.while source n inner around) (s.while source' k inner' around)
   unfolding s.while
-  while around = do
+  while around fine = do
     token
-    found ← arm (in_loop around)
+    found ← arm (in_loop around) (P.loop around fine)
     pure
 
-  for : (around : Around) → Carries (s.for source n inner around) (s.for source k inner' around)
+  for : (around : Around) → P.Fine around → Carries L (s.for source n inner around) (s.for source' k inner' around)
   unfolding s.for
-  for around = do
+  for around fine = do
     token
     found ← targets (suc n) (suc k) above
     token
     walked ← phrases (suc n) (suc k) above exprs
     token
-    body ← block (in_loop around)
+    body ← block (in_loop around) (P.loop around fine)
     pure
 
-  pub caught : Carries (s.caught source n inner) (s.caught source k inner')
+  pub caught : Carries L (s.caught source n inner) (s.caught source' k inner')
   unfolding s.caught
   caught = do
     class ← phrases (suc n) (suc k) above expr
     found ← optional (token >> token)
     pure
 
-  handler : (around : Around) → Carries (s.handler source n inner around) (s.handler source k inner' around)
+  handler : (around : Around) → P.Fine around → Carries L (s.handler source n inner around) (s.handler source' k inner' around)
   unfolding s.handler
-  handler around = do
+  handler around fine = do
     token
     found ← optional caught
     token
-    body ← block (in_handler around)
+    body ← block (in_handler around) (P.handler around fine)
     pure
 
-  handled : (body : Statements) (around : Around) → Carries (s.handled source n inner body around) (s.handled source k inner' body around)
+  handled : (body : Statements) (around : Around) → P.Fine around → Carries L (s.handled source n inner body around) (s.handled source' k inner' body around)
   unfolding s.handled
-  handled body around = do
-    found ← some (handler around)
+  handled body around fine = do
+    found ← some (handler around fine)
     where_true
-    other ← block_after _ around
-    last ← block_after _ around
+    other ← block_after _ around fine
+    last ← block_after _ around fine
     pure
 
-  finished : (body : Statements) (around : Around) → Carries (s.finished source n inner body around) (s.finished source k inner' body around)
+  finished : (body : Statements) (around : Around) → P.Fine around → Carries L (s.finished source n inner body around) (s.finished source' k inner' body around)
   unfolding s.finished
-  finished body around = do
+  finished body around fine = do
     token
     token
-    last ← block around
+    last ← block around fine
     pure
 
-  try : (around : Around) → Carries (s.try source n inner around) (s.try source k inner' around)
+  try : (around : Around) → P.Fine around → Carries L (s.try source n inner around) (s.try source' k inner' around)
   unfolding s.try
-  try around = do
+  try around fine = do
     token
     token
-    body ← block around
-    handled body around or finished body around
+    body ← block around fine
+    handled body around fine or finished body around fine
 
-  pub parameter : Carries (s.parameter source n inner) (s.parameter source k inner')
+  pub parameter : Carries L (s.parameter source n inner) (s.parameter source' k inner')
   unfolding s.parameter
   parameter = do
     x ← token
     default ← optional (token >> phrases n k under expr)
     pure
 
-  pub definition : Carries (s.definition source n inner) (s.definition source k inner')
+  pub definition : Carries L (s.definition source n inner) (s.definition source' k inner')
   unfolding s.definition
   definition = do
     token
@@ -237,31 +250,63 @@ module _ (source : Text) (n k : ℕ) (under : n ≤ k) {inner inner' : Around �
     token
     where_true
     token
-    body ← block in_function
+    body ← block in_function P.function
     where_true
     pure
 
-  pub define : (around : Around) → Carries (s.define source n inner around) (s.define source k inner' around)
-  unfolding s.define
-  define around = do
-    where_true
-    found ← spelled definition
-    pure
-
-  compound : (around : Around) → Carries (s.compound source n inner around) (s.compound source k inner' around)
+  compound : (around : Around) → P.Fine around → Carries L (s.define source n inner around) (s.define source' k inner' around) → Carries L (s.compound source n inner around) (s.compound source' k inner' around)
   unfolding s.compound
-  compound around = choice around or while around or for around or try around or define around
+  compound around fine define = choice around fine or while around fine or for around fine or try around fine or define
 
-pub chunks : (source : Text) (n k : ℕ) → n ≤ k → Blocks (s.chunk source n) (s.chunk source k)
+-- ---- the whole
+
+-- given it of functions
+abbrev Defines : Likeness → Arounds → Text → Text → Type 1
+Defines L P source source' = (n k : ℕ) (under : n ≤ k) (inner inner' : Around → Language (List Statement)) → Blocks L P inner inner'
+    → (around : Around) → P.Fine around → Carries L (s.define source n inner around) (s.define source' k inner' around)
+
+chunks_by : {L : Likeness} (P : Arounds) (source source' : Text) → Defines L P source source' → (n k : ℕ) → n ≤ k → Blocks L P (s.chunk source n) (s.chunk source' k)
 unfolding s.chunk
-chunks source zero k under around = none
-chunks source (suc n) zero under around = absurd (omega (arith, under))
-chunks source (suc n) (suc k) under around = simples around (suc n) (suc k) under or (do
-  found ← compound source n k (omega (arith, under)) (chunks source n k (omega (arith, under))) around
-  pure)
+chunks_by P source source' defines zero k under around fine = none
+chunks_by P source source' defines (suc n) zero under around fine = absurd (omega (arith, under))
+chunks_by P source source' defines (suc n) (suc k) under around fine =
+    let below : n ≤ k = omega (arith, under) in
+    let deeper = chunks_by P source source' defines n k below in
+    simples around (suc n) (suc k) under or (do
+      found ← compound P source source' n k below deeper around fine (defines n k below (s.chunk source n) (s.chunk source' k) deeper around fine)
+      pure)
 
-pub programs : (source : Text) → Carries (s.program source) (s.program source)
+-- The tokens of a function are part of what is spelled, so they stay the same.
+define : (source : Text) → Defines same everywhere source source
+unfolding s.define
+define source n k under inner inner' deeper around fine = do
+  where_true
+  found ← spelled (definition everywhere source source n k under deeper)
+  pure
+
+pub chunks : (source : Text) (n k : ℕ) → n ≤ k → (around : Around) → Carries same (s.chunk source n around) (s.chunk source k around)
+chunks source n k under around = chunks_by everywhere source source (define source) n k under around tt
+
+pub defines : (source : Text) (n k : ℕ) → n ≤ k → (around : Around) → Carries same (s.define source n (s.chunk source n) around) (s.define source k (s.chunk source k) around)
+defines source n k under around = define source n k under (s.chunk source n) (s.chunk source k) (λ around fine. chunks source n k under around) around tt
+
+pub programs : (source : Text) → Carries same (s.program source) (s.program source)
 unfolding s.program
 programs source = do
   parts ← many (chunks source deepest deepest (omega arith) top)
   pure
+
+-- ---- in a function
+
+outside : (b : Bool) → b ≡ true → not b ≡ true → ⊥
+outside true h k = cc
+outside false h k = cc
+
+-- In a function stands no other.
+none_inside : (L : Likeness) (source source' : Text) → Defines L in_functions source source'
+unfolding s.define
+none_inside L source source' n k under inner inner' deeper around fine = record { taken = λ ts us a h. absurd (outside around.function fine h.2.1) }
+
+-- Its kinds of tokens are all that counts.
+pub definitions : (L : Likeness) (source source' : Text) (n k : ℕ) → n ≤ k → Carries L (s.definition source n (s.chunk source n)) (s.definition source' k (s.chunk source' k))
+definitions L source source' n k under = definition in_functions source source' n k under (chunks_by in_functions source source' (none_inside L source source') n k under)

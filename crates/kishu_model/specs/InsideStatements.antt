@@ -13,10 +13,10 @@ use Rattle.kishu_model.specs.Refusals.{Around, top, in_function, in_loop, in_han
 use Rattle.kishu_model.specs.Code.{code_of}
 use Rattle.kishu_model.specs.Statements as s
 use Rattle.kishu_model.specs.Inside.{InStatement, InStatements, InArms, InHandlers, Apart}
-use Rattle.kishu_model.specs.Carries.{Carries, elsewhere}
+use Rattle.kishu_model.specs.Carries.{same, Carries, elsewhere}
 use Rattle.kishu_model.specs.Carries as carried
 use Rattle.kishu_model.specs.CarriesPhrases.{phrases, targets}
-use Rattle.kishu_model.specs.CarriesStatements.{Blocks, simples, parameter, definition, chunks, caught}
+use Rattle.kishu_model.specs.CarriesStatements.{everywhere, Blocks, simples, parameter, definition, chunks, caught}
 use Rattle.kishu_model.specs.Gives.{Leads, Gives, given, pure, none, whatever, ◌>>=◌, ◌>>◌, ◌or◌, so_too, Each, in_parts, many, many_from, some, separated}
 
 -- ---- a simple statement holds none
@@ -133,10 +133,10 @@ EndOf all ts = (before : Tokens) × (all ≡ before ++ ts)
 further : (all ts us xs : Tokens) → EndOf all ts → ts ≡ xs ++ us → EndOf all us
 further all ts us xs i e = (i.0 ++ xs, i.1 ∙ ap (λ (v : Tokens). i.0 ++ v) e ∙ sym (append_assoc i.0 xs us))
 
-passing : {A : Type 0} {all : Tokens} {p : Language A} {P : A → Type 0} → Carries p p → Gives p P → Leads (EndOf all) p P
+passing : {A : Type 0} {all : Tokens} {p : Language A} {P : A → Type 0} → Carries same p p → Gives p P → Leads (EndOf all) p P
 passing {all = all} one has = record { leads = λ ts us a i h. (let k = one.taken ts us a h in (further all ts us k.0 i k.1, given has ts us a h)) }
 
-past : {A : Type 0} {all : Tokens} {p : Language A} → Carries p p → Leads (EndOf all) p (λ _. Unit {0})
+past : {A : Type 0} {all : Tokens} {p : Language A} → Carries same p p → Leads (EndOf all) p (λ _. Unit {0})
 past one = passing one whatever
 
 -- ---- a function's tokens
@@ -144,7 +144,7 @@ past one = passing one whatever
 itself : (n : ℕ) → n ≤ n
 itself n = omega arith
 
-apart : (source : Text) (n k : ℕ) (under : n ≤ k) {inner : Around → Language (List Statement)} → Blocks inner (s.chunk source k) → (all ts us own : Tokens) (d : Definition)
+apart : (source : Text) (n k : ℕ) (under : n ≤ k) {inner : Around → Language (List Statement)} → Blocks same everywhere inner (s.chunk source k) → (all ts us own : Tokens) (d : Definition)
     → EndOf all ts → ts ≡ own ++ us → s.definition source n inner ts us d → Apart k source all (t.define d.title d.parameters d.body (code_of source own))
 apart source n k under {inner} deeper all ts us own d i e h = record {
   before = i.0;
@@ -153,7 +153,7 @@ apart source n k under {inner} deeper all ts us own d i e h = record {
   function = d;
   whole = i.1 ∙ ap (λ (v : Tokens). i.0 ++ v) e ∙ sym (append_assoc i.0 own us);
   spelled = subst (λ (v : Tokens). s.definition source k (s.chunk source k) v [] d) (append-nil own)
-      (elsewhere (definition source n k under deeper) own us [] d (subst (λ (v : Tokens). s.definition source n inner v us d) e h));
+      (elsewhere (definition everywhere source source n k under deeper) own us [] d (subst (λ (v : Tokens). s.definition source n inner v us d) e h));
   cut = refl;
 }
 
@@ -197,7 +197,7 @@ module _ (source : Text) (k : ℕ) (all : Tokens) where
   line around depth = so_too (passing (simples around depth depth (itself depth)) (plain_line around depth)) none_held
 
   module _ (n : ℕ) (under : n ≤ k) {inner : Around → Language (List Statement)}
-      (same : Blocks inner inner) (deeper : Blocks inner (s.chunk source k)) (held : (around : Around) → Leads (EndOf all) (inner around) (Each Held)) where
+      (kept : Blocks same everywhere inner inner) (deeper : Blocks same everywhere inner (s.chunk source k)) (held : (around : Around) → Leads (EndOf all) (inner around) (Each Held)) where
     block : (around : Around) → Leads (EndOf all) (s.block source n inner around) AllHeld
     unfolding s.block
     block around = (do
@@ -255,7 +255,7 @@ module _ (source : Text) (k : ℕ) (all : Tokens) where
     unfolding s.handler
     handler around = do
       past carried.token
-      (found, _) ← past (carried.optional (caught source n n (itself n) same))
+      (found, _) ← past (carried.optional (caught everywhere source source n n (itself n) kept))
       past carried.token
       (body, so) ← block (in_handler around)
       pure (handler_held found body so)
@@ -291,7 +291,7 @@ module _ (source : Text) (k : ℕ) (all : Tokens) where
       past carried.token
       x ← past carried.token
       past carried.token
-      found ← past (carried.any_listed (parameter source n n (itself n) same))
+      found ← past (carried.any_listed (parameter everywhere source source n n (itself n) kept))
       past carried.token
       past carried.where_true
       past carried.token
@@ -327,7 +327,7 @@ module _ (source : Text) (k : ℕ) (all : Tokens) where
   unfolding s.chunk
   chunks_held zero under around = none
   chunks_held (suc n) under around = line around (suc n) or (do
-    (found, so) ← compound n (omega (arith, under)) (chunks source n n (itself n)) (chunks source n k (omega (arith, under))) (chunks_held n (omega (arith, under))) around
+    (found, so) ← compound n (omega (arith, under)) (λ around fine. chunks source n n (itself n) around) (λ around fine. chunks source n k (omega (arith, under)) around) (chunks_held n (omega (arith, under))) around
     pure (so, tt))
 
   pub program_held : deepest ≤ suc k → Leads (EndOf all) (s.program source) (Each Held)

@@ -7,7 +7,7 @@ use Rattle.kishu_model.specs.Grammar.{Phrase, phrase}
 use Rattle.kishu_model.specs.Targets.{place, target, targets}
 use Rattle.kishu_model.specs.Refusals.{Around}
 use Rattle.kishu_model.specs.Statements.{simple, simples, chunk, definition, define, program}
-use Rattle.kishu_model.specs.Carries.{within, elsewhere}
+use Rattle.kishu_model.specs.Carries.{same, within, elsewhere}
 use Rattle.kishu_model.specs.CarriesPhrases as phrases
 use Rattle.kishu_model.specs.CarriesStatements as statements
 
@@ -39,14 +39,14 @@ module _ (n k : ℕ) (under : n ≤ k) (ts us : Tokens) where
   deeper_chunk source around = within (statements.chunks source n k under around) ts us
 
   pub deeper_definition : (source : Text) (d : Definition) → definition source n (chunk source n) ts us d → definition source k (chunk source k) ts us d
-  deeper_definition source = within (statements.definition source n k under (statements.chunks source n k under)) ts us
+  deeper_definition source = within (statements.definitions same source source n k under) ts us
 
 -- ---- whatever follows
 
 -- the tokens that a reading takes
 module _ (n : ℕ) (ts us : Tokens) where
   pub taken_by_phrase : (p : Phrase) (e : Expression) → phrase n p ts us e → (xs : Tokens) × (ts ≡ xs ++ us)
-  taken_by_phrase p e h = let k = (phrases.phrases n n (itself n) p).taken ts us e h in (k.0, k.1)
+  taken_by_phrase p e h = let k = (phrases.phrases {L = same} n n (itself n) p).taken ts us e h in (k.0, k.1)
 
   pub taken_by_chunk : (source : Text) (around : Around) (ss : List Statement) → chunk source n around ts us ss → (xs : Tokens) × (ts ≡ xs ++ us)
   taken_by_chunk source around ss h = let k = (statements.chunks source n n (itself n) around).taken ts us ss h in (k.0, k.1)
@@ -75,11 +75,11 @@ module _ (n : ℕ) (xs us vs : Tokens) where
     chunk_elsewhere around = elsewhere (statements.chunks source n n (itself n) around) xs us vs
 
     pub definition_elsewhere : (d : Definition) → definition source n (chunk source n) (xs ++ us) us d → definition source n (chunk source n) (xs ++ vs) vs d
-    definition_elsewhere = elsewhere (statements.definition source n n (itself n) (statements.chunks source n n (itself n))) xs us vs
+    definition_elsewhere = elsewhere (statements.definitions same source source n n (itself n)) xs us vs
 
     -- its code too
     pub define_elsewhere : (around : Around) (s : Statement) → define source n (chunk source n) around (xs ++ us) us s → define source n (chunk source n) around (xs ++ vs) vs s
-    define_elsewhere around = elsewhere (statements.define source n n (itself n) (statements.chunks source n n (itself n)) around) xs us vs
+    define_elsewhere around = elsewhere (statements.defines source n n (itself n) around) xs us vs
 
 pub program_elsewhere : (source : Text) (xs us vs : Tokens) (ss : List Statement) → program source (xs ++ us) us ss → program source (xs ++ vs) vs ss
 program_elsewhere source = elsewhere (statements.programs source)
