@@ -1,5 +1,5 @@
 -- When each reading of one language is a reading of another, whatever tokens follow it, and with tokens like its own in their place: one law for each way to put languages together, so that a production's proof reads as the production.
-use Rattle.std.specs.Prelude.{◌≡◌, Bool, List, [], ◌∷◌, ◌++◌, map, Option}
+use Rattle.std.specs.Prelude.{◌≡◌, Bool, true, List, [], ◌∷◌, ◌++◌, map, Option}
 use Rattle.std.proofs.Common.{refl, sym, ap, subst, ◌∙◌, inl, inr, ⊎_elim}
 use Rattle.std.proofs.lemmas.List.{append_assoc, append_cancel_right}
 use Rattle.kishu_model.specs.declared.token.Mark.{Mark}
@@ -107,8 +107,12 @@ pure {L = L} = record { taken = λ ts us b h. ([], h.0, λ ys vs k. (ap (λ (v :
 pub none : {A : Type 0} {L : Likeness} {q : Language A} → Carries L l.none q
 none = record { taken = λ ts us a h. absurd h }
 
+-- The second is so where the first is.
+pub where_still : {L : Likeness} {b c : Bool} → (b ≡ true → c ≡ true) → Carries L (l.where_true b) (l.where_true c)
+where_still {L = L} still = record { taken = λ ts us x h. ([], h.0, λ ys vs k. (ap (λ (v : Tokens). v ++ vs) (like_none L ys k), still h.1)) }
+
 pub where_true : {L : Likeness} {b : Bool} → Carries L (l.where_true b) (l.where_true b)
-where_true {L = L} = record { taken = λ ts us b h. ([], h.0, λ ys vs k. (ap (λ (v : Tokens). v ++ vs) (like_none L ys k), h.1)) }
+where_true = where_still (λ h. h)
 
 pub token : {A : Type 0} {L : Likeness} {kind : A → Kind} → Carries L (l.token kind) (l.token kind)
 token {L = L} = record {
@@ -197,6 +201,9 @@ spelled {p' = p'} one = record {
 }
 
 -- ---- the grammar's own
+
+pub bracketed : {A : Type 0} {L : Likeness} {room room' : Bool} {p p' : Language A} → (room ≡ true → room' ≡ true) → Carries L p p' → Carries L (g.bracketed room p) (g.bracketed room' p')
+bracketed still one = where_still still >> one
 
 pub separated : {A : Type 0} {L : Likeness} {by : Mark} {item item' : Language A} → Carries L item item' → Carries L (g.separated by item) (g.separated by item')
 separated one = do

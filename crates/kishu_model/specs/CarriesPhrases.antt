@@ -1,12 +1,12 @@
 -- Each production of expressions looks only at the kinds of the tokens that it takes, and keeps a reading under a deeper limit.
-use Rattle.std.specs.Prelude.{◌≤◌, ℕ, zero, suc}
-use Rattle.std.proofs.Common.{arith}
+use Rattle.std.specs.Prelude.{◌≡◌, Bool, true, ◌≤◌, ℕ, zero, suc}
+use Rattle.std.proofs.Common.{refl, arith}
 use Rattle.kishu_model.specs.Tree.{Expression}
 use Rattle.kishu_model.specs.Language.{Language}
 use Rattle.kishu_model.specs.Grammar.{Phrase, exprs, expr, negated, unary}
 use Rattle.kishu_model.specs.Grammar as g
 use Rattle.kishu_model.specs.Targets as a
-use Rattle.kishu_model.specs.Carries.{Likeness, Carries, pure, none, where_true, token, one_of, ◌>>=◌, ◌>>◌, ◌or◌, many, some, optional, listed, any_listed, operated}
+use Rattle.kishu_model.specs.Carries.{Likeness, Carries, pure, none, where_true, token, one_of, ◌>>=◌, ◌>>◌, ◌or◌, many, some, optional, bracketed, listed, any_listed, operated}
 
 -- ---- expressions
 
@@ -82,10 +82,6 @@ module _ {L : Likeness} {inner inner' : Phrase → Language Expression} (deeper 
     token
     pure
 
-  trailer : Carries L (g.trailer inner) (g.trailer inner')
-  unfolding g.trailer
-  trailer = attribute or call or item or slice
-
   parenthesised : Carries L (g.parenthesised inner) (g.parenthesised inner')
   unfolding g.parenthesised
   parenthesised = do
@@ -120,24 +116,30 @@ module _ {L : Likeness} {inner inner' : Phrase → Language Expression} (deeper 
     token
     pure
 
-  atom : Carries L (g.atom inner) (g.atom inner')
-  unfolding g.atom
-  atom = name or integer or text or parenthesised or list or dict or one_of
+-- Where there was room for one nesting more, there is.
+module _ {L : Likeness} {room room' : Bool} (still : room ≡ true → room' ≡ true) {inner inner' : Phrase → Language Expression} (deeper : Inner L inner inner') where
+  trailer : Carries L (g.trailer room inner) (g.trailer room' inner')
+  unfolding g.trailer
+  trailer = attribute deeper or bracketed still (call deeper or item deeper or slice deeper)
 
-  pub primary_parts : Carries L (g.primary_parts inner) (g.primary_parts inner')
+  atom : Carries L (g.atom room inner) (g.atom room' inner')
+  unfolding g.atom
+  atom = name or integer or text or bracketed still (parenthesised deeper) or bracketed still (list deeper) or bracketed still (dict deeper) or one_of
+
+  pub primary_parts : Carries L (g.primary_parts room inner) (g.primary_parts room' inner')
   unfolding g.primary_parts
   primary_parts = do
     first ← atom
     found ← many trailer
     pure
 
-  primary : Carries L (g.primary inner) (g.primary inner')
+  primary : Carries L (g.primary room inner) (g.primary room' inner')
   unfolding g.primary
   primary = do
     parts ← primary_parts
     pure
 
-  power : Carries L (g.power inner) (g.power inner')
+  power : Carries L (g.power room inner) (g.power room' inner')
   unfolding g.power
   power = do
     base ← primary
@@ -146,41 +148,41 @@ module _ {L : Likeness} {inner inner' : Phrase → Language Expression} (deeper 
       exponent ← deeper unary
       pure)
 
-  unary_level : Carries L (g.unary_level inner) (g.unary_level inner')
+  unary_level : Carries L (g.unary_level room inner) (g.unary_level room' inner')
   unfolding g.unary_level
   unary_level = (do
     before ← one_of
     operand ← deeper unary
     pure) or power
 
-  term : Carries L (g.term inner) (g.term inner')
+  term : Carries L (g.term room inner) (g.term room' inner')
   unfolding g.term
   term = operated g.multiplied unary_level one_of
 
-  sum : Carries L (g.sum inner) (g.sum inner')
+  sum : Carries L (g.sum room inner) (g.sum room' inner')
   unfolding g.sum
   sum = operated g.summed term one_of
 
-  compared : Carries L (g.compared inner) (g.compared inner')
+  compared : Carries L (g.compared room inner) (g.compared room' inner')
   unfolding g.compared
   compared = operated g.compared_with sum comparison
 
-  negated_level : Carries L (g.negated_level inner) (g.negated_level inner')
+  negated_level : Carries L (g.negated_level room inner) (g.negated_level room' inner')
   unfolding g.negated_level
   negated_level = (do
     token
     operand ← deeper negated
     pure) or compared
 
-  conjunction : Carries L (g.conjunction inner) (g.conjunction inner')
+  conjunction : Carries L (g.conjunction room inner) (g.conjunction room' inner')
   unfolding g.conjunction
   conjunction = operated g.all_of negated_level token
 
-  disjunction : Carries L (g.disjunction inner) (g.disjunction inner')
+  disjunction : Carries L (g.disjunction room inner) (g.disjunction room' inner')
   unfolding g.disjunction
   disjunction = operated g.any_of conjunction token
 
-  expr_level : Carries L (g.expr_level inner) (g.expr_level inner')
+  expr_level : Carries L (g.expr_level room inner) (g.expr_level room' inner')
   unfolding g.expr_level
   expr_level = do
     value ← disjunction
@@ -191,34 +193,39 @@ module _ {L : Likeness} {inner inner' : Phrase → Language Expression} (deeper 
       other ← deeper expr
       pure)
 
-  exprs_level : Carries L (g.exprs_level inner) (g.exprs_level inner')
+  exprs_level : Carries L (g.exprs_level room inner) (g.exprs_level room' inner')
   unfolding g.exprs_level
   exprs_level = listed expr_level
 
-  level : Inner L (g.level inner) (g.level inner')
+  level : Inner L (g.level room inner) (g.level room' inner')
   level exprs = exprs_level
   level expr = expr_level
   level negated = negated_level
   level unary = unary_level
 
+room_stays : (n k : ℕ) → n ≤ k → g.has_room n ≡ true → g.has_room k ≡ true
+room_stays zero k under h = absurd cc
+room_stays (suc n) zero under h = absurd (omega (arith, under))
+room_stays (suc n) (suc k) under h = refl
+
 pub phrases : {L : Likeness} (n k : ℕ) → n ≤ k → (p : Phrase) → Carries L (g.phrase n p) (g.phrase k p)
 unfolding g.phrase
 phrases zero k under p = none
 phrases (suc n) zero under p = absurd (omega (arith, under))
-phrases (suc n) (suc k) under p = level (phrases n k (omega (arith, under))) p
+phrases (suc n) (suc k) under p = let below : n ≤ k = omega (arith, under) in level (room_stays n k below) (phrases n k below) p
 
 -- ---- places and targets
 
-module _ {L : Likeness} {inner inner' : Phrase → Language Expression} (deeper : Inner L inner inner') where
-  place_level : Carries L (a.place_level inner) (a.place_level inner')
+module _ {L : Likeness} {room room' : Bool} (still : room ≡ true → room' ≡ true) {inner inner' : Phrase → Language Expression} (deeper : Inner L inner inner') where
+  place_level : Carries L (a.place_level room inner) (a.place_level room' inner')
   unfolding a.place_level
   place_level = name or (do
-    parts ← primary_parts deeper
+    parts ← primary_parts still deeper
     last ← attribute deeper or item deeper
     pure)
 
   module _ {inner_target inner_target' : Language Expression} (targeted : Carries L inner_target inner_target') where
-    target_in_parentheses : Carries L (a.target_in_parentheses inner inner_target) (a.target_in_parentheses inner' inner_target')
+    target_in_parentheses : Carries L (a.target_in_parentheses room inner inner_target) (a.target_in_parentheses room' inner' inner_target')
     unfolding a.target_in_parentheses
     target_in_parentheses = do
       token
@@ -226,7 +233,7 @@ module _ {L : Likeness} {inner inner' : Phrase → Language Expression} (deeper 
       token
       pure
 
-    target_in_brackets : Carries L (a.target_in_brackets inner inner_target) (a.target_in_brackets inner' inner_target')
+    target_in_brackets : Carries L (a.target_in_brackets room inner inner_target) (a.target_in_brackets room' inner' inner_target')
     unfolding a.target_in_brackets
     target_in_brackets = do
       token
@@ -234,7 +241,7 @@ module _ {L : Likeness} {inner inner' : Phrase → Language Expression} (deeper 
       token
       pure
 
-    target_level : Carries L (a.target_level inner inner_target) (a.target_level inner' inner_target')
+    target_level : Carries L (a.target_level room inner inner_target) (a.target_level room' inner' inner_target')
     unfolding a.target_level
     target_level = place_level or target_in_parentheses or target_in_brackets
 
@@ -242,13 +249,13 @@ pub place : {L : Likeness} (n k : ℕ) → n ≤ k → Carries L (a.place n) (a.
 unfolding a.place
 place zero k under = none
 place (suc n) zero under = absurd (omega (arith, under))
-place (suc n) (suc k) under = place_level (phrases n k (omega (arith, under)))
+place (suc n) (suc k) under = let below : n ≤ k = omega (arith, under) in place_level (room_stays n k below) (phrases n k below)
 
 pub target : {L : Likeness} (n k : ℕ) → n ≤ k → Carries L (a.target n) (a.target k)
 unfolding a.target
 target zero k under = none
 target (suc n) zero under = absurd (omega (arith, under))
-target (suc n) (suc k) under = target_level (phrases n k (omega (arith, under))) (target n k (omega (arith, under)))
+target (suc n) (suc k) under = let below : n ≤ k = omega (arith, under) in target_level (room_stays n k below) (phrases n k below) (target n k below)
 
 pub targets : {L : Likeness} (n k : ℕ) → n ≤ k → Carries L (a.targets n) (a.targets k)
 unfolding a.targets

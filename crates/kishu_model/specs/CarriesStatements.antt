@@ -116,6 +116,12 @@ module _ {L : Likeness} (around : Around) (n k : ℕ) (under : n ≤ k) where
     token
     pure
 
+line : {L : Likeness} (around : Around) (n k : ℕ) → n ≤ k → Carries L (s.line around n) (s.line around k)
+unfolding s.line
+line around zero k under = none
+line around (suc n) zero under = absurd (omega (arith, under))
+line around (suc n) (suc k) under = simples around (suc n) (suc k) under
+
 -- ---- compound statements
 
 -- where statements may stand
@@ -142,7 +148,7 @@ module _ {L : Likeness} (P : Arounds) (source source' : Text) (n k : ℕ) (under
   block : (around : Around) → P.Fine around → Carries L (s.block source n inner around) (s.block source' k inner' around)
   unfolding s.block
   block around fine = (do
-    all ← simples around n k under
+    all ← line around n k under
     pure) or (do
       token
       token

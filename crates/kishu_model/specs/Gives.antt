@@ -1,5 +1,5 @@
 -- What each value that a language spells has: one law for each way to put languages together, so that a production's proof reads as the production.
-use Rattle.std.specs.Prelude.{List, [], ◌∷◌, ◌++◌, Option, Some, None}
+use Rattle.std.specs.Prelude.{Bool, List, [], ◌∷◌, ◌++◌, Option, Some, None}
 use Rattle.std.specs.List.{flat_map}
 use Rattle.std.proofs.Common.{subst, ⊎_elim}
 use Rattle.kishu_model.specs.declared.token.Mark.{Mark}
@@ -102,6 +102,9 @@ module _ {A : Type 0} {I : Tokens → Type 0} {item : Language A} {P : A → Typ
     pure so)
 
 -- ---- the grammar's own
+
+pub bracketed : {A : Type 0} {room : Bool} {p : Language A} {P : A → Type 0} → Gives p P → Gives (g.bracketed room p) P
+bracketed one = whatever >> one
 
 pub separated : {A : Type 0} {by : Mark} {item : Language A} {P : A → Type 0} → Gives item P → Gives (g.separated by item) (Each P)
 separated one = do

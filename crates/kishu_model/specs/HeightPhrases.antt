@@ -1,5 +1,5 @@
 -- How high the tree of a phrase can be: ten for each nesting.
-use Rattle.std.specs.Prelude.{◌≡◌, ◌≤◌, ℕ, zero, suc, ◌+◌, ◌*◌, List, [], ◌∷◌, ◌++◌, map, Option, Some, None}
+use Rattle.std.specs.Prelude.{◌≡◌, Bool, ◌≤◌, ℕ, zero, suc, ◌+◌, ◌*◌, List, [], ◌∷◌, ◌++◌, map, Option, Some, None}
 use Rattle.std.proofs.Common.{subst, arith}
 use Rattle.std.proofs.Math.Nat.{max-le}
 use Rattle.kishu_model.specs.declared.token.Mark.{Mark}
@@ -14,7 +14,7 @@ use Rattle.kishu_model.specs.Grammar.{Phrase, exprs, expr, negated, unary}
 use Rattle.kishu_model.specs.Grammar as g
 use Rattle.kishu_model.specs.Targets as a
 use Rattle.kishu_model.specs.Height.{of_expression, of_operands, of_links, of_pairs, of_trailers, of_trailer, of_bound, of_arguments, of_argument, of_list}
-use Rattle.kishu_model.specs.Gives.{Gives, gives, pure, none, whatever, ◌>>=◌, ◌>>◌, ◌or◌, so_too, Each, IfAny, one_longer, many, optional, listed, any_listed, operated}
+use Rattle.kishu_model.specs.Gives.{Gives, gives, pure, none, whatever, ◌>>=◌, ◌>>◌, ◌or◌, so_too, Each, IfAny, one_longer, many, optional, bracketed, listed, any_listed, operated}
 
 -- ---- lists
 
@@ -123,10 +123,6 @@ module _ {inner : Phrase → Language Expression} (n : ℕ) (low : (p : Phrase) 
     whatever
     pure (max-le (low_bound n start first) (max-le (low_bound n stop second) (low_bound n step third)))
 
-  trailer : Gives (g.trailer inner) (λ t. of_trailer t ≤ n)
-  unfolding g.trailer
-  trailer = attribute or call or item or slice
-
   inside_parentheses : Gives (l.◌or◌ (l.pure (g.several [])) (l.◌>>=◌ (inner exprs) (λ e. l.pure (t.paren e)))) (Low (suc n))
   inside_parentheses = pure (omega arith) or (do
     (e, so) ← low exprs
@@ -191,18 +187,23 @@ module _ {inner : Phrase → Language Expression} (n : ℕ) (low : (p : Phrase) 
   constant : Gives (l.one_of g.constant_of) (Low (suc n))
   constant = gives (λ ts us e h. low_constant h.1 e h.4)
 
-  atom : Gives (g.atom inner) (Low (suc n))
-  unfolding g.atom
-  atom = name or integer or text or parenthesised or list or dict or constant
+module _ (room : Bool) {inner : Phrase → Language Expression} (n : ℕ) (low : (p : Phrase) → Gives (inner p) (Low n)) where
+  trailer : Gives (g.trailer room inner) (λ t. of_trailer t ≤ n)
+  unfolding g.trailer
+  trailer = attribute n low or bracketed (call n low or item n low or slice n low)
 
-  pub primary_parts : Gives (g.primary_parts inner) (λ p. Low (suc n) p.0 × Each (λ t. of_trailer t ≤ n) p.1)
+  atom : Gives (g.atom room inner) (Low (suc n))
+  unfolding g.atom
+  atom = name n low or integer n low or text n low or bracketed (parenthesised n low) or bracketed (list n low) or bracketed (dict n low) or constant n low
+
+  pub primary_parts : Gives (g.primary_parts room inner) (λ p. Low (suc n) p.0 × Each (λ t. of_trailer t ≤ n) p.1)
   unfolding g.primary_parts
   primary_parts = do
     (first, so) ← atom
     (found, each) ← many trailer
     pure (so, each)
 
-  primary : Gives (g.primary inner) (Low (2 + n))
+  primary : Gives (g.primary room inner) (Low (2 + n))
   unfolding g.primary
   primary = do
     (parts, so) ← primary_parts
@@ -211,7 +212,7 @@ module _ {inner : Phrase → Language Expression} (n : ℕ) (low : (p : Phrase) 
   low_power : (base exponent : Expression) → Low (2 + n) base → Low n exponent → Low (3 + n) (t.power base exponent)
   low_power base exponent h k = let after : of_expression exponent ≤ 2 + n = omega (arith, k) in omega (arith, max-le h after)
 
-  power : Gives (g.power inner) (Low (3 + n))
+  power : Gives (g.power room inner) (Low (3 + n))
   unfolding g.power
   power = do
     (base, first) ← primary
@@ -220,44 +221,44 @@ module _ {inner : Phrase → Language Expression} (n : ℕ) (low : (p : Phrase) 
       (exponent, second) ← low unary
       pure (low_power base exponent first second))
 
-  unary_level : Gives (g.unary_level inner) (Low (3 + n))
+  unary_level : Gives (g.unary_level room inner) (Low (3 + n))
   unfolding g.unary_level
   unary_level = (do
     before ← whatever
     (operand, so) ← low unary
     pure (omega (arith, so))) or power
 
-  term : Gives (g.term inner) (Low (4 + n))
+  term : Gives (g.term room inner) (Low (4 + n))
   unfolding g.term
   term = operated g.multiplied (λ e h. omega (arith, h)) (λ e x xs h k. omega (arith, max-le h (low_operands (3 + n) (x ∷ xs) k))) unary_level
 
-  sum : Gives (g.sum inner) (Low (5 + n))
+  sum : Gives (g.sum room inner) (Low (5 + n))
   unfolding g.sum
   sum = operated g.summed (λ e h. omega (arith, h)) (λ e x xs h k. omega (arith, max-le h (low_operands (4 + n) (x ∷ xs) k))) term
 
-  compared : Gives (g.compared inner) (Low (6 + n))
+  compared : Gives (g.compared room inner) (Low (6 + n))
   unfolding g.compared
   compared = operated g.compared_with (λ e h. omega (arith, h)) (λ e x xs h k. omega (arith, max-le h (low_links (5 + n) (x ∷ xs) k))) sum
 
-  negated_level : Gives (g.negated_level inner) (Low (6 + n))
+  negated_level : Gives (g.negated_level room inner) (Low (6 + n))
   unfolding g.negated_level
   negated_level = (do
     whatever
     (operand, so) ← low negated
     pure (omega (arith, so))) or compared
 
-  conjunction : Gives (g.conjunction inner) (Low (7 + n))
+  conjunction : Gives (g.conjunction room inner) (Low (7 + n))
   unfolding g.conjunction
   conjunction = operated g.all_of (λ e h. omega (arith, h)) (λ e x xs h k. omega (arith, max-le h (low_seconds (6 + n) (x ∷ xs) k))) negated_level
 
-  disjunction : Gives (g.disjunction inner) (Low (8 + n))
+  disjunction : Gives (g.disjunction room inner) (Low (8 + n))
   unfolding g.disjunction
   disjunction = operated g.any_of (λ e h. omega (arith, h)) (λ e x xs h k. omega (arith, max-le h (low_seconds (7 + n) (x ∷ xs) k))) conjunction
 
   low_conditional : (value test other : Expression) → Low (8 + n) value → Low (8 + n) test → Low n other → Low (9 + n) (t.conditional value test other)
   low_conditional value test other h k j = let last : of_expression other ≤ 8 + n = omega (arith, j) in omega (arith, max-le h (max-le k last))
 
-  expr_level : Gives (g.expr_level inner) (Low (9 + n))
+  expr_level : Gives (g.expr_level room inner) (Low (9 + n))
   unfolding g.expr_level
   expr_level = do
     (value, first) ← disjunction
@@ -268,11 +269,11 @@ module _ {inner : Phrase → Language Expression} (n : ℕ) (low : (p : Phrase) 
       (other, third) ← low expr
       pure (low_conditional value test other first second third))
 
-  exprs_level : Gives (g.exprs_level inner) (Low (10 + n))
+  exprs_level : Gives (g.exprs_level room inner) (Low (10 + n))
   unfolding g.exprs_level
   exprs_level = so_too (several (9 + n) expr_level) (λ e h. omega (arith, h))
 
-  level : (p : Phrase) → Gives (g.level inner p) (Low (10 + n))
+  level : (p : Phrase) → Gives (g.level room inner p) (Low (10 + n))
   level exprs = exprs_level
   level expr = so_too expr_level (λ e h. omega (arith, h))
   level negated = so_too negated_level (λ e h. omega (arith, h))
@@ -284,23 +285,23 @@ next_ten n = omega arith
 pub phrases : (depth : ℕ) (p : Phrase) → Gives (g.phrase depth p) (Low (10 * depth))
 unfolding g.phrase
 phrases zero p = none
-phrases (suc depth) p = subst (λ n. Gives (g.level (g.phrase depth) p) (Low n)) (next_ten depth) (level (10 * depth) (phrases depth) p)
+phrases (suc depth) p = subst (λ n. Gives (g.level (g.has_room depth) (g.phrase depth) p) (Low n)) (next_ten depth) (level (g.has_room depth) (10 * depth) (phrases depth) p)
 
 -- ---- places and targets
 
 low_place : (n : ℕ) (e : Expression) (ts : List Trailer) (last : Trailer) → Low (suc n) e → Each (λ t. of_trailer t ≤ n) ts → of_trailer last ≤ n → Low (2 + n) (g.with_trailers e (ts ++ last ∷ []))
 low_place n e ts last h k j = low_primary n e (ts ++ last ∷ []) h (one_longer (λ t. of_trailer t ≤ n) ts last k j)
 
-module _ {inner : Phrase → Language Expression} (n : ℕ) (low : (p : Phrase) → Gives (inner p) (Low n)) where
-  place_level : Gives (a.place_level inner) (Low (2 + n))
+module _ (room : Bool) {inner : Phrase → Language Expression} (n : ℕ) (low : (p : Phrase) → Gives (inner p) (Low n)) where
+  place_level : Gives (a.place_level room inner) (Low (2 + n))
   unfolding a.place_level
   place_level = so_too (name n low) (λ e h. omega (arith, h)) or (do
-    (parts, so) ← primary_parts n low
+    (parts, so) ← primary_parts room n low
     (last, ends) ← attribute n low or item n low
     pure (low_place n parts.0 parts.1 last so.0 so.1 ends))
 
   module _ {inner_target : Language Expression} (low_target : Gives inner_target (Low n)) where
-    target_in_parentheses : Gives (a.target_in_parentheses inner inner_target) (Low (2 + n))
+    target_in_parentheses : Gives (a.target_in_parentheses room inner inner_target) (Low (2 + n))
     unfolding a.target_in_parentheses
     target_in_parentheses = do
       whatever
@@ -308,7 +309,7 @@ module _ {inner : Phrase → Language Expression} (n : ℕ) (low : (p : Phrase) 
       whatever
       pure (omega (arith, so))
 
-    target_in_brackets : Gives (a.target_in_brackets inner inner_target) (Low (2 + n))
+    target_in_brackets : Gives (a.target_in_brackets room inner inner_target) (Low (2 + n))
     unfolding a.target_in_brackets
     target_in_brackets = do
       whatever
@@ -316,18 +317,18 @@ module _ {inner : Phrase → Language Expression} (n : ℕ) (low : (p : Phrase) 
       whatever
       pure (omega (arith, low_list n all so))
 
-    target_level : Gives (a.target_level inner inner_target) (Low (2 + n))
+    target_level : Gives (a.target_level room inner inner_target) (Low (2 + n))
     unfolding a.target_level
     target_level = place_level or target_in_parentheses or target_in_brackets
 
 pub place : (depth : ℕ) → Gives (a.place depth) (Low (10 * depth))
 unfolding a.place
 place zero = none
-place (suc depth) = so_too (place_level (10 * depth) (phrases depth)) (λ e h. omega (arith, h))
+place (suc depth) = so_too (place_level (g.has_room depth) (10 * depth) (phrases depth)) (λ e h. omega (arith, h))
 
 above_target : (depth : ℕ) → Gives (a.target depth) (Low (10 * depth)) → Gives (a.target (suc depth)) (Low (2 + 10 * depth))
 unfolding a.target
-above_target depth deeper = target_level (10 * depth) (phrases depth) deeper
+above_target depth deeper = target_level (g.has_room depth) (10 * depth) (phrases depth) deeper
 
 pub target : (depth : ℕ) → Gives (a.target depth) (Low (10 * depth))
 unfolding a.target

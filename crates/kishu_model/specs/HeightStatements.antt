@@ -161,6 +161,11 @@ module _ (around : Around) (depth : ℕ) where
     whatever
     pure so
 
+line : (around : Around) (depth : ℕ) → Gives (s.line around depth) (Each (Short (suc (10 * depth))))
+unfolding s.line
+line around zero = none
+line around (suc depth) = simples around (suc depth)
+
 -- ---- compound statements
 
 module _ (source : Text) (depth : ℕ) {inner : Around → Language (List Statement)} (low : (around : Around) → Gives (inner around) (Each (Short (10 * suc depth)))) where
@@ -170,7 +175,7 @@ module _ (source : Text) (depth : ℕ) {inner : Around → Language (List Statem
   low_block : (around : Around) → Gives (s.block source depth inner around) (λ ss. of_statements ss ≤ most)
   unfolding s.block
   low_block around = (do
-    (all, so) ← simples around depth
+    (all, so) ← line around depth
     pure (low_statements most all (longer (suc (10 * depth)) (omega arith) all so))) or (do
       whatever
       whatever

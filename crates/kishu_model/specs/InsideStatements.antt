@@ -193,8 +193,13 @@ module _ (source : Text) (k : ℕ) (all : Tokens) where
   none_held [] h = tt
   none_held (s ∷ ss) h = ((λ d j. absurd (h.0 d j)), none_held ss h.1)
 
-  line : (around : Around) (depth : ℕ) → Leads (EndOf all) (s.simples around depth) (Each Held)
-  line around depth = so_too (passing (simples around depth depth (itself depth)) (plain_line around depth)) none_held
+  simples_held : (around : Around) (depth : ℕ) → Leads (EndOf all) (s.simples around depth) (Each Held)
+  simples_held around depth = so_too (passing (simples around depth depth (itself depth)) (plain_line around depth)) none_held
+
+  line : (around : Around) (depth : ℕ) → Leads (EndOf all) (s.line around depth) (Each Held)
+  unfolding s.line
+  line around zero = none
+  line around (suc depth) = simples_held around (suc depth)
 
   module _ (n : ℕ) (under : n ≤ k) {inner : Around → Language (List Statement)}
       (kept : Blocks same everywhere inner inner) (deeper : Blocks same everywhere inner (s.chunk source k)) (held : (around : Around) → Leads (EndOf all) (inner around) (Each Held)) where
@@ -326,7 +331,7 @@ module _ (source : Text) (k : ℕ) (all : Tokens) where
   pub chunks_held : (n : ℕ) → n ≤ suc k → (around : Around) → Leads (EndOf all) (s.chunk source n around) (Each Held)
   unfolding s.chunk
   chunks_held zero under around = none
-  chunks_held (suc n) under around = line around (suc n) or (do
+  chunks_held (suc n) under around = simples_held around (suc n) or (do
     (found, so) ← compound n (omega (arith, under)) (λ around fine. chunks source n n (itself n) around) (λ around fine. chunks source n k (omega (arith, under)) around) (chunks_held n (omega (arith, under))) around
     pure (so, tt))
 
