@@ -28,7 +28,9 @@ pub mod Exact
 pub mod Follow
 pub mod ExactExpressions
 pub mod ExactPhrases
-pub mod ExactStatements
+pub mod TargetTrees
+pub mod ExactTargets
+pub mod ExactSimple
 pub mod Values
 pub mod Plain
 pub mod PlainLaws
