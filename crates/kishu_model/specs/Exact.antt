@@ -342,7 +342,7 @@ text_finds = record { there = λ a. refl; only = only }
     only kind.dedent a h = absurd cc
     only (kind.mark m) a h = absurd cc
 
-so_true : (b : Bool) (a : Unit {0}) → where_so b ≡ Some a → b ≡ true
+pub so_true : (b : Bool) (a : Unit {0}) → where_so b ≡ Some a → b ≡ true
 so_true true a h = refl
 so_true false a h = absurd cc
 

@@ -17,13 +17,10 @@ use Rattle.kishu_model.specs.ReadExpressions.{expr_begins}
 use Rattle.kishu_model.specs.ReadExpressions as f
 use Rattle.kishu_model.specs.ReadStatements as rs
 use Rattle.kishu_model.specs.Exact.{Reads, anything, pure_reads, where_reads, bind_reads, either_reads, begins_by, same_reads, fewer_ends, token_reads, token_begins, name_finds, optional_reads}
-use Rattle.kishu_model.specs.Follow.{follow, Stop, stop_sees}
+use Rattle.kishu_model.specs.Follow.{Stop, stop_sees}
+use Rattle.kishu_model.specs.Starts.{EndsSimple}
 use Rattle.kishu_model.specs.ExactExpressions.{marked_reads, name_is_expr, separated_reads}
 use Rattle.kishu_model.specs.ExactPhrases.{phrases}
-
--- what follows a simple statement
-abbrev pub EndsSimple : Tokens → Type 0
-EndsSimple ts = (9 < follow ts) × (expr_begins ts ≡ false) × (sees m.As ts ≡ false)
 
 module _ (around : Around) (depth : ℕ) where
   pub return_reads : Reads (s.return around depth) (rs.return around depth) EndsSimple

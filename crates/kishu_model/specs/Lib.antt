@@ -30,6 +30,8 @@ pub mod ExactExpressions
 pub mod ExactPhrases
 pub mod TargetTrees
 pub mod ExactTargets
+pub mod Starts
+pub mod ExactAssign
 pub mod ExactSimple
 pub mod Values
 pub mod Plain

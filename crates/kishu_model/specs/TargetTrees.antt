@@ -425,3 +425,11 @@ unfolding a.place g.phrase
 phrase_place zero ts us x h is = absurd h
 phrase_place (suc n) ts us x h is =
     primary_place (g.phrase n) ts us x (expr_target (g.phrase n) ts us x (narrow_level (g.phrase n) ts us x h (place_single x is)) (place_target (g.phrase n) x is)) is
+
+pub targets_phrase : (n : ℕ) (ts us : Tokens) (x : Expression) → a.targets n ts us x → g.phrase n exprs ts us x × (is_target x ≡ true)
+unfolding a.targets
+targets_phrase n ts us x h = (same_targets n).into_several ts us x h
+
+pub phrase_targets : (n : ℕ) (ts us : Tokens) (x : Expression) → g.phrase n exprs ts us x → is_target x ≡ true → a.targets n ts us x
+unfolding a.targets
+phrase_targets n ts us x h is = (same_targets n).back_several ts us x h is
