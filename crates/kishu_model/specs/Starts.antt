@@ -98,6 +98,9 @@ newline_ends ts h = let n = kind_is newline_finds ts h in (
   ap (sees_one update_operator) n.1 ∙ ap (λ k. is_some (r.in_table update_operator k)) n.2,
 )
 
+pub newline_unseen : (k : Mark) (ts : Tokens) → sees_some r.is_newline ts ≡ true → sees k ts ≡ false
+newline_unseen k ts h = let n = kind_is newline_finds ts h in ap (sees k) n.1 ∙ ap (λ c. is_some (r.is_mark k c)) n.2
+
 -- what follows a statement
 abbrev pub EndsChunk : Tokens → Type 0
 EndsChunk ts = (sees m.Elif ts ≡ false) × (sees m.Else ts ≡ false) × (sees m.Except ts ≡ false) × (sees m.Finally ts ≡ false)
