@@ -33,6 +33,7 @@ pub mod ExactTargets
 pub mod Starts
 pub mod ExactAssign
 pub mod ExactSimple
+pub mod ExactBlocks
 pub mod Values
 pub mod Plain
 pub mod PlainLaws

@@ -14,8 +14,9 @@ use Rattle.kishu_model.specs.Statements.{update_operator}
 use Rattle.kishu_model.specs.Reader.{Reader, rest, sees_some, sees, sees_one, where_so}
 use Rattle.kishu_model.specs.Reader as r
 use Rattle.kishu_model.specs.ReadExpressions.{kind_begins, starts_with, begins_expr, expr_begins}
-use Rattle.kishu_model.specs.Exact.{Reads, Begins, Finds, either_reads, begins_or, begins_by, same_reads, same_begins, so_true}
-use Rattle.kishu_model.specs.Follow.{kind_follow, follow, not_true, some_value, sees_is, sees_follow, sees_starts, starts_implies}
+use Rattle.kishu_model.specs.ReadStatements.{begins_compound}
+use Rattle.kishu_model.specs.Exact.{Reads, Begins, Finds, of_kind, either_reads, begins_or, begins_by, same_reads, same_begins, so_true}
+use Rattle.kishu_model.specs.Follow.{kind_follow, follow, not_true, some_value, sees_is, sees_follow, sees_starts, starts_unseen, starts_implies}
 use Rattle.kishu_model.specs.ExactExpressions.{marked_reads, marked_begins, other_mark, table_unseen}
 use Rattle.kishu_model.specs.TargetTrees.{clash}
 
@@ -104,6 +105,14 @@ newline_unseen k ts h = let n = kind_is newline_finds ts h in ap (sees k) n.1 �
 -- what follows a statement
 abbrev pub EndsChunk : Tokens → Type 0
 EndsChunk ts = (sees m.Elif ts ≡ false) × (sees m.Else ts ≡ false) × (sees m.Except ts ≡ false) × (sees m.Finally ts ≡ false)
+
+pub dedent_ends : (ts : Tokens) → sees_some r.is_dedent ts ≡ true → EndsChunk ts
+dedent_ends ts h = let d = kind_is dedent_finds ts h in (
+  ap (sees m.Elif) d.1 ∙ ap (λ c. is_some (r.is_mark m.Elif c)) d.2,
+  ap (sees m.Else) d.1 ∙ ap (λ c. is_some (r.is_mark m.Else c)) d.2,
+  ap (sees m.Except) d.1 ∙ ap (λ c. is_some (r.is_mark m.Except c)) d.2,
+  ap (sees m.Finally) d.1 ∙ ap (λ c. is_some (r.is_mark m.Finally c)) d.2,
+)
 
 -- ---- how statements begin
 
@@ -219,6 +228,26 @@ expr_is_simple = starts_implies begins_expr begins_simple expr_mark_simple
 
 pub simple_is_chunk : (ts : Tokens) → starts_with begins_simple ts ≡ true → starts_with begins_chunk ts ≡ true
 simple_is_chunk = starts_implies begins_simple begins_chunk simple_mark_chunk
+
+-- Another statement is no part of the one before it.
+pub chunk_ends : (ts : Tokens) → starts_with begins_chunk ts ≡ true → EndsChunk ts
+chunk_ends ts h = (starts_unseen begins_chunk m.Elif ts h refl, starts_unseen begins_chunk m.Else ts h refl, starts_unseen begins_chunk m.Except ts h refl, starts_unseen begins_chunk m.Finally ts h refl)
+
+compound_rank : (k : Mark) (a : Unit {0}) → begins_compound k ≡ Some a → mark_rank k < 5
+compound_rank m.If a h = omega arith
+compound_rank m.While a h = omega arith
+compound_rank m.For a h = omega arith
+compound_rank m.Try a h = omega arith
+compound_rank m.Def a h = omega arith
+compound_rank _ a h = absurd cc
+
+kind_compound : (k : Kind) (a : Unit {0}) → r.in_table begins_compound k ≡ Some a → kind_rank k < 5
+kind_compound k a h = let p = of_kind begins_compound k a h in omega (arith, ap kind_rank p.1, compound_rank p.0 a p.2)
+
+-- a line begins with no word of a statement with blocks
+pub no_compound : (ts : Tokens) → 5 ≤ rank ts → sees_one begins_compound ts ≡ false
+no_compound [] le = refl
+no_compound (t ∷ ts) le = not_true (sees_one begins_compound (t ∷ ts)) (λ h. (let o = some_value (r.in_table begins_compound t.kind) h in absurd (omega (arith, kind_compound t.kind o.0 o.1))))
 
 -- no kind of token without a mark that is no name, number or text
 pub kind_unseen : {k : Kind} {found : Kind → Option (Unit {0})} → Finds (λ _. k) found → (test : Mark → Bool) → kind_begins test k ≡ false → (ts : Tokens) → starts_with test ts ≡ true → sees_some found ts ≡ false
