@@ -34,6 +34,8 @@ pub mod Starts
 pub mod ExactAssign
 pub mod ExactSimple
 pub mod ExactBlocks
+pub mod Unbroken
+pub mod PieceEnds
 pub mod Values
 pub mod Plain
 pub mod PlainLaws
