@@ -36,6 +36,8 @@ pub mod ExactSimple
 pub mod ExactBlocks
 pub mod Unbroken
 pub mod PieceEnds
+pub mod ExactPieces
+pub mod ExactText
 pub mod Values
 pub mod Plain
 pub mod PlainLaws
