@@ -1,5 +1,5 @@
 -- Assignments and updates are read exactly: values are read by turns, and those before `=` turn out to be targets.
-use Rattle.std.specs.Prelude.{◌≡◌, ◌⊎◌, ℕ, Bool, true, false, List, [], ◌∷◌, ◌++◌, length, Some}
+use Rattle.std.specs.Prelude.{◌≡◌, ℕ, true, false, List, [], ◌∷◌, ◌++◌, length, Some}
 use Rattle.std.proofs.Common.{refl, sym, ap, subst, ◌∙◌, arith, inl, inr, ⊎_elim}
 use Rattle.kishu_model.specs.declared.token.Mark.{Mark}
 use Rattle.kishu_model.specs.declared.token.Mark.TheVariants as m
@@ -19,12 +19,12 @@ use Rattle.kishu_model.specs.ReadExpressions.{kind_begins, begins_expr, expr_beg
 use Rattle.kishu_model.specs.ReadExpressions as f
 use Rattle.kishu_model.specs.ReadStatements.{Assigned}
 use Rattle.kishu_model.specs.ReadStatements as rs
-use Rattle.kishu_model.specs.Exact.{Reads, Begins, anything, pure_reads, where_reads, bind_reads, either_reads, begins_then, same_reads, same_begins, fewer_ends, mark_reads, mark_begins, one_of_reads, one_of_begins, many_reads, after}
+use Rattle.kishu_model.specs.Exact.{Reads, Begins, anything, pure_reads, where_reads, bind_reads, either_reads, begins_then, same_reads, same_begins, fewer_ends, mark_begins, one_of_reads, one_of_begins, many_reads, after}
 use Rattle.kishu_model.specs.Follow.{kind_follow, follow, not_true}
 use Rattle.kishu_model.specs.ExactExpressions.{Ends_phrase, Closer, close_exprs, marked_reads, marked_begins, table_unseen}
 use Rattle.kishu_model.specs.ExactPhrases.{phrases}
 use Rattle.kishu_model.specs.TargetTrees.{clash, place_phrase, phrase_place, targets_phrase, phrase_targets}
-use Rattle.kishu_model.specs.Starts.{EndsSimple, Tail, expr_rank, expr_is_simple, begins_simple}
+use Rattle.kishu_model.specs.Starts.{EndsSimple}
 
 operator_closes : (k : Mark) (x : Operator) → st.update_operator k ≡ Some x → Closer k
 operator_closes m.PlusAssign x h = (refl, refl)
@@ -137,8 +137,17 @@ module _ (around : Around) (depth : ℕ) where
         one.0,
         one.1,
         target.0,
-        more (one.0, tt, (refl, target.1), (equals.0, equals.1, equals.2,
-          (rest.0, rest.1, subst (λ (v : Tokens). g.phrase depth exprs v rest.0 rest.1) (sym (equals.3.0 ∙ h.3.0)) rest.2, (refl, λ i. ((ap (λ e. found ++ e ∷ []) equals.3.1 ∙ h.3.1) i, rest.1))))) rest.3,
+        more (
+          one.0,
+          tt,
+          (refl, target.1),
+          (
+            equals.0,
+            equals.1,
+            equals.2,
+            (rest.0, rest.1, subst (λ (v : Tokens). g.phrase depth exprs v rest.0 rest.1) (sym (equals.3.0 ∙ h.3.0)) rest.2, (refl, λ i. ((ap (λ e. found ++ e ∷ []) equals.3.1 ∙ h.3.1) i, rest.1))),
+          ),
+        ) rest.3,
       )
 
   as_targets : (x y : Assigned) (ts next us : Tokens) → g.phrase depth exprs ts next x.1 → Many turn x next us y

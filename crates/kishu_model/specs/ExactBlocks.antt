@@ -1,27 +1,25 @@
 -- Statements with blocks are read exactly.
-use Rattle.std.specs.Prelude.{◌≡◌, ◌⊎◌, ℕ, zero, suc, ◌<◌, ◌≤◌, Bool, true, false, not, List, [], ◌∷◌, ◌++◌, length, Option, Some, None}
-use Rattle.std.specs.List.{flat_map}
-use Rattle.std.proofs.Common.{refl, sym, ap, subst, ◌∙◌, arith, inl, inr, ⊎_elim}
+use Rattle.std.specs.Prelude.{◌≡◌, ℕ, zero, suc, true, false, not, List, [], ◌∷◌, length, Option}
+use Rattle.std.proofs.Common.{refl, sym, ap, subst, ◌∙◌, arith, ⊎_elim}
 use Rattle.kishu_model.specs.declared.token.Mark.{Mark}
 use Rattle.kishu_model.specs.declared.token.Mark.TheVariants as m
 use Rattle.kishu_model.specs.Layout.{same}
 use Rattle.kishu_model.specs.Layout as kind
-use Rattle.kishu_model.specs.Tree.{Text, Expression, Statement, Statements, Parameter, Definition}
-use Rattle.kishu_model.specs.Tree as t
+use Rattle.kishu_model.specs.Tree.{Text, Expression, Statement, Statements, Parameter}
 use Rattle.kishu_model.specs.Language.{Tokens, Language, Many}
 use Rattle.kishu_model.specs.Language as l
 use Rattle.kishu_model.specs.Grammar.{exprs, expr, alone, several, deepest}
 use Rattle.kishu_model.specs.Grammar as g
 use Rattle.kishu_model.specs.Targets.{target}
 use Rattle.kishu_model.specs.Targets as a
-use Rattle.kishu_model.specs.Refusals.{Around, top, in_function, in_loop, in_handler, handlers_fit}
+use Rattle.kishu_model.specs.Refusals.{Around, top, in_function, in_loop, in_handler}
 use Rattle.kishu_model.specs.Statements as st
 use Rattle.kishu_model.specs.Reader.{Reader, sees_some, sees, sees_one}
 use Rattle.kishu_model.specs.Reader as r
 use Rattle.kishu_model.specs.ReadExpressions.{starts_with, begins_expr, expr_begins}
 use Rattle.kishu_model.specs.ReadExpressions as f
 use Rattle.kishu_model.specs.ReadStatements as rs
-use Rattle.kishu_model.specs.Exact.{Reads, Begins, anything, pure_reads, none_reads, none_begins, where_reads, bind_reads, either_reads, either_swapped, begins_then, begins_or, begins_by, fewer_ends, mark_reads, mark_begins, token_reads, token_begins, name_finds, list_reads, list_after, some_reads, some_begins, optional_reads, spelled_reads}
+use Rattle.kishu_model.specs.Exact.{Reads, Begins, anything, pure_reads, none_reads, none_begins, where_reads, bind_reads, either_reads, either_swapped, begins_then, begins_or, begins_by, fewer_ends, mark_begins, token_reads, token_begins, name_finds, list_reads, some_reads, some_begins, optional_reads, spelled_reads}
 use Rattle.kishu_model.specs.Follow.{Stop, sees_starts, sees_follow}
 use Rattle.kishu_model.specs.ExactExpressions.{Ends_phrase, EndsArgument, close_exprs, close_expr, close_list, comma_expr, marked_reads, marked_begins, name_is_expr, listed_reads, any_listed_reads, other_mark, sees_table}
 use Rattle.kishu_model.specs.ExactPhrases.{phrases}

@@ -1,5 +1,5 @@
 -- Simple statements are read exactly.
-use Rattle.std.specs.Prelude.{◌≡◌, ◌⊎◌, ℕ, ◌<◌, ◌≤◌, Bool, true, false, not, ◌&&◌, List, [], ◌∷◌, ◌++◌, codes, Option, Some, None}
+use Rattle.std.specs.Prelude.{◌≡◌, ℕ, ◌≤◌, Bool, true, false, not, ◌&&◌, List, [], ◌∷◌, codes, Some, None}
 use Rattle.std.proofs.Common.{refl, sym, ap, subst, ◌∙◌, arith, inl, inr, ⊎_elim}
 use Rattle.std.proofs.Math.Bool.{and-false}
 use Rattle.kishu_model.specs.declared.token.Mark.{Mark}
@@ -25,7 +25,7 @@ use Rattle.kishu_model.specs.Follow.{Stop, stop_sees, sees_follow}
 use Rattle.kishu_model.specs.ExactExpressions.{comma_expr, marked_reads, marked_begins, name_is_expr, separated_reads}
 use Rattle.kishu_model.specs.ExactPhrases.{phrases}
 use Rattle.kishu_model.specs.ExactTargets.{place_reads, place_begins}
-use Rattle.kishu_model.specs.Starts.{EndsSimple, semicolon_ends, newline_ends, newline_unseen, newline_finds, kind_is, kind_unseen, word_finds, begins_simple, rank, expr_rank, expr_is_simple, Begun, marked, Tail, either_tail, same_tail}
+use Rattle.kishu_model.specs.Starts.{EndsSimple, semicolon_ends, newline_ends, newline_unseen, newline_finds, kind_unseen, word_finds, begins_simple, rank, expr_rank, expr_is_simple, Begun, marked, Tail, either_tail, same_tail}
 use Rattle.kishu_model.specs.ExactAssign.{assign_reads, assign_begins}
 
 ends_expr : (ts : Tokens) → EndsSimple ts → Stop 8 ts

@@ -1,5 +1,5 @@
 -- The tree of a text, or the line of its fault, is read exactly.
-use Rattle.std.specs.Prelude.{◌≡◌, ◌≢◌, ◌⊎◌, ℕ, zero, suc, ◌<◌, ◌≤◌, Bool, true, not, List, [], ◌∷◌, ◌++◌, length, Option, Some, None, Result, Ok, Err}
+use Rattle.std.specs.Prelude.{◌≡◌, ◌≢◌, ◌⊎◌, ℕ, zero, suc, ◌<◌, ◌≤◌, true, List, [], ◌∷◌, ◌++◌, length, Option, Some, None, Result, Ok, Err}
 use Rattle.std.specs.List.{flat_map}
 use Rattle.std.specs.Str.{chars}
 use Rattle.std.proofs.Common.{refl, sym, ap, subst, ◌∙◌, arith, inl, inr, ⊎_elim}
@@ -13,7 +13,7 @@ use Rattle.kishu_model.specs.Language as l
 use Rattle.kishu_model.specs.Grammar.{deepest}
 use Rattle.kishu_model.specs.Refusals.{top}
 use Rattle.kishu_model.specs.Statements.{chunk, program}
-use Rattle.kishu_model.specs.Pieces.{starts_piece, next_piece, IsPiece, FirstBad, here, later, first_line}
+use Rattle.kishu_model.specs.Pieces.{starts_piece, next_piece, FirstBad, here, later, first_line}
 use Rattle.kishu_model.specs.Parse.{plain_text, Parse, Line}
 use Rattle.kishu_model.specs.ReadText.{piece, and_pieces, pieces, tree_in, read_chars}
 use Rattle.kishu_model.specs.ExactBlocks.{chunks_read}
@@ -56,7 +56,7 @@ module _ (source : Text) where
   pieces_found (suc n) parts (u ∷ ts) tree fits e =
       let k = pieces_ok u.line (piece source (u ∷ ts)) (λ next. pieces source n (flat parts ++ next) (next_piece (u ∷ ts))) tree e in
       let rest = pieces_found n (parts ++ k.0 ∷ []) (next_piece (u ∷ ts)) tree (omega (arith, piece_shorter u ts 0))
-          (ap (λ v. pieces source n v (next_piece (u ∷ ts))) (sym (flat_more parts k.0)) ∙ k.2) in
+      (ap (λ v. pieces source n v (next_piece (u ∷ ts))) (sym (flat_more parts k.0)) ∙ k.2) in
       (rest.0, more (next_piece (u ∷ ts), k.0, piece_found source (u ∷ ts) k.0 k.1, (refl, refl)) rest.1, rest.2)
 
   chunks_start : {parts all : List (List Statement)} {ts : Tokens} → Many (l.one_more (chunk source deepest top)) parts ts [] all → starts_piece ts ≡ true

@@ -1,6 +1,6 @@
 -- Places and targets are the phrases that are places and targets by their trees.
-use Rattle.std.specs.Prelude.{◌≡◌, ◌⊎◌, ℕ, zero, suc, Bool, true, false, ◌&&◌, List, [], ◌∷◌, ◌++◌, Some, None}
-use Rattle.std.proofs.Common.{refl, sym, ap, subst, ◌∙◌, arith, inl, inr, ⊎_elim}
+use Rattle.std.specs.Prelude.{◌≡◌, ◌⊎◌, ℕ, zero, suc, Bool, true, false, ◌&&◌, List, [], ◌∷◌, ◌++◌, Some}
+use Rattle.std.proofs.Common.{refl, sym, ap, subst, ◌∙◌, inl, inr, ⊎_elim}
 use Rattle.std.proofs.Math.Bool.{and-true}
 use Rattle.kishu_model.specs.declared.token.Mark.{Mark}
 use Rattle.kishu_model.specs.declared.token.Mark.TheVariants as m
@@ -99,9 +99,13 @@ module _ (inner : Phrase → Language Expression) where
 
   expr_primary : (ts us : Tokens) (x : Expression) → g.primary inner ts us x → g.expr_level inner ts us x
   unfolding g.expr_level g.disjunction g.conjunction g.negated_level
-  expr_primary ts us x h =
-      (us, x, operated_alone (g.conjunction inner) (l.mark m.Or) g.any_of ts us x
-      (operated_alone (g.negated_level inner) (l.mark m.And) g.all_of ts us x (inr (compared_primary ts us x h))), inl (refl, refl))
+  expr_primary ts us x h = (
+    us,
+    x,
+    operated_alone (g.conjunction inner) (l.mark m.Or) g.any_of ts us x
+        (operated_alone (g.negated_level inner) (l.mark m.And) g.all_of ts us x (inr (compared_primary ts us x h))),
+    inl (refl, refl),
+  )
 
   -- ---- a primary, told from its end
 
@@ -117,8 +121,12 @@ module _ (inner : Phrase → Language Expression) where
       let end : parts.3.0 ≡ us = parts.3.3.0 ∙ h.3.0 in
       ⊎_elim
       (λ k. inl (subst (λ (y : Tokens × Expression). g.atom inner ts y.0 y.1) (λ i. ((k.0 ∙ end) i, (ap (g.with_trailers parts.1) k.1 ∙ value) i)) parts.2))
-      (λ k. inr (k.0, (parts.1, k.1), (parts.0, parts.1, parts.2, (k.0, k.1, k.2, (refl, refl))),
-        (k.3.0, k.3.1, k.3.2, (k.3.3.0 ∙ end, ap (g.with_trailers parts.1) k.3.3.1 ∙ value))))
+      (λ k. inr (
+        k.0,
+        (parts.1, k.1),
+        (parts.0, parts.1, parts.2, (k.0, k.1, k.2, (refl, refl))),
+        (k.3.0, k.3.1, k.3.2, (k.3.3.0 ∙ end, ap (g.with_trailers parts.1) k.3.3.1 ∙ value)),
+      ))
       (many_ends [] parts.3.1 parts.0 parts.3.0 parts.3.2)
 
   atom_primary : (ts us : Tokens) (x : Expression) → g.atom inner ts us x → g.primary inner ts us x
@@ -130,9 +138,12 @@ module _ (inner : Phrase → Language Expression) where
   trailed_primary ts us x h =
       let parts = h.2 in
       let last = h.3 in
-      let at : g.trailer inner parts.3.0 last.0 last.1 = subst (λ (v : Tokens). g.trailer inner v last.0 last.1) (sym parts.3.3.0) last.2 in
-      (us, (parts.1, parts.3.1 ++ last.1 ∷ []), (parts.0, parts.1, parts.2, (us, parts.3.1 ++ last.1 ∷ [], many_last parts.3.2 (last.0, last.1, at, (last.3.0, refl)), (refl, refl))),
-        (refl, ap (λ (p : Expression × List Trailer). g.with_trailers p.0 (p.1 ++ last.1 ∷ [])) parts.3.3.1 ∙ last.3.1))
+      let at : g.trailer inner parts.3.0 last.0 last.1 = subst (λ (v : Tokens). g.trailer inner v last.0 last.1) (sym parts.3.3.0) last.2 in (
+        us,
+        (parts.1, parts.3.1 ++ last.1 ∷ []),
+        (parts.0, parts.1, parts.2, (us, parts.3.1 ++ last.1 ∷ [], many_last parts.3.2 (last.0, last.1, at, (last.3.0, refl)), (refl, refl))),
+        (refl, ap (λ (p : Expression × List Trailer). g.with_trailers p.0 (p.1 ++ last.1 ∷ [])) parts.3.3.1 ∙ last.3.1),
+      )
 
   -- ---- places
 
@@ -169,10 +180,11 @@ module _ (inner : Phrase → Language Expression) where
   unfolding a.place_level g.atom
   place_in ts us x h = ⊎_elim
       (λ k. (atom_primary ts us x (inl k), sym (ap is_place k.3.1), sym (ap is_target k.3.1)))
-      (λ k. (let last = trailer_place k.0 k.3.0 k.3.1 k.3.2 in
-      (trailed_primary ts us x (k.0, k.1, k.2, (k.3.0, k.3.1, last.0, k.3.3)),
+      (λ k. (let last = trailer_place k.0 k.3.0 k.3.1 k.3.2 in (
+        trailed_primary ts us x (k.0, k.1, k.2, (k.3.0, k.3.1, last.0, k.3.3)),
         sym (ap is_place k.3.3.1) ∙ trailed_place k.1.0 k.1.1 k.3.1 ∙ last.1,
-        sym (ap is_target k.3.3.1) ∙ trailed_target k.1.0 k.1.1 k.3.1 ∙ last.1))) h
+        sym (ap is_target k.3.3.1) ∙ trailed_target k.1.0 k.1.1 k.3.1 ∙ last.1,
+      ))) h
 
   -- an atom of a place's shape is a name
   no_constant : (k : Mark) (x : Expression) → g.constant_of k ≡ Some x → is_target x ≡ false
@@ -350,9 +362,17 @@ module _ (inner : Phrase → Language Expression) (inner_target : Language Expre
   unfolding g.parenthesised a.target_in_parentheses
   parenthesised_target ts us x h is = ⊎_elim
       (λ k. clash is (sym (ap is_target h.3.3.3.1) ∙ sym (ap is_target k.1)))
-      (λ k. (let end = h.3.3 in
-      (h.0, h.1, h.2, (k.0, k.1, same.back_several h.0 k.0 k.1 k.2 (ap is_target k.3.1 ∙ ap is_target end.3.1 ∙ is),
-        (end.0, end.1, subst (λ (v : Tokens). l.mark m.RightParenthesis v end.0 end.1) (sym k.3.0) end.2, (end.3.0, k.3.1 ∙ end.3.1)))))) h.3.2
+      (λ k. (let end = h.3.3 in (
+        h.0,
+        h.1,
+        h.2,
+        (
+          k.0,
+          k.1,
+          same.back_several h.0 k.0 k.1 k.2 (ap is_target k.3.1 ∙ ap is_target end.3.1 ∙ is),
+          (end.0, end.1, subst (λ (v : Tokens). l.mark m.RightParenthesis v end.0 end.1) (sym k.3.0) end.2, (end.3.0, k.3.1 ∙ end.3.1)),
+        ),
+      ))) h.3.2
 
   target_parenthesised : (ts us : Tokens) (x : Expression) → a.target_in_parentheses inner inner_target ts us x → g.parenthesised inner ts us x × (is_target x ≡ true)
   unfolding g.parenthesised a.target_in_parentheses
