@@ -63,9 +63,6 @@ many_on each n (more {a = a} h k) = (each a).on _ _ _ n h ∙ many_on each n k
 on_more : {A : Type 0} {item : Language A} {all : List A} → GoesOn item → GoesOn (Many (l.one_more item) all)
 on_more each = record { on = λ ts us a n h. many_on (λ all. on_then each (λ next. on_pure)) n h }
 
-closes_some : {A : Type 0} {item : Language A} → Closes item → GoesOn item → Closes (l.some item)
-closes_some first each = closes_then first (λ a. on_more each)
-
 -- ---- the ends of lines
 
 -- No piece ends before what goes on with it.

@@ -249,7 +249,7 @@ pub no_compound : (ts : Tokens) → 5 ≤ rank ts → sees_one begins_compound t
 no_compound [] le = refl
 no_compound (t ∷ ts) le = not_true (sees_one begins_compound (t ∷ ts)) (λ h. (let o = some_value (r.in_table begins_compound t.kind) h in absurd (omega (arith, kind_compound t.kind o.0 o.1))))
 
--- no kind of token without a mark that is no name, number or text
+-- With what begins so, no such token is met.
 pub kind_unseen : {k : Kind} {found : Kind → Option (Unit {0})} → Finds (λ _. k) found → (test : Mark → Bool) → kind_begins test k ≡ false → (ts : Tokens) → starts_with test ts ≡ true → sees_some found ts ≡ false
 kind_unseen {found = found} finds test other ts h = not_true (sees_some found ts)
     (λ e. (let p = kind_is finds ts e in clash h (ap (starts_with test) p.1 ∙ ap (kind_begins test) p.2 ∙ other)))
