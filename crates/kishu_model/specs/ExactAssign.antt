@@ -21,7 +21,8 @@ use Rattle.kishu_model.specs.ReadStatements.{Assigned}
 use Rattle.kishu_model.specs.ReadStatements as rs
 use Rattle.kishu_model.specs.Exact.{Reads, Begins, anything, pure_reads, where_reads, bind_reads, either_reads, begins_then, same_reads, same_begins, fewer_ends, mark_begins, one_of_reads, one_of_begins, many_reads, after}
 use Rattle.kishu_model.specs.Follow.{kind_follow, follow, not_true}
-use Rattle.kishu_model.specs.ExactExpressions.{Ends_phrase, Closer, close_exprs, marked_reads, marked_begins, table_unseen}
+use Rattle.kishu_model.specs.ExactOperators.{table_unseen}
+use Rattle.kishu_model.specs.ExactInner.{Ends_phrase, Closer, close_exprs, marked_reads, marked_begins}
 use Rattle.kishu_model.specs.ExactPhrases.{phrases}
 use Rattle.kishu_model.specs.TargetTrees.{clash, place_phrase, phrase_place, targets_phrase, phrase_targets}
 use Rattle.kishu_model.specs.Starts.{EndsSimple}

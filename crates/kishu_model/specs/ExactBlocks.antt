@@ -21,7 +21,10 @@ use Rattle.kishu_model.specs.ReadExpressions as f
 use Rattle.kishu_model.specs.ReadStatements as rs
 use Rattle.kishu_model.specs.Exact.{Reads, Begins, anything, pure_reads, none_reads, none_begins, where_reads, bind_reads, either_reads, either_swapped, begins_then, begins_or, begins_by, fewer_ends, mark_begins, token_reads, token_begins, name_finds, list_reads, some_reads, some_begins, optional_reads, spelled_reads}
 use Rattle.kishu_model.specs.Follow.{Stop, sees_starts, sees_follow}
-use Rattle.kishu_model.specs.ExactExpressions.{Ends_phrase, EndsArgument, close_exprs, close_expr, close_list, comma_expr, marked_reads, marked_begins, name_is_expr, listed_reads, any_listed_reads, other_mark, sees_table}
+use Rattle.kishu_model.specs.ExactLists.{listed_reads, any_listed_reads}
+use Rattle.kishu_model.specs.ExactOperators.{other_mark, sees_table}
+use Rattle.kishu_model.specs.ExactInner.{Ends_phrase, close_exprs, close_expr, close_list, comma_expr, marked_reads, marked_begins, name_is_expr}
+use Rattle.kishu_model.specs.ExactTrailers.{EndsArgument}
 use Rattle.kishu_model.specs.ExactPhrases.{phrases}
 use Rattle.kishu_model.specs.ExactTargets.{target_reads, target_begins}
 use Rattle.kishu_model.specs.Starts.{EndsChunk, dedent_ends, chunk_ends, no_compound, newline_finds, indent_finds, dedent_finds, kind_unseen, begins_simple, begins_chunk, simple_is_chunk, Begun, marked, Tail, either_tail, last_tail}

@@ -17,7 +17,8 @@ use Rattle.kishu_model.specs.ReadExpressions.{is_several, expr_begins}
 use Rattle.kishu_model.specs.ReadExpressions as f
 use Rattle.kishu_model.specs.Exact.{Reads, Begins, some_is, none_reads, none_begins, begins_by, name_finds, mark_finds}
 use Rattle.kishu_model.specs.Follow.{Stop, some_value, unary_is_expr}
-use Rattle.kishu_model.specs.ExactExpressions.{Ends_phrase, Inner, unary_reads, unary_begins, negated_reads, negated_begins, expr_reads, expr_starts, exprs_reads, exprs_start}
+use Rattle.kishu_model.specs.ExactInner.{Ends_phrase, Inner}
+use Rattle.kishu_model.specs.ExactExpressions.{unary_reads, unary_begins, negated_reads, negated_begins, expr_reads, expr_starts, exprs_reads, exprs_start}
 
 -- ---- an expression alone is never several
 

@@ -22,7 +22,8 @@ use Rattle.kishu_model.specs.ReadExpressions as f
 use Rattle.kishu_model.specs.ReadStatements as rs
 use Rattle.kishu_model.specs.Exact.{Reads, Begins, anything, pure_reads, where_reads, bind_reads, either_reads, either_swapped, begins_then, begins_by, same_reads, same_begins, fewer_ends, mark_reads, mark_begins, token_reads, token_begins, name_finds, list_reads, list_after, optional_reads}
 use Rattle.kishu_model.specs.Follow.{Stop, stop_sees, sees_follow}
-use Rattle.kishu_model.specs.ExactExpressions.{comma_expr, marked_reads, marked_begins, name_is_expr, separated_reads}
+use Rattle.kishu_model.specs.ExactLists.{separated_reads}
+use Rattle.kishu_model.specs.ExactInner.{comma_expr, marked_reads, marked_begins, name_is_expr}
 use Rattle.kishu_model.specs.ExactPhrases.{phrases}
 use Rattle.kishu_model.specs.ExactTargets.{place_reads, place_begins}
 use Rattle.kishu_model.specs.Starts.{EndsSimple, semicolon_ends, newline_ends, newline_unseen, newline_finds, kind_unseen, word_finds, begins_simple, rank, expr_rank, expr_is_simple, Begun, marked, Tail, either_tail, same_tail}

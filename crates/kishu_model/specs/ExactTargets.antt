@@ -15,7 +15,8 @@ use Rattle.kishu_model.specs.ReadExpressions as f
 use Rattle.kishu_model.specs.ReadStatements as rs
 use Rattle.kishu_model.specs.Exact.{Reads, Begins, anything, pure_reads, none_reads, none_begins, where_reads, bind_reads, begins_by, same_reads, same_begins}
 use Rattle.kishu_model.specs.Follow.{Stop, operand_is_unary, unary_is_expr}
-use Rattle.kishu_model.specs.ExactExpressions.{Inner, primary_reads, primary_begins}
+use Rattle.kishu_model.specs.ExactInner.{Inner}
+use Rattle.kishu_model.specs.ExactExpressions.{primary_reads, primary_begins}
 use Rattle.kishu_model.specs.ExactPhrases.{phrases}
 use Rattle.kishu_model.specs.TargetTrees.{same_targets, place_in, primary_place, primary_target, target_primary}
 

@@ -26,6 +26,11 @@ pub mod ReadStatements
 pub mod ReadText
 pub mod Exact
 pub mod Follow
+pub mod ExactLists
+pub mod ExactOperators
+pub mod ExactInner
+pub mod ExactTrailers
+pub mod ExactAtoms
 pub mod ExactExpressions
 pub mod ExactPhrases
 pub mod TargetTrees

@@ -17,7 +17,8 @@ use Rattle.kishu_model.specs.ReadExpressions.{kind_begins, starts_with, begins_e
 use Rattle.kishu_model.specs.ReadStatements.{begins_compound}
 use Rattle.kishu_model.specs.Exact.{Reads, Begins, Finds, of_kind, either_reads, begins_or, begins_by, same_reads, same_begins, so_true}
 use Rattle.kishu_model.specs.Follow.{kind_follow, follow, not_true, some_value, sees_is, sees_follow, sees_starts, starts_unseen, starts_implies}
-use Rattle.kishu_model.specs.ExactExpressions.{marked_reads, marked_begins, other_mark, table_unseen}
+use Rattle.kishu_model.specs.ExactOperators.{other_mark, table_unseen}
+use Rattle.kishu_model.specs.ExactInner.{marked_reads, marked_begins}
 use Rattle.kishu_model.specs.TargetTrees.{clash}
 
 -- ---- the tokens of lines and blocks, and words
