@@ -9,7 +9,7 @@ use Rattle.kishu_model.specs.Layout.{Token, Kind, same}
 use Rattle.kishu_model.specs.Layout as kind
 use Rattle.kishu_model.specs.Language.{Tokens, Language, Many, done, more}
 use Rattle.kishu_model.specs.Language as l
-use Rattle.kishu_model.specs.Reader.{Outcome, Reader, and_then, rest, next, and_rest, sees_some, in_table, is_mark, where_so, sees, sees_one, either, climb, turns}
+use Rattle.kishu_model.specs.Reader.{Outcome, Reader, and_then, next, and_rest, sees_some, in_table, is_mark, where_so, sees, sees_one, either, climb, turns}
 use Rattle.kishu_model.specs.Reader as r
 
 -- The second list is the end of the first.

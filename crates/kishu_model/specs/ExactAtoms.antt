@@ -3,17 +3,17 @@ use Rattle.std.specs.Prelude.{◌≡◌, ℕ, ◌<◌, Bool, true, false, [], �
 use Rattle.std.proofs.Common.{refl, sym, ap, subst, ◌∙◌, arith, ⊎_elim}
 use Rattle.kishu_model.specs.declared.token.Mark.{Mark}
 use Rattle.kishu_model.specs.declared.token.Mark.TheVariants as m
-use Rattle.kishu_model.specs.Layout.{Token, Kind, same}
+use Rattle.kishu_model.specs.Layout.{Kind}
 use Rattle.kishu_model.specs.Layout as kind
-use Rattle.kishu_model.specs.Tree.{Text, Expression, Trailer, Argument}
+use Rattle.kishu_model.specs.Tree.{Expression}
 use Rattle.kishu_model.specs.Tree as t
-use Rattle.kishu_model.specs.Language.{Tokens, Language, Many}
+use Rattle.kishu_model.specs.Language.{Tokens, Language}
 use Rattle.kishu_model.specs.Language as l
-use Rattle.kishu_model.specs.Grammar.{Phrase, exprs, expr, negated, unary}
+use Rattle.kishu_model.specs.Grammar.{Phrase, exprs, expr}
 use Rattle.kishu_model.specs.Grammar as g
-use Rattle.kishu_model.specs.Reader.{Reader, rest, sees_some, sees, sees_one}
+use Rattle.kishu_model.specs.Reader.{Reader, sees_some, sees}
 use Rattle.kishu_model.specs.Reader as r
-use Rattle.kishu_model.specs.ReadExpressions.{starts_with, begins_operand, begins_unary, begins_expr, expr_begins, begins_trailer, begins_comparison}
+use Rattle.kishu_model.specs.ReadExpressions.{starts_with, begins_operand, expr_begins}
 use Rattle.kishu_model.specs.ReadExpressions as f
 use Rattle.kishu_model.specs.Exact.{Reads, Begins, anything, pure_reads, bind_reads, either_reads, either_swapped, begins_then, begins_or, begins_by, fewer_ends, mark_reads, mark_begins, token_reads, token_begins, name_finds, integer_finds, text_finds, one_of_reads, one_of_begins, some_reads, some_begins}
 use Rattle.kishu_model.specs.Follow.{kind_follow, follow, Stop, not_true, sees_is, sees_starts}

@@ -6,7 +6,7 @@ use Rattle.kishu_model.specs.declared.token.Mark.TheVariants as m
 use Rattle.kishu_model.specs.Layout.{same}
 use Rattle.kishu_model.specs.Layout as kind
 use Rattle.kishu_model.specs.Tree.{Text, Expression, Statement, Statements, Parameter}
-use Rattle.kishu_model.specs.Language.{Tokens, Language, Many}
+use Rattle.kishu_model.specs.Language.{Tokens, Language}
 use Rattle.kishu_model.specs.Language as l
 use Rattle.kishu_model.specs.Grammar.{exprs, expr, alone, several, deepest}
 use Rattle.kishu_model.specs.Grammar as g

@@ -4,15 +4,15 @@ use Rattle.std.proofs.Common.{refl, sym, ap, subst, arith, ⊎_elim}
 use Rattle.kishu_model.specs.declared.token.Mark.{Mark}
 use Rattle.kishu_model.specs.declared.token.Mark.TheVariants as m
 use Rattle.kishu_model.specs.declared.tree.Sign.{Sign}
-use Rattle.kishu_model.specs.Layout.{Token, Kind, same}
+use Rattle.kishu_model.specs.Layout.{Kind}
 use Rattle.kishu_model.specs.Layout as kind
-use Rattle.kishu_model.specs.Tree.{Text, Expression, Trailer, Argument}
+use Rattle.kishu_model.specs.Tree.{Expression, Trailer}
 use Rattle.kishu_model.specs.Tree as t
-use Rattle.kishu_model.specs.Language.{Tokens, Language, Many}
+use Rattle.kishu_model.specs.Language.{Tokens, Language}
 use Rattle.kishu_model.specs.Language as l
 use Rattle.kishu_model.specs.Grammar.{Phrase, exprs, expr, negated, unary}
 use Rattle.kishu_model.specs.Grammar as g
-use Rattle.kishu_model.specs.Reader.{Reader, rest, sees_some, sees, sees_one}
+use Rattle.kishu_model.specs.Reader.{Reader, sees, sees_one}
 use Rattle.kishu_model.specs.Reader as r
 use Rattle.kishu_model.specs.ReadExpressions.{starts_with, begins_operand, begins_unary, begins_expr, expr_begins, begins_trailer, begins_comparison}
 use Rattle.kishu_model.specs.ReadExpressions as f

@@ -3,15 +3,15 @@ use Rattle.std.specs.Prelude.{◌≡◌, ◌<◌, true, false, [], ◌∷◌, is
 use Rattle.std.proofs.Common.{refl, ◌∙◌, arith}
 use Rattle.kishu_model.specs.declared.token.Mark.{Mark}
 use Rattle.kishu_model.specs.declared.token.Mark.TheVariants as m
-use Rattle.kishu_model.specs.Layout.{Token, Kind, same}
+use Rattle.kishu_model.specs.Layout.{Kind}
 use Rattle.kishu_model.specs.Layout as kind
 use Rattle.kishu_model.specs.Tree.{Expression}
-use Rattle.kishu_model.specs.Language.{Tokens, Language, Many}
+use Rattle.kishu_model.specs.Language.{Tokens, Language}
 use Rattle.kishu_model.specs.Language as l
 use Rattle.kishu_model.specs.Grammar.{Phrase, exprs, expr, negated, unary}
-use Rattle.kishu_model.specs.Reader.{Reader, rest, sees_some, sees, sees_one}
+use Rattle.kishu_model.specs.Reader.{Reader, sees_some, sees}
 use Rattle.kishu_model.specs.Reader as r
-use Rattle.kishu_model.specs.ReadExpressions.{starts_with, begins_operand, begins_unary, begins_expr, expr_begins, begins_trailer, begins_comparison}
+use Rattle.kishu_model.specs.ReadExpressions.{begins_expr, expr_begins}
 use Rattle.kishu_model.specs.ReadExpressions as f
 use Rattle.kishu_model.specs.Exact.{Reads, Begins, anything, bind_reads, begins_then, mark_reads, mark_begins}
 use Rattle.kishu_model.specs.Follow.{binding, follow, Stop, sees_follow, sees_starts, stop_sees}

@@ -4,13 +4,12 @@ use Rattle.std.proofs.Common.{sym, ap, subst, ◌∙◌, arith, ⊎_elim}
 use Rattle.kishu_model.specs.declared.token.Mark.{Mark}
 use Rattle.kishu_model.specs.declared.token.Mark.TheVariants as m
 use Rattle.kishu_model.specs.Tree.{Expression}
-use Rattle.kishu_model.specs.Language.{Tokens, Language, Many}
+use Rattle.kishu_model.specs.Language.{Tokens, Language}
 use Rattle.kishu_model.specs.Language as l
-use Rattle.kishu_model.specs.Grammar.{Phrase, exprs, expr, negated, unary}
 use Rattle.kishu_model.specs.Grammar as g
-use Rattle.kishu_model.specs.Reader.{Reader, rest, sees_some, sees, sees_one}
+use Rattle.kishu_model.specs.Reader.{Reader, rest, sees}
 use Rattle.kishu_model.specs.Reader as r
-use Rattle.kishu_model.specs.ReadExpressions.{starts_with, begins_operand, begins_unary, begins_expr, expr_begins, begins_trailer, begins_comparison}
+use Rattle.kishu_model.specs.ReadExpressions.{expr_begins}
 use Rattle.kishu_model.specs.ReadExpressions as f
 use Rattle.kishu_model.specs.Exact.{Reads, Begins, anything, pure_reads, bind_reads, either_swapped, begins_then, mark_reads, mark_begins, list_reads, list_after}
 use Rattle.kishu_model.specs.Follow.{follow, Stop, not_true}

@@ -4,17 +4,15 @@ use Rattle.std.proofs.Common.{refl, sym, ap, subst, ◌∙◌, ⊎_elim}
 use Rattle.kishu_model.specs.declared.token.Mark.{Mark}
 use Rattle.kishu_model.specs.declared.token.Mark.TheVariants as m
 use Rattle.kishu_model.specs.declared.tree.Operator.{Operator}
-use Rattle.kishu_model.specs.declared.tree.Sign.{Sign}
 use Rattle.kishu_model.specs.declared.tree.Comparison.{Comparison}
 use Rattle.kishu_model.specs.declared.tree.Comparison.TheVariants as comparisons
 use Rattle.kishu_model.specs.Layout.{same}
-use Rattle.kishu_model.specs.Language.{Tokens, Language, Many}
+use Rattle.kishu_model.specs.Language.{Tokens}
 use Rattle.kishu_model.specs.Language as l
-use Rattle.kishu_model.specs.Grammar.{Phrase, exprs, expr, negated, unary}
 use Rattle.kishu_model.specs.Grammar as g
-use Rattle.kishu_model.specs.Reader.{Reader, rest, sees_some, sees, sees_one}
+use Rattle.kishu_model.specs.Reader.{sees, sees_one}
 use Rattle.kishu_model.specs.Reader as r
-use Rattle.kishu_model.specs.ReadExpressions.{starts_with, begins_operand, begins_unary, begins_expr, expr_begins, begins_trailer, begins_comparison}
+use Rattle.kishu_model.specs.ReadExpressions.{begins_trailer, begins_comparison}
 use Rattle.kishu_model.specs.ReadExpressions as f
 use Rattle.kishu_model.specs.Exact.{Reads, Begins, anything, pure_reads, bind_reads, either_reads, either_swapped, begins_then, begins_or, begins_by, mark_reads, mark_begins, one_of_reads, one_of_begins}
 use Rattle.kishu_model.specs.Follow.{binding, not_true, sees_is}
@@ -29,11 +27,6 @@ product_bound m.Star a h = refl
 product_bound m.FloorDivide a h = refl
 product_bound m.Percent a h = refl
 product_bound _ a h = absurd cc
-
-pub sign_bound : (k : Mark) (a : Sign) → g.sign k ≡ Some a → binding k ≡ 4
-sign_bound m.Plus a h = refl
-sign_bound m.Minus a h = refl
-sign_bound _ a h = absurd cc
 
 pub comparison_bound : (k : Mark) (a : Unit {0}) → begins_comparison k ≡ Some a → binding k ≡ 5
 comparison_bound m.Not a h = refl

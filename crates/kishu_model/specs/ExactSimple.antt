@@ -4,18 +4,17 @@ use Rattle.std.proofs.Common.{refl, sym, ap, subst, ◌∙◌, arith, inl, inr, 
 use Rattle.std.proofs.Math.Bool.{and-false}
 use Rattle.kishu_model.specs.declared.token.Mark.{Mark}
 use Rattle.kishu_model.specs.declared.token.Mark.TheVariants as m
-use Rattle.kishu_model.specs.Layout.{Kind}
 use Rattle.kishu_model.specs.Layout as kind
-use Rattle.kishu_model.specs.Tree.{Text, Expression, Statement}
+use Rattle.kishu_model.specs.Tree.{Expression, Statement}
 use Rattle.kishu_model.specs.Tree as t
-use Rattle.kishu_model.specs.Language.{Tokens, Language, Many, done, more}
+use Rattle.kishu_model.specs.Language.{Tokens, Language, Many}
 use Rattle.kishu_model.specs.Language as l
 use Rattle.kishu_model.specs.Grammar.{exprs, expr}
 use Rattle.kishu_model.specs.Grammar as g
 use Rattle.kishu_model.specs.Targets.{place}
 use Rattle.kishu_model.specs.Refusals.{Around}
 use Rattle.kishu_model.specs.Statements as st
-use Rattle.kishu_model.specs.Reader.{Reader, rest, sees_some, sees}
+use Rattle.kishu_model.specs.Reader.{rest, sees_some, sees}
 use Rattle.kishu_model.specs.Reader as r
 use Rattle.kishu_model.specs.ReadExpressions.{starts_with, expr_begins}
 use Rattle.kishu_model.specs.ReadExpressions as f

@@ -2,15 +2,15 @@
 use Rattle.std.specs.Prelude.{◌≡◌, Bool, true, false, not, ◌&&◌, Option, Some, None}
 use Rattle.std.proofs.Common.{refl, sym, ap, subst, ◌∙◌, inl, inr, ⊎_elim}
 use Rattle.kishu_model.specs.declared.token.Mark.TheVariants as m
-use Rattle.kishu_model.specs.Tree.{Text, Expression, Trailer, Argument}
+use Rattle.kishu_model.specs.Tree.{Expression, Trailer, Argument}
 use Rattle.kishu_model.specs.Tree as t
-use Rattle.kishu_model.specs.Language.{Tokens, Language, Many}
+use Rattle.kishu_model.specs.Language.{Tokens, Language}
 use Rattle.kishu_model.specs.Language as l
-use Rattle.kishu_model.specs.Grammar.{Phrase, exprs, expr, negated, unary}
+use Rattle.kishu_model.specs.Grammar.{Phrase, exprs, expr}
 use Rattle.kishu_model.specs.Grammar as g
-use Rattle.kishu_model.specs.Reader.{Reader, rest, sees_some, sees, sees_one}
+use Rattle.kishu_model.specs.Reader.{Reader, rest, sees, sees_one}
 use Rattle.kishu_model.specs.Reader as r
-use Rattle.kishu_model.specs.ReadExpressions.{starts_with, begins_operand, begins_unary, begins_expr, expr_begins, begins_trailer, begins_comparison}
+use Rattle.kishu_model.specs.ReadExpressions.{begins_expr, expr_begins, begins_trailer}
 use Rattle.kishu_model.specs.ReadExpressions as f
 use Rattle.kishu_model.specs.Exact.{Reads, Begins, anything, pure_reads, where_reads, bind_reads, either_reads, either_swapped, begins_then, begins_or, begins_by, same_reads, same_begins, fewer_ends, mark_reads, mark_begins, token_reads, token_begins, name_finds, optional_reads}
 use Rattle.kishu_model.specs.Follow.{Stop, not_true, starts_unseen}

@@ -4,7 +4,7 @@ use Rattle.std.proofs.Common.{refl, sym, ap, subst, ◌∙◌, inl, inr, ⊎_eli
 use Rattle.std.proofs.Math.Bool.{and-true}
 use Rattle.kishu_model.specs.declared.token.Mark.{Mark}
 use Rattle.kishu_model.specs.declared.token.Mark.TheVariants as m
-use Rattle.kishu_model.specs.Tree.{Expression, Expressions, Trailer}
+use Rattle.kishu_model.specs.Tree.{Expression, Trailer}
 use Rattle.kishu_model.specs.Tree as t
 use Rattle.kishu_model.specs.Language.{Tokens, Language, Many, done, more}
 use Rattle.kishu_model.specs.Language as l

@@ -2,7 +2,7 @@
 use Rattle.std.specs.Prelude.{◌≡◌, ℕ, zero, suc, Bool, List, Option}
 use Rattle.std.proofs.Common.{refl, ap, ◌∙◌, ⊎_elim}
 use Rattle.kishu_model.specs.declared.token.Mark.{Mark}
-use Rattle.kishu_model.specs.Layout.{Token, Kind}
+use Rattle.kishu_model.specs.Layout.{Kind}
 use Rattle.kishu_model.specs.Layout as kind
 use Rattle.kishu_model.specs.Tree.{Expression}
 use Rattle.kishu_model.specs.Language.{Tokens, Language, Many, done, more}
