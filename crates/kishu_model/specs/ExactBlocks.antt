@@ -28,7 +28,7 @@ use Rattle.kishu_model.specs.ExactTrailers.{EndsArgument}
 use Rattle.kishu_model.specs.ExactPhrases.{phrases}
 use Rattle.kishu_model.specs.ExactTargets.{target_reads, target_begins}
 use Rattle.kishu_model.specs.Starts.{EndsChunk, dedent_ends, chunk_ends, no_compound, newline_finds, indent_finds, dedent_finds, kind_unseen, begins_simple, begins_chunk, simple_is_chunk, Begun, marked, Tail, either_tail, last_tail}
-use Rattle.kishu_model.specs.ExactSimple.{simples_reads, simples_begins, simples_least}
+use Rattle.kishu_model.specs.ExactSimple.{nested_reads, nested_begins, simples_reads, simples_begins, simples_least}
 
 -- a mark that isn't met
 abbrev Without : Mark → Tokens → Type 0
@@ -59,9 +59,9 @@ module _ (source : Text) (depth : ℕ) (inner : Around → Language (List Statem
       (λ parts ts us b h s. (token_begins dedent_finds).begins ts h.0 h.1 h.2))
       (λ a ts us b h s. tt))
       (λ a ts us b h s. tt))
-      (bind_reads anything (simples_reads around depth) (λ all. pure_reads) (λ a ts us b h s. tt))
+      (bind_reads anything (nested_reads around depth) (λ all. pure_reads) (λ a ts us b h s. tt))
       (λ ts us a h s. (token_begins newline_finds).begins ts h.0 h.1 h.2)
-      (λ ts us a h s. kind_unseen newline_finds begins_simple refl ts ((simples_begins around depth).begins ts h.0 h.1 h.2))
+      (λ ts us a h s. kind_unseen newline_finds begins_simple refl ts ((nested_begins around depth).begins ts h.0 h.1 h.2))
 
   block_after_reads : (before : Mark) (around : Around) → Reads (st.block_after source depth inner before around) (rs.block_after source depth read before around) (Without before)
   unfolding st.block_after rs.block_after

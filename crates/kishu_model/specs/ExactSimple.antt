@@ -1,5 +1,5 @@
 -- Simple statements are read exactly.
-use Rattle.std.specs.Prelude.{◌≡◌, ℕ, ◌≤◌, Bool, true, false, not, ◌&&◌, List, [], ◌∷◌, codes, Some, None}
+use Rattle.std.specs.Prelude.{◌≡◌, ℕ, zero, suc, ◌≤◌, Bool, true, false, not, ◌&&◌, List, [], ◌∷◌, codes, Some, None}
 use Rattle.std.proofs.Common.{refl, sym, ap, subst, ◌∙◌, arith, inl, inr, ⊎_elim}
 use Rattle.std.proofs.Math.Bool.{and-false}
 use Rattle.kishu_model.specs.declared.token.Mark.{Mark}
@@ -19,7 +19,7 @@ use Rattle.kishu_model.specs.Reader as r
 use Rattle.kishu_model.specs.ReadExpressions.{starts_with, expr_begins}
 use Rattle.kishu_model.specs.ReadExpressions as f
 use Rattle.kishu_model.specs.ReadStatements as rs
-use Rattle.kishu_model.specs.Exact.{Reads, Begins, anything, pure_reads, where_reads, bind_reads, either_reads, either_swapped, begins_then, begins_by, same_reads, same_begins, fewer_ends, mark_reads, mark_begins, token_reads, token_begins, name_finds, list_reads, list_after, optional_reads}
+use Rattle.kishu_model.specs.Exact.{Reads, Begins, anything, pure_reads, none_reads, none_begins, where_reads, bind_reads, either_reads, either_swapped, begins_then, begins_by, same_reads, same_begins, fewer_ends, mark_reads, mark_begins, token_reads, token_begins, name_finds, list_reads, list_after, optional_reads}
 use Rattle.kishu_model.specs.Follow.{Stop, stop_sees, sees_follow}
 use Rattle.kishu_model.specs.ExactLists.{separated_reads}
 use Rattle.kishu_model.specs.ExactInner.{comma_expr, marked_reads, marked_begins, name_is_expr}
@@ -238,3 +238,11 @@ module _ (around : Around) (depth : ℕ) where
   pub simples_least : (ts us : Tokens) (a : List Statement) → st.simples around depth ts us a → 5 ≤ rank ts
   unfolding st.simples
   simples_least ts us a h = simple_tail.least ts h.2.0 h.2.1 h.2.2
+
+pub nested_reads : (around : Around) (n : ℕ) → Reads (st.line around n) (rs.line around n) anything
+nested_reads around zero = none_reads
+nested_reads around (suc n) = simples_reads around (suc n)
+
+pub nested_begins : (around : Around) (n : ℕ) → Begins (st.line around n) (starts_with begins_simple)
+nested_begins around zero = none_begins
+nested_begins around (suc n) = simples_begins around (suc n)

@@ -108,6 +108,10 @@ module _ (around : Around) (depth : ℕ) where
   unfolding st.simples
   simples_close = closes_after (still_separated still_simple) (λ all. closes_after (still_or still_pure still_mark) (λ _. closes_then newline_closes (λ _. on_pure)))
 
+line_closes : (around : Around) (n : ℕ) → Closes (st.line around n)
+line_closes around zero = closes_none
+line_closes around (suc n) = simples_close around (suc n)
+
 -- ---- blocks
 
 module _ (source : Text) (depth : ℕ) (inner : Around → Language (List Statement)) (closes : (around : Around) → Closes (inner around)) where
@@ -130,7 +134,7 @@ module _ (source : Text) (depth : ℕ) (inner : Around → Language (List Statem
 
   block_closes : (around : Around) → Closes (st.block source depth inner around)
   unfolding st.block
-  block_closes around = closes_or (closes_then (simples_close around depth) (λ all. on_pure)) (record {
+  block_closes around = closes_or (closes_then (line_closes around depth) (λ all. on_pure)) (record {
     ends = λ ts us a n h.
         (let begun = h.3 in
         let parts = begun.3 in

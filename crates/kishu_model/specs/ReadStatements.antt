@@ -121,6 +121,10 @@ module _ (around : Around) (depth : ℕ) where
     token is_newline
     pure all
 
+abbrev pub line : Around → ℕ → Reader (List Statement)
+line around zero = refuse
+line around (suc depth) = simples around (suc depth)
+
 module _ (source : Text) (depth : ℕ) (inner : Around → Reader (List Statement)) where
   unfoldable pub block : Around → Reader Statements
   block around = either (sees_some is_newline) (do
@@ -129,7 +133,7 @@ module _ (source : Text) (depth : ℕ) (inner : Around → Reader (List Statemen
     parts ← some (λ ts. not (sees_some is_dedent ts)) (inner around)
     token is_dedent
     pure (in_order parts)) (do
-      all ← simples around depth
+      all ← line around depth
       pure (statements all))
 
   unfoldable pub block_after : Mark → Around → Reader Statements

@@ -131,6 +131,11 @@ module _ (around : Around) (depth : ℕ) where
 
 -- ---- compound statements
 
+-- a line with so many nestings, its own among them
+abbrev pub line : Around → ℕ → Language (List Statement)
+line around zero = none
+line around (suc depth) = simples around (suc depth)
+
 abbrev pub in_order : List (List Statement) → Statements
 in_order parts = statements (flat_map (λ part. part) parts)
 
@@ -143,7 +148,7 @@ module _ (source : Text) (depth : ℕ) (inner : Around → Language (List Statem
   -- simples | NEWLINE INDENT chunk { chunk } DEDENT
   unfoldable pub block : Around → Language Statements
   block around = (do
-    all ← simples around depth
+    all ← line around depth
     pure (statements all)) or (do
       newline
       indent
