@@ -1,6 +1,7 @@
 -- When a reader reads exactly what a language spells, up to tokens that do not go on with it: one law for each way to put readers together.
-use Rattle.std.specs.Prelude.{◌≡◌, ◌⊎◌, ℕ, zero, suc, ◌<◌, ◌≤◌, ℤ, Bool, true, false, cond, List, [], ◌∷◌, length, Option, Some, None, is_some}
-use Rattle.std.proofs.Common.{refl, sym, ap, subst, ◌∙◌, arith, inl, inr, ⊎_elim}
+use Rattle.std.specs.Prelude.{◌≡◌, ◌⊎◌, ℕ, zero, suc, ◌-◌, ◌<◌, ◌≤◌, ℤ, Bool, true, false, cond, List, [], ◌∷◌, ◌++◌, length, take, Option, Some, None, is_some}
+use Rattle.std.proofs.Common.{refl, sym, ap, subst, ◌∙◌, arith, append_assoc, inl, inr, ⊎_elim}
+use Rattle.std.proofs.lemmas.List.{length-append, take_at}
 use denote.Enum.Bare.{same_true, true_same}
 use Rattle.kishu_model.specs.contracts.token.Mark.{the_type}
 use Rattle.kishu_model.specs.declared.token.Mark.{Mark}
@@ -8,13 +9,18 @@ use Rattle.kishu_model.specs.Layout.{Token, Kind, same}
 use Rattle.kishu_model.specs.Layout as kind
 use Rattle.kishu_model.specs.Language.{Tokens, Language, Many, done, more}
 use Rattle.kishu_model.specs.Language as l
-use Rattle.kishu_model.specs.Reader.{Outcome, Reader, and_then, rest, next, and_rest, sees_some, in_table, is_mark, where_so, sees, sees_one, either, climb, turns}
+use Rattle.kishu_model.specs.Reader.{Outcome, Reader, and_then, next, and_rest, sees_some, in_table, is_mark, where_so, sees, sees_one, either, climb, turns}
 use Rattle.kishu_model.specs.Reader as r
+
+-- The second list is the end of the first.
+abbrev pub Part : Tokens → Tokens → Type 0
+Part ts us = (front : Tokens) × (ts ≡ front ++ us)
 
 pub record Reads {A : Type 0} (p : Language A) (f : Reader A) (Stops : List Token → Type 0) : Type 0 where
   pub sound : (ts us : Tokens) (a : A) → f ts ≡ Some (a, us) → p ts us a
   pub complete : (ts us : Tokens) (a : A) → p ts us a → Stops us → f ts ≡ Some (a, us)
   pub no_longer : (ts us : Tokens) (a : A) → p ts us a → length us ≤ length ts
+  pub part : (ts us : Tokens) (a : A) → p ts us a → Part ts us
 
 -- all of whose phrases begin so, and take a token
 pub record Begins {A : Type 0} (p : Language A) (test : List Token → Bool) : Type 0 where
@@ -27,6 +33,12 @@ anything ts = Unit {0}
 
 pub some_is : {A : Type 0} {x y : A} → Some x ≡ Some y → x ≡ y
 some_is e = cc
+
+part_same : {ts us : Tokens} → ts ≡ us → Part ts us
+part_same e = ([], e)
+
+pub part_on : {ts us vs : Tokens} → Part ts us → Part us vs → Part ts vs
+part_on {vs = vs} p q = (p.0 ++ q.0, p.1 ∙ ap (λ v. p.0 ++ v) q.1 ∙ sym (append_assoc p.0 q.0 vs))
 
 then_some : {A B : Type 0} (o : Outcome A) (g : A → Reader B) (y : B × Tokens) → and_then o g ≡ Some y → (x : A × Tokens) × (o ≡ Some x) × (g x.0 x.1 ≡ Some y)
 then_some (Some x) g y e = (x, refl, e)
@@ -41,6 +53,7 @@ pure_reads = record {
   sound = λ ts us b e. (let k : _ ≡ (b, us) = some_is e in (ap (λ p. p.1) k, ap (λ p. p.0) k));
   complete = λ ts us b h s. (λ i. Some (h.1 i, h.0 i));
   no_longer = λ ts us b h. omega (arith, ap length h.0);
+  part = λ ts us b h. part_same h.0;
 }
 
 pub none_reads : {A : Type 0} {S : Tokens → Type 0} → Reads (l.none {A = A}) r.refuse S
@@ -48,6 +61,7 @@ none_reads = record {
   sound = λ ts us a e. absurd cc;
   complete = λ ts us a h s. absurd h;
   no_longer = λ ts us a h. absurd h;
+  part = λ ts us a h. absurd h;
 }
 
 pub none_begins : {A : Type 0} {test : Tokens → Bool} → Begins (l.none {A = A}) test
@@ -60,6 +74,7 @@ where_reads {b = b} = record {
       (λ _ k. absurd cc) e;
   complete = λ ts us a h s. ap (λ c. cond c (Some (tt, ts)) None) h.1 ∙ ap (λ (v : Tokens). Some (tt, v)) h.0;
   no_longer = λ ts us a h. omega (arith, ap length h.0);
+  part = λ ts us a h. part_same h.0;
 }
 
 pub bind_reads : {A B : Type 0} {p : Language A} {f : Reader A} {q : A → Language B} {g : A → Reader B} {T : Tokens → Type 0} (S : Tokens → Type 0)
@@ -70,6 +85,7 @@ bind_reads {f = f} {g = g} S first second stops = record {
   complete = λ ts us b h s.
       ap (λ o. and_then o g) (first.complete ts h.0 h.1 h.2 (stops h.1 h.0 us b h.3 s)) ∙ (second h.1).complete h.0 us b h.3 s;
   no_longer = λ ts us b h. omega (arith, first.no_longer ts h.0 h.1 h.2, (second h.1).no_longer h.0 us b h.3);
+  part = λ ts us b h. part_on (first.part ts h.0 h.1 h.2) ((second h.1).part h.0 us b h.3);
 }
 
 pub either_reads : {A : Type 0} {test : Tokens → Bool} {p q : Language A} {f g : Reader A} {S : Tokens → Type 0}
@@ -83,6 +99,7 @@ either_reads {test = test} {p = p} {q = q} {f = f} {g = g} first second has lack
       (λ k. ap (λ b. cond b (f ts) (g ts)) (has ts us a k s) ∙ first.complete ts us a k s)
       (λ k. ap (λ b. cond b (f ts) (g ts)) (lacks ts us a k s) ∙ second.complete ts us a k s) h;
   no_longer = λ ts us a h. ⊎_elim (first.no_longer ts us a) (second.no_longer ts us a) h;
+  part = λ ts us a h. ⊎_elim (first.part ts us a) (second.part ts us a) h;
 }
 
 -- the same with the other one tried first
@@ -97,6 +114,7 @@ either_swapped {test = test} {p = p} {q = q} {f = f} {g = g} first second has la
       sound = λ ts us a e. ⊎_elim inr inl (both.sound ts us a e);
       complete = λ ts us a h s. both.complete ts us a (⊎_elim inr inl h) s;
       no_longer = λ ts us a h. both.no_longer ts us a (⊎_elim inr inl h);
+      part = λ ts us a h. both.part ts us a (⊎_elim inr inl h);
     }
 
 -- ---- repetitions
@@ -107,6 +125,10 @@ module _ {A : Type 0} (test : Tokens → Bool) (step : A → Language A) (f : A 
   many_no_longer : {a b : A} {ts us : Tokens} → Many step a ts us b → length us ≤ length ts
   many_no_longer done = omega arith
   many_no_longer (more h t) = omega (arith, (reads _).no_longer _ _ _ h, many_no_longer t)
+
+  many_part : {a b : A} {ts us : Tokens} → Many step a ts us b → Part ts us
+  many_part done = part_same refl
+  many_part (more h t) = part_on ((reads _).part _ _ _ h) (many_part t)
 
   many_sound : (n : ℕ) (a : A) (ts us : Tokens) (b : A) → climb test f n a ts ≡ Some (b, us) → Many step a ts us b
   many_sound zero a ts us b e = let k : (a, ts) ≡ (b, us) = some_is e in subst (λ (x : A × Tokens). Many step a ts x.1 x.0) k done
@@ -134,6 +156,7 @@ module _ {A : Type 0} (test : Tokens → Bool) (step : A → Language A) (f : A 
     sound = λ ts us b e. many_sound (length ts) a ts us b e;
     complete = λ ts us b h t. many_complete (length ts) a b ts us (omega arith) h t;
     no_longer = λ ts us b h. many_no_longer h;
+    part = λ ts us b h. many_part h;
   }
 
 -- ---- how phrases begin
@@ -199,6 +222,7 @@ same_reads reads into back = record {
   sound = λ ts us a e. into ts us a (reads.sound ts us a e);
   complete = λ ts us a h s. reads.complete ts us a (back ts us a h) s;
   no_longer = λ ts us a h. reads.no_longer ts us a (back ts us a h);
+  part = λ ts us a h. reads.part ts us a (back ts us a h);
 }
 
 pub same_begins : {A : Type 0} {p q : Language A} {test : Tokens → Bool} → Begins p test → ((ts us : Tokens) (a : A) → q ts us a → p ts us a) → Begins q test
@@ -212,6 +236,29 @@ fewer_ends reads implies = record {
   sound = reads.sound;
   complete = λ ts us a h t. reads.complete ts us a h (implies us t);
   no_longer = reads.no_longer;
+  part = reads.part;
+}
+
+take_front : (ts us front : Tokens) → ts ≡ front ++ us → take (length ts - length us) ts ≡ front
+take_front ts us front e =
+    let n : length ts - length us ≡ length front = omega (arith, ap length e, length-append front us) in
+    ap (λ v. take v ts) n ∙ ap (take (length front)) e ∙ take_at front us _ refl
+
+-- a value with its tokens
+pub spelled_reads : {A : Type 0} {p : Language A} {f : Reader A} {S : Tokens → Type 0} → Reads p f S → Reads (l.spelled p) (r.spelled f) S
+spelled_reads {A = A} {p = p} {f = f} reads = record {
+  sound = λ ts us b e.
+      (let k = then_some (f ts) (λ a us. Some ((a, take (length ts - length us) ts), us)) (b, us) e in
+      let h = reads.sound ts k.0.1 k.0.0 k.1 in
+      let front = reads.part ts k.0.1 k.0.0 h in
+      let same : ◌≡◌ {A = (A × Tokens) × Tokens} ((k.0.0, take (length ts - length k.0.1) ts), k.0.1) (b, us) = some_is k.2 in
+      subst (λ (x : (A × Tokens) × Tokens). p ts x.1 x.0.0 × (ts ≡ x.0.1 ++ x.1)) same
+      (h, front.1 ∙ ap (λ v. v ++ k.0.1) (sym (take_front ts k.0.1 front.0 front.1))));
+  complete = λ ts us b h s.
+      ap (λ o. and_then o (λ a us. Some ((a, take (length ts - length us) ts), us))) (reads.complete ts us b.0 h.0 s)
+      ∙ ap (λ v. Some ((b.0, v), us)) (take_front ts us b.1 h.1);
+  no_longer = λ ts us b h. reads.no_longer ts us b.0 h.0;
+  part = λ ts us b h. (b.1, h.1);
 }
 
 -- ---- tokens
@@ -235,6 +282,7 @@ module _ {A : Type 0} (found : Kind → Option A) where
     sound = read_token;
     complete = λ ts us a h s. ap (r.token found) h.1 ∙ ap (and_rest (h.0 ∷ us)) h.2;
     no_longer = λ ts us a h. omega (arith, ap length h.1);
+    part = λ ts us a h. (h.0 ∷ [], h.1);
   }
 
   pub found_begins : Begins (found_token found) (sees_some found)
@@ -294,7 +342,7 @@ text_finds = record { there = λ a. refl; only = only }
     only kind.dedent a h = absurd cc
     only (kind.mark m) a h = absurd cc
 
-so_true : (b : Bool) (a : Unit {0}) → where_so b ≡ Some a → b ≡ true
+pub so_true : (b : Bool) (a : Unit {0}) → where_so b ≡ Some a → b ≡ true
 so_true true a h = refl
 so_true false a h = absurd cc
 

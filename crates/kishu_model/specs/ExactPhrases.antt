@@ -3,7 +3,7 @@ use Rattle.std.specs.Prelude.{◌≡◌, ◌⊎◌, ℕ, zero, suc, Bool, true, 
 use Rattle.std.proofs.Common.{refl, sym, ap, subst, ◌∙◌, arith, inl, inr, ⊎_elim}
 use Rattle.kishu_model.specs.declared.token.Mark.{Mark}
 use Rattle.kishu_model.specs.declared.token.Mark.TheVariants as m
-use Rattle.kishu_model.specs.Layout.{Token, Kind, token}
+use Rattle.kishu_model.specs.Layout.{token}
 use Rattle.kishu_model.specs.Layout as kind
 use Rattle.kishu_model.specs.Tree.{Expression, Trailer}
 use Rattle.kishu_model.specs.Tree as t
@@ -11,13 +11,14 @@ use Rattle.kishu_model.specs.Language.{Tokens, Language, Many, done, more}
 use Rattle.kishu_model.specs.Language as l
 use Rattle.kishu_model.specs.Grammar.{Phrase, exprs, expr, negated, unary}
 use Rattle.kishu_model.specs.Grammar as g
-use Rattle.kishu_model.specs.Reader.{Reader, Outcome, sees_some, sees}
+use Rattle.kishu_model.specs.Reader.{Reader, sees}
 use Rattle.kishu_model.specs.Reader as r
 use Rattle.kishu_model.specs.ReadExpressions.{is_several, expr_begins}
 use Rattle.kishu_model.specs.ReadExpressions as f
 use Rattle.kishu_model.specs.Exact.{Reads, Begins, some_is, none_reads, none_begins, begins_by, name_finds, mark_finds}
 use Rattle.kishu_model.specs.Follow.{Stop, some_value, unary_is_expr}
-use Rattle.kishu_model.specs.ExactExpressions.{Ends_phrase, Inner, unary_reads, unary_begins, negated_reads, negated_begins, expr_reads, expr_starts, exprs_reads, exprs_start}
+use Rattle.kishu_model.specs.ExactInner.{Ends_phrase, Inner}
+use Rattle.kishu_model.specs.ExactExpressions.{unary_reads, unary_begins, negated_reads, negated_begins, expr_reads, expr_starts, exprs_reads, exprs_start}
 
 -- ---- an expression alone is never several
 
