@@ -4,8 +4,10 @@
 Usage: tools/time_tokens.py
 
 The program that is timed is made, proved and built in a folder of its own, over copies of
-kishu_model and kishu_lexer. Each time is the least of five runs. The time grows linearly with the
-text, so the ratio is about 4; where one is above 5 the script ends with status 1.
+kishu_model and kishu_lexer. It cuts its text five times. Each time is the least user time of five
+runs, each a process of its own, so that no run finds memory that another one touched, and what the
+system takes for fresh pages doesn't count. The time grows linearly with the text, so the ratio is
+about 4; where one is above 5 the script ends with status 1.
 """
 import os
 import shutil
@@ -15,23 +17,13 @@ import tempfile
 
 TOP = os.path.dirname(os.path.dirname(os.path.abspath(__file__)))
 CRATES = ("kishu_model", "kishu_lexer")
-PROGRAM = r'''//! Cuts texts of two sizes into tokens, and prints how long that takes.
+PROGRAM = r'''//! Cuts the text on standard input into tokens five times, and prints how many they are.
 #![tactic(auto)]
 
 use kishu_lexer::tokens;
 use kishu_model::Profile;
-use std::alloc::{AllocError, Global};
+use std::alloc::Global;
 use std::io;
-use std::rt::Clock;
-use std::time::Instant;
-
-fn repeated(alloc: Global, piece: &str, size: usize) -> Result<String, AllocError> {
-    let mut text = String::new(alloc);
-    for _turn in 0..size.checked_div(piece.len()).unwrap_or(0) {
-        text.push_str(piece)?;
-    }
-    Ok(text)
-}
 
 fn count(alloc: Global, text: &str) -> usize {
     if text.len() > 1_048_576 {
@@ -43,29 +35,19 @@ fn count(alloc: Global, text: &str) -> usize {
     }
 }
 
-fn report<R: Print + Clock>(rt: &R, alloc: Global, piece: &str, size: usize) -> io::Result<()> {
-    let text = repeated(alloc, piece, size)?;
-    let start = Instant::now(rt)?;
-    let found = count(alloc, text.as_str());
-    let micros = start.elapsed(rt)?.as_micros();
-    println!(rt; "{micros} {found} {piece:?}")
-}
-
-fn both<R: Print + Clock>(rt: &R, alloc: Global, piece: &str) -> io::Result<()> {
-    report(rt, alloc, piece, 262_144)?;
-    report(rt, alloc, piece, 1_048_576)
-}
-
 fn main(rt: HostRuntime) -> io::Result<()> {
-    both(&rt, rt.alloc(), "x = 1\n")?;
-    both(&rt, rt.alloc(), "()")?;
-    both(&rt, rt.alloc(), "'a\\n' ")?;
-    both(&rt, rt.alloc(), "#")?;
-    both(&rt, rt.alloc(), "\"\"\"\\x41\n\"\"\"\n")?;
-    both(&rt, rt.alloc(), "0_")?;
-    both(&rt, rt.alloc(), "if x:\n  y\n")
+    let text = io::read_to_string(rt.alloc(), rt.stdin())?;
+    let mut found = 0;
+    for _turn in 0..5 {
+        found = count(rt.alloc(), text.as_str());
+    }
+    println!(rt; "{found}")
 }
 '''
+
+# A kind of text is one of these pieces, again and again, or blocks in blocks.
+PIECES = ["x = 1\n", "()", "(", "'a\\n' ", "'é' ", "#", '"""\\x41\n"""\n', "0_", "if x:\n  y\n", "a \\\n"]
+SMALL, LARGE = 262_144, 1_048_576
 
 
 def build(folder):
@@ -79,22 +61,50 @@ def build(folder):
     os.makedirs(os.path.join(crate, "src"))
     with open(os.path.join(crate, "src", "main.rt"), "w") as source:
         source.write(PROGRAM)
-    subprocess.run(["rt", "run"], cwd=crate, check=True, stdout=subprocess.DEVNULL)
+    subprocess.run(["rt", "run"], cwd=crate, check=True, stdin=subprocess.DEVNULL, stdout=subprocess.DEVNULL)
     return os.path.join(crate, "out", "time_tokens")
 
 
+def user_time(program, text):
+    """The user time of one run, in seconds."""
+    with tempfile.TemporaryFile() as given:
+        given.write(text)
+        given.seek(0)
+        child = subprocess.Popen([program], stdin=given, stdout=subprocess.DEVNULL)
+        _, status, usage = os.wait4(child.pid, 0)
+        child.returncode = os.waitstatus_to_exitcode(status)
+    if child.returncode != 0:
+        sys.exit(f"{program} ended with {child.returncode}")
+    return usage.ru_utime
+
+
+def repeated(piece, size):
+    piece = piece.encode()
+    return piece * (size // len(piece))
+
+
+def nested(size):
+    """Blocks as deep as there is room for."""
+    lines, room = [], size
+    while (line := " " * len(lines) + "if x:\n") and len(line) <= room:
+        lines.append(line)
+        room -= len(line)
+    return "".join(lines).encode()
+
+
+def least_time(program, text):
+    return min(user_time(program, text) for _ in range(5))
+
+
 def main():
+    worst = 0.0
     with tempfile.TemporaryDirectory() as folder:
         program = build(folder)
-        runs = []
-        for _ in range(5):
-            lines = subprocess.run([program], capture_output=True, check=True, text=True).stdout.splitlines()
-            runs.append([line.split(" ", 2) for line in lines])
-    worst = 0.0
-    for rows in zip(*(zip(run[::2], run[1::2]) for run in runs)):
-        small, large = (min(int(row[k][0]) for row in rows) for k in (0, 1))
-        worst = max(worst, large / small)
-        print(f"{rows[0][0][2]:<28} 256 KiB {small:>7} us   1 MiB {large:>7} us   ratio {large / small:.2f}")
+        kinds = [(repr(piece), lambda size, piece=piece: repeated(piece, size)) for piece in PIECES]
+        for name, text in kinds + [("blocks in blocks", nested)]:
+            small, large = (least_time(program, text(size)) for size in (SMALL, LARGE))
+            worst = max(worst, large / small)
+            print(f"{name:<24} 256 KiB {small * 1000:>7.1f} ms   1 MiB {large * 1000:>7.1f} ms   ratio {large / small:.2f}")
     sys.exit(1 if worst > 5 else 0)
 
 

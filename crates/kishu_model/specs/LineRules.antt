@@ -3,7 +3,7 @@ use Rattle.std.specs.Prelude.{◌≡◌, ℕ, Bool, true, false, if◌then◌els
 use Rattle.std.specs.Str.{bytes_eq}
 use Rattle.std.specs.List.{starts_with}
 use Rattle.kishu_model.specs.declared.token.Mark.{Mark}
-use Rattle.kishu_model.specs.Lexemes.{Lexeme, blank, comment, joined, feed, word, number, string, sign, bad}
+use Rattle.kishu_model.specs.Lexemes.{Lexeme, blank, comment, bad_comment, joined, feed, word, number, string, sign, bad}
 use Rattle.kishu_model.specs.Layout.{Kind, integer, quoted, newline, indent, dedent, mark, Token, token, Item, End, end_of, cut, word_kind, top, is_opening, is_closing, closes}
 
 -- a piece that gives no token and ends no line
@@ -16,6 +16,7 @@ is_quiet (word w) = false
 is_quiet (number z) = false
 is_quiet (string t) = false
 is_quiet (sign k) = false
+is_quiet bad_comment = false
 is_quiet (bad below) = false
 
 -- the token of a piece that is no bracket
@@ -28,6 +29,7 @@ value (blank w) = None
 value comment = None
 value joined = None
 value feed = None
+value bad_comment = None
 value (bad below) = None
 
 abbrev pub token_at : Kind → Item → Token
@@ -66,35 +68,38 @@ begins (blank w) = false
 begins comment = false
 begins joined = false
 begins feed = false
+begins bad_comment = false
 begins (bad below) = false
 
--- what stands before the first token of a line: the indentation is the blanks that come first, with their places
-pub data Lead : List Item → List Item → List ℕ → ℕ → ℕ → Type 0 where
-  past : {i : Item} {is js : List Item} {w : List ℕ} {from to : ℕ} → i.what ≡ comment → Lead is js w from to → Lead (i ∷ is) js w from to
-  bare : {i : Item} {is : List Item} → begins i.what ≡ true → Lead (i ∷ is) (i ∷ is) [] i.start i.start
-  blanks : {i j : Item} {is js : List Item} {w : List ℕ} → i.what ≡ blank w → Quiet is (j ∷ js) → begins j.what ≡ true → Lead (i ∷ is) (j ∷ js) w i.start i.end
-  joint : {i j : Item} {is js : List Item} → i.what ≡ joined → Quiet is (j ∷ js) → begins j.what ≡ true → Lead (i ∷ is) (j ∷ js) [] i.start i.start
+-- What stands before the first token of a logical line. Its indentation is its leading text of spaces and tabs, here with the line and the places of that text:
+-- the first piece where this is blanks, and else empty, before the first token or the backslash that comes first. (A comment ends its line, so in a text `past` leads to nothing.)
+pub data Lead : List Item → List Item → List ℕ → ℕ → ℕ → ℕ → Type 0 where
+  blanks : {i j : Item} {is js : List Item} {w : List ℕ} → i.what ≡ blank w → Quiet is (j ∷ js) → begins j.what ≡ true → Lead (i ∷ is) (j ∷ js) w i.line i.start i.end
+  bare : {i : Item} {is : List Item} → begins i.what ≡ true → Lead (i ∷ is) (i ∷ is) [] i.line i.start i.start
+  joint : {i j : Item} {is js : List Item} → i.what ≡ joined → Quiet is (j ∷ js) → begins j.what ≡ true → Lead (i ∷ is) (j ∷ js) [] i.line i.start i.start
+  past : {i : Item} {is js : List Item} {w : List ℕ} {line from to : ℕ} → i.what ≡ comment → Lead is js w line from to → Lead (i ∷ is) js w line from to
 
--- Entries are taken off the stack of indentations, one DEDENT each, down to the one that is equal; the empty one is below all.
+-- Entries are taken off the stack of indentations, one DEDENT each, down to the one that is equal; the empty one is below all. A DEDENT takes no bytes.
 pub data Back : List ℕ → ℕ → ℕ → List (List ℕ) → List (List ℕ) → List Token → Type 0 where
   found : {w v : List ℕ} {line at : ℕ} {vs : List (List ℕ)} → bytes_eq w v ≡ true → Back w line at (v ∷ vs) (v ∷ vs) []
   bottom : {w : List ℕ} {line at : ℕ} → bytes_eq w [] ≡ true → Back w line at [] [] []
   off : {w v : List ℕ} {line at : ℕ} {vs us : List (List ℕ)} {ts : List Token} → bytes_eq w v ≡ false → Back w line at vs us ts → Back w line at (v ∷ vs) us (token dedent line at at ∷ ts)
 
--- an indentation w at the places `from` and `to`, before a token on this line at this place: the stack before and after, and the tokens
-pub data Indentation : List ℕ → ℕ → ℕ → ℕ → ℕ → List (List ℕ) → List (List ℕ) → List Token → Type 0 where
-  equal : {w : List ℕ} {from to line at : ℕ} {vs : List (List ℕ)} → bytes_eq w (top vs) ≡ true → Indentation w from to line at vs vs []
-  longer : {w : List ℕ} {from to line at : ℕ} {vs : List (List ℕ)} → bytes_eq w (top vs) ≡ false → starts_with nat_eq w (top vs) ≡ true
-      → Indentation w from to line at vs (w ∷ vs) (token indent line from to ∷ [])
-  lower : {w : List ℕ} {from to line at : ℕ} {vs us : List (List ℕ)} {ts : List Token} → bytes_eq w (top vs) ≡ false → starts_with nat_eq w (top vs) ≡ false → Back w line at vs us ts
-      → Indentation w from to line at vs us ts
+-- An indentation w on this line, from one place to the other, with the stack before and after, and the tokens. Equal to the top: nothing. The top is a proper prefix
+-- of it: INDENT, which is w itself, and w is pushed. Else one DEDENT per entry taken off, at the end of w.
+pub data Indentation : List ℕ → ℕ → ℕ → ℕ → List (List ℕ) → List (List ℕ) → List Token → Type 0 where
+  equal : {w : List ℕ} {line from to : ℕ} {vs : List (List ℕ)} → bytes_eq w (top vs) ≡ true → Indentation w line from to vs vs []
+  longer : {w : List ℕ} {line from to : ℕ} {vs : List (List ℕ)} → bytes_eq w (top vs) ≡ false → starts_with nat_eq w (top vs) ≡ true
+      → Indentation w line from to vs (w ∷ vs) (token indent line from to ∷ [])
+  lower : {w : List ℕ} {line from to : ℕ} {vs us : List (List ℕ)} {ts : List Token} → bytes_eq w (top vs) ≡ false → starts_with nat_eq w (top vs) ≡ false → Back w line to vs us ts
+      → Indentation w line from to vs us ts
 
 -- the lines of a text, with the indentations that are open before them
 pub data Lines : End → List (List ℕ) → List Item → List Token → Type 0 where
   over_all : {at : End} {vs : List (List ℕ)} {is : List Item} → Quiet is [] → Lines at vs is (replicate (length vs) (token dedent at.0 at.1 at.1))
   blank_line : {at : End} {vs : List (List ℕ)} {i : Item} {is js : List Item} {ts : List Token} → Quiet is (i ∷ js) → i.what ≡ feed → Lines at vs js ts → Lines at vs is ts
-  line : {at : End} {vs us : List (List ℕ)} {w : List ℕ} {from to : ℕ} {i : Item} {is js ks : List Item} {ts before after : List Token} → Lead is (i ∷ js) w from to
-      → Indentation w from to i.line i.start vs us before → Line at (i ∷ js) ks ts → Lines at us ks after → Lines at vs is (before ++ (ts ++ after))
+  line : {at : End} {vs us : List (List ℕ)} {w : List ℕ} {row from to : ℕ} {i : Item} {is js ks : List Item} {ts before after : List Token} → Lead is (i ∷ js) w row from to
+      → Indentation w row from to vs us before → Line at (i ∷ js) ks ts → Lines at us ks after → Lines at vs is (before ++ (ts ++ after))
 
 -- a text with plain line ends has these tokens
 abbrev pub HasTokens : List ℕ → List Token → Type 0
