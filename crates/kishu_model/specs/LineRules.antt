@@ -1,4 +1,6 @@
--- The rules of lines, brackets and indentation as a language of pieces, apart from the reading in `Layout` (Python Language Reference 3, "Line structure").
+-- The rules of lines, brackets and indentation, said as a language of pieces (Python Language Reference 3, "Line structure"). `Layout` reads a text from the front with a
+-- state; here nothing is read and no state is kept. `Lines` says which tokens a list of pieces has: brackets lie in one another, and indentations are a stack of texts,
+-- each one a proper prefix of the next. `kishu_lexer` proves that both give the same tokens.
 use Rattle.std.specs.Prelude.{◌≡◌, ℕ, Bool, true, false, if◌then◌else◌, List, [], ◌∷◌, ◌++◌, length, replicate, Option, Some, None, nat_eq}
 use Rattle.std.specs.Str.{bytes_eq}
 use Rattle.std.specs.List.{starts_with}
@@ -6,7 +8,7 @@ use Rattle.kishu_model.specs.declared.token.Mark.{Mark}
 use Rattle.kishu_model.specs.Lexemes.{Lexeme, blank, comment, bad_comment, joined, feed, word, number, string, sign, bad}
 use Rattle.kishu_model.specs.Layout.{Kind, integer, quoted, newline, indent, dedent, mark, Token, token, Item, End, end_of, cut, word_kind, top, is_opening, is_closing, closes}
 
--- a piece that gives no token and ends no line
+-- a piece that gives no token and ends no line: white space, a comment, or a backslash with the line feed after it
 abbrev pub is_quiet : Lexeme → Bool
 is_quiet (blank w) = true
 is_quiet comment = true
@@ -19,7 +21,7 @@ is_quiet (sign k) = false
 is_quiet bad_comment = false
 is_quiet (bad below) = false
 
--- the token of a piece that is no bracket
+-- The token of a piece that is no bracket. (No rule takes a bad piece, so a text with one has no tokens.)
 abbrev pub value : Lexeme → Option Kind
 value (word w) = Some (word_kind w)
 value (number z) = Some (integer z)
@@ -35,12 +37,14 @@ value (bad below) = None
 abbrev pub token_at : Kind → Item → Token
 token_at k i = token k i.line i.start i.end
 
--- only pieces that give nothing stand from the first list to the second
+-- A rule over two lists speaks of the pieces with which the first begins and the second doesn't: it holds of what stands before the second list.
+
+-- pieces that give nothing
 pub data Quiet : List Item → List Item → Type 0 where
   here : {is : List Item} → Quiet is is
   over : {i : Item} {is js : List Item} → is_quiet i.what ≡ true → Quiet is js → Quiet (i ∷ is) js
 
--- what stands between brackets: a line may end there
+-- What stands between brackets, with its tokens. A line feed gives nothing there, and each bracket is closed by its own kind.
 pub data Inside : List Item → List Item → List Token → Type 0 where
   nothing : {is : List Item} → Inside is is []
   skip : {i : Item} {is js : List Item} {ts : List Token} → is_quiet i.what ≡ true → Inside is js ts → Inside (i ∷ is) js ts
@@ -49,7 +53,7 @@ pub data Inside : List Item → List Item → List Token → Type 0 where
   group : {i j : Item} {o c : Mark} {is js ks : List Item} {ts us : List Token} → i.what ≡ sign o → j.what ≡ sign c → is_opening o ≡ true → closes o c ≡ true
       → Inside is (j ∷ js) ts → Inside js ks us → Inside (i ∷ is) ks (token_at (mark o) i ∷ (ts ++ token_at (mark c) j ∷ us))
 
--- a logical line outside brackets, up to its line feed or the end of the text
+-- The rest of a logical line, up to its line feed, with its tokens. A last line without a line feed ends, at the end of the text, as if it had one.
 pub data Line : End → List Item → List Item → List Token → Type 0 where
   last : {at : End} → Line at [] [] (token newline at.0 at.1 at.1 ∷ [])
   ends : {at : End} {i : Item} {is : List Item} → i.what ≡ feed → Line at (i ∷ is) is (token_at newline i ∷ [])
@@ -94,7 +98,8 @@ pub data Indentation : List ℕ → ℕ → ℕ → ℕ → List (List ℕ) → 
   lower : {w : List ℕ} {line from to : ℕ} {vs us : List (List ℕ)} {ts : List Token} → bytes_eq w (top vs) ≡ false → starts_with nat_eq w (top vs) ≡ false → Back w line to vs us ts
       → Indentation w line from to vs us ts
 
--- the lines of a text, with the indentations that are open before them
+-- The lines of a text, with the stack of indentations before them (without the empty one, the longest first) and their tokens. A line of pieces that give nothing gives
+-- none, and its indentation counts for nothing. At the end DEDENTs empty the stack.
 pub data Lines : End → List (List ℕ) → List Item → List Token → Type 0 where
   over_all : {at : End} {vs : List (List ℕ)} {is : List Item} → Quiet is [] → Lines at vs is (replicate (length vs) (token dedent at.0 at.1 at.1))
   blank_line : {at : End} {vs : List (List ℕ)} {i : Item} {is js : List Item} {ts : List Token} → Quiet is (i ∷ js) → i.what ≡ feed → Lines at vs js ts → Lines at vs is ts

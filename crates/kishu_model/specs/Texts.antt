@@ -1,7 +1,6 @@
 -- What the calls on texts give. A text is the list of its code points, and places count code points (Python Language
 -- Reference 3, "Data model"; Library Reference, "Text Sequence Type"). Its length is `length`, its code point at a place `slice_get`.
-use Rattle.std.specs.Prelude.{ℕ, zero, suc, ◌-◌, ◌/◌, ◌%◌, ◌==◌, nat_lt, Bool, true, false, not, ◌&&◌, ◌||◌, if◌then◌else◌, List, [], ◌∷◌, ◌++◌, length, map, reverse, Option, Some, None, option_map, ℤ, pos, negsuc, ◌+ℤ◌, ◌≤ℤ◌, ◌<ℤ◌, slice_get}
-use Rattle.std.specs.Int.{is_in_range}
+use Rattle.std.specs.Prelude.{ℕ, zero, suc, ◌-◌, ◌/◌, ◌%◌, ◌==◌, nat_lt, Bool, true, false, not, ◌&&◌, ◌||◌, if◌then◌else◌, List, [], ◌∷◌, ◌++◌, length, map, Option, Some, None, option_map, ℤ, pos, negsuc, ◌+ℤ◌, ◌≤ℤ◌, ◌<ℤ◌, slice_get}
 use Rattle.std.specs.Char.{digit_char}
 use Rattle.std.specs.List.{AllByRecursion, filter, filter_map, flat_map, list_any, onto_first, slice_split}
 use Rattle.std.specs.Str.{chars}

@@ -1,20 +1,18 @@
 -- What follows from the bytes of a record.
 use Rattle.std.proofs.Common.{◌≡◌, Bool, true, false, ◌&&◌, if◌then◌else◌, nat_lt, nat_le, Option, Some, None, ◌≤◌, ◌<◌, ◌+◌, ◌^◌, ℕ, List, [], ◌∷◌, ◌++◌, length, refl, sym, ap, ◌∙◌, arith, length-append, append_assoc}
-use Rattle.std.proofs.lemmas.Nat.{from_be_bytes-to_be_bytes_4}
 use Rattle.std.proofs.lemmas.Str.{IsUtf8-from_ascii}
 use Rattle.std.proofs.lemmas.Str.Ascii.{IsAscii-from_all}
 use Rattle.std.proofs.lemmas.Bool.{false≢true}
 use Rattle.std.proofs.lemmas.Bool.Decides.{nat_tests}
 use Rattle.std.proofs.lemmas.List.Sums.{AllPass-from_list_all}
 use Rattle.std.specs.List.{list_all, All}
-use Rattle.std.specs.Int.{w32, from_be_bytes}
 use Rattle.kishu_model.specs.declared.profile.Profile.{Profile}
 use Rattle.kishu_model.specs.declared.profile.Profile.TheVariants.{One}
-use Rattle.kishu_model.specs.Record.{Entry, commit, profile_number, four, texts_bytes, head_of, body_of, longest_cell, AreCells}
+use Rattle.kishu_model.specs.Record.{Entry, commit, four, texts_bytes, head_of, body_of, AreCells}
 use Rattle.kishu_model.specs.Plain.{later_line, is_plain_text, longest_plain}
 use Rattle.std.specs.Str.{IsUtf8}
 use Rattle.kishu_model.specs.Laws.{four-unique, append-unique}
-use Rattle.kishu_record.specs.Entries.{IsText, AreTexts, KeepsRules, BeginsText, BeginsCommit}
+use Rattle.kishu_record.specs.Entries.{IsText, AreTexts, KeepsRules, BeginsText}
 
 -- the length of the head of a commit of one cell
 pub length-one_cell : (parent : ℕ) (profile : Profile) (text : List ℕ) → length (head_of (commit parent profile (text ∷ []))) ≡ 22 + length text
