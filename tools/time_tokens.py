@@ -4,11 +4,14 @@
 Usage: tools/time_tokens.py
 
 The program that is timed is made, proved and built in a folder of its own, over copies of
-kishu_model and kishu_lexer. It cuts its text five times. Each time is the least user time of five
-runs, each a process of its own, so that no run finds memory that another one touched, and what the
-system takes for fresh pages doesn't count. The time grows linearly with the text, so the ratio is
-about 4; where one is above 5 the script ends with status 1.
+kishu_model and kishu_lexer. Each run is a process of its own that cuts its text as often as makes
+4 MiB, and the least user time of five runs counts, so that a busy machine, fresh pages and the
+start of a process weigh little. The time grows linearly with the text, so the ratio of two cuts is
+about 4. Where it is above 5 there are twenty runs more, and where it stays so the script ends with
+status 1.
 """
+import functools
+import math
 import os
 import shutil
 import subprocess
@@ -17,13 +20,16 @@ import tempfile
 
 TOP = os.path.dirname(os.path.dirname(os.path.abspath(__file__)))
 CRATES = ("kishu_model", "kishu_lexer")
-PROGRAM = r'''//! Cuts the text on standard input into tokens five times, and prints how many they are.
+PROGRAM = r'''//! Cuts the text on standard input into tokens, as often as makes 4 MiB, and prints how many tokens
+//! it has.
 #![tactic(auto)]
 
 use kishu_lexer::tokens;
 use kishu_model::Profile;
 use std::alloc::Global;
 use std::io;
+
+const TOTAL: usize = 4_194_304;
 
 fn count(alloc: Global, text: &str) -> usize {
     if text.len() > 1_048_576 {
@@ -37,8 +43,9 @@ fn count(alloc: Global, text: &str) -> usize {
 
 fn main(rt: HostRuntime) -> io::Result<()> {
     let text = io::read_to_string(rt.alloc(), rt.stdin())?;
+    let turns = TOTAL.checked_div(text.len()).unwrap_or(0);
     let mut found = 0;
-    for _turn in 0..5 {
+    for _turn in 0..turns {
         found = count(rt.alloc(), text.as_str());
     }
     println!(rt; "{found}")
@@ -47,7 +54,9 @@ fn main(rt: HostRuntime) -> io::Result<()> {
 
 # A kind of text is one of these pieces, again and again, or blocks in blocks.
 PIECES = ["x = 1\n", "()", "(", "'a\\n' ", "'é' ", "#", '"""\\x41\n"""\n', "0_", "if x:\n  y\n", "a \\\n"]
-SMALL, LARGE = 262_144, 1_048_576
+SMALL, LARGE, TOTAL = 262_144, 1_048_576, 4_194_304
+# The ratio that is still taken for linear.
+WORST = 5
 
 
 def build(folder):
@@ -84,28 +93,37 @@ def repeated(piece, size):
 
 
 def nested(size):
-    """Blocks as deep as there is room for."""
-    lines, room = [], size
-    while (line := " " * len(lines) + "if x:\n") and len(line) <= room:
-        lines.append(line)
-        room -= len(line)
-    return "".join(lines).encode()
+    """Blocks in blocks, as deep as there is room for."""
+    text = ""
+    for depth in range(size):
+        line = " " * depth + "if x:\n"
+        if len(text) + len(line) > size:
+            break
+        text += line
+    return text.encode()
 
 
-def least_time(program, text):
-    return min(user_time(program, text) for _ in range(5))
+def cut_times(program, small, large):
+    """The least time of one cut of each text, in seconds. The runs of the texts take turns."""
+    times = [math.inf, math.inf]
+    for run in range(25):
+        if run >= 5 and times[1] <= WORST * times[0]:
+            break
+        for k, text in enumerate((small, large)):
+            times[k] = min(times[k], user_time(program, text) / (TOTAL // len(text)))
+    return times
 
 
 def main():
     worst = 0.0
     with tempfile.TemporaryDirectory() as folder:
         program = build(folder)
-        kinds = [(repr(piece), lambda size, piece=piece: repeated(piece, size)) for piece in PIECES]
+        kinds = [(repr(piece), functools.partial(repeated, piece)) for piece in PIECES]
         for name, text in kinds + [("blocks in blocks", nested)]:
-            small, large = (least_time(program, text(size)) for size in (SMALL, LARGE))
+            small, large = cut_times(program, text(SMALL), text(LARGE))
             worst = max(worst, large / small)
             print(f"{name:<24} 256 KiB {small * 1000:>7.1f} ms   1 MiB {large * 1000:>7.1f} ms   ratio {large / small:.2f}")
-    sys.exit(1 if worst > 5 else 0)
+    sys.exit(1 if worst > WORST else 0)
 
 
 if __name__ == "__main__":
