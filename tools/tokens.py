@@ -50,6 +50,7 @@ SAME = [
     " ".join(sorted(keyword.kwlist)) + "\n",
     "iff nota NONE\n",
     "0 00 0_0 1 12 1_2_3\n",
+    "1'a' 1(2)x\n",
     "0x1F 0XaB_c 0o17 0O7 0b101 0B_1 0x_f\n",
     "170141183460469231731687303715884105727\n",
     "0x7fffffffffffffffffffffffffffffff\n",

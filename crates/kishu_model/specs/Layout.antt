@@ -189,13 +189,13 @@ marked k line start end s = do
   c ← bracket k line b
   Ok (emit (token (mark k) line start end) c)
 
--- A fault on this line. The indentation before it comes first in the text.
+-- A fault on a line, in a piece that begins on this one and would be a token. The indentation before it comes first in the text.
 abbrev pub wrong : ℕ → ℕ → ℕ → State → Outcome State
 wrong fault line start s = do
   b ← begin line start s
   Err fault
 
--- a piece that begins on this line and stands at these places
+-- A piece that begins on this line and stands at these places. A comment begins no logical line.
 unfoldable pub step : Lexeme → ℕ → ℕ → ℕ → State → Outcome State
 step (blank w) line start end s = Ok (blank_at s.begun w line start end s)
 step comment line start end s = Ok s

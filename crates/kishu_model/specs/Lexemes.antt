@@ -53,7 +53,7 @@ abbrev pub by_place : List ℕ → Lexeme → Option ℕ → Lexeme
 by_place taken piece None = piece
 by_place taken piece (Some place) = bad (feeds (take place taken))
 
--- the character of code 0 is a fault on its line in a text too
+-- the character of code 0 is a fault on its line, in a text too
 abbrev pub unless_null : List ℕ → Lexeme → Lexeme
 unless_null taken piece = by_place taken piece (position is_null taken)
 
@@ -86,7 +86,7 @@ sign_or_bad (Some t) = (sign t.0, t.1)
 abbrev pub blanks : List ℕ → Cut
 blanks all = let n = prefix_len is_blank all in (blank (take n all), n)
 
--- and in a comment
+-- The character of code 0 is a fault in a comment too. It is on the comment's line, as a comment has one.
 abbrev pub comment_by : Option ℕ → Lexeme
 comment_by None = comment
 comment_by (Some place) = bad_comment

@@ -1,5 +1,5 @@
 // Made by tools/tokens.py: what is wanted and the text, with \x1f between, and \x1e behind each row.
-pub(crate) const COUNT: usize = 184;
+pub(crate) const COUNT: usize = 185;
 
 pub(crate) const ROWS: &str = "\
     \x1f\x1e\
@@ -23,6 +23,7 @@ pub(crate) const ROWS: &str = "\
     False@1:0-5 None@1:6-10 True@1:11-15 And@1:16-19 As@1:20-22 Assert@1:23-29 Async@1:30-35 Await@1:36-41 Break@1:42-47 Class@1:48-53 Continue@1:54-62 Def@1:63-66 Del@1:67-70 Elif@1:71-75 Else@1:76-80 Except@1:81-87 Finally@1:88-95 For@1:96-99 From@1:100-104 Global@1:105-111 If@1:112-114 Import@1:115-121 In@1:122-124 Is@1:125-127 Lambda@1:128-134 Nonlocal@1:135-143 Not@1:144-147 Or@1:148-150 Pass@1:151-155 Raise@1:156-161 Return@1:162-168 Try@1:169-172 While@1:173-178 With@1:179-183 Yield@1:184-189 newline@1:189-190\x1fFalse None True and as assert async await break class continue def del elif else except finally for from global if import in is lambda nonlocal not or pass raise return try while with yield\n\x1e\
     iff@1:0-3 nota@1:4-8 NONE@1:9-13 newline@1:13-14\x1fiff nota NONE\n\x1e\
     #0@1:0-1 #0@1:2-4 #0@1:5-8 #1@1:9-10 #12@1:11-13 #123@1:14-19 newline@1:19-20\x1f0 00 0_0 1 12 1_2_3\n\x1e\
+    #1@1:0-1 'a'@1:1-4 #1@1:5-6 LeftParenthesis@1:6-7 #2@1:7-8 RightParenthesis@1:8-9 x@1:9-10 newline@1:10-11\x1f1'a' 1(2)x\n\x1e\
     #31@1:0-4 #2748@1:5-11 #15@1:12-16 #7@1:17-20 #5@1:21-26 #1@1:27-31 #15@1:32-36 newline@1:36-37\x1f0x1F 0XaB_c 0o17 0O7 0b101 0B_1 0x_f\n\x1e\
     #170141183460469231731687303715884105727@1:0-39 newline@1:39-40\x1f170141183460469231731687303715884105727\n\x1e\
     #170141183460469231731687303715884105727@1:0-34 newline@1:34-35\x1f0x7fffffffffffffffffffffffffffffff\n\x1e\
