@@ -43,12 +43,14 @@ SAME = [
     "if a:\n  b",
     "if a:\n  if b:\n    c\n",
     "if a:\n  if b:\n    c\nd\n",
+    "if a:\n \tb\n \tif c:\n \t\td\n \te\n",
     "if a:\n  b\n # c\nd\n",
     "if a: b\n",
     "_a1 Zz __\n",
     " ".join(sorted(keyword.kwlist)) + "\n",
     "iff nota NONE\n",
     "0 00 0_0 1 12 1_2_3\n",
+    "1'a' 1(2)x\n",
     "0x1F 0XaB_c 0o17 0O7 0b101 0B_1 0x_f\n",
     "170141183460469231731687303715884105727\n",
     "0x7fffffffffffffffffffffffffffffff\n",
@@ -60,6 +62,8 @@ SAME = [
     "\"\"\"a\n'b\"c\n\"\"\"\nx\n",
     "'a\\\nb'\nx\n",
     "r'a\\\nb'\nx\n",
+    "r'\\N\\ud800\\\\' R'\\'' r\"\"\"a\n\\\"\"\"\"\n",
+    "'''\\\na\\n'''\n",
     "'\\\\\\'\\\"\\a\\b\\f\\n\\r\\t\\v'\n",
     "'\\0\\12\\101\\1018\\777\\8'\n",
     "'\\x41\\x7f\\xe9\\u00e9\\U0001F600\\U0010ffff'\n",
@@ -87,27 +91,39 @@ SAME = [
 # Read otherwise than CPython reads them, or than `tokenize` does.
 OWN = [
     ("\\\nx\n", "x@2:2-3 newline@2:3-4"),
-    ("  \\\n\\\n x\ny\n", None),
-    ("if a:\n  \\\n b\n", "If@1:0-2 a@1:3-4 Colon@1:4-5 newline@1:5-6 indent@3:6-8 b@3:11-12 newline@3:12-13 dedent@4:13-13"),
+    ("\\\n  x\n", "x@2:4-5 newline@2:5-6"),
+    ("  \\\n a", "indent@1:0-2 a@2:5-6 newline@2:6-6 dedent@2:6-6"),
+    ("  \\\n\\\n x\ny\n", "indent@1:0-2 x@3:7-8 newline@3:8-9 dedent@4:9-9 y@4:9-10 newline@4:10-11"),
+    ("if a:\n  \\\n b\n", "If@1:0-2 a@1:3-4 Colon@1:4-5 newline@1:5-6 indent@2:6-8 b@3:11-12 newline@3:12-13 dedent@4:13-13"),
+    ("if a:\n    b\n\\\nc\n", "If@1:0-2 a@1:3-4 Colon@1:4-5 newline@1:5-6 indent@2:6-10 b@2:10-11 newline@2:11-12 dedent@3:12-12 c@4:14-15 newline@4:15-16"),
+    ("if a:\n  if b:\n    c\n  \\\nd\n", "If@1:0-2 a@1:3-4 Colon@1:4-5 newline@1:5-6 indent@2:6-8 If@2:8-10 b@2:11-12 Colon@2:12-13 newline@2:13-14 indent@3:14-18 c@3:18-19 newline@3:19-20 dedent@4:22-22 d@5:24-25 newline@5:25-26 dedent@6:26-26"),
     ("x\\\n", "x@1:0-1 newline@2:3-3"),
+    ("\\\n", ""),
+    ("x\n  \\\n\n\\\n # c\ny\n", "x@1:0-1 newline@1:1-2 y@6:14-15 newline@6:15-16"),
     ("br'x'\n", "br@1:0-2 'x'@1:2-5 newline@1:5-6"),
     ("rr'x'\n", "rr@1:0-2 'x'@1:2-5 newline@1:5-6"),
+    ("ur'x' Rr'y'", "ur@1:0-2 'x'@1:2-5 Rr@1:6-8 'y'@1:8-11 newline@1:11-11"),
     (".5\n", "Dot@1:0-1 #5@1:1-2 newline@1:2-3"),
     ("a<>b:=c->d...\n", "a@1:0-1 Less@1:1-2 Greater@1:2-3 b@1:3-4 Colon@1:4-5 Assign@1:5-6 c@1:6-7 Minus@1:7-8 Greater@1:8-9 d@1:9-10 Dot@1:10-11 Dot@1:11-12 Dot@1:12-13 newline@1:13-14"),
     ("1 if x\n", "#1@1:0-1 If@1:2-4 x@1:5-6 newline@1:6-7"),
     ("print\n", "print@1:0-5 newline@1:5-6"),
 ]
-OWN = [row for row in OWN if row[1] is not None]
 
 # A text, and the line of its first fault.
 FAULTS = [
     ("a\n$\n", 2), ("?", 1), ("a ! b", 1), ("a / b", 1), ("a /= b", 1), ("a @ b", 1), ("~a", 1),
-    ("é", 1), ("aé", 1), ("a\x0cb", 1), ("\x0ca", 1),
+    ("é", 1), ("aé", 1), ("a\x0cb", 1), ("\x0ca", 1), ("x\n \x0c\n", 2), ("a\x0b", 1),
+    ("\u00a0a", 1), ("\ufeffa", 1), ("a\n\n(\n\n`", 5),
     ("a\0", 1), ("a\n# \0\n", 2), ("\n\0\n", 2), ("'\0'", 1), ("'''\n\n\0'''", 3),
     ("'''\n\0\n\\x1'''", 1), ("'''\n\0", 1), ("if a:\n  b\n#\0\n c", 3),
+    ("r'\\\0'", 1), ("a\\\0", 1), ("1\0", 1), ("(\n# \0\n", 2),
     ("a \\ b", 1), ("a\\", 1), ("\\", 1), ("a\\ \nb", 1),
     ("if a:\n    b\n  c\n", 3), ("if a:\n\tb\n        c\n", 3), ("if a:\n  b\n\tc\n", 3),
-    ("if a:\n  if b:\n    c\n   d\n", 4), ("if a:\n    b\n  \\\nc\n", 4),
+    ("if a:\n  if b:\n    c\n   d\n", 4), ("if a:\n\t b\n \tc\n", 3),
+    ("if a:\n    b\n  \\\nc\n", 3), ("if a:\n    b\n  \\\n$", 3), ("if a:\n    b\n  \\\n)", 3),
+    ("if a:\n    b\n  \\\n# \0", 4), ("if a:\n    b\n\\\n$", 4),
+    ("if a:\n    b\n  '''\n\0", 3), ("if a:\n    b\n  '''\n\0'''", 3), ("if a:\n    b\n  'c\\\n\0'", 3),
+    ("if a:\n    b\n    '''\n\0'''", 4), ("if a:\n    b\n '''\n\\x1'''", 3),
     (")", 1), ("(\n]", 2), ("(]", 1), ("[(])", 1), ("{\n)\n", 2), ("(\n", 1), ("(\n[\n", 2), ("(\n[\n]\n", 1),
     ("(\n\n$", 3), ("(\n'a", 2), ("{a\nb", 1),
     ("a" * 256, 1),
@@ -119,6 +135,8 @@ FAULTS = [
     ("'a\nb'", 1), ("x\n'''a\n", 2), ("'a", 1), ("'a\\", 1), ("r'\\'", 1), ("'''a''", 1), ("\"a'", 1),
     ("'\\x4'", 1), ("'\\xg1'", 1), ("'\\u123'", 1), ("'\\U0001234'", 1), ("'\\ud800'", 1),
     ("'\\udfff'", 1), ("'\\U00110000'", 1), ("'\\N{DIGIT ONE}'", 1), ("x\n'''a\n\\N'''", 2),
+    ("'\\x", 1), ("u'\\N'", 1), ("'\\UD800DFFF'", 1), ("'\\Uffffffff'", 1), ("\n'''\n\\udc00'''", 2),
+    ("r'''a''", 1), ("r'a\nb'", 1), ("'''\\'''", 1),
     ("x = \\\n\n$", 3), ("'a\\\nb'\n$", 3), ("'''a\n\n'''$", 3), ("a\r\n$", 2), ("a\r$", 2), ("a\r\r$", 3),
 ]
 
@@ -132,11 +150,13 @@ COMPUTED_TOKENS = [
     "'\\\\\\'\\\"\\a\\b\\f\\n\\r\\t\\v'\n", "'\\0\\12\\101\\1018\\777\\8'\n", "'\\q\\é\\_'\n",
     "'\\x41\\x7f\\xe9\\u00e9\\U0001F600\\U0010ffff'\n",
     "+ - * // % ** == != < <= > >= = += -= *= //= %= **= , : . ;\n", "()[]{}\n",
-    "a**=b**c//=d//e*f\n", "x\r\ny\rz\n", "'''a\r\nb\rc''' d\n", "x\\\n", "br'x'\n", ".5\n",
+    "a**=b**c//=d//e*f\n", "x\r\ny\rz\n", "'''a\r\nb\rc''' d\n", "x\\\n", "br'x'\n", "ur'x' Rr'y'", ".5\n",
+    "  \\\n a", "\\\n  x\n", "if a:\n    b\n\\\nc\n", "\\\n",
 ]
 COMPUTED_FAULTS = [
     "a\n$\n", "a / b", "é", "a\x0cb", "a\n# \0\n", "'''\n\n\0'''", "'''\n\0\n\\x1'''", "a \\ b", "a\\",
-    "if a:\n    b\n  c\n", "if a:\n\tb\n        c\n", "(\n]", "(\n[\n", "(\n\n$", "0_1", "0x_", "1.",
+    "if a:\n    b\n  c\n", "if a:\n\tb\n        c\n", "if a:\n    b\n  \\\nc\n", "if a:\n    b\n  '''\n\0",
+    "if a:\n    b\n  \\\n# \0", "(\n]", "(\n[\n", "(\n\n$", "0_1", "0x_", "1.",
     "170141183460469231731687303715884105728", "'a\nb'", "x\n'''a\n", "r'\\'", "'\\u123'", "'\\ud800'",
     "'\\N{DIGIT ONE}'", "x = \\\n\n$",
 ]
@@ -194,7 +214,7 @@ def read(text):
 def own(shown):
     """The tokens that are written down by hand."""
     tokens = []
-    for token in shown.split(" "):
+    for token in shown.split():
         kind, at = token.rsplit("@", 1)
         line, span = at.split(":")
         start, end = span.split("-")
@@ -227,7 +247,7 @@ def rust_text(text):
             return {"\n": "\\n", "\r": "\\r", "\t": "\\t", "\0": "\\0"}[c]
         if ord(c) < 32 or ord(c) == 127:
             return f"\\x{ord(c):02x}"
-        return c if ord(c) < 0x10000 else f"\\u{{{ord(c):x}}}"
+        return c if c.isprintable() and ord(c) < 0x10000 else f"\\u{{{ord(c):x}}}"
 
     return '"' + "".join(map(char, text)) + '"'
 

@@ -1,11 +1,11 @@
 -- What a text's first line is, and a line's first piece and token, by the place where they end.
 use Rattle.std.proofs.Common.{◌≡◌, ℕ, suc, ◌+◌, ◌-◌, ◌<◌, ◌≤◌, Bool, true, false, cond, List, [], ◌∷◌, length, take, drop, get_or, refl, sym, ◌∙◌, arith, add-one, Some, None}
 use Rattle.std.specs.Prelude.{◌==◌, not, ◌&&◌, nat_lt}
-use Rattle.std.specs.List.{position, position_or_len}
+use Rattle.std.specs.List.{onto_first, position, position_or_len}
 use Rattle.std.proofs.lemmas.Option.{cond_some}
 use Rattle.std.proofs.lemmas.List.{take_rest, drop_all, take_all}
 use borrow.Author.Tests.{ltb-true, ltb-false, eqb-true, eqb-false, ne_eqb}
-use Rattle.kishu_model.specs.Lines.{lines_of, onto_first}
+use Rattle.kishu_model.specs.Lines.{lines_of}
 use Rattle.kishu_model.specs.Names.{is_word_char}
 use Rattle.kishu_model.specs.Plain.{pieces_of, onto_pieces, tokens_of}
 use Rattle.kishu_interp.specs.Tokens.{BeginsToken}

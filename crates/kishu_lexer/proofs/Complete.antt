@@ -7,7 +7,7 @@ use Rattle.kishu_lexer.specs.Machine.{Answers, tokens_of}
 use Rattle.std.specs.Str.{bytes_eq}
 use Rattle.std.specs.List.{starts_with}
 use Rattle.kishu_model.specs.declared.token.Mark.{Mark}
-use Rattle.kishu_model.specs.Lexemes.{Lexeme, blank, comment, joined, feed, word, number, string, sign, bad}
+use Rattle.kishu_model.specs.Lexemes.{Lexeme, blank, comment, bad_comment, joined, feed, word, number, string, sign, bad}
 use Rattle.kishu_model.specs.Layout as y
 use Rattle.kishu_model.specs.Layout.{◌>>=◌, Outcome, State, Start, fresh, led, inside, Kind, Token, Item, End, newline, indent, dedent, token, mark, top, dedents, dedented, indented, finish, begin, bracket, is_opening, is_closing, closes, step, steps, cut, end_of, layout}
 use Rattle.kishu_model.specs.LineRules as r
@@ -98,9 +98,31 @@ sign_case n hyp i k is out b bs vs t small h none q = go (is_opening k) (is_clos
     go false true e f = close_case i k is out b bs vs t h q e f
     go false false e f = value_case n hyp i (mark k) is out b bs vs t small h none (ap value q ∙ plain_value k e f)
 
-bad_step : (below n a e : ℕ) (s : State) → step (bad below) n a e s ≡ Err (n + below)
+abbrev stop : ℕ → Outcome State
+stop fault = Err fault
+
+-- a fault is one in each state
+record Refused (l : Lexeme) (n a e : ℕ) (s : State) : Type 0 where
+  line : ℕ
+  is : step l n a e s ≡ Err line
+
+wrong_refused : (o : Outcome State) (fault : ℕ) → (line : ℕ) × (o >>= (λ (b : State). stop fault) ≡ stop line)
+wrong_refused (Ok b) fault = (fault, refl)
+wrong_refused (Err l) fault = (l, refl)
+
+bad_refused : (below n a e : ℕ) (s : State) → Refused (bad below) n a e s
 unfolding step
-bad_step below n a e s = refl
+bad_refused below n a e s = let p = wrong_refused (begin n a s) (n + below) in record { line = p.0; is = p.1 }
+
+comment_refused : (n a e : ℕ) (s : State) → Refused bad_comment n a e s
+unfolding step
+comment_refused n a e s = record { line = n; is = refl }
+
+refused_never : (i : Item) (l : Lexeme) (is : List Item) (s t : State) → i.what ≡ l → Refused l i.line i.start i.end s → whole i is s ≡ done t → ⊥
+refused_never i l is s t q r h = stuck r.line (sym (ap (λ v. v >>= steps is) (ap (λ x. step x i.line i.start i.end s) q ∙ r.is)) ∙ h)
+  where
+    stuck : (line : ℕ) → Err line >>= steps is ≡ done t → ⊥
+    stuck line e = cc
 
 piece_case : (n : ℕ) → Closing n → (i : Item) (l : Lexeme) (is : List Item) (out : List Token) (b : Mark × ℕ) (bs : List (Mark × ℕ)) (vs : List (List ℕ)) (t : State) → length is ≤ n
     → whole i is (St inside out (b ∷ bs) vs) ≡ done t → t.brackets ≡ [] → i.what ≡ l → Closes (i ∷ is) b
@@ -113,10 +135,8 @@ piece_case n hyp i (word w) is out b bs vs t small h none q = value_case n hyp i
 piece_case n hyp i (number z) is out b bs vs t small h none q = value_case n hyp i (y.integer z) is out b bs vs t small h none (ap value q)
 piece_case n hyp i (string u) is out b bs vs t small h none q = value_case n hyp i (y.quoted u) is out b bs vs t small h none (ap value q)
 piece_case n hyp i (sign k) is out b bs vs t small h none q = sign_case n hyp i k is out b bs vs t small h none q
-piece_case n hyp i (bad below) is out b bs vs t small h none q = absurd (stuck (sym (ap (λ v. v >>= steps is) (ap (λ l. step l i.line i.start i.end (St inside out (b ∷ bs) vs)) q ∙ bad_step below i.line i.start i.end (St inside out (b ∷ bs) vs))) ∙ h))
-  where
-    stuck : Err (i.line + below) >>= steps is ≡ done t → ⊥
-    stuck e = cc
+piece_case n hyp i bad_comment is out b bs vs t small h none q = absurd (refused_never i bad_comment is (St inside out (b ∷ bs) vs) t q (comment_refused i.line i.start i.end (St inside out (b ∷ bs) vs)) h)
+piece_case n hyp i (bad below) is out b bs vs t small h none q = absurd (refused_never i (bad below) is (St inside out (b ∷ bs) vs) t q (bad_refused below i.line i.start i.end (St inside out (b ∷ bs) vs)) h)
 
 -- What reads to an end inside a bracket meets the bracket that closes it, and what stands before that one is allowed.
 pub closing_met : (n : ℕ) → Closing n
@@ -179,6 +199,9 @@ line_open n hyp at i o is out vs us small h q op =
 never : (at : End) (is : List Item) (line : ℕ) (us : List Token) → after at is (Err line) ≡ listed us → ⊥
 never at is line us e = cc
 
+refused_line : (at : End) (i : Item) (l : Lexeme) (is : List Item) (s : State) (us : List Token) → i.what ≡ l → Refused l i.line i.start i.end s → run at (i ∷ is) s ≡ listed us → ⊥
+refused_line at i l is s us q r h = never at is r.line us (sym (ap (after at is) (ap (λ x. step x i.line i.start i.end s) q ∙ r.is)) ∙ h)
+
 no_bracket_to_close : (k : Mark) (n a e : ℕ) (out : List Token) (vs : List (List ℕ)) → is_opening k ≡ false → is_closing k ≡ true → step (sign k) n a e (St inside out [] vs) ≡ Err n
 unfolding step begin bracket
 no_bracket_to_close k n a e out vs h j = rw (h, j) refl
@@ -200,8 +223,8 @@ line_piece n hyp at i (word w) is out vs us small h q = line_value n hyp at i (y
 line_piece n hyp at i (number z) is out vs us small h q = line_value n hyp at i (y.integer z) is out vs us small h (ap value q)
 line_piece n hyp at i (string u) is out vs us small h q = line_value n hyp at i (y.quoted u) is out vs us small h (ap value q)
 line_piece n hyp at i (sign k) is out vs us small h q = line_sign n hyp at i k is out vs us small h q
-line_piece n hyp at i (bad below) is out vs us small h q =
-    absurd (never at is (i.line + below) us (sym (ap (after at is) (ap (λ l. step l i.line i.start i.end (St inside out [] vs)) q ∙ bad_step below i.line i.start i.end (St inside out [] vs))) ∙ h))
+line_piece n hyp at i bad_comment is out vs us small h q = absurd (refused_line at i bad_comment is (St inside out [] vs) us q (comment_refused i.line i.start i.end (St inside out [] vs)) h)
+line_piece n hyp at i (bad below) is out vs us small h q = absurd (refused_line at i (bad below) is (St inside out [] vs) us q (bad_refused below i.line i.start i.end (St inside out [] vs)) h)
 
 line_met : (n : ℕ) → Ending n
 line_met n at [] out vs us small h = record { others = []; found = token newline at.0 at.1 at.1 ∷ []; read = r.last; shorter = omega arith }
@@ -226,22 +249,22 @@ back_met w n a (v ∷ vs) out p e = go (bytes_eq w v) refl e (back_met w n a vs 
     go true q e next = (v ∷ vs, ([], r.found q))
     go false q e next = let t = next e in (t.0, (token dedent n a a ∷ t.1.0, r.off q t.1.1))
 
-Deep : List ℕ → ℕ → ℕ → ℕ → ℕ → List (List ℕ) → Type 0
-Deep w from to n a vs = (us : List (List ℕ)) × ((ts : List Token) × Indentation w from to n a vs us ts)
+Deep : List ℕ → ℕ → ℕ → ℕ → List (List ℕ) → Type 0
+Deep w row from to vs = (us : List (List ℕ)) × ((ts : List Token) × Indentation w row from to vs us ts)
 
 taken_off : (s t : State) (o : Outcome (List (List ℕ) × List Token)) → dedented s o ≡ done t → (p : List (List ℕ) × List Token) × (o ≡ Ok p)
 taken_off s t (Ok p) e = (p, refl)
 taken_off s t (Err l) e = absurd cc
 
-indentation_met : (w : List ℕ) (from to n a : ℕ) (vs : List (List ℕ)) (out : List Token) (t : State) → indented w from to n a (St inside out [] vs) ≡ done t → Deep w from to n a vs
+indentation_met : (w : List ℕ) (row from to : ℕ) (vs : List (List ℕ)) (out : List Token) (t : State) → indented w row from to (St inside out [] vs) ≡ done t → Deep w row from to vs
 unfolding indented Deep Off
-indentation_met w from to n a vs out t e = go (bytes_eq w (top vs)) (starts_with nat_eq w (top vs)) refl refl e
+indentation_met w row from to vs out t e = go (bytes_eq w (top vs)) (starts_with nat_eq w (top vs)) refl refl e
   where
     go : (p q : Bool) → bytes_eq w (top vs) ≡ p → starts_with nat_eq w (top vs) ≡ q
-        → cond p (done (St inside out [] vs)) (cond q (done (y.deeper w n from to (St inside out [] vs))) (dedented (St inside out [] vs) (dedents w n a vs out))) ≡ done t → Deep w from to n a vs
+        → cond p (done (St inside out [] vs)) (cond q (done (y.deeper w row from to (St inside out [] vs))) (dedented (St inside out [] vs) (dedents w row to vs out))) ≡ done t → Deep w row from to vs
     go true q e f h = (vs, ([], r.equal e))
-    go false true e f h = (w ∷ vs, (token indent n from to ∷ [], r.longer e f))
-    go false false e f h = let p = taken_off (St inside out [] vs) t (dedents w n a vs out) h in let b = back_met w n a vs out p.0 p.1 in (b.0, (b.1.0, r.lower e f b.1.1))
+    go false true e f h = (w ∷ vs, (token indent row from to ∷ [], r.longer e f))
+    go false false e f h = let p = taken_off (St inside out [] vs) t (dedents w row to vs out) h in let b = back_met w row to vs out p.0 p.1 in (b.0, (b.1.0, r.lower e f b.1.1))
 
 -- the first piece of a line begins it
 from_begin : (l : Lexeme) (n a e : ℕ) (s t : State) → begins l ≡ true → step l n a e s ≡ done t → (b : State) × (begin n a s ≡ done b)
@@ -254,6 +277,7 @@ from_begin (blank w) n a e s t h q = absurd cc
 from_begin comment n a e s t h q = absurd cc
 from_begin joined n a e s t h q = absurd cc
 from_begin feed n a e s t h q = absurd cc
+from_begin bad_comment n a e s t h q = absurd cc
 from_begin (bad b) n a e s t h q = absurd cc
 
 begin_by : (v : Start) (n a : ℕ) (out : List Token) (vs : List (List ℕ)) (b : State) → begin n a (St v out [] vs) ≡ done b → y.begin_at v n a (St v out [] vs) ≡ done b
@@ -268,14 +292,14 @@ Readable at vs is = (ts : List Token) × Lines at vs is ts
 abbrev Reading : ℕ → Type 0
 Reading n = (at : End) (is : List Item) (out : List Token) (vs : List (List ℕ)) (us : List Token) → length is ≤ n → run at is (St fresh out [] vs) ≡ listed us → Readable at vs is
 
-logical : (n : ℕ) → Reading n → (at : End) (before : List Item) (i : Item) (is : List Item) (v : Start) (w : List ℕ) (from to : ℕ) (out : List Token) (vs : List (List ℕ)) (us : List Token) → length is ≤ n
-    → Lead before (i ∷ is) w from to → begins i.what ≡ true → y.begin_at v i.line i.start (St v out [] vs) ≡ indented w from to i.line i.start (St inside out [] vs)
+logical : (n : ℕ) → Reading n → (at : End) (before : List Item) (i : Item) (is : List Item) (v : Start) (w : List ℕ) (row from to : ℕ) (out : List Token) (vs : List (List ℕ)) (us : List Token) → length is ≤ n
+    → Lead before (i ∷ is) w row from to → begins i.what ≡ true → y.begin_at v i.line i.start (St v out [] vs) ≡ indented w row from to (St inside out [] vs)
     → run at (i ∷ is) (St v out [] vs) ≡ listed us → Readable at vs before
 unfolding Readable Deep
-logical n hyp at before i is v w from to out vs us small lead b begun h =
+logical n hyp at before i is v w row from to out vs us small lead b begun h =
     let p = bind_ok_list (step i.what i.line i.start i.end (St v out [] vs)) is at us h in
     let q = from_begin i.what i.line i.start i.end (St v out [] vs) p.0 b p.1 in
-    let d = indentation_met w from to i.line i.start vs out q.0 (sym begun ∙ begin_by v i.line i.start out vs q.0 q.1) in
+    let d = indentation_met w row from to vs out q.0 (sym begun ∙ begin_by v i.line i.start out vs q.0 q.1) in
     let same : y.begin_at v i.line i.start (St v out [] vs) ≡ done (St inside (out ++ d.1.0) [] d.0) = begun ∙ indentation_takes out d.1.1 in
     let here : run at (i ∷ is) (St inside (out ++ d.1.0) [] d.0) ≡ listed us =
     sym (ap (after at is) (first_step i.what i.line i.start i.end (St v out [] vs) (St inside (out ++ d.1.0) [] d.0) b (begin_is v i.line i.start out d.1.0 vs d.0 same))) ∙ h in
@@ -283,46 +307,46 @@ logical n hyp at before i is v w from to out vs us small lead b begun h =
     let rest = hyp at c.others ((out ++ d.1.0) ++ c.found) d.0 us (omega (arith, c.shorter)) (sym (line_takes (out ++ d.1.0) d.0 c.read) ∙ here) in
     (d.1.0 ++ (c.found ++ rest.0), r.line lead d.1.1 c.read rest.1)
 
-led_feed : (l : Lexeme) (n a e : ℕ) (w : List ℕ) (from to : ℕ) (out : List Token) (vs : List (List ℕ)) → l ≡ feed → step l n a e (St (led w from to) out [] vs) ≡ done (St fresh out [] vs)
+led_feed : (l : Lexeme) (n a e : ℕ) (w : List ℕ) (row from to : ℕ) (out : List Token) (vs : List (List ℕ)) → l ≡ feed → step l n a e (St (led w row from to) out [] vs) ≡ done (St fresh out [] vs)
 unfolding step
-led_feed l n a e w from to out vs h = ap (λ x. step x n a e (St (led w from to) out [] vs)) h
+led_feed l n a e w row from to out vs h = ap (λ x. step x n a e (St (led w row from to) out [] vs)) h
 
 fresh_feed : (l : Lexeme) (n a e : ℕ) (out : List Token) (vs : List (List ℕ)) → l ≡ feed → step l n a e (St fresh out [] vs) ≡ done (St fresh out [] vs)
 unfolding step
 fresh_feed l n a e out vs h = ap (λ x. step x n a e (St fresh out [] vs)) h
 
-bad_never : (at : End) (i : Item) (below : ℕ) (is : List Item) (s : State) (us : List Token) → i.what ≡ bad below → run at (i ∷ is) s ≡ listed us → ⊥
-bad_never at i below is s us q h = never at is (i.line + below) us (sym (ap (after at is) (ap (λ l. step l i.line i.start i.end s) q ∙ bad_step below i.line i.start i.end s)) ∙ h)
-
 -- after the leading blanks of a line
-led_piece : (n : ℕ) → Reading n → (at : End) (before : List Item) (i : Item) (l : Lexeme) (is : List Item) (w : List ℕ) (from to : ℕ) (out : List Token) (vs : List (List ℕ)) (us : List Token) → length is ≤ n
-    → ((js : List Item) → Quiet (i ∷ is) js → Quiet before js) → (begins i.what ≡ true → Lead before (i ∷ is) w from to)
-    → (is_quiet i.what ≡ true → run at is (St (led w from to) out [] vs) ≡ listed us → Readable at vs before)
-    → run at (i ∷ is) (St (led w from to) out [] vs) ≡ listed us → i.what ≡ l → Readable at vs before
+led_piece : (n : ℕ) → Reading n → (at : End) (before : List Item) (i : Item) (l : Lexeme) (is : List Item) (w : List ℕ) (row from to : ℕ) (out : List Token) (vs : List (List ℕ)) (us : List Token) → length is ≤ n
+    → ((js : List Item) → Quiet (i ∷ is) js → Quiet before js) → (begins i.what ≡ true → Lead before (i ∷ is) w row from to)
+    → (is_quiet i.what ≡ true → run at is (St (led w row from to) out [] vs) ≡ listed us → Readable at vs before)
+    → run at (i ∷ is) (St (led w row from to) out [] vs) ≡ listed us → i.what ≡ l → Readable at vs before
 unfolding Readable
-led_piece n hyp at before i (blank x) is w from to out vs us small quiet lead next h q =
-    next (ap is_quiet q) (sym (ap (after at is) (led_step i.what i.line i.start i.end w from to out vs (ap is_quiet q))) ∙ h)
-led_piece n hyp at before i comment is w from to out vs us small quiet lead next h q =
-    next (ap is_quiet q) (sym (ap (after at is) (led_step i.what i.line i.start i.end w from to out vs (ap is_quiet q))) ∙ h)
-led_piece n hyp at before i joined is w from to out vs us small quiet lead next h q =
-    next (ap is_quiet q) (sym (ap (after at is) (led_step i.what i.line i.start i.end w from to out vs (ap is_quiet q))) ∙ h)
-led_piece n hyp at before i feed is w from to out vs us small quiet lead next h q =
-    let rest = hyp at is out vs us small (sym (ap (after at is) (led_feed i.what i.line i.start i.end w from to out vs q)) ∙ h) in
+led_piece n hyp at before i (blank x) is w row from to out vs us small quiet lead next h q =
+    next (ap is_quiet q) (sym (ap (after at is) (led_step i.what i.line i.start i.end w row from to out vs (ap is_quiet q))) ∙ h)
+led_piece n hyp at before i comment is w row from to out vs us small quiet lead next h q =
+    next (ap is_quiet q) (sym (ap (after at is) (led_step i.what i.line i.start i.end w row from to out vs (ap is_quiet q))) ∙ h)
+led_piece n hyp at before i joined is w row from to out vs us small quiet lead next h q =
+    next (ap is_quiet q) (sym (ap (after at is) (led_step i.what i.line i.start i.end w row from to out vs (ap is_quiet q))) ∙ h)
+led_piece n hyp at before i feed is w row from to out vs us small quiet lead next h q =
+    let rest = hyp at is out vs us small (sym (ap (after at is) (led_feed i.what i.line i.start i.end w row from to out vs q)) ∙ h) in
     (rest.0, r.blank_line (quiet (i ∷ is) r.here) q rest.1)
-led_piece n hyp at before i (word x) is w from to out vs us small quiet lead next h q = logical n hyp at before i is (led w from to) w from to out vs us small (lead (ap begins q)) (ap begins q) refl h
-led_piece n hyp at before i (number z) is w from to out vs us small quiet lead next h q = logical n hyp at before i is (led w from to) w from to out vs us small (lead (ap begins q)) (ap begins q) refl h
-led_piece n hyp at before i (string u) is w from to out vs us small quiet lead next h q = logical n hyp at before i is (led w from to) w from to out vs us small (lead (ap begins q)) (ap begins q) refl h
-led_piece n hyp at before i (sign k) is w from to out vs us small quiet lead next h q = logical n hyp at before i is (led w from to) w from to out vs us small (lead (ap begins q)) (ap begins q) refl h
-led_piece n hyp at before i (bad b) is w from to out vs us small quiet lead next h q = absurd (bad_never at i b is (St (led w from to) out [] vs) us q h)
+led_piece n hyp at before i (word x) is w row from to out vs us small quiet lead next h q = logical n hyp at before i is (led w row from to) w row from to out vs us small (lead (ap begins q)) (ap begins q) refl h
+led_piece n hyp at before i (number z) is w row from to out vs us small quiet lead next h q = logical n hyp at before i is (led w row from to) w row from to out vs us small (lead (ap begins q)) (ap begins q) refl h
+led_piece n hyp at before i (string u) is w row from to out vs us small quiet lead next h q = logical n hyp at before i is (led w row from to) w row from to out vs us small (lead (ap begins q)) (ap begins q) refl h
+led_piece n hyp at before i (sign k) is w row from to out vs us small quiet lead next h q = logical n hyp at before i is (led w row from to) w row from to out vs us small (lead (ap begins q)) (ap begins q) refl h
+led_piece n hyp at before i bad_comment is w row from to out vs us small quiet lead next h q =
+    absurd (refused_line at i bad_comment is (St (led w row from to) out [] vs) us q (comment_refused i.line i.start i.end (St (led w row from to) out [] vs)) h)
+led_piece n hyp at before i (bad b) is w row from to out vs us small quiet lead next h q =
+    absurd (refused_line at i (bad b) is (St (led w row from to) out [] vs) us q (bad_refused b i.line i.start i.end (St (led w row from to) out [] vs)) h)
 
-led_met : (n : ℕ) → Reading n → (at : End) (before is : List Item) (w : List ℕ) (from to : ℕ) (out : List Token) (vs : List (List ℕ)) (us : List Token) → length is ≤ n
-    → ((js : List Item) → Quiet is js → Quiet before js) → ((j : Item) (js : List Item) → Quiet is (j ∷ js) → begins j.what ≡ true → Lead before (j ∷ js) w from to)
-    → run at is (St (led w from to) out [] vs) ≡ listed us → Readable at vs before
+led_met : (n : ℕ) → Reading n → (at : End) (before is : List Item) (w : List ℕ) (row from to : ℕ) (out : List Token) (vs : List (List ℕ)) (us : List Token) → length is ≤ n
+    → ((js : List Item) → Quiet is js → Quiet before js) → ((j : Item) (js : List Item) → Quiet is (j ∷ js) → begins j.what ≡ true → Lead before (j ∷ js) w row from to)
+    → run at is (St (led w row from to) out [] vs) ≡ listed us → Readable at vs before
 unfolding Readable
-led_met n hyp at before [] w from to out vs us small quiet lead h = (replicate (length vs) (token dedent at.0 at.1 at.1), r.over_all (quiet [] r.here))
-led_met n hyp at before (i ∷ is) w from to out vs us small quiet lead h =
-    led_piece n hyp at before i i.what is w from to out vs us (omega arith) quiet (λ b. lead i is r.here b)
-    (λ q k. led_met n hyp at before is w from to out vs us (omega arith) (λ js t. quiet js (r.over q t)) (λ j js t b. lead j js (r.over q t) b) k) h refl
+led_met n hyp at before [] w row from to out vs us small quiet lead h = (replicate (length vs) (token dedent at.0 at.1 at.1), r.over_all (quiet [] r.here))
+led_met n hyp at before (i ∷ is) w row from to out vs us small quiet lead h =
+    led_piece n hyp at before i i.what is w row from to out vs us (omega arith) quiet (λ b. lead i is r.here b)
+    (λ q k. led_met n hyp at before is w row from to out vs us (omega arith) (λ js t. quiet js (r.over q t)) (λ j js t b. lead j js (r.over q t) b) k) h refl
 
 comment_before : {at : End} {vs : List (List ℕ)} {is : List Item} {ts : List Token} (i : Item) → i.what ≡ comment → Lines at vs is ts → Lines at vs (i ∷ is) ts
 comment_before i e (r.over_all q) = r.over_all (r.over (ap is_quiet e) q)
@@ -333,20 +357,21 @@ fresh_piece : (n : ℕ) → Reading n → (at : End) (i : Item) (l : Lexeme) (is
     → run at (i ∷ is) (St fresh out [] vs) ≡ listed us → i.what ≡ l → Readable at vs (i ∷ is)
 unfolding Readable
 fresh_piece n hyp at i (blank w) is out vs us small h q =
-    led_met n hyp at (i ∷ is) is w i.start i.end out vs us small (λ js t. r.over (ap is_quiet q) t) (λ j js t b. r.blanks q t b) (sym (ap (after at is) (blank_first i.what i.line i.start i.end w out vs q)) ∙ h)
+    led_met n hyp at (i ∷ is) is w i.line i.start i.end out vs us small (λ js t. r.over (ap is_quiet q) t) (λ j js t b. r.blanks q t b) (sym (ap (after at is) (blank_first i.what i.line i.start i.end w out vs q)) ∙ h)
 fresh_piece n hyp at i joined is out vs us small h q =
-    led_met n hyp at (i ∷ is) is [] i.start i.start out vs us small (λ js t. r.over (ap is_quiet q) t) (λ j js t b. r.joint q t b) (sym (ap (after at is) (joined_first i.what i.line i.start i.end out vs q)) ∙ h)
+    led_met n hyp at (i ∷ is) is [] i.line i.start i.start out vs us small (λ js t. r.over (ap is_quiet q) t) (λ j js t b. r.joint q t b) (sym (ap (after at is) (joined_first i.what i.line i.start i.end out vs q)) ∙ h)
 fresh_piece n hyp at i comment is out vs us small h q =
     let rest = hyp at is out vs us small (sym (ap (after at is) (ap (λ x. step x i.line i.start i.end (St fresh out [] vs)) q ∙ comment_first i.line i.start i.end out vs)) ∙ h) in
     (rest.0, comment_before i q rest.1)
 fresh_piece n hyp at i feed is out vs us small h q =
     let rest = hyp at is out vs us small (sym (ap (after at is) (fresh_feed i.what i.line i.start i.end out vs q)) ∙ h) in
     (rest.0, r.blank_line r.here q rest.1)
-fresh_piece n hyp at i (word x) is out vs us small h q = logical n hyp at (i ∷ is) i is fresh [] i.start i.start out vs us small (r.bare (ap begins q)) (ap begins q) refl h
-fresh_piece n hyp at i (number z) is out vs us small h q = logical n hyp at (i ∷ is) i is fresh [] i.start i.start out vs us small (r.bare (ap begins q)) (ap begins q) refl h
-fresh_piece n hyp at i (string u) is out vs us small h q = logical n hyp at (i ∷ is) i is fresh [] i.start i.start out vs us small (r.bare (ap begins q)) (ap begins q) refl h
-fresh_piece n hyp at i (sign k) is out vs us small h q = logical n hyp at (i ∷ is) i is fresh [] i.start i.start out vs us small (r.bare (ap begins q)) (ap begins q) refl h
-fresh_piece n hyp at i (bad b) is out vs us small h q = absurd (bad_never at i b is (St fresh out [] vs) us q h)
+fresh_piece n hyp at i (word x) is out vs us small h q = logical n hyp at (i ∷ is) i is fresh [] i.line i.start i.start out vs us small (r.bare (ap begins q)) (ap begins q) refl h
+fresh_piece n hyp at i (number z) is out vs us small h q = logical n hyp at (i ∷ is) i is fresh [] i.line i.start i.start out vs us small (r.bare (ap begins q)) (ap begins q) refl h
+fresh_piece n hyp at i (string u) is out vs us small h q = logical n hyp at (i ∷ is) i is fresh [] i.line i.start i.start out vs us small (r.bare (ap begins q)) (ap begins q) refl h
+fresh_piece n hyp at i (sign k) is out vs us small h q = logical n hyp at (i ∷ is) i is fresh [] i.line i.start i.start out vs us small (r.bare (ap begins q)) (ap begins q) refl h
+fresh_piece n hyp at i bad_comment is out vs us small h q = absurd (refused_line at i bad_comment is (St fresh out [] vs) us q (comment_refused i.line i.start i.end (St fresh out [] vs)) h)
+fresh_piece n hyp at i (bad b) is out vs us small h q = absurd (refused_line at i (bad b) is (St fresh out [] vs) us q (bad_refused b i.line i.start i.end (St fresh out [] vs)) h)
 
 lines_met : (n : ℕ) → Reading n
 unfolding Readable

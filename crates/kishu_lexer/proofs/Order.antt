@@ -4,7 +4,7 @@ use Rattle.std.specs.Prelude.{Result, Ok, Err, nat_eq}
 use Rattle.std.specs.Str.{bytes_eq}
 use Rattle.std.specs.List.{starts_with}
 use Rattle.kishu_model.specs.declared.token.Mark.{Mark}
-use Rattle.kishu_model.specs.Lexemes.{Lexeme, blank, comment, joined, feed, word, number, string, sign, bad, lexeme, feeds}
+use Rattle.kishu_model.specs.Lexemes.{Lexeme, blank, comment, bad_comment, joined, feed, word, number, string, sign, bad, lexeme, feeds}
 use Rattle.kishu_model.specs.Layout as y
 use Rattle.kishu_model.specs.Layout.{◌>>=◌, Outcome, State, Start, fresh, led, inside, Kind, Token, Item, token, emit, newline, indent, dedent, mark, top, dedents, dedented, deeper, indented, begin, bracket, step, steps, cut, cut_from, width, end_of, finish, layout, empty}
 use Rattle.kishu_model.specs.Places.{InOrder}
@@ -42,7 +42,7 @@ copies low at ts k line n h = go ts low h
 abbrev Ordered : Start → List Token → ℕ → Type 0
 Ordered fresh out at = InOrder 0 out at
 Ordered inside out at = InOrder 0 out at
-Ordered (led w from to) out at = InOrder 0 out from × ((from ≤ to) × (to ≤ at))
+Ordered (led w row from to) out at = InOrder 0 out from × ((from ≤ to) × (to ≤ at))
 
 record Stands (s : State) (at : ℕ) : Type 0 where
   is : Ordered s.begun s.out at
@@ -53,7 +53,7 @@ plainly s at h = go s.begun h.is
     go : (b : Start) → Ordered b s.out at → InOrder 0 s.out at
     go fresh k = k
     go inside k = k
-    go (led w from to) k = later 0 from at s.out k.0 (omega arith)
+    go (led w row from to) k = later 0 from at s.out k.0 (omega arith)
 
 bind_ok : {A B : Type 0} (o : Outcome A) (f : A → Outcome B) (t : B) → o >>= f ≡ Ok t → (b : A) × ((o ≡ Ok b) × (f b ≡ Ok t))
 bind_ok (Ok b) f t e = (b, (refl, e))
@@ -86,14 +86,17 @@ dedents_ok w line at (v ∷ vs) out s c h k e = go (bytes_eq w v) e (λ e. deden
     go true e next = began (record s { indents = v ∷ vs; out = out }) c at e (record { places = k; begun = h })
     go false e next = next e
 
-indented_ok : (w : List ℕ) (from to line at : ℕ) (s c : State) → s.begun ≡ inside → InOrder 0 s.out from → from ≤ to → to ≤ at → indented w from to line at s ≡ Ok c → Began c at
+indented_ok : (w : List ℕ) (line from to : ℕ) (s c : State) → s.begun ≡ inside → InOrder 0 s.out from → from ≤ to → indented w line from to s ≡ Ok c → Began c to
 unfolding indented
-indented_ok w from to line at s c h k a b e = go (bytes_eq w (top s.indents)) (starts_with nat_eq w (top s.indents)) e
+indented_ok w line from to s c h k a e = go (bytes_eq w (top s.indents)) (starts_with nat_eq w (top s.indents)) e
   where
-    go : (p q : Bool) → cond p (Ok s) (cond q (Ok (deeper w line from to s)) (dedented s (dedents w line at s.indents s.out))) ≡ Ok c → Began c at
-    go true q e = began s c at e (record { places = later 0 from at s.out k (omega arith); begun = h })
-    go false true e = began (deeper w line from to s) c at e (record { places = push 0 from at s.out (token indent line from to) k (omega arith) a b; begun = h })
-    go false false e = dedents_ok w line at s.indents s.out s c h (later 0 from at s.out k (omega arith)) e
+    go : (p q : Bool) → cond p (Ok s) (cond q (Ok (deeper w line from to s)) (dedented s (dedents w line to s.indents s.out))) ≡ Ok c → Began c to
+    go true q e = began s c to e (record { places = later 0 from to s.out k a; begun = h })
+    go false true e = began (deeper w line from to s) c to e (record { places = push 0 from to s.out (token indent line from to) k (omega arith) a (omega arith); begun = h })
+    go false false e = dedents_ok w line to s.indents s.out s c h (later 0 from to s.out k a) e
+
+begun_later : (c : State) (to at : ℕ) → Began c to → to ≤ at → Began c at
+begun_later c to at h le = record { places = later 0 to at c.out h.places le; begun = h.begun }
 
 begin_ok : (line at : ℕ) (s c : State) → Stands s at → begin line at s ≡ Ok c → Began c at
 unfolding begin
@@ -101,8 +104,8 @@ begin_ok line at s c h e = go s.begun refl h.is e
   where
     go : (b : Start) → s.begun ≡ b → Ordered b s.out at → y.begin_at b line at s ≡ Ok c → Began c at
     go inside q k e = began s c at e (record { places = k; begun = q })
-    go fresh q k e = indented_ok [] at at line at (record s { begun = inside }) c refl k (omega arith) (omega arith) e
-    go (led w from to) q k e = indented_ok w from to line at (record s { begun = inside }) c refl k.0 k.1.0 k.1.1 e
+    go fresh q k e = indented_ok [] line at at (record s { begun = inside }) c refl k (omega arith) e
+    go (led w row from to) q k e = begun_later c to at (indented_ok w row from to (record s { begun = inside }) c refl k.0 k.1.0 e) k.1.1
 
 -- a token that is put out inside a line
 put : (b : State) (k : Kind) (line start end : ℕ) → Began b start → start ≤ end → Stands (emit (token k line start end) b) end
@@ -118,18 +121,18 @@ moved s start end h le = go s.begun refl h.is
     go : (b : Start) → s.begun ≡ b → Ordered b s.out start → Stands s end
     go fresh q k = stand s fresh end q (later 0 start end s.out k le)
     go inside q k = stand s inside end q (later 0 start end s.out k le)
-    go (led w from to) q k = stand s (led w from to) end q (k.0, (k.1.0, omega arith))
+    go (led w row from to) q k = stand s (led w row from to) end q (k.0, (k.1.0, omega arith))
 
 stands : (b c : State) (at : ℕ) → done b ≡ done c → Stands b at → Stands c at
 stands b c at e h = subst (λ v. Stands v at) (ok_is b c e) h
 
-blank_ok : (w : List ℕ) (start stop end : ℕ) (s t : State) → Stands s start → start ≤ stop → stop ≤ end → done (y.blank_at s.begun w start stop s) ≡ done t → Stands t end
-blank_ok w start stop end s t h a b e = go s.begun refl h.is e
+blank_ok : (w : List ℕ) (line start stop end : ℕ) (s t : State) → Stands s start → start ≤ stop → stop ≤ end → done (y.blank_at s.begun w line start stop s) ≡ done t → Stands t end
+blank_ok w line start stop end s t h a b e = go s.begun refl h.is e
   where
-    go : (v : Start) → s.begun ≡ v → Ordered v s.out start → done (y.blank_at v w start stop s) ≡ done t → Stands t end
-    go fresh q k e = stands (record s { begun = led w start stop }) t end e (record { is = (k, (a, b)) })
+    go : (v : Start) → s.begun ≡ v → Ordered v s.out start → done (y.blank_at v w line start stop s) ≡ done t → Stands t end
+    go fresh q k e = stands (record s { begun = led w line start stop }) t end e (record { is = (k, (a, b)) })
     go inside q k e = stands s t end e (moved s start end h (omega arith))
-    go (led v from to) q k e = stands s t end e (moved s start end h (omega arith))
+    go (led v row from to) q k e = stands s t end e (moved s start end h (omega arith))
 
 feed_ok : (line start end : ℕ) (s t : State) → Stands s start → start ≤ end → done (y.feed_at s.begun line start end s) ≡ done t → Stands t end
 feed_ok line start end s t h le e = go s.begun refl h.is e
@@ -141,7 +144,7 @@ feed_ok line start end s t h le e = go s.begun refl h.is e
     go : (v : Start) → s.begun ≡ v → Ordered v s.out start → done (y.feed_at v line start end s) ≡ done t → Stands t end
     go fresh q k e = stands s t end e (moved s start end h le)
     go inside q k e = choose (y.is_none s.brackets) k e
-    go (led w from to) q k e = stands (record s { begun = fresh }) t end e (record { is = later 0 from end s.out k.0 (omega arith) })
+    go (led w row from to) q k e = stands (record s { begun = fresh }) t end e (record { is = later 0 from end s.out k.0 (omega arith) })
 
 close_ok : (k : Mark) (line at : ℕ) (bs : List (Mark × ℕ)) (b c : State) → Began b at → y.close k line bs b ≡ Ok c → Began c at
 close_ok k line at [] b c h e = absurd cc
@@ -171,17 +174,22 @@ marked_ok k line start end s t h le e =
     let q = bind_ok (bracket k line p.0) (λ c. done (emit (token (mark k) line start end) c)) t p.1.1 in
     stands (emit (token (mark k) line start end) q.0) t end q.1.1 (put q.0 (mark k) line start end (bracket_ok k line start p.0 q.0 (begin_ok line start s p.0 h p.1.0) q.1.0) le)
 
+wrong_never : (o : Outcome State) (fault : ℕ) (t : State) → o >>= (λ b. Err fault) ≡ done t → ⊥
+wrong_never (Ok b) fault t e = cc
+wrong_never (Err l) fault t e = cc
+
 step_ok : (l : Lexeme) (line start end : ℕ) (s t : State) → Stands s start → start ≤ end → step l line start end s ≡ Ok t → Stands t end
 unfolding step
-step_ok (blank w) line start end s t h le e = blank_ok w start end end s t h le (omega arith) e
+step_ok (blank w) line start end s t h le e = blank_ok w line start end end s t h le (omega arith) e
 step_ok comment line start end s t h le e = stands s t end e (moved s start end h le)
-step_ok joined line start end s t h le e = blank_ok [] start start end s t h (omega arith) le e
+step_ok bad_comment line start end s t h le e = absurd cc
+step_ok joined line start end s t h le e = blank_ok [] line start start end s t h (omega arith) le e
 step_ok feed line start end s t h le e = feed_ok line start end s t h le e
 step_ok (word w) line start end s t h le e = plain_ok (y.word_kind w) line start end s t h le e
 step_ok (number z) line start end s t h le e = plain_ok (y.integer z) line start end s t h le e
 step_ok (string u) line start end s t h le e = plain_ok (y.quoted u) line start end s t h le e
 step_ok (sign k) line start end s t h le e = marked_ok k line start end s t h le e
-step_ok (bad below) line start end s t h le e = absurd cc
+step_ok (bad below) line start end s t h le e = absurd (wrong_never (begin line start s) (line + below) t e)
 
 rest_width : (n c : ℕ) (cs : List ℕ) → width (take n (c ∷ cs)) + width (drop (n - 1) cs) ≤ width (c ∷ cs)
 rest_width zero c cs = omega (arith, sum_by-cons len_utf8 c cs)
@@ -212,7 +220,7 @@ finish_ok [] line at s ts h e = go s.begun refl e
     go : (v : Start) → s.begun ≡ v → listed ((y.ended v (line, at) s).out ++ replicate (length (y.ended v (line, at) s).indents) (token dedent line at at)) ≡ Ok ts → InOrder 0 ts at
     go fresh q e = last s (plainly s at h) e
     go inside q e = last (emit (token newline line at at) s) (push 0 at at s.out (token newline line at at) (plainly s at h) (omega arith) (omega arith) (omega arith)) e
-    go (led w from to) q e = last s (plainly s at h) e
+    go (led w row from to) q e = last s (plainly s at h) e
 
 -- the places of a text's tokens
 pub in_order : (cs : List ℕ) (ts : List Token) → layout cs ≡ Ok ts → InOrder 0 ts (width cs)

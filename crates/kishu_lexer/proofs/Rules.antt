@@ -10,7 +10,7 @@ use denote.Enum.Bare.{same_true}
 use Rattle.kishu_model.specs.contracts.token.Mark.{the_type}
 use Rattle.kishu_model.specs.declared.token.Mark.{Mark}
 use Rattle.kishu_model.specs.declared.token.Mark.TheVariants as m
-use Rattle.kishu_model.specs.Lexemes.{Lexeme, blank, comment, joined, feed, word, number, string, sign, bad}
+use Rattle.kishu_model.specs.Lexemes.{Lexeme, blank, comment, bad_comment, joined, feed, word, number, string, sign, bad}
 use Rattle.kishu_model.specs.Layout as y
 use Rattle.kishu_model.specs.Layout.{◌>>=◌, Outcome, State, Start, fresh, led, inside, Kind, Token, Item, token, newline, indent, dedent, mark, top, dedents, dedented, indented, begin, bracket, is_opening, is_closing, closes, step, steps, finish, End, end_of, cut, layout, empty}
 use Rattle.kishu_model.specs.LineRules as r
@@ -50,6 +50,7 @@ quiet_step (word w) n a e out bs vs h = absurd cc
 quiet_step (number z) n a e out bs vs h = absurd cc
 quiet_step (string t) n a e out bs vs h = absurd cc
 quiet_step (sign k) n a e out bs vs h = absurd cc
+quiet_step bad_comment n a e out bs vs h = absurd cc
 quiet_step (bad b) n a e out bs vs h = absurd cc
 
 pub feed_step : (l : Lexeme) (n a e : ℕ) (out : List Token) (b : Mark × ℕ) (bs : List (Mark × ℕ)) (vs : List (List ℕ)) → l ≡ feed → step l n a e (St inside out (b ∷ bs) vs) ≡ done (St inside out (b ∷ bs) vs)
@@ -117,6 +118,7 @@ value_step (blank w) k n a e out bs vs h = absurd cc
 value_step comment k n a e out bs vs h = absurd cc
 value_step joined k n a e out bs vs h = absurd cc
 value_step feed k n a e out bs vs h = absurd cc
+value_step bad_comment k n a e out bs vs h = absurd cc
 value_step (bad b) k n a e out bs vs h = absurd cc
 
 regroup : (out ts us : List Token) (a b : Token) → (((out ++ a ∷ []) ++ ts) ++ b ∷ []) ++ us ≡ out ++ (a ∷ (ts ++ b ∷ us))
@@ -169,12 +171,12 @@ back_takes out (r.found {v = v} {vs = vs} h) = rw h (λ i. Ok (v ∷ vs, sym (ap
 back_takes out (r.bottom h) = rw h (λ i. Ok ([], sym (append-nil out) i))
 back_takes {n = n} {at = at} {us = us} out (r.off {ts = ts} h t) = rw h (back_takes (out ++ token dedent n at at ∷ []) t ∙ ap (λ v. Ok (us, v)) (append_assoc out (token dedent n at at ∷ []) ts))
 
-pub indentation_takes : {w : List ℕ} {from to n at : ℕ} {vs us : List (List ℕ)} {ts : List Token} (out : List Token) → Indentation w from to n at vs us ts
-    → indented w from to n at (St inside out [] vs) ≡ done (St inside (out ++ ts) [] us)
+pub indentation_takes : {w : List ℕ} {n from to : ℕ} {vs us : List (List ℕ)} {ts : List Token} (out : List Token) → Indentation w n from to vs us ts
+    → indented w n from to (St inside out [] vs) ≡ done (St inside (out ++ ts) [] us)
 unfolding indented
 indentation_takes {vs = vs} out (r.equal h) = rw h (ap (λ v. done (St inside v [] vs)) (sym (append-nil out)))
 indentation_takes out (r.longer h k) = rw (h, k) refl
-indentation_takes {w = w} {n = n} {at = at} {vs = vs} out (r.lower h k t) = rw (h, k) (ap (dedented (St inside out [] vs)) (back_takes out t))
+indentation_takes {vs = vs} out (r.lower h k t) = rw (h, k) (ap (dedented (St inside out [] vs)) (back_takes out t))
 
 -- the first token of a line
 pub first_step : (l : Lexeme) (n a e : ℕ) (s t : State) → begins l ≡ true → begin n a s ≡ begin n a t → step l n a e s ≡ step l n a e t
@@ -187,6 +189,7 @@ first_step (blank w) n a e s t h q = absurd cc
 first_step comment n a e s t h q = absurd cc
 first_step joined n a e s t h q = absurd cc
 first_step feed n a e s t h q = absurd cc
+first_step bad_comment n a e s t h q = absurd cc
 first_step (bad b) n a e s t h q = absurd cc
 
 pub begin_is : (v : Start) (n a : ℕ) (out before : List Token) (vs us : List (List ℕ)) → y.begin_at v n a (St v out [] vs) ≡ done (St inside (out ++ before) [] us)
@@ -201,27 +204,28 @@ line_from {at = at} {i = i} {js = js} v out before vs us h q t =
     ap (after at js) (first_step i.what i.line i.start i.end (St v out [] vs) (St inside (out ++ before) [] us) h (begin_is v i.line i.start out before vs us q))
     ∙ line_takes (out ++ before) us t
 
-pub led_step : (l : Lexeme) (n a e : ℕ) (w : List ℕ) (from to : ℕ) (out : List Token) (vs : List (List ℕ)) → is_quiet l ≡ true → step l n a e (St (led w from to) out [] vs) ≡ done (St (led w from to) out [] vs)
+pub led_step : (l : Lexeme) (n a e : ℕ) (w : List ℕ) (row from to : ℕ) (out : List Token) (vs : List (List ℕ)) → is_quiet l ≡ true → step l n a e (St (led w row from to) out [] vs) ≡ done (St (led w row from to) out [] vs)
 unfolding step
-led_step (blank x) n a e w from to out vs h = refl
-led_step comment n a e w from to out vs h = refl
-led_step joined n a e w from to out vs h = refl
-led_step feed n a e w from to out vs h = absurd cc
-led_step (word x) n a e w from to out vs h = absurd cc
-led_step (number z) n a e w from to out vs h = absurd cc
-led_step (string t) n a e w from to out vs h = absurd cc
-led_step (sign k) n a e w from to out vs h = absurd cc
-led_step (bad b) n a e w from to out vs h = absurd cc
+led_step (blank x) n a e w row from to out vs h = refl
+led_step comment n a e w row from to out vs h = refl
+led_step joined n a e w row from to out vs h = refl
+led_step feed n a e w row from to out vs h = absurd cc
+led_step (word x) n a e w row from to out vs h = absurd cc
+led_step (number z) n a e w row from to out vs h = absurd cc
+led_step (string t) n a e w row from to out vs h = absurd cc
+led_step (sign k) n a e w row from to out vs h = absurd cc
+led_step bad_comment n a e w row from to out vs h = absurd cc
+led_step (bad b) n a e w row from to out vs h = absurd cc
 
-pub quiet_led : {is js : List Item} (at : End) (w : List ℕ) (from to : ℕ) (out : List Token) (vs : List (List ℕ)) → Quiet is js → run at is (St (led w from to) out [] vs) ≡ run at js (St (led w from to) out [] vs)
-quiet_led at w from to out vs r.here = refl
-quiet_led at w from to out vs (r.over {i = i} {is = is} h t) = ap (after at is) (led_step i.what i.line i.start i.end w from to out vs h) ∙ quiet_led at w from to out vs t
+pub quiet_led : {is js : List Item} (at : End) (w : List ℕ) (row from to : ℕ) (out : List Token) (vs : List (List ℕ)) → Quiet is js → run at is (St (led w row from to) out [] vs) ≡ run at js (St (led w row from to) out [] vs)
+quiet_led at w row from to out vs r.here = refl
+quiet_led at w row from to out vs (r.over {i = i} {is = is} h t) = ap (after at is) (led_step i.what i.line i.start i.end w row from to out vs h) ∙ quiet_led at w row from to out vs t
 
-pub blank_first : (l : Lexeme) (n a e : ℕ) (w : List ℕ) (out : List Token) (vs : List (List ℕ)) → l ≡ blank w → step l n a e (St fresh out [] vs) ≡ done (St (led w a e) out [] vs)
+pub blank_first : (l : Lexeme) (n a e : ℕ) (w : List ℕ) (out : List Token) (vs : List (List ℕ)) → l ≡ blank w → step l n a e (St fresh out [] vs) ≡ done (St (led w n a e) out [] vs)
 unfolding step
 blank_first l n a e w out vs h = ap (λ x. step x n a e (St fresh out [] vs)) h
 
-pub joined_first : (l : Lexeme) (n a e : ℕ) (out : List Token) (vs : List (List ℕ)) → l ≡ joined → step l n a e (St fresh out [] vs) ≡ done (St (led [] a a) out [] vs)
+pub joined_first : (l : Lexeme) (n a e : ℕ) (out : List Token) (vs : List (List ℕ)) → l ≡ joined → step l n a e (St fresh out [] vs) ≡ done (St (led [] n a a) out [] vs)
 unfolding step
 joined_first l n a e out vs h = ap (λ x. step x n a e (St fresh out [] vs)) h
 
@@ -229,41 +233,42 @@ pub comment_first : (n a e : ℕ) (out : List Token) (vs : List (List ℕ)) → 
 unfolding step
 comment_first n a e out vs = refl
 
-logical_line : {at : End} {i : Item} {is js ks : List Item} {w : List ℕ} {from to : ℕ} {vs us : List (List ℕ)} {before ts : List Token} (out : List Token) → Lead is (i ∷ js) w from to
-    → Indentation w from to i.line i.start vs us before → Line at (i ∷ js) ks ts → run at is (St fresh out [] vs) ≡ run at ks (St fresh ((out ++ before) ++ ts) [] us)
+logical_line : {at : End} {i : Item} {is js ks : List Item} {w : List ℕ} {row from to : ℕ} {vs us : List (List ℕ)} {before ts : List Token} (out : List Token) → Lead is (i ∷ js) w row from to
+    → Indentation w row from to vs us before → Line at (i ∷ js) ks ts → run at is (St fresh out [] vs) ≡ run at ks (St fresh ((out ++ before) ++ ts) [] us)
 logical_line {at = at} {vs = vs} out (r.past {i = i} {is = is} e l) n t = ap (after at is) (ap (λ x. step x i.line i.start i.end (St fresh out [] vs)) e ∙ comment_first i.line i.start i.end out vs) ∙ logical_line out l n t
 logical_line {vs = vs} {us = us} {before = before} out (r.bare h) n t = line_from fresh out before vs us h (indentation_takes out n) t
 logical_line {at = at} {vs = vs} {us = us} {before = before} out (r.blanks {i = i} {is = is} {w = w} e q h) n t =
-    ap (after at is) (blank_first i.what i.line i.start i.end w out vs e) ∙ quiet_led at w i.start i.end out vs q ∙ line_from (led w i.start i.end) out before vs us h (indentation_takes out n) t
+    ap (after at is) (blank_first i.what i.line i.start i.end w out vs e) ∙ quiet_led at w i.line i.start i.end out vs q ∙ line_from (led w i.line i.start i.end) out before vs us h (indentation_takes out n) t
 logical_line {at = at} {vs = vs} {us = us} {before = before} out (r.joint {i = i} {is = is} e q h) n t =
-    ap (after at is) (joined_first i.what i.line i.start i.end out vs e) ∙ quiet_led at [] i.start i.start out vs q ∙ line_from (led [] i.start i.start) out before vs us h (indentation_takes out n) t
+    ap (after at is) (joined_first i.what i.line i.start i.end out vs e) ∙ quiet_led at [] i.line i.start i.start out vs q ∙ line_from (led [] i.line i.start i.start) out before vs us h (indentation_takes out n) t
 
 -- ---- lines without a token
 
 is_early : Start → Bool
 is_early fresh = true
-is_early (led w from to) = true
+is_early (led w row from to) = true
 is_early inside = false
 
 -- the state before a line's first token, with the rest
 abbrev Early : End → List Item → State → List Item → List Token → List (List ℕ) → Type 0
 Early at is s js out vs = (v : Start) × ((is_early v ≡ true) × (run at is s ≡ run at js (St v out [] vs)))
 
-early_led : {is js : List Item} (at : End) (w : List ℕ) (from to : ℕ) (out : List Token) (vs : List (List ℕ)) → Quiet is js → Early at is (St (led w from to) out [] vs) js out vs
+early_led : {is js : List Item} (at : End) (w : List ℕ) (row from to : ℕ) (out : List Token) (vs : List (List ℕ)) → Quiet is js → Early at is (St (led w row from to) out [] vs) js out vs
 unfolding is_early
-early_led at w from to out vs q = (led w from to, (refl, quiet_led at w from to out vs q))
+early_led at w row from to out vs q = (led w row from to, (refl, quiet_led at w row from to out vs q))
 
 -- from the start of a line, by the first piece
 early_by : {is js : List Item} (at : End) (i : Item) (l : Lexeme) (out : List Token) (vs : List (List ℕ)) → i.what ≡ l → is_quiet l ≡ true → Quiet is js
     → Early at is (St fresh out [] vs) js out vs → Early at (i ∷ is) (St fresh out [] vs) js out vs
-early_by {is = is} at i (blank w) out vs e h q t = let p = early_led at w i.start i.end out vs q in (p.0, (p.1.0, ap (after at is) (blank_first i.what i.line i.start i.end w out vs e) ∙ p.1.1))
+early_by {is = is} at i (blank w) out vs e h q t = let p = early_led at w i.line i.start i.end out vs q in (p.0, (p.1.0, ap (after at is) (blank_first i.what i.line i.start i.end w out vs e) ∙ p.1.1))
 early_by {is = is} at i comment out vs e h q t = (t.0, (t.1.0, ap (after at is) (ap (λ x. step x i.line i.start i.end (St fresh out [] vs)) e ∙ comment_first i.line i.start i.end out vs) ∙ t.1.1))
-early_by {is = is} at i joined out vs e h q t = let p = early_led at [] i.start i.start out vs q in (p.0, (p.1.0, ap (after at is) (joined_first i.what i.line i.start i.end out vs e) ∙ p.1.1))
+early_by {is = is} at i joined out vs e h q t = let p = early_led at [] i.line i.start i.start out vs q in (p.0, (p.1.0, ap (after at is) (joined_first i.what i.line i.start i.end out vs e) ∙ p.1.1))
 early_by at i feed out vs e h q t = absurd cc
 early_by at i (word w) out vs e h q t = absurd cc
 early_by at i (number z) out vs e h q t = absurd cc
 early_by at i (string u) out vs e h q t = absurd cc
 early_by at i (sign k) out vs e h q t = absurd cc
+early_by at i bad_comment out vs e h q t = absurd cc
 early_by at i (bad b) out vs e h q t = absurd cc
 
 quiet_early : {is js : List Item} (at : End) (out : List Token) (vs : List (List ℕ)) → Quiet is js → Early at is (St fresh out [] vs) js out vs
@@ -274,13 +279,13 @@ quiet_early at out vs (r.over {i = i} h t) = early_by at i i.what out vs refl h 
 feed_early : (v : Start) (l : Lexeme) (n a e : ℕ) (out : List Token) (vs : List (List ℕ)) → is_early v ≡ true → l ≡ feed → step l n a e (St v out [] vs) ≡ done (St fresh out [] vs)
 unfolding step is_early
 feed_early fresh l n a e out vs h q = ap (λ x. step x n a e (St fresh out [] vs)) q
-feed_early (led w from to) l n a e out vs h q = ap (λ x. step x n a e (St (led w from to) out [] vs)) q
+feed_early (led w row from to) l n a e out vs h q = ap (λ x. step x n a e (St (led w row from to) out [] vs)) q
 feed_early inside l n a e out vs h q = absurd cc
 
 end_early : (v : Start) (at : End) (out : List Token) (vs : List (List ℕ)) → is_early v ≡ true → run at [] (St v out [] vs) ≡ Ok (out ++ replicate (length vs) (token dedent at.0 at.1 at.1))
 unfolding is_early
 end_early fresh at out vs h = refl
-end_early (led w from to) at out vs h = refl
+end_early (led w row from to) at out vs h = refl
 end_early inside at out vs h = absurd cc
 
 -- ---- all lines

@@ -42,10 +42,14 @@ text_whole line before all (Some t) h =
     let taken = take (before + t.1) all in
     record { is = null_whole line all taken (x.string t.0) (position x.is_null taken) (feeds_taken (before + t.1) all) h tt }
 
+comment_whole : (line : ℕ) (o : Option ℕ) → IsWhole (x.comment_by o) line
+comment_whole line None = tt
+comment_whole line (Some place) = tt
+
 remark_whole : (line : ℕ) (all : List ℕ) → line + feeds all < 2 ^ 32 → Whole (x.remark all) line
 remark_whole line all h =
     let n = prefix_len x.is_no_feed all in
-    record { is = null_whole line all (take n all) x.comment (position x.is_null (take n all)) (feeds_taken n all) h tt }
+    record { is = comment_whole line (position x.is_null (take n all)) }
 
 name_whole : (line n : ℕ) (w : List ℕ) → list_all is_word_char w ≡ true → line < 2 ^ 32 → Whole (x.name w n) line
 name_whole line n w h k = either line (nat_le n 255) (x.word w, n) (x.bad 0, n) (record { is = h }) (record { is = omega arith })

@@ -15,7 +15,7 @@ use Rattle.kishu_lexer.specs.declared.fault.SyntaxFault.TheVariants as fault
 
 abbrev pub start_of : Start → spec.Start
 start_of code.Fresh = spec.fresh
-start_of (code.Led blanks start end) = spec.led blanks start end
+start_of (code.Led blanks line start end) = spec.led blanks line start end
 start_of code.Inside = spec.inside
 
 abbrev pub tokens_of : List rust.Token → List Token
@@ -45,6 +45,7 @@ IsWhole (pieces.blank w) line = Unit {0}
 IsWhole (pieces.word w) line = list_all is_word_char w ≡ true
 IsWhole (pieces.bad below) line = line + below < 2 ^ 32
 IsWhole pieces.comment line = Unit {0}
+IsWhole pieces.bad_comment line = Unit {0}
 IsWhole pieces.joined line = Unit {0}
 IsWhole pieces.feed line = Unit {0}
 IsWhole (pieces.number z) line = Unit {0}

@@ -45,6 +45,7 @@ is_in class.Prefix c = spec.is_prefix c
 abbrev pub seen : Lexeme → spec.Lexeme
 seen (code.Blank text) = spec.blank text.now
 seen code.Comment = spec.comment
+seen code.BadComment = spec.bad_comment
 seen code.Joined = spec.joined
 seen code.Feed = spec.feed
 seen (code.Word text) = spec.word text.now

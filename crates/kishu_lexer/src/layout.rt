@@ -22,8 +22,13 @@ use std::rc::RcStr;
 #[derive(Drop)]
 pub(crate) enum Start {
     Fresh,
-    /// Its leading blanks alone, and their places.
-    Led(Blanks, u32, u32),
+    /// Its leading blanks alone, with their line and their places.
+    Led {
+        blanks: Blanks,
+        line: u32,
+        start: u32,
+        end: u32,
+    },
     Inside,
 }
 
@@ -162,12 +167,11 @@ impl Lexer {
     fn indented(
         &mut self,
         blanks: &[char],
+        line: u32,
         start: u32,
         end: u32,
-        line: u32,
-        place: u32,
     ) -> Result<(), SyntaxFault>
-        ensures { Gives (spec.indented blanks.now start end line place (state_of self.old)) result (state_of self.new) }
+        ensures { Gives (spec.indented blanks.now line start end (state_of self.old)) result (state_of self.new) }
     {
         if same_text(blanks, self.top()) {
             return Ok(());
@@ -175,28 +179,36 @@ impl Lexer {
         if blanks.starts_with(self.top()) {
             return Ok(self.deeper(blanks, line, start, end)?);
         }
-        self.dedent(blanks, line, place)
+        self.dedent(blanks, line, end)
     }
 
-    // Before the first token of a line.
+    // Before the first token of a line; without leading blanks it is on this line at this place.
     #[tactic(auto, unfolding(kishu_model::specs::Layout::begin))]
     fn begin(&mut self, line: u32, place: u32) -> Result<(), SyntaxFault>
         ensures { Gives (spec.begin line place (state_of self.old)) result (state_of self.new) }
     {
         match mem::replace(&mut self.begun, Start::Inside) {
             Start::Inside => Ok(()),
-            Start::Fresh => self.indented(&[], place, place, line, place),
-            Start::Led(blanks, start, end) => {
-                self.indented(blanks.as_slice(), start, end, line, place)
-            }
+            Start::Fresh => self.indented(&[], line, place, place),
+            Start::Led {
+                blanks,
+                line: row,
+                start,
+                end,
+            } => self.indented(blanks.as_slice(), row, start, end),
         }
     }
 
-    fn blank(&mut self, blanks: &[char], start: u32, end: u32) -> Result<(), AllocError>
-        ensures { OnOk result (state_of self.new ≡ spec.blank_at (state_of self.old).begun blanks.now start end (state_of self.old)) }
+    fn blank(&mut self, blanks: &[char], line: u32, start: u32, end: u32) -> Result<(), AllocError>
+        ensures { OnOk result (state_of self.new ≡ spec.blank_at (state_of self.old).begun blanks.now line start end (state_of self.old)) }
     {
         if let Start::Fresh = self.begun {
-            self.begun = Start::Led(Blanks::from_slice(self.alloc, blanks)?, start, end);
+            self.begun = Start::Led {
+                blanks: Blanks::from_slice(self.alloc, blanks)?,
+                line,
+                start,
+                end,
+            };
         }
         Ok(())
     }
@@ -212,7 +224,7 @@ impl Lexer {
                 }
             }
             Start::Fresh => {}
-            Start::Led(_, _, _) => self.begun = Start::Fresh,
+            Start::Led { .. } => self.begun = Start::Fresh,
         }
         Ok(())
     }
@@ -232,6 +244,14 @@ impl Lexer {
         Ok(self.emit(TokenKind::Mark(mark), line, start, end)?)
     }
 
+    // A fault on this line. The indentation before it comes first in the text.
+    fn wrong(&mut self, fault: u32, line: u32, start: u32) -> Result<(), SyntaxFault>
+        ensures { Gives (spec.wrong fault line start (state_of self.old)) result (state_of self.new) }
+    {
+        self.begin(line, start)?;
+        Err(SyntaxFault::Syntax { line: fault })
+    }
+
     /// Takes a piece that begins on this line and stands at these places.
     #[tactic(auto, unfolding(kishu_model::specs::Layout::step))]
     pub(crate) fn step(
@@ -245,9 +265,10 @@ impl Lexer {
         ensures { Gives (spec.step (seen lexeme.entry) line start end (state_of self.old)) result (state_of self.new) }
     {
         match lexeme {
-            Lexeme::Blank(blanks) => Ok(self.blank(blanks, start, end)?),
+            Lexeme::Blank(blanks) => Ok(self.blank(blanks, line, start, end)?),
             Lexeme::Comment => Ok(()),
-            Lexeme::Joined => Ok(self.blank(&[], start, start)?),
+            Lexeme::BadComment => Err(SyntaxFault::Syntax { line }),
+            Lexeme::Joined => Ok(self.blank(&[], line, start, start)?),
             Lexeme::Feed => Ok(self.feed(line, start, end)?),
             Lexeme::Word(letters) => {
                 let kind = word_kind(self.alloc, letters)?;
@@ -259,9 +280,7 @@ impl Lexer {
                 self.plain(kind, line, start, end)
             }
             Lexeme::Sign(mark) => self.marked(mark, line, start, end),
-            Lexeme::Bad(below) => Err(SyntaxFault::Syntax {
-                line: line + below as u32,
-            }),
+            Lexeme::Bad(below) => self.wrong(line + below as u32, line, start),
         }
     }
 
@@ -271,7 +290,7 @@ impl Lexer {
         match self.begun {
             Start::Inside => self.emit(TokenKind::Newline, line, place, place),
             Start::Fresh => Ok(()),
-            Start::Led(_, _, _) => Ok(()),
+            Start::Led { .. } => Ok(()),
         }
     }
 

@@ -20,6 +20,8 @@ use std::alloc::{AllocError, Global};
 pub(crate) enum Lexeme<'a> {
     Blank(&'a [char]),
     Comment,
+    /// A comment in which a character of code 0 stands.
+    BadComment,
     Joined,
     Feed,
     Word(&'a [char]),
@@ -150,7 +152,10 @@ fn remark(all: &[char]) -> Cut<'_>
     ensures within { result.1 ≤ length all.now }
 {
     let n = run(Class::Line, all);
-    (unless_null(&all[..n], Lexeme::Comment), n)
+    match null_place(&all[..n]) {
+        Some(_) => (Lexeme::BadComment, n),
+        None => (Lexeme::Comment, n),
+    }
 }
 
 fn after_backslash(all: &[char]) -> Cut<'_>

@@ -120,106 +120,138 @@ text_27 : tokens_of_chars One (codes "br'x'\n") ≡ Ok (token (name (codes "br")
 unfolding reserved_marks delimiter operator numeral escape item closes body Q.quoted token_piece lexeme cut indented begin bracket step layout encode_utf8
 text_27 = refl
 
-text_28 : tokens_of_chars One (codes ".5\n") ≡ Ok (token (mark m.Dot) 1 0 1 ∷ token (integer (pos 5)) 1 1 2 ∷ token newline 1 2 3 ∷ [])
+text_28 : tokens_of_chars One (codes "ur'x' Rr'y'") ≡ Ok (token (name (codes "ur")) 1 0 2 ∷ token (quoted (codes "x")) 1 2 5 ∷ token (name (codes "Rr")) 1 6 8 ∷ token (quoted (codes "y")) 1 8 11 ∷ token newline 1 11 11 ∷ [])
 unfolding reserved_marks delimiter operator numeral escape item closes body Q.quoted token_piece lexeme cut indented begin bracket step layout encode_utf8
 text_28 = refl
 
-text_29 : tokens_of_chars One (codes "a\n$\n") ≡ Err 2
+text_29 : tokens_of_chars One (codes ".5\n") ≡ Ok (token (mark m.Dot) 1 0 1 ∷ token (integer (pos 5)) 1 1 2 ∷ token newline 1 2 3 ∷ [])
 unfolding reserved_marks delimiter operator numeral escape item closes body Q.quoted token_piece lexeme cut indented begin bracket step layout encode_utf8
 text_29 = refl
 
-text_30 : tokens_of_chars One (codes "a / b") ≡ Err 1
+text_30 : tokens_of_chars One (codes "  \\\n a") ≡ Ok (token indent 1 0 2 ∷ token (name (codes "a")) 2 5 6 ∷ token newline 2 6 6 ∷ token dedent 2 6 6 ∷ [])
 unfolding reserved_marks delimiter operator numeral escape item closes body Q.quoted token_piece lexeme cut indented begin bracket step layout encode_utf8
 text_30 = refl
 
-text_31 : tokens_of_chars One (233 ∷ []) ≡ Err 1
+text_31 : tokens_of_chars One (codes "\\\n  x\n") ≡ Ok (token (name (codes "x")) 2 4 5 ∷ token newline 2 5 6 ∷ [])
 unfolding reserved_marks delimiter operator numeral escape item closes body Q.quoted token_piece lexeme cut indented begin bracket step layout encode_utf8
 text_31 = refl
 
-text_32 : tokens_of_chars One (97 ∷ 12 ∷ 98 ∷ []) ≡ Err 1
+text_32 : tokens_of_chars One (codes "if a:\n    b\n\\\nc\n") ≡ Ok (token (mark m.If) 1 0 2 ∷ token (name (codes "a")) 1 3 4 ∷ token (mark m.Colon) 1 4 5 ∷ token newline 1 5 6 ∷ token indent 2 6 10 ∷ token (name (codes "b")) 2 10 11 ∷ token newline 2 11 12 ∷ token dedent 3 12 12 ∷ token (name (codes "c")) 4 14 15 ∷ token newline 4 15 16 ∷ [])
 unfolding reserved_marks delimiter operator numeral escape item closes body Q.quoted token_piece lexeme cut indented begin bracket step layout encode_utf8
 text_32 = refl
 
-text_33 : tokens_of_chars One (97 ∷ 10 ∷ 35 ∷ 32 ∷ 0 ∷ 10 ∷ []) ≡ Err 2
+text_33 : tokens_of_chars One (codes "\\\n") ≡ Ok ([])
 unfolding reserved_marks delimiter operator numeral escape item closes body Q.quoted token_piece lexeme cut indented begin bracket step layout encode_utf8
 text_33 = refl
 
-text_34 : tokens_of_chars One (39 ∷ 39 ∷ 39 ∷ 10 ∷ 10 ∷ 0 ∷ 39 ∷ 39 ∷ 39 ∷ []) ≡ Err 3
+text_34 : tokens_of_chars One (codes "a\n$\n") ≡ Err 2
 unfolding reserved_marks delimiter operator numeral escape item closes body Q.quoted token_piece lexeme cut indented begin bracket step layout encode_utf8
 text_34 = refl
 
-text_35 : tokens_of_chars One (39 ∷ 39 ∷ 39 ∷ 10 ∷ 0 ∷ 10 ∷ 92 ∷ 120 ∷ 49 ∷ 39 ∷ 39 ∷ 39 ∷ []) ≡ Err 1
+text_35 : tokens_of_chars One (codes "a / b") ≡ Err 1
 unfolding reserved_marks delimiter operator numeral escape item closes body Q.quoted token_piece lexeme cut indented begin bracket step layout encode_utf8
 text_35 = refl
 
-text_36 : tokens_of_chars One (codes "a \\ b") ≡ Err 1
+text_36 : tokens_of_chars One (233 ∷ []) ≡ Err 1
 unfolding reserved_marks delimiter operator numeral escape item closes body Q.quoted token_piece lexeme cut indented begin bracket step layout encode_utf8
 text_36 = refl
 
-text_37 : tokens_of_chars One (codes "a\\") ≡ Err 1
+text_37 : tokens_of_chars One (97 ∷ 12 ∷ 98 ∷ []) ≡ Err 1
 unfolding reserved_marks delimiter operator numeral escape item closes body Q.quoted token_piece lexeme cut indented begin bracket step layout encode_utf8
 text_37 = refl
 
-text_38 : tokens_of_chars One (codes "if a:\n    b\n  c\n") ≡ Err 3
+text_38 : tokens_of_chars One (97 ∷ 10 ∷ 35 ∷ 32 ∷ 0 ∷ 10 ∷ []) ≡ Err 2
 unfolding reserved_marks delimiter operator numeral escape item closes body Q.quoted token_piece lexeme cut indented begin bracket step layout encode_utf8
 text_38 = refl
 
-text_39 : tokens_of_chars One (105 ∷ 102 ∷ 32 ∷ 97 ∷ 58 ∷ 10 ∷ 9 ∷ 98 ∷ 10 ∷ 32 ∷ 32 ∷ 32 ∷ 32 ∷ 32 ∷ 32 ∷ 32 ∷ 32 ∷ 99 ∷ 10 ∷ []) ≡ Err 3
+text_39 : tokens_of_chars One (39 ∷ 39 ∷ 39 ∷ 10 ∷ 10 ∷ 0 ∷ 39 ∷ 39 ∷ 39 ∷ []) ≡ Err 3
 unfolding reserved_marks delimiter operator numeral escape item closes body Q.quoted token_piece lexeme cut indented begin bracket step layout encode_utf8
 text_39 = refl
 
-text_40 : tokens_of_chars One (codes "(\n]") ≡ Err 2
+text_40 : tokens_of_chars One (39 ∷ 39 ∷ 39 ∷ 10 ∷ 0 ∷ 10 ∷ 92 ∷ 120 ∷ 49 ∷ 39 ∷ 39 ∷ 39 ∷ []) ≡ Err 1
 unfolding reserved_marks delimiter operator numeral escape item closes body Q.quoted token_piece lexeme cut indented begin bracket step layout encode_utf8
 text_40 = refl
 
-text_41 : tokens_of_chars One (codes "(\n[\n") ≡ Err 2
+text_41 : tokens_of_chars One (codes "a \\ b") ≡ Err 1
 unfolding reserved_marks delimiter operator numeral escape item closes body Q.quoted token_piece lexeme cut indented begin bracket step layout encode_utf8
 text_41 = refl
 
-text_42 : tokens_of_chars One (codes "(\n\n$") ≡ Err 3
+text_42 : tokens_of_chars One (codes "a\\") ≡ Err 1
 unfolding reserved_marks delimiter operator numeral escape item closes body Q.quoted token_piece lexeme cut indented begin bracket step layout encode_utf8
 text_42 = refl
 
-text_43 : tokens_of_chars One (codes "0_1") ≡ Err 1
+text_43 : tokens_of_chars One (codes "if a:\n    b\n  c\n") ≡ Err 3
 unfolding reserved_marks delimiter operator numeral escape item closes body Q.quoted token_piece lexeme cut indented begin bracket step layout encode_utf8
 text_43 = refl
 
-text_44 : tokens_of_chars One (codes "0x_") ≡ Err 1
+text_44 : tokens_of_chars One (105 ∷ 102 ∷ 32 ∷ 97 ∷ 58 ∷ 10 ∷ 9 ∷ 98 ∷ 10 ∷ 32 ∷ 32 ∷ 32 ∷ 32 ∷ 32 ∷ 32 ∷ 32 ∷ 32 ∷ 99 ∷ 10 ∷ []) ≡ Err 3
 unfolding reserved_marks delimiter operator numeral escape item closes body Q.quoted token_piece lexeme cut indented begin bracket step layout encode_utf8
 text_44 = refl
 
-text_45 : tokens_of_chars One (codes "1.") ≡ Err 1
+text_45 : tokens_of_chars One (codes "if a:\n    b\n  \\\nc\n") ≡ Err 3
 unfolding reserved_marks delimiter operator numeral escape item closes body Q.quoted token_piece lexeme cut indented begin bracket step layout encode_utf8
 text_45 = refl
 
-text_46 : tokens_of_chars One (codes "170141183460469231731687303715884105728") ≡ Err 1
+text_46 : tokens_of_chars One (105 ∷ 102 ∷ 32 ∷ 97 ∷ 58 ∷ 10 ∷ 32 ∷ 32 ∷ 32 ∷ 32 ∷ 98 ∷ 10 ∷ 32 ∷ 32 ∷ 39 ∷ 39 ∷ 39 ∷ 10 ∷ 0 ∷ []) ≡ Err 3
 unfolding reserved_marks delimiter operator numeral escape item closes body Q.quoted token_piece lexeme cut indented begin bracket step layout encode_utf8
 text_46 = refl
 
-text_47 : tokens_of_chars One (codes "'a\nb'") ≡ Err 1
+text_47 : tokens_of_chars One (105 ∷ 102 ∷ 32 ∷ 97 ∷ 58 ∷ 10 ∷ 32 ∷ 32 ∷ 32 ∷ 32 ∷ 98 ∷ 10 ∷ 32 ∷ 32 ∷ 92 ∷ 10 ∷ 35 ∷ 32 ∷ 0 ∷ []) ≡ Err 4
 unfolding reserved_marks delimiter operator numeral escape item closes body Q.quoted token_piece lexeme cut indented begin bracket step layout encode_utf8
 text_47 = refl
 
-text_48 : tokens_of_chars One (codes "x\n'''a\n") ≡ Err 2
+text_48 : tokens_of_chars One (codes "(\n]") ≡ Err 2
 unfolding reserved_marks delimiter operator numeral escape item closes body Q.quoted token_piece lexeme cut indented begin bracket step layout encode_utf8
 text_48 = refl
 
-text_49 : tokens_of_chars One (codes "r'\\'") ≡ Err 1
+text_49 : tokens_of_chars One (codes "(\n[\n") ≡ Err 2
 unfolding reserved_marks delimiter operator numeral escape item closes body Q.quoted token_piece lexeme cut indented begin bracket step layout encode_utf8
 text_49 = refl
 
-text_50 : tokens_of_chars One (codes "'\\u123'") ≡ Err 1
+text_50 : tokens_of_chars One (codes "(\n\n$") ≡ Err 3
 unfolding reserved_marks delimiter operator numeral escape item closes body Q.quoted token_piece lexeme cut indented begin bracket step layout encode_utf8
 text_50 = refl
 
-text_51 : tokens_of_chars One (codes "'\\ud800'") ≡ Err 1
+text_51 : tokens_of_chars One (codes "0_1") ≡ Err 1
 unfolding reserved_marks delimiter operator numeral escape item closes body Q.quoted token_piece lexeme cut indented begin bracket step layout encode_utf8
 text_51 = refl
 
-text_52 : tokens_of_chars One (codes "'\\N{DIGIT ONE}'") ≡ Err 1
+text_52 : tokens_of_chars One (codes "0x_") ≡ Err 1
 unfolding reserved_marks delimiter operator numeral escape item closes body Q.quoted token_piece lexeme cut indented begin bracket step layout encode_utf8
 text_52 = refl
 
-text_53 : tokens_of_chars One (codes "x = \\\n\n$") ≡ Err 3
+text_53 : tokens_of_chars One (codes "1.") ≡ Err 1
 unfolding reserved_marks delimiter operator numeral escape item closes body Q.quoted token_piece lexeme cut indented begin bracket step layout encode_utf8
 text_53 = refl
+
+text_54 : tokens_of_chars One (codes "170141183460469231731687303715884105728") ≡ Err 1
+unfolding reserved_marks delimiter operator numeral escape item closes body Q.quoted token_piece lexeme cut indented begin bracket step layout encode_utf8
+text_54 = refl
+
+text_55 : tokens_of_chars One (codes "'a\nb'") ≡ Err 1
+unfolding reserved_marks delimiter operator numeral escape item closes body Q.quoted token_piece lexeme cut indented begin bracket step layout encode_utf8
+text_55 = refl
+
+text_56 : tokens_of_chars One (codes "x\n'''a\n") ≡ Err 2
+unfolding reserved_marks delimiter operator numeral escape item closes body Q.quoted token_piece lexeme cut indented begin bracket step layout encode_utf8
+text_56 = refl
+
+text_57 : tokens_of_chars One (codes "r'\\'") ≡ Err 1
+unfolding reserved_marks delimiter operator numeral escape item closes body Q.quoted token_piece lexeme cut indented begin bracket step layout encode_utf8
+text_57 = refl
+
+text_58 : tokens_of_chars One (codes "'\\u123'") ≡ Err 1
+unfolding reserved_marks delimiter operator numeral escape item closes body Q.quoted token_piece lexeme cut indented begin bracket step layout encode_utf8
+text_58 = refl
+
+text_59 : tokens_of_chars One (codes "'\\ud800'") ≡ Err 1
+unfolding reserved_marks delimiter operator numeral escape item closes body Q.quoted token_piece lexeme cut indented begin bracket step layout encode_utf8
+text_59 = refl
+
+text_60 : tokens_of_chars One (codes "'\\N{DIGIT ONE}'") ≡ Err 1
+unfolding reserved_marks delimiter operator numeral escape item closes body Q.quoted token_piece lexeme cut indented begin bracket step layout encode_utf8
+text_60 = refl
+
+text_61 : tokens_of_chars One (codes "x = \\\n\n$") ≡ Err 3
+unfolding reserved_marks delimiter operator numeral escape item closes body Q.quoted token_piece lexeme cut indented begin bracket step layout encode_utf8
+text_61 = refl

@@ -8,7 +8,7 @@ use Rattle.kishu_model.specs.contracts.token.Mark.{the_type}
 use Rattle.kishu_model.specs.declared.token.Mark.{Mark}
 use Rattle.kishu_model.specs.declared.token.Mark.TheVariants as m
 use Rattle.kishu_model.specs.Marks.{reserved_mark}
-use Rattle.kishu_model.specs.Lexemes.{Lexeme, blank, comment, joined, feed, word, number, string, sign, bad, lexeme, feeds}
+use Rattle.kishu_model.specs.Lexemes.{Lexeme, blank, comment, bad_comment, joined, feed, word, number, string, sign, bad, lexeme, feeds}
 
 -- what a token is; a name's and a text's bytes are in UTF-8
 pub data Kind : Type 0 where
@@ -68,8 +68,8 @@ cut line start cs = cut_from 0 line start cs
 pub data Start : Type 0 where
   -- nothing of the line was met yet
   fresh : Start
-  -- its leading blanks alone, and their places
-  led : List ℕ → ℕ → ℕ → Start
+  -- its leading blanks alone, with their line and their places
+  led : List ℕ → ℕ → ℕ → ℕ → Start
   -- a token
   inside : Start
 
@@ -87,7 +87,7 @@ token k line start end = record { kind = k; line = line; start = start; end = en
 abbrev pub emit : Token → State → State
 emit t s = record s { out = s.out ++ t ∷ [] }
 
--- ---- indentation
+-- ---- indentation: all that it gives stands on the line of the leading blanks
 
 abbrev pub top : List (List ℕ) → List ℕ
 top [] = []
@@ -106,18 +106,18 @@ dedented s (Err e) = Err e
 abbrev pub deeper : List ℕ → ℕ → ℕ → ℕ → State → State
 deeper w line start end s = emit (token indent line start end) (record s { indents = w ∷ s.indents })
 
--- The leading blanks w stand from `start` to `end`, and the first token at the place `at`.
-unfoldable pub indented : List ℕ → ℕ → ℕ → ℕ → ℕ → State → Outcome State
-indented w start end line at s =
+-- The leading blanks w stand on this line, from `start` to `end`.
+unfoldable pub indented : List ℕ → ℕ → ℕ → ℕ → State → Outcome State
+indented w line start end s =
     if bytes_eq w (top s.indents) then Ok s
     else if starts_with nat_eq w (top s.indents) then Ok (deeper w line start end s)
-    else dedented s (dedents w line at s.indents s.out)
+    else dedented s (dedents w line end s.indents s.out)
 
--- before the first token of a line
+-- before the first token of a line; without leading blanks it is on this line at this place
 abbrev pub begin_at : Start → ℕ → ℕ → State → Outcome State
 begin_at inside line at s = Ok s
-begin_at fresh line at s = indented [] at at line at (record s { begun = inside })
-begin_at (led w start end) line at s = indented w start end line at (record s { begun = inside })
+begin_at fresh line at s = indented [] line at at (record s { begun = inside })
+begin_at (led w row start end) line at s = indented w row start end (record s { begun = inside })
 
 unfoldable pub begin : ℕ → ℕ → State → Outcome State
 begin line at s = begin_at s.begun line at s
@@ -166,16 +166,16 @@ is_none [] = true
 is_none (x ∷ xs) = false
 
 -- The blanks before a joined line are all the indentation that there is.
-abbrev pub blank_at : Start → List ℕ → ℕ → ℕ → State → State
-blank_at fresh w start end s = record s { begun = led w start end }
-blank_at (led v from to) w start end s = s
-blank_at inside w start end s = s
+abbrev pub blank_at : Start → List ℕ → ℕ → ℕ → ℕ → State → State
+blank_at fresh w line start end s = record s { begun = led w line start end }
+blank_at (led v row from to) w line start end s = s
+blank_at inside w line start end s = s
 
 -- A line ends where no bracket is open. One without a token gives none.
 abbrev pub feed_at : Start → ℕ → ℕ → ℕ → State → State
 feed_at inside line start end s = if is_none s.brackets then emit (token newline line start end) (record s { begun = fresh }) else s
 feed_at fresh line start end s = s
-feed_at (led w from to) line start end s = record s { begun = fresh }
+feed_at (led w row from to) line start end s = record s { begun = fresh }
 
 -- a token that is no bracket
 abbrev pub plain : Kind → ℕ → ℕ → ℕ → State → Outcome State
@@ -189,17 +189,24 @@ marked k line start end s = do
   c ← bracket k line b
   Ok (emit (token (mark k) line start end) c)
 
--- a piece that begins on this line and stands at these places
+-- A fault on a line, in a piece that begins on this one and would be a token. The indentation before it comes first in the text.
+abbrev pub wrong : ℕ → ℕ → ℕ → State → Outcome State
+wrong fault line start s = do
+  b ← begin line start s
+  Err fault
+
+-- A piece that begins on this line and stands at these places. A comment begins no logical line.
 unfoldable pub step : Lexeme → ℕ → ℕ → ℕ → State → Outcome State
-step (blank w) line start end s = Ok (blank_at s.begun w start end s)
+step (blank w) line start end s = Ok (blank_at s.begun w line start end s)
 step comment line start end s = Ok s
-step joined line start end s = Ok (blank_at s.begun [] start start s)
+step bad_comment line start end s = Err line
+step joined line start end s = Ok (blank_at s.begun [] line start start s)
 step feed line start end s = Ok (feed_at s.begun line start end s)
 step (word w) line start end s = plain (word_kind w) line start end s
 step (number z) line start end s = plain (integer z) line start end s
 step (string t) line start end s = plain (quoted t) line start end s
 step (sign k) line start end s = marked k line start end s
-step (bad below) line start end s = Err (line + below)
+step (bad below) line start end s = wrong (line + below) line start s
 
 abbrev pub steps : List Item → State → Outcome State
 steps [] s = Ok s
@@ -218,7 +225,7 @@ end_of line start cs = (line + feeds cs, start + width cs)
 abbrev pub ended : Start → End → State → State
 ended inside at s = emit (token newline at.0 at.1 at.1) s
 ended fresh at s = s
-ended (led w from to) at s = s
+ended (led w row from to) at s = s
 
 -- A bracket that is open at the end is a fault on its line.
 abbrev pub finish : List (Mark × ℕ) → End → State → Outcome (List Token)

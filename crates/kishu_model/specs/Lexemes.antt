@@ -3,7 +3,7 @@ use Rattle.std.specs.Prelude.{ℕ, ℤ, ◌+◌, Bool, false, not, ◌&&◌, ◌
 use Rattle.std.specs.List.{prefix_len, position, count_by}
 use Rattle.kishu_model.specs.declared.token.Mark.{Mark}
 use Rattle.kishu_model.specs.Lines.{line_feed}
-use Rattle.kishu_model.specs.Names.{is_digit, is_letter, is_word_char}
+use Rattle.kishu_model.specs.Names.{is_digit, is_letter, is_word_char, longest_name}
 use Rattle.kishu_model.specs.Numerals.{numeral}
 use Rattle.kishu_model.specs.Quoted.{Read, quoted, backslash}
 use Rattle.kishu_model.specs.Marks.{operator}
@@ -13,6 +13,8 @@ pub data Lexeme : Type 0 where
   blank : List ℕ → Lexeme
   -- from `#` to the end of the line
   comment : Lexeme
+  -- a comment in which a character of code 0 stands, which is a fault
+  bad_comment : Lexeme
   -- a backslash and a line feed
   joined : Lexeme
   feed : Lexeme
@@ -51,12 +53,9 @@ abbrev pub by_place : List ℕ → Lexeme → Option ℕ → Lexeme
 by_place taken piece None = piece
 by_place taken piece (Some place) = bad (feeds (take place taken))
 
--- the character of code 0 is a fault on its line in comments and texts too
+-- the character of code 0 is a fault on its line, in a text too
 abbrev pub unless_null : List ℕ → Lexeme → Lexeme
 unless_null taken piece = by_place taken piece (position is_null taken)
-
-abbrev pub longest_name : ℕ
-longest_name = 255
 
 abbrev pub name : List ℕ → ℕ → Cut
 name letters n = if nat_le n longest_name then (word letters, n) else (bad 0, n)
@@ -87,8 +86,13 @@ sign_or_bad (Some t) = (sign t.0, t.1)
 abbrev pub blanks : List ℕ → Cut
 blanks all = let n = prefix_len is_blank all in (blank (take n all), n)
 
+-- The character of code 0 is a fault in a comment too. It is on the comment's line, as a comment has one.
+abbrev pub comment_by : Option ℕ → Lexeme
+comment_by None = comment
+comment_by (Some place) = bad_comment
+
 abbrev pub remark : List ℕ → Cut
-remark all = let n = prefix_len is_no_feed all in (unless_null (take n all) comment, n)
+remark all = let n = prefix_len is_no_feed all in (comment_by (position is_null (take n all)), n)
 
 abbrev pub after_backslash : ℕ → Cut
 after_backslash next = if next == line_feed then (joined, 2) else (bad 0, 1)

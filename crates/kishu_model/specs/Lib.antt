@@ -1,5 +1,6 @@
 pub mod Lines
 pub mod Names
+pub mod White
 pub mod Numbers
 pub mod NumberLaws
 pub mod PlainLines

@@ -49,6 +49,9 @@ abbrev pub begins_with_letter : List ℕ → Bool
 begins_with_letter [] = false
 begins_with_letter (c ∷ cs) = is_letter c
 
+abbrev pub longest_name : ℕ
+longest_name = 255
+
 -- a letter or `_`, then letters, digits and `_`; at most 255, and not reserved
 abbrev pub is_name : List ℕ → Bool
-is_name word = begins_with_letter word && (list_all is_word_char word && (nat_le (length word) 255 && not (is_reserved_word word)))
+is_name word = begins_with_letter word && (list_all is_word_char word && (nat_le (length word) longest_name && not (is_reserved_word word)))

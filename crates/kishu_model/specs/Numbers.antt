@@ -1,8 +1,9 @@
 -- Whole numbers (Python Language Reference 3, "Binary arithmetic operations" and "The power operator"; Python Standard Library, "Numeric Types" and `int`). The operators mean what they mean on all whole numbers; a program keeps those in a range.
-use Rattle.std.specs.Prelude.{ℕ, zero, suc, ◌-◌, ◌/◌, ◌^◌, ◌≡◌, ℤ, pos, negsuc, ◌+ℤ◌, ◌-ℤ◌, ◌*ℤ◌, neg_ℤ, ◌≤ℤ◌, ◌<ℤ◌, int_le, Bool, ◌&&◌, ◌||◌, nat_le, ◌==◌, if◌then◌else◌, List, [], ◌∷◌, Option, Some, None, option_map}
+use Rattle.std.specs.Prelude.{ℕ, zero, suc, ◌-◌, ◌/◌, ◌^◌, ◌≡◌, ℤ, pos, negsuc, ◌+ℤ◌, ◌-ℤ◌, ◌*ℤ◌, neg_ℤ, ◌≤ℤ◌, ◌<ℤ◌, int_le, Bool, ◌&&◌, ◌==◌, if◌then◌else◌, List, [], ◌∷◌, Option, Some, None, option_map}
 use Rattle.std.specs.List.{list_all}
 use Rattle.std.specs.Str.Parse.{digits_value}
 use Rattle.kishu_model.specs.Names.{is_digit}
+use Rattle.kishu_model.specs.White.{stripped}
 
 -- ---- the range
 
@@ -44,26 +45,6 @@ power a zero = pos 1
 power a (suc n) = power a n *ℤ a
 
 -- ---- `int` of a text
-
--- space, and \t, \n, \v, \f and \r, which are 9 to 13
-abbrev pub is_white : ℕ → Bool
-is_white c = (c == 32) || (nat_le 9 c && nat_le c 13)
-
-abbrev pub without_leading_white : List ℕ → List ℕ
-without_leading_white [] = []
-without_leading_white (c ∷ cs) = if is_white c then without_leading_white cs else c ∷ cs
-
--- c before a text that was stripped at its end
-abbrev pub onto_stripped : ℕ → List ℕ → List ℕ
-onto_stripped c [] = if is_white c then [] else c ∷ []
-onto_stripped c (d ∷ ds) = c ∷ d ∷ ds
-
-abbrev pub without_trailing_white : List ℕ → List ℕ
-without_trailing_white [] = []
-without_trailing_white (c ∷ cs) = onto_stripped c (without_trailing_white cs)
-
-abbrev pub stripped : List ℕ → List ℕ
-stripped text = without_trailing_white (without_leading_white text)
 
 -- decimal digits, at least one; leading zeros may stand there
 abbrev pub unsigned_read : List ℕ → Option ℕ

@@ -1,12 +1,13 @@
 -- What the calls on texts give. A text is the list of its code points, and places count code points (Python Language
 -- Reference 3, "Data model"; Library Reference, "Text Sequence Type"). Its length is `length`, its code point at a place `slice_get`.
-use Rattle.std.specs.Prelude.{ℕ, zero, suc, ◌-◌, ◌/◌, ◌%◌, ◌==◌, nat_lt, Bool, true, false, not, ◌&&◌, ◌||◌, if◌then◌else◌, List, [], ◌∷◌, ◌++◌, length, map, reverse, Option, Some, None, option_map, ℤ, pos, negsuc, ◌+ℤ◌, ◌≤ℤ◌, ◌<ℤ◌, slice_get}
-use Rattle.std.specs.Int.{is_in_range}
+use Rattle.std.specs.Prelude.{ℕ, zero, suc, ◌-◌, ◌/◌, ◌%◌, ◌==◌, nat_lt, Bool, true, false, not, ◌&&◌, ◌||◌, if◌then◌else◌, List, [], ◌∷◌, ◌++◌, length, map, Option, Some, None, option_map, ℤ, pos, negsuc, ◌+ℤ◌, ◌≤ℤ◌, ◌<ℤ◌, slice_get}
 use Rattle.std.specs.Char.{digit_char}
 use Rattle.std.specs.List.{AllByRecursion, filter, filter_map, flat_map, list_any, onto_first, slice_split}
 use Rattle.std.specs.Str.{chars}
 use Rattle.std.specs.String.{string_bytes}
 use Rattle.std.specs.declared.string.String.{String}
+use Rattle.kishu_model.specs.White.{is_white}
+use Rattle.kishu_model.specs.Quoted.{backslash}
 
 -- the code points of each of these texts
 abbrev pub code_points : {Z : Type 0} → List (String Z) → List (List ℕ)
@@ -68,24 +69,12 @@ replaced cs part by = joined by (pieces part cs)
 
 -- ---- white space
 
--- space, and the characters from tab to carriage return, which are \t \n \v \f \r
-abbrev pub is_white : ℕ → Bool
-is_white c = c == 32 || is_in_range 9 13 c
-
 abbrev pub is_nonempty : List ℕ → Bool
 is_nonempty piece = not (length piece == 0)
 
 -- the pieces between runs of white space: the text is cut at each white space, and the empty pieces are left out
 abbrev pub words : List ℕ → List (List ℕ)
 words cs = filter is_nonempty (slice_split is_white cs)
-
-abbrev pub without_front : List ℕ → List ℕ
-without_front [] = []
-without_front (c ∷ cs) = if is_white c then without_front cs else c ∷ cs
-
--- the text without the white space at both ends
-abbrev pub stripped : List ℕ → List ℕ
-stripped cs = reverse (without_front (reverse (without_front cs)))
 
 -- ---- the repr of a text (Library Reference, "Built-in Functions": repr)
 
@@ -94,9 +83,6 @@ apostrophe = 39
 
 abbrev pub quotation_mark : ℕ
 quotation_mark = 34
-
-abbrev pub backslash : ℕ
-backslash = 92
 
 -- the quote round a text
 abbrev pub quote_of : List ℕ → ℕ

@@ -2,7 +2,8 @@
 ghost use Rattle.std.specs.Prelude.{◌≡◌, IfOk};
 ghost use Rattle.std.specs.Fmt.{signed_decimal};
 ghost use Rattle.std.specs.String.{string_bytes};
-ghost use Rattle.kishu_model.specs.Numbers.{is_white, without_leading_white, without_trailing_white, stripped, signed_read, if_whole, number_read};
+ghost use Rattle.kishu_model.specs.Numbers.{signed_read, if_whole, number_read};
+ghost use Rattle.kishu_model.specs.White.{is_white, without_front, without_back, stripped};
 
 use std::alloc::{AllocError, Global};
 
@@ -13,7 +14,7 @@ fn is_white(c: u8) -> bool
 }
 
 fn without_leading_white(text: &[u8]) -> &[u8]
-    ensures { result.now ≡ without_leading_white text.now }
+    ensures { result.now ≡ without_front text.now }
 {
     let mut start = 0;
     while start < text.len() && is_white(text[start]) {
@@ -23,7 +24,7 @@ fn without_leading_white(text: &[u8]) -> &[u8]
 }
 
 fn without_trailing_white(text: &[u8]) -> &[u8]
-    ensures { result.now ≡ without_trailing_white text.now }
+    ensures { result.now ≡ without_back text.now }
 {
     let mut end = text.len();
     while 0 < end && is_white(text[end - 1]) {

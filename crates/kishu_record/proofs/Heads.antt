@@ -5,7 +5,8 @@ use Rattle.kishu_model.specs.declared.profile.Profile.{Profile}
 use Rattle.kishu_model.specs.Record.{Entry, commit, four, profile_number, texts_bytes, head_of, body_of, AreCells}
 use Rattle.kishu_record.specs.declared.entry.Entry as rust
 use Rattle.kishu_record.specs.Entries.{entry_of, AreTexts, KeepsRules, BeginsCommit}
-use Rattle.kishu_record.specs.Laws.{four-cut, texts-cut, head-cut, fit_from_head, texts_from_cells}
+use Rattle.kishu_model.specs.Laws.{four-unique}
+use Rattle.kishu_record.specs.Laws.{texts-cut, head-cut, fit_from_head, texts_from_cells}
 
 -- a head whose parts were read
 pub record IsRead (head : List ℕ) (parent : ℕ) (profile : Profile) (cells : List (List ℕ)) (rest : List ℕ) : Type 0 where
@@ -55,7 +56,7 @@ unfolding head_of
 behind_from_head behind parent profile count fits found (commit p q ts) keeps short e =
     let whole : 1 ∷ (four parent ++ (profile_number profile ∷ (four count ++ behind))) ≡ 1 ∷ (four p ++ (profile_number q ∷ (four (length ts) ++ (texts_bytes ts ++ (four 0 ++ four 0))))) = sym found ∙ e in
     let counted : four count ++ behind ≡ four (length ts) ++ (texts_bytes ts ++ (four 0 ++ four 0)) = cc in
-    let cut = four-cut count (length ts) behind (texts_bytes ts ++ (four 0 ++ four 0)) fits (fit_from_head p q ts short).0 counted in
+    let cut = four-unique count (length ts) behind (texts_bytes ts ++ (four 0 ++ four 0)) fits (fit_from_head p q ts short).0 counted in
     record { cells = ts; counted = sym cut.0; fit = keeps.2; is = cut.1 }
 
 -- no groups stand behind the texts of a commit

@@ -1,25 +1,20 @@
 -- What follows from the bytes of a record.
 use Rattle.std.proofs.Common.{◌≡◌, Bool, true, false, ◌&&◌, if◌then◌else◌, nat_lt, nat_le, Option, Some, None, ◌≤◌, ◌<◌, ◌+◌, ◌^◌, ℕ, List, [], ◌∷◌, ◌++◌, length, refl, sym, ap, ◌∙◌, arith, length-append, append_assoc}
-use Rattle.std.proofs.lemmas.Nat.{from_be_bytes-to_be_bytes_4}
 use Rattle.std.proofs.lemmas.Str.{IsUtf8-from_ascii}
 use Rattle.std.proofs.lemmas.Str.Ascii.{IsAscii-from_all}
 use Rattle.std.proofs.lemmas.Bool.{false≢true}
 use Rattle.std.proofs.lemmas.Bool.Decides.{nat_tests}
 use Rattle.std.proofs.lemmas.List.Sums.{AllPass-from_list_all}
 use Rattle.std.specs.List.{list_all, All}
-use Rattle.std.specs.Int.{w32, from_be_bytes}
 use Rattle.kishu_model.specs.declared.profile.Profile.{Profile}
 use Rattle.kishu_model.specs.declared.profile.Profile.TheVariants.{One}
-use Rattle.kishu_model.specs.Record.{Entry, commit, profile_number, four, texts_bytes, head_of, body_of, longest_cell, AreCells}
+use Rattle.kishu_model.specs.Record.{Entry, commit, four, texts_bytes, head_of, body_of, AreCells}
 use Rattle.kishu_model.specs.Plain.{later_line, is_plain_text, longest_plain}
 use Rattle.std.specs.Str.{IsUtf8}
-use Rattle.kishu_record.specs.Entries.{IsText, AreTexts, KeepsRules, BeginsText, BeginsCommit}
+use Rattle.kishu_model.specs.Laws.{four-unique, append-unique}
+use Rattle.kishu_record.specs.Entries.{IsText, AreTexts, KeepsRules, BeginsText}
 
--- the length of a body, and of the head of a commit of one cell
-pub length-body : (e : Entry) → length (body_of e) ≡ 4 + length (head_of e)
-unfolding body_of
-length-body e = omega arith
-
+-- the length of the head of a commit of one cell
 pub length-one_cell : (parent : ℕ) (profile : Profile) (text : List ℕ) → length (head_of (commit parent profile (text ∷ []))) ≡ 22 + length text
 unfolding head_of
 length-one_cell parent profile text = omega (arith, length-append text [], length-append (text ++ []) (four 0 ++ four 0))
@@ -37,23 +32,8 @@ fit_from_head parent profile cells h =
 
 -- ---- the front of some bytes, cut off
 
-pub four-cut : (m n : ℕ) (x y : List ℕ) → m < 2 ^ 32 → n < 2 ^ 32 → four m ++ x ≡ four n ++ y → (m ≡ n) × (x ≡ y)
-four-cut m n x y hm hn e =
-    let same : four m ≡ four n = cc in
-    (sym (from_be_bytes-to_be_bytes_4 m hm) ∙ ap (from_be_bytes w32) same ∙ from_be_bytes-to_be_bytes_4 n hn, cc)
-
-pub append-cut : (a b x y : List ℕ) → length a ≡ length b → a ++ x ≡ b ++ y → (a ≡ b) × (x ≡ y)
-append-cut [] [] x y l e = (refl, e)
-append-cut [] (d ∷ b) x y l e = absurd (omega arith)
-append-cut (c ∷ a) [] x y l e = absurd (omega arith)
-append-cut (c ∷ a) (d ∷ b) x y l e =
-    let tail : a ++ x ≡ b ++ y = cc in
-    let cut = append-cut a b x y (omega arith) tail in
-    let head : c ≡ d = cc in
-    (cc (cut.0, head), cut.1)
-
 pub text-cut : (s t x y : List ℕ) → length s < 2 ^ 32 → length t < 2 ^ 32 → four (length s) ++ (s ++ x) ≡ four (length t) ++ (t ++ y) → (s ≡ t) × (x ≡ y)
-text-cut s t x y hs ht e = let cut = four-cut (length s) (length t) (s ++ x) (t ++ y) hs ht e in append-cut s t x y cut.0 cut.1
+text-cut s t x y hs ht e = let cut = four-unique (length s) (length t) (s ++ x) (t ++ y) hs ht e in append-unique s t x y cut.0 cut.1
 
 -- ---- texts, each behind its length
 
@@ -119,18 +99,15 @@ texts_from_cells (c ∷ cs) h = (record { short = h.0.short; utf8 = utf8_from_pl
 
 -- ---- two entries with one body are one
 
-one_profile : (p q : Profile) → p ≡ q
-one_profile One One = refl
-
 -- a head that a body of at most 2 ^ 30 bytes holds has fewer than 2 ^ 32 texts
 pub head-cut : (a b : Entry) → KeepsRules a → KeepsRules b → length (head_of a) < 2 ^ 32 → head_of a ≡ head_of b → a ≡ b
 unfolding head_of
 head-cut (commit p One ss) (commit q One ts) ha hb short e =
     let short_b : length (head_of (commit q One ts)) < 2 ^ 32 = omega (arith, ap length e) in
     let e1 : four p ++ (1 ∷ (four (length ss) ++ (texts_bytes ss ++ (four 0 ++ four 0)))) ≡ four q ++ (1 ∷ (four (length ts) ++ (texts_bytes ts ++ (four 0 ++ four 0)))) = cc in
-    let c1 = four-cut p q _ _ ha.0 hb.0 e1 in
+    let c1 = four-unique p q _ _ ha.0 hb.0 e1 in
     let e2 : four (length ss) ++ (texts_bytes ss ++ (four 0 ++ four 0)) ≡ four (length ts) ++ (texts_bytes ts ++ (four 0 ++ four 0)) = cc (c1.1) in
-    let c2 = four-cut (length ss) (length ts) _ _ (fit_from_head p One ss short).0 (fit_from_head q One ts short_b).0 e2 in
+    let c2 = four-unique (length ss) (length ts) _ _ (fit_from_head p One ss short).0 (fit_from_head q One ts short_b).0 e2 in
     let c3 = texts-cut ss ts (four 0 ++ four 0) (four 0 ++ four 0) c2.0 ha.2 hb.2 c2.1 in
     cc (c1.0, c3.0)
 

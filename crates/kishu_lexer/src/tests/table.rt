@@ -1,5 +1,5 @@
 // Made by tools/tokens.py: what is wanted and the text, with \x1f between, and \x1e behind each row.
-pub(crate) const COUNT: usize = 146;
+pub(crate) const COUNT: usize = 185;
 
 pub(crate) const ROWS: &str = "\
     \x1f\x1e\
@@ -16,12 +16,14 @@ pub(crate) const ROWS: &str = "\
     If@1:0-2 a@1:3-4 Colon@1:4-5 newline@1:5-6 indent@2:6-8 b@2:8-9 newline@2:9-9 dedent@2:9-9\x1fif a:\n  b\x1e\
     If@1:0-2 a@1:3-4 Colon@1:4-5 newline@1:5-6 indent@2:6-8 If@2:8-10 b@2:11-12 Colon@2:12-13 newline@2:13-14 indent@3:14-18 c@3:18-19 newline@3:19-20 dedent@4:20-20 dedent@4:20-20\x1fif a:\n  if b:\n    c\n\x1e\
     If@1:0-2 a@1:3-4 Colon@1:4-5 newline@1:5-6 indent@2:6-8 If@2:8-10 b@2:11-12 Colon@2:12-13 newline@2:13-14 indent@3:14-18 c@3:18-19 newline@3:19-20 dedent@4:20-20 dedent@4:20-20 d@4:20-21 newline@4:21-22\x1fif a:\n  if b:\n    c\nd\n\x1e\
+    If@1:0-2 a@1:3-4 Colon@1:4-5 newline@1:5-6 indent@2:6-8 b@2:8-9 newline@2:9-10 If@3:12-14 c@3:15-16 Colon@3:16-17 newline@3:17-18 indent@4:18-21 d@4:21-22 newline@4:22-23 dedent@5:25-25 e@5:25-26 newline@5:26-27 dedent@6:27-27\x1fif a:\n \tb\n \tif c:\n \t\td\n \te\n\x1e\
     If@1:0-2 a@1:3-4 Colon@1:4-5 newline@1:5-6 indent@2:6-8 b@2:8-9 newline@2:9-10 dedent@4:15-15 d@4:15-16 newline@4:16-17\x1fif a:\n  b\n # c\nd\n\x1e\
     If@1:0-2 a@1:3-4 Colon@1:4-5 b@1:6-7 newline@1:7-8\x1fif a: b\n\x1e\
     _a1@1:0-3 Zz@1:4-6 __@1:7-9 newline@1:9-10\x1f_a1 Zz __\n\x1e\
     False@1:0-5 None@1:6-10 True@1:11-15 And@1:16-19 As@1:20-22 Assert@1:23-29 Async@1:30-35 Await@1:36-41 Break@1:42-47 Class@1:48-53 Continue@1:54-62 Def@1:63-66 Del@1:67-70 Elif@1:71-75 Else@1:76-80 Except@1:81-87 Finally@1:88-95 For@1:96-99 From@1:100-104 Global@1:105-111 If@1:112-114 Import@1:115-121 In@1:122-124 Is@1:125-127 Lambda@1:128-134 Nonlocal@1:135-143 Not@1:144-147 Or@1:148-150 Pass@1:151-155 Raise@1:156-161 Return@1:162-168 Try@1:169-172 While@1:173-178 With@1:179-183 Yield@1:184-189 newline@1:189-190\x1fFalse None True and as assert async await break class continue def del elif else except finally for from global if import in is lambda nonlocal not or pass raise return try while with yield\n\x1e\
     iff@1:0-3 nota@1:4-8 NONE@1:9-13 newline@1:13-14\x1fiff nota NONE\n\x1e\
     #0@1:0-1 #0@1:2-4 #0@1:5-8 #1@1:9-10 #12@1:11-13 #123@1:14-19 newline@1:19-20\x1f0 00 0_0 1 12 1_2_3\n\x1e\
+    #1@1:0-1 'a'@1:1-4 #1@1:5-6 LeftParenthesis@1:6-7 #2@1:7-8 RightParenthesis@1:8-9 x@1:9-10 newline@1:10-11\x1f1'a' 1(2)x\n\x1e\
     #31@1:0-4 #2748@1:5-11 #15@1:12-16 #7@1:17-20 #5@1:21-26 #1@1:27-31 #15@1:32-36 newline@1:36-37\x1f0x1F 0XaB_c 0o17 0O7 0b101 0B_1 0x_f\n\x1e\
     #170141183460469231731687303715884105727@1:0-39 newline@1:39-40\x1f170141183460469231731687303715884105727\n\x1e\
     #170141183460469231731687303715884105727@1:0-34 newline@1:34-35\x1f0x7fffffffffffffffffffffffffffffff\n\x1e\
@@ -33,6 +35,8 @@ pub(crate) const ROWS: &str = "\
     'a\n'b\"c\n'@1:0-13 newline@3:13-14 x@4:14-15 newline@4:15-16\x1f\"\"\"a\n'b\"c\n\"\"\"\nx\n\x1e\
     'ab'@1:0-6 newline@2:6-7 x@3:7-8 newline@3:8-9\x1f'a\\\nb'\nx\n\x1e\
     'a\\\nb'@1:0-7 newline@2:7-8 x@3:8-9 newline@3:9-10\x1fr'a\\\nb'\nx\n\x1e\
+    '\\N\\ud800\\\\'@1:0-13 '\\''@1:14-19 'a\n\\\"'@1:20-31 newline@2:31-32\x1fr'\\N\\ud800\\\\' R'\\'' r\"\"\"a\n\\\"\"\"\"\n\x1e\
+    'a\n'@1:0-11 newline@2:11-12\x1f'''\\\na\\n'''\n\x1e\
     '\\'\"\x07\x08\x0c\n\r\t\x0b'@1:0-22 newline@1:22-23\x1f'\\\\\\'\\\"\\a\\b\\f\\n\\r\\t\\v'\n\x1e\
     '\0\nAA8ǿ\\8'@1:0-22 newline@1:22-23\x1f'\\0\\12\\101\\1018\\777\\8'\n\x1e\
     'A\x7féé\u{1f600}\u{10ffff}'@1:0-40 newline@1:40-41\x1f'\\x41\\x7f\\xe9\\u00e9\\U0001F600\\U0010ffff'\n\x1e\
@@ -56,10 +60,18 @@ pub(crate) const ROWS: &str = "\
     aaaaaaaaaaaaaaaaaaaaaaaaaaaaaaaaaaaaaaaaaaaaaaaaaaaaaaaaaaaaaaaaaaaaaaaaaaaaaaaaaaaaaaaaaaaaaaaaaaaaaaaaaaaaaaaaaaaaaaaaaaaaaaaaaaaaaaaaaaaaaaaaaaaaaaaaaaaaaaaaaaaaaaaaaaaaaaaaaaaaaaaaaaaaaaaaaaaaaaaaaaaaaaaaaaaaaaaaaaaaaaaaaaaaaaaaaaaaaaaaaaaaaaaaaaaaaaa@1:0-255 newline@1:255-256\x1faaaaaaaaaaaaaaaaaaaaaaaaaaaaaaaaaaaaaaaaaaaaaaaaaaaaaaaaaaaaaaaaaaaaaaaaaaaaaaaaaaaaaaaaaaaaaaaaaaaaaaaaaaaaaaaaaaaaaaaaaaaaaaaaaaaaaaaaaaaaaaaaaaaaaaaaaaaaaaaaaaaaaaaaaaaaaaaaaaaaaaaaaaaaaaaaaaaaaaaaaaaaaaaaaaaaaaaaaaaaaaaaaaaaaaaaaaaaaaaaaaaaaaaaaaaaaaa\n\x1e\
     x@1:0-1 Assign@1:2-3 #1@1:4-5 newline@1:5-6\x1fx\t=\t1\n\x1e\
     x@2:2-3 newline@2:3-4\x1f\\\nx\n\x1e\
-    If@1:0-2 a@1:3-4 Colon@1:4-5 newline@1:5-6 indent@3:6-8 b@3:11-12 newline@3:12-13 dedent@4:13-13\x1fif a:\n  \\\n b\n\x1e\
+    x@2:4-5 newline@2:5-6\x1f\\\n  x\n\x1e\
+    indent@1:0-2 a@2:5-6 newline@2:6-6 dedent@2:6-6\x1f  \\\n a\x1e\
+    indent@1:0-2 x@3:7-8 newline@3:8-9 dedent@4:9-9 y@4:9-10 newline@4:10-11\x1f  \\\n\\\n x\ny\n\x1e\
+    If@1:0-2 a@1:3-4 Colon@1:4-5 newline@1:5-6 indent@2:6-8 b@3:11-12 newline@3:12-13 dedent@4:13-13\x1fif a:\n  \\\n b\n\x1e\
+    If@1:0-2 a@1:3-4 Colon@1:4-5 newline@1:5-6 indent@2:6-10 b@2:10-11 newline@2:11-12 dedent@3:12-12 c@4:14-15 newline@4:15-16\x1fif a:\n    b\n\\\nc\n\x1e\
+    If@1:0-2 a@1:3-4 Colon@1:4-5 newline@1:5-6 indent@2:6-8 If@2:8-10 b@2:11-12 Colon@2:12-13 newline@2:13-14 indent@3:14-18 c@3:18-19 newline@3:19-20 dedent@4:22-22 d@5:24-25 newline@5:25-26 dedent@6:26-26\x1fif a:\n  if b:\n    c\n  \\\nd\n\x1e\
     x@1:0-1 newline@2:3-3\x1fx\\\n\x1e\
+    \x1f\\\n\x1e\
+    x@1:0-1 newline@1:1-2 y@6:14-15 newline@6:15-16\x1fx\n  \\\n\n\\\n # c\ny\n\x1e\
     br@1:0-2 'x'@1:2-5 newline@1:5-6\x1fbr'x'\n\x1e\
     rr@1:0-2 'x'@1:2-5 newline@1:5-6\x1frr'x'\n\x1e\
+    ur@1:0-2 'x'@1:2-5 Rr@1:6-8 'y'@1:8-11 newline@1:11-11\x1fur'x' Rr'y'\x1e\
     Dot@1:0-1 #5@1:1-2 newline@1:2-3\x1f.5\n\x1e\
     a@1:0-1 Less@1:1-2 Greater@1:2-3 b@1:3-4 Colon@1:4-5 Assign@1:5-6 c@1:6-7 Minus@1:7-8 Greater@1:8-9 d@1:9-10 Dot@1:10-11 Dot@1:11-12 Dot@1:12-13 newline@1:13-14\x1fa<>b:=c->d...\n\x1e\
     #1@1:0-1 If@1:2-4 x@1:5-6 newline@1:6-7\x1f1 if x\n\x1e\
@@ -75,6 +87,11 @@ pub(crate) const ROWS: &str = "\
     line 1\x1faé\x1e\
     line 1\x1fa\x0cb\x1e\
     line 1\x1f\x0ca\x1e\
+    line 2\x1fx\n \x0c\n\x1e\
+    line 1\x1fa\x0b\x1e\
+    line 1\x1f\u{a0}a\x1e\
+    line 1\x1f\u{feff}a\x1e\
+    line 5\x1fa\n\n(\n\n`\x1e\
     line 1\x1fa\0\x1e\
     line 2\x1fa\n# \0\n\x1e\
     line 2\x1f\n\0\n\x1e\
@@ -83,6 +100,10 @@ pub(crate) const ROWS: &str = "\
     line 1\x1f'''\n\0\n\\x1'''\x1e\
     line 1\x1f'''\n\0\x1e\
     line 3\x1fif a:\n  b\n#\0\n c\x1e\
+    line 1\x1fr'\\\0'\x1e\
+    line 1\x1fa\\\0\x1e\
+    line 1\x1f1\0\x1e\
+    line 2\x1f(\n# \0\n\x1e\
     line 1\x1fa \\ b\x1e\
     line 1\x1fa\\\x1e\
     line 1\x1f\\\x1e\
@@ -91,7 +112,17 @@ pub(crate) const ROWS: &str = "\
     line 3\x1fif a:\n\tb\n        c\n\x1e\
     line 3\x1fif a:\n  b\n\tc\n\x1e\
     line 4\x1fif a:\n  if b:\n    c\n   d\n\x1e\
-    line 4\x1fif a:\n    b\n  \\\nc\n\x1e\
+    line 3\x1fif a:\n\t b\n \tc\n\x1e\
+    line 3\x1fif a:\n    b\n  \\\nc\n\x1e\
+    line 3\x1fif a:\n    b\n  \\\n$\x1e\
+    line 3\x1fif a:\n    b\n  \\\n)\x1e\
+    line 4\x1fif a:\n    b\n  \\\n# \0\x1e\
+    line 4\x1fif a:\n    b\n\\\n$\x1e\
+    line 3\x1fif a:\n    b\n  '''\n\0\x1e\
+    line 3\x1fif a:\n    b\n  '''\n\0'''\x1e\
+    line 3\x1fif a:\n    b\n  'c\\\n\0'\x1e\
+    line 4\x1fif a:\n    b\n    '''\n\0'''\x1e\
+    line 3\x1fif a:\n    b\n '''\n\\x1'''\x1e\
     line 1\x1f)\x1e\
     line 2\x1f(\n]\x1e\
     line 1\x1f(]\x1e\
@@ -142,6 +173,14 @@ pub(crate) const ROWS: &str = "\
     line 1\x1f'\\U00110000'\x1e\
     line 1\x1f'\\N{DIGIT ONE}'\x1e\
     line 2\x1fx\n'''a\n\\N'''\x1e\
+    line 1\x1f'\\x\x1e\
+    line 1\x1fu'\\N'\x1e\
+    line 1\x1f'\\UD800DFFF'\x1e\
+    line 1\x1f'\\Uffffffff'\x1e\
+    line 2\x1f\n'''\n\\udc00'''\x1e\
+    line 1\x1fr'''a''\x1e\
+    line 1\x1fr'a\nb'\x1e\
+    line 1\x1f'''\\'''\x1e\
     line 3\x1fx = \\\n\n$\x1e\
     line 3\x1f'a\\\nb'\n$\x1e\
     line 3\x1f'''a\n\n'''$\x1e\
