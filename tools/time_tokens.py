@@ -5,7 +5,7 @@ Usage: tools/time_tokens.py
 
 The program that is timed is made, proved and built in a folder of its own, over copies of
 kishu_model and kishu_lexer. Each run is a process of its own that cuts its text as often as makes
-4 MiB, and the least user time of five runs counts, so that a busy machine, fresh pages and the
+16 MiB, and the least user time of five runs counts, so that a busy machine, fresh pages and the
 start of a process weigh little. The time grows linearly with the text, so the ratio of two cuts is
 about 4. Where it is above 5 there are twenty runs more, and where it stays so the script ends with
 status 1.
@@ -20,7 +20,7 @@ import tempfile
 
 TOP = os.path.dirname(os.path.dirname(os.path.abspath(__file__)))
 CRATES = ("kishu_model", "kishu_lexer")
-PROGRAM = r'''//! Cuts the text on standard input into tokens, as often as makes 4 MiB, and prints how many tokens
+PROGRAM = r'''//! Cuts the text on standard input into tokens, as often as makes 16 MiB, and prints how many tokens
 //! it has.
 #![tactic(auto)]
 
@@ -29,7 +29,7 @@ use kishu_model::Profile;
 use std::alloc::Global;
 use std::io;
 
-const TOTAL: usize = 4_194_304;
+const TOTAL: usize = 16_777_216;
 
 fn count(alloc: Global, text: &str) -> usize {
     if text.len() > 1_048_576 {
@@ -54,7 +54,7 @@ fn main(rt: HostRuntime) -> io::Result<()> {
 
 # A kind of text is one of these pieces, again and again, or blocks in blocks.
 PIECES = ["x = 1\n", "()", "(", "'a\\n' ", "'é' ", "#", '"""\\x41\n"""\n', "0_", "if x:\n  y\n", "a \\\n"]
-SMALL, LARGE, TOTAL = 262_144, 1_048_576, 4_194_304
+SMALL, LARGE, TOTAL = 262_144, 1_048_576, 16_777_216
 # The ratio that is still taken for linear.
 WORST = 5
 
