@@ -55,14 +55,14 @@ plainly s at h = go s.begun h.is
     go inside k = k
     go (led w row from to) k = later 0 from at s.out k.0 (omega arith)
 
-bind_ok : {A B : Type 0} (o : Outcome A) (f : A → Outcome B) (t : B) → o >>= f ≡ Ok t → (b : A) × ((o ≡ Ok b) × (f b ≡ Ok t))
+pub bind_ok : {A B : Type 0} (o : Outcome A) (f : A → Outcome B) (t : B) → o >>= f ≡ Ok t → (b : A) × ((o ≡ Ok b) × (f b ≡ Ok t))
 bind_ok (Ok b) f t e = (b, (refl, e))
 bind_ok (Err l) f t e = absurd cc
 
-abbrev done : State → Outcome State
+abbrev pub done : State → Outcome State
 done s = Ok s
 
-ok_is : (a b : State) → done a ≡ done b → a ≡ b
+pub ok_is : (a b : State) → done a ≡ done b → a ≡ b
 ok_is a b e = cc
 
 -- the tokens before a line's first one
@@ -174,7 +174,7 @@ marked_ok k line start end s t h le e =
     let q = bind_ok (bracket k line p.0) (λ c. done (emit (token (mark k) line start end) c)) t p.1.1 in
     stands (emit (token (mark k) line start end) q.0) t end q.1.1 (put q.0 (mark k) line start end (bracket_ok k line start p.0 q.0 (begin_ok line start s p.0 h p.1.0) q.1.0) le)
 
-wrong_never : (o : Outcome State) (fault : ℕ) (t : State) → o >>= (λ b. Err fault) ≡ done t → ⊥
+pub wrong_never : (o : Outcome State) (fault : ℕ) (t : State) → o >>= (λ b. Err fault) ≡ done t → ⊥
 wrong_never (Ok b) fault t e = cc
 wrong_never (Err l) fault t e = cc
 
@@ -204,10 +204,10 @@ steps_ok zero line start high (c ∷ cs) s t h le e =
     let p = bind_ok (step (lexeme (c ∷ cs)).0 line start (start + width taken) s) (steps (cut_from (n - 1) (line + feeds taken) (start + width taken) cs)) t e in
     steps_ok (n - 1) (line + feeds taken) (start + width taken) high cs p.0 t (step_ok (lexeme (c ∷ cs)).0 line start (start + width taken) s p.0 h (omega arith) p.1.0) (omega (arith, rest_width n c cs)) p.1.1
 
-abbrev listed : List Token → Outcome (List Token)
+abbrev pub listed : List Token → Outcome (List Token)
 listed ts = Ok ts
 
-list_is : (us ts : List Token) → listed us ≡ listed ts → us ≡ ts
+pub list_is : (us ts : List Token) → listed us ≡ listed ts → us ≡ ts
 list_is us ts e = cc
 
 finish_ok : (bs : List (Mark × ℕ)) (line at : ℕ) (s : State) (ts : List Token) → Stands s at → finish bs (line, at) s ≡ Ok ts → InOrder 0 ts at
@@ -234,7 +234,7 @@ encoded_width : (c : ℕ) → length (encode_utf8 c) ≡ len_utf8 c
 unfolding encode_utf8
 encoded_width c = grind (arith, nat_tests)
 
-bytes_width : (cs : List ℕ) → length (encode_utf8_all cs) ≡ width cs
+pub bytes_width : (cs : List ℕ) → length (encode_utf8_all cs) ≡ width cs
 bytes_width [] = refl
 bytes_width (c ∷ cs) = omega (arith, length-append (encode_utf8 c) (encode_utf8_all cs), encoded_width c, bytes_width cs, sum_by-cons len_utf8 c cs)
 

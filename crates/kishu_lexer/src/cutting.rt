@@ -7,6 +7,7 @@ ghost use Rattle.kishu_model.specs.LineRules.{HasTokens};
 ghost use Rattle.kishu_model.specs.Lexemes as pieces;
 ghost use Rattle.kishu_model.specs.Layout as spec;
 ghost use Rattle.kishu_model.specs.Tokens as tokens;
+ghost use Rattle.kishu_lexer.specs.Edges.{Placed};
 ghost use Rattle.kishu_lexer.specs.Machine.{state_of, tokens_of, Fails, Answers};
 
 use crate::fault::SyntaxFault;
@@ -88,7 +89,7 @@ fn layout(alloc: Global, text: &[char]) -> Result<Vec<Token>, SyntaxFault>
 }
 
 /// The tokens of a text of at most 1,048,576 bytes, under the rules of a profile. Their places are
-/// in the text as `plain_lines` gives it, in order. Syntax says that the text has no tokens, with
+/// in the text as `plain_lines` gives it, in order, at the edges of its characters. Syntax says that the text has no tokens, with
 /// the line of the fault that comes first.
 pub fn tokens(alloc: Global, profile: Profile, text: &str) -> Result<Vec<Token>, SyntaxFault>
     requires { length text.now ≤ 1048576 }
@@ -97,6 +98,9 @@ pub fn tokens(alloc: Global, profile: Profile, text: &str) -> Result<Vec<Token>,
 
     // Their places are in the text with plain line ends.
     ensures places { IfOk result (λ v. InOrder 0 (tokens_of v.items) (length (encode_utf8_all (plain_lines (chars text.now))))) }
+
+    // They begin and end at the edges of its characters.
+    ensures boundaries { IfOk result (λ v. Placed (encode_utf8_all (plain_lines (chars text.now))) v.items) }
 
     // They are those that the rules of lines, brackets and indentation give, as a language of
     // pieces; and where these rules give tokens, no fault is answered.

@@ -1,6 +1,8 @@
 use Rattle.std.proofs.Common.{◌∙◌}
+use Rattle.std.proofs.lemmas.Str.{scalars-chars}
 use Rattle.std.specs.Str.{chars}
 use Rattle.kishu_model.specs.PlainLines.{plain_lines}
+use Rattle.kishu_lexer.proofs.Edges.{placed_at_edges}
 use Rattle.kishu_lexer.proofs.Order.{placed}
 use Rattle.kishu_lexer.proofs.Rules.{by_rules}
 use Rattle.kishu_lexer.proofs.Complete.{by_reading}
@@ -14,3 +16,6 @@ returns-clause-only c = λ ts t. by_rules c.as_slice.result.now (plain_lines (ch
 
 pub returns-clause-rules : goal.returns-clause-rules
 returns-clause-rules c = by_reading c.as_slice.result.now (plain_lines (chars c.args.text.now)) c.layout.result (λ v. v.items) (c.as_slice.ensures.value ∙ c.in_ok-plain.ensures.value) c.layout.ensures
+
+pub returns-clause-boundaries : goal.returns-clause-boundaries
+returns-clause-boundaries c = placed_at_edges c.as_slice.result.now (chars c.args.text.now) c.layout.result (λ v. v.items) (c.as_slice.ensures.value ∙ c.in_ok-plain.ensures.value) (scalars-chars c.args.text.now c.utf8.text) c.layout.ensures
