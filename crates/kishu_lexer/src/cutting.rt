@@ -88,9 +88,10 @@ fn layout(alloc: Global, text: &[char]) -> Result<Vec<Token>, SyntaxFault>
     lexer.finish(line, start)
 }
 
-/// The tokens of a text of at most 1,048,576 bytes, under the rules of a profile. Their places are
-/// in the text as `plain_lines` gives it, in order, at the edges of its characters. Syntax says that the text has no tokens, with
-/// the line of the fault that comes first.
+/// The tokens of a text of at most 1,048,576 bytes, under the rules of a profile (Python Language
+/// Reference 3, "Lexical analysis"). Their places count bytes of the text as `plain_lines` gives it;
+/// they are in order, at the edges of its characters. Syntax says that the text has no tokens, with
+/// the line, from 1, of the fault that comes first.
 pub fn tokens(alloc: Global, profile: Profile, text: &str) -> Result<Vec<Token>, SyntaxFault>
     requires { length text.now ≤ 1048576 }
     ensures ok { IfOk result (λ v. tokens.tokens profile text.now ≡ Ok (tokens_of v.items)) }

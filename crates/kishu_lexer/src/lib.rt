@@ -1,6 +1,6 @@
 //! Cuts a text into its tokens (Python Language Reference 3, "Lexical analysis"): exactly those
-//! that `kishu_model`'s definition says, or the line of the fault that comes first in the text. The
-//! time grows linearly with the text, and no call recurses.
+//! that `kishu_model`'s definition says, or the line of the fault that comes first in the text. No
+//! call recurses.
 #![tactic(auto)]
 
 mod blanks;
