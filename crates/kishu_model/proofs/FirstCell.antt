@@ -1,23 +1,34 @@
 -- The first cell of an empty store: its file and its answer, computed on the definitions.
-use Rattle.std.proofs.Common.{◌≡◌, inl, inr, [], ◌∷◌, ◌++◌, length, codes, Some, None, refl, ap, arith, slice_index}
+use Rattle.std.proofs.Common.{◌≡◌, inl, inr, [], ◌∷◌, ◌++◌, length, codes, Some, None, refl, sym, ap, arith, slice_index}
+use Rattle.std.proofs.lemmas.Option.{none-some}
 use Rattle.serde_json.proofs.OnLiterals.{serde_json_on_literals}
+use Rattle.std.specs.Char.{encode_utf8}
 use Rattle.std.specs.Fmt.{digits}
+use Rattle.std.specs.Str.{chars, is_utf8}
 use Rattle.kishu_model.specs.declared.profile.Profile.TheVariants.{One}
 use Rattle.kishu_model.specs.Names.{reserved_words, builtin_names, class_names}
-use Rattle.kishu_model.specs.Plain.{later_line}
+use Rattle.kishu_model.specs.Numbers.{power}
+use Rattle.kishu_model.specs.Marks.{reserved_marks, delimiter, operator}
+use Rattle.kishu_model.specs.Numerals.{numeral}
+use Rattle.kishu_model.specs.Quoted as Q
+use Rattle.kishu_model.specs.Lexemes.{token_piece, lexeme}
+use Rattle.kishu_model.specs.Layout as L
+use Rattle.kishu_model.specs.Code.{code_of}
+use Rattle.kishu_model.specs.ReadExpressions as E
+use Rattle.kishu_model.specs.ReadStatements as S
+use Rattle.kishu_model.specs.ReadText as R
+use Rattle.kishu_model.specs.Meaning.{run}
+use Rattle.kishu_model.specs.Later.{later_line}
 use Rattle.kishu_model.specs.Graph.{Graph, new_graph}
 use Rattle.kishu_model.specs.Answers.{answer_line}
-use Rattle.kishu_model.specs.Step.{cell, step}
-use Rattle.kishu_model.specs.Record.{commit, head_of, body_of, Fits}
+use Rattle.kishu_model.specs.Step.{cell, unreadable, step}
+use Rattle.kishu_model.specs.Task.{task, one_cell}
+use Rattle.kishu_model.specs.Record.{commit, head_of, body_of, IsCell, Fits}
 use Rattle.kishu_model.specs.Holds.{header, framed, front, Holds, IsForeign}
 
 all_keywords : length reserved_words ≡ 35
 unfolding reserved_words
 all_keywords = refl
-
-keyword_bound : later_line (codes "assert = 1") ≡ Some 1
-unfolding digits reserved_words builtin_names class_names
-keyword_bound = refl
 
 first_file : front (commit 0 One (codes "print(1 + 2)" ∷ []) ∷ []) ++ 0 ∷ []
     ≡ codes "KISHU-JOURNAL-1\n" ++ 165 ∷ 0 ∷ 0 ∷ 0 ∷ 0 ∷ 0 ∷ 0 ∷ 0 ∷ 38 ∷ 0 ∷ 0 ∷ 0 ∷ 34 ∷ 1 ∷ 0 ∷ 0 ∷ 0 ∷ 0 ∷ 1 ∷ 0 ∷ 0 ∷ 0 ∷ 1 ∷ 0 ∷ 0 ∷ 0 ∷ 12
@@ -31,18 +42,47 @@ first_length = refl
 
 first_answer : answer_line (step new_graph (cell (codes "print(1 + 2)"))).answer
     ≡ codes "{\"answer\":\"cell\",\"commit\":1,\"count\":1,\"outcome\":\"ok\",\"outputs\":[{\"name\":\"stdout\",\"output_type\":\"stream\",\"text\":\"3\\n\"}]}\n"
-unfolding digits reserved_words builtin_names class_names serde_json_on_literals
+unfolding reserved_marks delimiter operator numeral Q.escape Q.item Q.closes Q.body Q.quoted token_piece lexeme L.cut L.indented L.begin L.bracket L.step L.layout encode_utf8 code_of E.keyword_begins E.another E.argument E.attribute E.call E.slice_after E.item_or_slice E.trailer E.parenthesised E.list E.pair E.dict E.atom E.primary_parts E.primary E.power E.unary_level E.term E.sum E.compared E.negated_level E.conjunction E.disjunction E.expr_level E.exprs_level E.phrase S.primary_at S.another_simple S.raise S.return S.assertion S.delete S.global S.import S.update_of S.assignment_of S.update_or_assignment S.simple S.simples S.line S.block S.block_after S.arm S.choice S.while S.for S.caught S.handler S.handled S.finished S.try S.parameter S.definition S.define S.compound S.chunk S.program R.piece R.read_chars chars digits power builtin_names class_names run serde_json_on_literals
 first_answer = refl
+
+shown_answer : answer_line (step new_graph (cell (codes "'a'"))).answer
+    ≡ codes "{\"answer\":\"cell\",\"commit\":1,\"count\":1,\"outcome\":\"ok\",\"outputs\":[{\"data\":{\"text/plain\":\"'a'\"},\"execution_count\":1,\"metadata\":{},\"output_type\":\"execute_result\"}]}\n"
+unfolding reserved_marks delimiter operator numeral Q.escape Q.item Q.closes Q.body Q.quoted token_piece lexeme L.cut L.indented L.begin L.bracket L.step L.layout encode_utf8 code_of E.keyword_begins E.another E.argument E.attribute E.call E.slice_after E.item_or_slice E.trailer E.parenthesised E.list E.pair E.dict E.atom E.primary_parts E.primary E.power E.unary_level E.term E.sum E.compared E.negated_level E.conjunction E.disjunction E.expr_level E.exprs_level E.phrase S.primary_at S.another_simple S.raise S.return S.assertion S.delete S.global S.import S.update_of S.assignment_of S.update_or_assignment S.simple S.simples S.line S.block S.block_after S.arm S.choice S.while S.for S.caught S.handler S.handled S.finished S.try S.parameter S.definition S.define S.compound S.chunk S.program R.piece R.read_chars chars digits power builtin_names class_names run serde_json_on_literals
+shown_answer = refl
 
 error_answer : answer_line (step new_graph (cell (codes "print(z)"))).answer
     ≡ codes "{\"answer\":\"cell\",\"commit\":1,\"count\":1,\"outcome\":\"error\",\"outputs\":[{\"ename\":\"NameError\",\"evalue\":\"name 'z' is not defined\",\"output_type\":\"error\",\"traceback\":[\"NameError: name 'z' is not defined\"]}]}\n"
-unfolding digits reserved_words builtin_names class_names serde_json_on_literals
+unfolding reserved_marks delimiter operator numeral Q.escape Q.item Q.closes Q.body Q.quoted token_piece lexeme L.cut L.indented L.begin L.bracket L.step L.layout encode_utf8 code_of E.keyword_begins E.another E.argument E.attribute E.call E.slice_after E.item_or_slice E.trailer E.parenthesised E.list E.pair E.dict E.atom E.primary_parts E.primary E.power E.unary_level E.term E.sum E.compared E.negated_level E.conjunction E.disjunction E.expr_level E.exprs_level E.phrase S.primary_at S.another_simple S.raise S.return S.assertion S.delete S.global S.import S.update_of S.assignment_of S.update_or_assignment S.simple S.simples S.line S.block S.block_after S.arm S.choice S.while S.for S.caught S.handler S.handled S.finished S.try S.parameter S.definition S.define S.compound S.chunk S.program R.piece R.read_chars chars digits power builtin_names class_names run serde_json_on_literals
 error_answer = refl
+
+fault_answer : answer_line (step new_graph (cell (codes "x = 1\nif x:\n    y = "))).answer
+    ≡ codes "{\"answer\":\"cell\",\"commit\":1,\"count\":1,\"outcome\":\"error\",\"outputs\":[{\"ename\":\"SyntaxError\",\"evalue\":\"invalid syntax, line 2\",\"output_type\":\"error\",\"traceback\":[\"SyntaxError: invalid syntax, line 2\"]}]}\n"
+unfolding reserved_marks delimiter operator numeral Q.escape Q.item Q.closes Q.body Q.quoted token_piece lexeme L.cut L.indented L.begin L.bracket L.step L.layout encode_utf8 code_of E.keyword_begins E.another E.argument E.attribute E.call E.slice_after E.item_or_slice E.trailer E.parenthesised E.list E.pair E.dict E.atom E.primary_parts E.primary E.power E.unary_level E.term E.sum E.compared E.negated_level E.conjunction E.disjunction E.expr_level E.exprs_level E.phrase S.primary_at S.another_simple S.raise S.return S.assertion S.delete S.global S.import S.update_of S.assignment_of S.update_or_assignment S.simple S.simples S.line S.block S.block_after S.arm S.choice S.while S.for S.caught S.handler S.handled S.finished S.try S.parameter S.definition S.define S.compound S.chunk S.program R.piece R.read_chars chars digits power builtin_names class_names run serde_json_on_literals
+fault_answer = refl
+
+-- Names are kept from cell to cell, also by one that raised, and the cells on a path are counted.
+second_answer : answer_line (step (step new_graph (cell (codes "n = 1; m = 1 // 0; n = 2"))).graph (cell (codes "n"))).answer
+    ≡ codes "{\"answer\":\"cell\",\"commit\":2,\"count\":2,\"outcome\":\"ok\",\"outputs\":[{\"data\":{\"text/plain\":\"1\"},\"execution_count\":2,\"metadata\":{},\"output_type\":\"execute_result\"}]}\n"
+unfolding reserved_marks delimiter operator numeral Q.escape Q.item Q.closes Q.body Q.quoted token_piece lexeme L.cut L.indented L.begin L.bracket L.step L.layout encode_utf8 code_of E.keyword_begins E.another E.argument E.attribute E.call E.slice_after E.item_or_slice E.trailer E.parenthesised E.list E.pair E.dict E.atom E.primary_parts E.primary E.power E.unary_level E.term E.sum E.compared E.negated_level E.conjunction E.disjunction E.expr_level E.exprs_level E.phrase S.primary_at S.another_simple S.raise S.return S.assertion S.delete S.global S.import S.update_of S.assignment_of S.update_or_assignment S.simple S.simples S.line S.block S.block_after S.arm S.choice S.while S.for S.caught S.handler S.handled S.finished S.try S.parameter S.definition S.define S.compound S.chunk S.program R.piece R.read_chars chars digits power builtin_names class_names run serde_json_on_literals
+second_answer = refl
 
 full_answer : answer_line (step (let g : Graph = record { commits = []; branches = []; head = record { commit = 0; branch = None }; records = 1000000 } in g) (cell (codes "x = 1"))).answer
     ≡ codes "{\"answer\":\"refused\",\"number\":5,\"reason\":\"StoreFull\"}\n"
 unfolding digits serde_json_on_literals
 full_answer = refl
+
+unreadable_answer : answer_line (step new_graph unreadable).answer ≡ codes "{\"answer\":\"refused\",\"number\":1,\"reason\":\"BadRequest\"}\n"
+unfolding digits serde_json_on_literals
+unreadable_answer = refl
+
+text_asked : task (Some one_cell) (206 ∷ 187 ∷ []) ≡ cell (206 ∷ 187 ∷ []) ∷ []
+unfolding is_utf8 chars encode_utf8
+text_asked = refl
+
+-- the byte ff alone
+no_text_asked : task (Some one_cell) (255 ∷ []) ≡ unreadable ∷ []
+unfolding is_utf8 chars encode_utf8
+no_text_asked = refl
 
 seventeen_bytes : Holds (codes "xxxxxxxxxxxxxxxxx") new_graph
 seventeen_bytes = inl (omega arith, refl)
@@ -51,10 +91,26 @@ eighteen_bytes : IsForeign (codes "xxxxxxxxxxxxxxxxxx")
 unfolding header
 eighteen_bytes = (omega arith, λ rest e. let d : 120 ≡ 75 = ap (λ l. slice_index l 0) e in absurd (omega arith))
 
+-- A text without a tree is a cell too, and one with a later form isn't.
+first_cell : IsCell (codes "print(1 + 2)")
+unfolding reserved_marks delimiter operator numeral Q.escape Q.item Q.closes Q.body Q.quoted token_piece lexeme L.cut L.indented L.begin L.bracket L.step L.layout encode_utf8 code_of E.keyword_begins E.another E.argument E.attribute E.call E.slice_after E.item_or_slice E.trailer E.parenthesised E.list E.pair E.dict E.atom E.primary_parts E.primary E.power E.unary_level E.term E.sum E.compared E.negated_level E.conjunction E.disjunction E.expr_level E.exprs_level E.phrase S.primary_at S.another_simple S.raise S.return S.assertion S.delete S.global S.import S.update_of S.assignment_of S.update_or_assignment S.simple S.simples S.line S.block S.block_after S.arm S.choice S.while S.for S.caught S.handler S.handled S.finished S.try S.parameter S.definition S.define S.compound S.chunk S.program R.piece R.read_chars chars digits power builtin_names class_names is_utf8 later_line
+first_cell = record { short = omega arith; utf8 = refl; plain = refl }
+
+empty_cell : IsCell []
+unfolding reserved_marks delimiter operator numeral Q.escape Q.item Q.closes Q.body Q.quoted token_piece lexeme L.cut L.indented L.begin L.bracket L.step L.layout encode_utf8 code_of E.keyword_begins E.another E.argument E.attribute E.call E.slice_after E.item_or_slice E.trailer E.parenthesised E.list E.pair E.dict E.atom E.primary_parts E.primary E.power E.unary_level E.term E.sum E.compared E.negated_level E.conjunction E.disjunction E.expr_level E.exprs_level E.phrase S.primary_at S.another_simple S.raise S.return S.assertion S.delete S.global S.import S.update_of S.assignment_of S.update_or_assignment S.simple S.simples S.line S.block S.block_after S.arm S.choice S.while S.for S.caught S.handler S.handled S.finished S.try S.parameter S.definition S.define S.compound S.chunk S.program R.piece R.read_chars chars digits power builtin_names class_names is_utf8 later_line
+empty_cell = record { short = omega arith; utf8 = refl; plain = refl }
+
+faulty_cell : IsCell (codes "a = = 1\ndef f")
+unfolding reserved_marks delimiter operator numeral Q.escape Q.item Q.closes Q.body Q.quoted token_piece lexeme L.cut L.indented L.begin L.bracket L.step L.layout encode_utf8 code_of E.keyword_begins E.another E.argument E.attribute E.call E.slice_after E.item_or_slice E.trailer E.parenthesised E.list E.pair E.dict E.atom E.primary_parts E.primary E.power E.unary_level E.term E.sum E.compared E.negated_level E.conjunction E.disjunction E.expr_level E.exprs_level E.phrase S.primary_at S.another_simple S.raise S.return S.assertion S.delete S.global S.import S.update_of S.assignment_of S.update_or_assignment S.simple S.simples S.line S.block S.block_after S.arm S.choice S.while S.for S.caught S.handler S.handled S.finished S.try S.parameter S.definition S.define S.compound S.chunk S.program R.piece R.read_chars chars digits power builtin_names class_names is_utf8 later_line
+faulty_cell = record { short = omega arith; utf8 = refl; plain = refl }
+
+no_cell : IsCell (codes "x = [1]") → ⊥
+unfolding reserved_marks delimiter operator numeral Q.escape Q.item Q.closes Q.body Q.quoted token_piece lexeme L.cut L.indented L.begin L.bracket L.step L.layout encode_utf8 code_of E.keyword_begins E.another E.argument E.attribute E.call E.slice_after E.item_or_slice E.trailer E.parenthesised E.list E.pair E.dict E.atom E.primary_parts E.primary E.power E.unary_level E.term E.sum E.compared E.negated_level E.conjunction E.disjunction E.expr_level E.exprs_level E.phrase S.primary_at S.another_simple S.raise S.return S.assertion S.delete S.global S.import S.update_of S.assignment_of S.update_or_assignment S.simple S.simples S.line S.block S.block_after S.arm S.choice S.while S.for S.caught S.handler S.handled S.finished S.try S.parameter S.definition S.define S.compound S.chunk S.program R.piece R.read_chars chars digits power builtin_names class_names is_utf8 later_line
+no_cell c = none-some 1 (sym c.plain)
+
 first_fits : Fits new_graph (commit 0 One (codes "print(1 + 2)" ∷ []))
-unfolding digits reserved_words builtin_names class_names
-first_fits = (omega arith, refl, refl, omega arith, (record { short = omega arith; plain = refl }, tt))
+first_fits = (omega arith, refl, refl, omega arith, (first_cell, tt))
 
 first_holds : Holds (front (commit 0 One (codes "print(1 + 2)" ∷ []) ∷ []) ++ 0 ∷ []) (step new_graph (cell (codes "print(1 + 2)"))).graph
-unfolding header framed head_of body_of digits reserved_words builtin_names class_names
+unfolding header framed head_of body_of
 first_holds = inr (omega arith, commit 0 One (codes "print(1 + 2)" ∷ []) ∷ [], record { gate = 0; rest = []; split = refl; closed = λ e. absurd (omega arith); fit = (omega arith, first_fits, tt) }, refl)

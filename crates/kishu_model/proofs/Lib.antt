@@ -2,7 +2,15 @@ mod Examples
 mod FirstCell
 mod NumberExamples
 mod TokenExamples
+mod TextExamples
+mod PieceExamples
 mod MarkExamples
 mod TreeExamples
 mod FaultExamples
 mod OtherExamples
+mod Cells
+mod MeaningExamples
+mod MoreExamples
+mod BudgetExamples
+mod DepthExamples
+mod LaterExamples

@@ -9,6 +9,7 @@ use Rattle.kishu_model.specs.Values.{Output, stream, shown, fault, Report}
 
 -- why a request is refused
 pub data Refusal : Type 0 where
+  bad_request : Refusal
   store_full : Refusal
 
 pub data Answer : Type 0 where
@@ -17,9 +18,11 @@ pub data Answer : Type 0 where
   refused : Refusal → Answer
 
 abbrev pub refusal_number : Refusal → ℕ
+refusal_number bad_request = 1
 refusal_number store_full = 5
 
 abbrev pub refusal_name : Refusal → List ℕ
+refusal_name bad_request = codes "BadRequest"
 refusal_name store_full = codes "StoreFull"
 
 abbrev pub outcome_word : Outcome → List ℕ

@@ -6,8 +6,8 @@ use Rattle.kishu_model.specs.declared.profile.Profile.{Profile}
 use Rattle.kishu_model.specs.Values.{State, empty}
 use Rattle.kishu_model.specs.Graph.{Commit, Graph, newest, with_commit, path, path_in, cell_count, count_of}
 use Rattle.kishu_model.specs.Replay.{after_cells, after_commits, replay}
-use Rattle.kishu_model.specs.Answers.{refused, store_full}
-use Rattle.kishu_model.specs.Step.{cell, step, committed, most_records}
+use Rattle.kishu_model.specs.Answers.{store_full}
+use Rattle.kishu_model.specs.Step.{cell, step, committed, refused_with, most_records}
 
 is_itself : (n : ℕ) → (n == n) ≡ true
 is_itself n = grind (arith, nat_tests)
@@ -38,9 +38,9 @@ count-with_commit profile cells g = ap cell_count (path-with_commit profile cell
 pub step-cell : (g : Graph) (text : List ℕ) → g.records < most_records → step g (cell text) ≡ committed text g
 step-cell g text below =
     let no : nat_le most_records g.records ≡ false = grind (arith, nat_tests) in
-    ap (λ (b : Bool). if b then record { graph = g; answer = refused store_full } else committed text g) no
+    ap (λ (b : Bool). if b then refused_with store_full g else committed text g) no
 
-pub step-full : (g : Graph) (text : List ℕ) → most_records ≤ g.records → step g (cell text) ≡ record { graph = g; answer = refused store_full }
+pub step-full : (g : Graph) (text : List ℕ) → most_records ≤ g.records → step g (cell text) ≡ refused_with store_full g
 step-full g text full =
     let yes : nat_le most_records g.records ≡ true = grind (arith, nat_tests) in
-    ap (λ (b : Bool). if b then record { graph = g; answer = refused store_full } else committed text g) yes
+    ap (λ (b : Bool). if b then refused_with store_full g else committed text g) yes

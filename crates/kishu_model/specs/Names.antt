@@ -1,5 +1,5 @@
 -- Names (Python Language Reference 3, "Identifiers and keywords"), of ASCII characters.
-use Rattle.std.specs.Prelude.{ℕ, Bool, ◌&&◌, ◌||◌, not, nat_le, ◌==◌, List, [], ◌∷◌, length, codes, false}
+use Rattle.std.specs.Prelude.{ℕ, suc, if◌then◌else◌, Option, Some, None, option_map, Bool, ◌&&◌, ◌||◌, not, nat_le, ◌==◌, List, [], ◌∷◌, length, codes, false}
 use Rattle.std.specs.List.{list_any, list_all}
 use Rattle.std.specs.Str.{bytes_eq}
 
@@ -37,6 +37,11 @@ class_names =
 
 abbrev pub is_among : List ℕ → List (List ℕ) → Bool
 is_among word words = list_any (bytes_eq word) words
+
+-- at which place a word stands
+abbrev pub place_among : List ℕ → List (List ℕ) → Option ℕ
+place_among word [] = None
+place_among word (w ∷ words) = if bytes_eq word w then Some 0 else option_map suc (place_among word words)
 
 abbrev pub is_reserved_word : List ℕ → Bool
 is_reserved_word word = is_among word reserved_words

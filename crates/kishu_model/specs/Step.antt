@@ -5,10 +5,12 @@ use Rattle.kishu_model.specs.declared.profile.Profile.TheVariants.{One}
 use Rattle.kishu_model.specs.Meaning.{run}
 use Rattle.kishu_model.specs.Graph.{Graph, newest, with_commit, count_of}
 use Rattle.kishu_model.specs.Replay.{replay}
-use Rattle.kishu_model.specs.Answers.{Answer, ran_cell, refused, store_full}
+use Rattle.kishu_model.specs.Answers.{Refusal, Answer, ran_cell, refused, bad_request, store_full}
 
 pub data Request : Type 0 where
   cell : (text : List ℕ) → Request
+  -- what has no reading as a request
+  unreadable : Request
 
 pub record Stepped : Type 0 where
   pub graph : Graph
@@ -29,5 +31,10 @@ committed text g = record {
   answer = ran_cell (suc (newest g)) (suc (count_of g g.head.commit)) (run newest_profile text (replay g g.head.commit)).report;
 }
 
+-- A refusal changes nothing.
+abbrev pub refused_with : Refusal → Graph → Stepped
+refused_with refusal g = record { graph = g; answer = refused refusal }
+
 abbrev pub step : Graph → Request → Stepped
-step g (cell text) = if nat_le most_records g.records then record { graph = g; answer = refused store_full } else committed text g
+step g unreadable = refused_with bad_request g
+step g (cell text) = if nat_le most_records g.records then refused_with store_full g else committed text g

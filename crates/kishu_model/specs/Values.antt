@@ -1,8 +1,8 @@
--- Values, names, and what a cell's run gives (Python Language Reference 3, "Data model" and "Naming and binding").
-use Rattle.std.specs.Prelude.{ℕ, ℤ, List, [], ◌∷◌, map, Option, Some, None, if◌then◌else◌}
+-- Values, names, and what a cell's run gives (Python Language Reference 3, "The standard type hierarchy" and "Naming and binding").
+use Rattle.std.specs.Prelude.{ℕ, ℤ, Bool, List, [], ◌∷◌, map, Option, Some, None, if◌then◌else◌}
 use Rattle.std.specs.Ordering.{nat_cmp, match_ordering}
 use Rattle.std.specs.Cmp.Lexicographic.{slice_cmp}
-use Rattle.std.specs.Str.{bytes_eq}
+use Rattle.std.specs.Str.{bytes_eq, chars}
 use Rattle.std.specs.Rc.{rc_str_bytes}
 use Rattle.kishu_model.specs.declared.value.Value as rust
 use Rattle.kishu_model.specs.declared.value.Value.TheVariants as rust_value
@@ -11,10 +11,25 @@ use Rattle.kishu_model.specs.declared.result.CellResult.{CellResult}
 use Rattle.kishu_model.specs.declared.result.Outcome.{Outcome}
 
 pub data Value : Type 0 where
+  none : Value
+  bool : Bool → Value
   integer : ℤ → Value
+  -- the code points of a text
+  text : List ℕ → Value
+  -- a builtin function and a class, by their numbers
+  builtin : ℕ → Value
+  class : ℕ → Value
 
 abbrev pub value_of : rust.Value → Value
+value_of rust_value.None = none
+value_of (rust_value.Bool b) = bool b
 value_of (rust_value.Int z) = integer z
+value_of (rust_value.Text x) = text (chars (rc_str_bytes x))
+value_of (rust_value.Builtin n) = builtin n.0
+value_of (rust_value.Class n) = class n.0
+
+-- A node of the heap. No kind of node is there yet.
+pub data Node : Type 0 where
 
 -- the names that are bound, each once, in byte order, with their values
 abbrev pub Names : Type 0
@@ -32,9 +47,10 @@ bind name v (n ∷ ns) = match_ordering (slice_cmp nat_cmp name n.0) ((name, v) 
 -- all that one cell leaves to the next
 pub record State : Type 0 where
   pub names : Names
+  pub nodes : List Node
 
 abbrev pub empty : State
-empty = record { names = [] }
+empty = record { names = []; nodes = [] }
 
 -- One output of a cell: what it printed, the value that it shows, or the exception that ended it (nbformat 4.5, "Code cell outputs").
 pub data Output : Type 0 where
@@ -43,8 +59,8 @@ pub data Output : Type 0 where
   fault : (ename evalue : List ℕ) → Output
 
 abbrev pub output_of : rust_output.Output → Output
-output_of (rust_output.TheVariants.Stream text) = stream (rc_str_bytes text)
-output_of (rust_output.TheVariants.Shown text) = shown (rc_str_bytes text)
+output_of (rust_output.TheVariants.Stream cs) = stream (rc_str_bytes cs)
+output_of (rust_output.TheVariants.Shown cs) = shown (rc_str_bytes cs)
 output_of (rust_output.TheVariants.Fault ename evalue) = fault (rc_str_bytes ename) (rc_str_bytes evalue)
 
 -- how a run ended, and what it shows
@@ -55,7 +71,9 @@ pub record Report : Type 0 where
 abbrev pub report_of : CellResult → Report
 report_of r = record { outcome = r.outcome; outputs = map output_of r.outputs.items }
 
--- what a run gives
+-- what a run gives: the names that it accessed, each access in order, and the number of steps that it took, besides what it leaves and shows
 pub record Ran : Type 0 where
   pub state : State
   pub report : Report
+  pub accessed : List (List ℕ)
+  pub charge : ℕ

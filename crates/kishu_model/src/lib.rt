@@ -11,7 +11,7 @@ mod token;
 mod tree;
 mod value;
 
-pub use names::{is_builtin, is_reserved};
+pub use names::{builtin_name, builtin_named, class_name, class_named, is_builtin, is_reserved};
 pub use profile::Profile;
 pub use result::{CellResult, Outcome, Output};
 pub use steps::Steps;
@@ -20,4 +20,4 @@ pub use tree::{
     Argument, Arm, Comparison, Def, Expr, Handler, Link, Operand, Operator, Pair, Program, Sign,
     Stmt, Trailer,
 };
-pub use value::Value;
+pub use value::{Builtin, ClassId, Value};

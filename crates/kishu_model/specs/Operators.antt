@@ -1,0 +1,240 @@
+-- What operators and comparisons do (Python Language Reference 3, "Binary arithmetic operations", "Unary arithmetic operations", "Comparisons" and "Boolean operations").
+use Rattle.std.specs.Prelude.{ℕ, zero, suc, ◌+◌, ◌*◌, ◌==◌, min, max, ℤ, pos, negsuc, ◌+ℤ◌, ◌-ℤ◌, ◌*ℤ◌, neg_ℤ, Bool, true, false, not, if◌then◌else◌, List, [], ◌∷◌, ◌++◌, length, replicate, codes, Option, Some, None, is_some}
+use Rattle.std.specs.declared.cmp.Ordering.{Ordering}
+use Rattle.std.specs.Bool.{beq}
+use Rattle.std.specs.Ordering.{is_lt, is_le, is_gt, is_ge, nat_cmp, int_cmp, int_eq}
+use Rattle.std.specs.Cmp.Lexicographic.{slice_cmp}
+use Rattle.std.specs.List.{flat_map}
+use Rattle.std.specs.Str.{bytes_eq}
+use Rattle.kishu_model.specs.declared.tree.Operator.{Operator}
+use Rattle.kishu_model.specs.declared.tree.Operator.TheVariants as operators
+use Rattle.kishu_model.specs.declared.tree.Sign.{Sign}
+use Rattle.kishu_model.specs.declared.tree.Sign.TheVariants as signs
+use Rattle.kishu_model.specs.declared.tree.Comparison.{Comparison}
+use Rattle.kishu_model.specs.declared.tree.Comparison.TheVariants as comparisons
+use Rattle.kishu_model.specs.Numbers.{is_whole, floor_quotient, floor_remainder, power}
+use Rattle.kishu_model.specs.Texts.{first_place}
+use Rattle.kishu_model.specs.Values.{Value, none, bool, integer, text, builtin, class}
+use Rattle.kishu_model.specs.Moment.{M, ◌>>=◌, ◌>>◌, give, raise, spend}
+
+abbrev pub kind_name : Value → List ℕ
+kind_name none = codes "NoneType"
+kind_name (bool b) = codes "bool"
+kind_name (integer z) = codes "int"
+kind_name (text cs) = codes "str"
+kind_name (builtin n) = codes "builtin"
+kind_name (class n) = codes "class"
+
+abbrev pub quoted_kind : Value → List ℕ
+quoted_kind v = codes "'" ++ kind_name v ++ codes "'"
+
+abbrev pub type_error : {A : Type 0} → List ℕ → M A
+type_error message = raise 23 message
+
+abbrev pub bad_operands : {A : Type 0} → List ℕ → Value → Value → M A
+bad_operands sign a b = type_error (codes "bad operand types for " ++ sign ++ codes ": " ++ quoted_kind a ++ codes " and " ++ quoted_kind b)
+
+abbrev pub bad_operand : {A : Type 0} → List ℕ → Value → M A
+bad_operand sign v = type_error (codes "bad operand type for " ++ sign ++ codes ": " ++ quoted_kind v)
+
+abbrev pub value_error : {A : Type 0} → List ℕ → M A
+value_error message = raise 24 message
+
+-- ---- truth
+
+abbrev pub truth : Value → M Bool
+truth none = give false
+truth (bool b) = give b
+truth (integer z) = give (not (int_eq z (pos 0)))
+truth (text cs) = give (not (length cs == 0))
+truth (builtin n) = give true
+truth (class n) = give true
+
+-- ---- whole numbers
+
+abbrev pub number_of_bool : Bool → ℤ
+number_of_bool false = pos 0
+number_of_bool true = pos 1
+
+-- a bool counts as 0 or 1
+abbrev pub number_in : Value → Option ℤ
+number_in (bool b) = Some (number_of_bool b)
+number_in (integer z) = Some z
+number_in _ = None
+
+abbrev pub whole : ℤ → M Value
+whole z = if is_whole z then give (integer z) else raise 10 (codes "whole number too large")
+
+abbrev pub divided : ℤ → ℤ → M Value
+divided b z = if int_eq b (pos 0) then raise 11 (codes "division by zero") else whole z
+
+abbrev pub raised_to : ℤ → ℤ → M Value
+raised_to a (pos n) = whole (power a n)
+raised_to a (negsuc n) = value_error (codes "negative power")
+
+abbrev pub arithmetic : Operator → ℤ → ℤ → M Value
+arithmetic operators.Add a b = whole (a +ℤ b)
+arithmetic operators.Subtract a b = whole (a -ℤ b)
+arithmetic operators.Multiply a b = whole (a *ℤ b)
+arithmetic operators.FloorDivide a b = divided b (floor_quotient a b)
+arithmetic operators.Modulo a b = divided b (floor_remainder a b)
+arithmetic operators.Power a b = raised_to a b
+
+-- ---- texts
+
+abbrev pub joined : List ℕ → List ℕ → M Value
+joined a b = do
+  spend (length a + length b)
+  give (text (a ++ b))
+
+-- n times; below 1 there is nothing
+abbrev pub times : ℤ → ℕ
+times (pos n) = n
+times (negsuc n) = 0
+
+abbrev pub repeated : List ℕ → ℤ → M Value
+repeated cs z = do
+  spend (length cs * times z)
+  give (text (flat_map (λ part. part) (replicate (times z) cs)))
+
+-- ---- operators
+
+abbrev pub operator_sign : Operator → List ℕ
+operator_sign operators.Add = codes "+"
+operator_sign operators.Subtract = codes "-"
+operator_sign operators.Multiply = codes "*"
+operator_sign operators.FloorDivide = codes "//"
+operator_sign operators.Modulo = codes "%"
+operator_sign operators.Power = codes "**"
+
+-- on two numbers, where there are two
+abbrev pub on_numbers : Operator → Option ℤ → Option ℤ → M Value → M Value
+on_numbers operator (Some a) (Some b) other = arithmetic operator a b
+on_numbers operator _ _ other = other
+
+-- a text with a number, on either side
+abbrev pub text_times : Value → Value → M Value
+text_times (text cs) (integer z) = repeated cs z
+text_times (text cs) (bool b) = repeated cs (number_of_bool b)
+text_times (integer z) (text cs) = repeated cs z
+text_times (bool b) (text cs) = repeated cs (number_of_bool b)
+text_times a b = bad_operands (operator_sign operators.Multiply) a b
+
+abbrev pub text_joined : Value → Value → M Value
+text_joined (text a) (text b) = joined a b
+text_joined a b = bad_operands (operator_sign operators.Add) a b
+
+abbrev pub on_sequences : Operator → Value → Value → M Value
+on_sequences operators.Add a b = text_joined a b
+on_sequences operators.Multiply a b = text_times a b
+on_sequences operator a b = bad_operands (operator_sign operator) a b
+
+abbrev pub operate : Operator → Value → Value → M Value
+operate operator a b = on_numbers operator (number_in a) (number_in b) (on_sequences operator a b)
+
+abbrev pub signed_number : Sign → ℤ → ℤ
+signed_number signs.Plus z = z
+signed_number signs.Minus z = neg_ℤ z
+
+abbrev pub sign_text : Sign → List ℕ
+sign_text signs.Plus = codes "+"
+sign_text signs.Minus = codes "-"
+
+abbrev pub signed_in : Sign → Value → Option ℤ → M Value
+signed_in sign v (Some z) = whole (signed_number sign z)
+signed_in sign v None = bad_operand (sign_text sign) v
+
+abbrev pub signed_value : Sign → Value → M Value
+signed_value sign v = signed_in sign v (number_in v)
+
+-- ---- comparisons
+
+abbrev pub comparison_sign : Comparison → List ℕ
+comparison_sign comparisons.Less = codes "<"
+comparison_sign comparisons.LessEqual = codes "<="
+comparison_sign comparisons.Greater = codes ">"
+comparison_sign comparisons.GreaterEqual = codes ">="
+comparison_sign comparisons.Equal = codes "=="
+comparison_sign comparisons.NotEqual = codes "!="
+comparison_sign comparisons.In = codes "in"
+comparison_sign comparisons.NotIn = codes "not in"
+comparison_sign comparisons.Is = codes "is"
+comparison_sign comparisons.IsNot = codes "is not"
+
+-- the same kind and the same value
+abbrev pub is_same : Value → Value → Bool
+is_same none none = true
+is_same (bool a) (bool b) = beq a b
+is_same (integer a) (integer b) = int_eq a b
+is_same (text a) (text b) = bytes_eq a b
+is_same (builtin a) (builtin b) = a == b
+is_same (class a) (class b) = a == b
+is_same _ _ = false
+
+-- A comparison of two texts takes the code points of the shorter as steps.
+abbrev pub pair_steps : Value → Value → ℕ
+pair_steps (text a) (text b) = min (length a) (length b)
+pair_steps _ _ = 0
+
+abbrev pub by_numbers : {A : Type 0} → Option ℤ → Option ℤ → (ℤ → ℤ → A) → A → A
+by_numbers (Some a) (Some b) numbers other = numbers a b
+by_numbers _ _ numbers other = other
+
+-- Numbers are equal by value, and all else where it is the same.
+abbrev pub is_equal : Value → Value → Bool
+is_equal a b = by_numbers (number_in a) (number_in b) int_eq (is_same a b)
+
+abbrev pub text_order : Comparison → Value → Value → M Ordering
+text_order comparison (text a) (text b) = give (slice_cmp nat_cmp a b)
+text_order comparison a b = bad_operands (comparison_sign comparison) a b
+
+-- Numbers have an order, and texts by their code points.
+abbrev pub order : Comparison → Value → Value → M Ordering
+order comparison a b = by_numbers (number_in a) (number_in b) (λ x y. give (int_cmp x y)) (text_order comparison a b)
+
+abbrev pub ordered : Comparison → (Ordering → Bool) → Value → Value → M Bool
+ordered comparison test a b = do
+  spend (pair_steps a b)
+  found ← order comparison a b
+  give (test found)
+
+abbrev pub equal : Value → Value → M Bool
+equal a b = do
+  spend (pair_steps a b)
+  give (is_equal a b)
+
+abbrev pub identical : Value → Value → M Bool
+identical a b = do
+  spend (pair_steps a b)
+  give (is_same a b)
+
+-- A search for a text takes the product of the lengths, the part's taken as at least 1.
+abbrev pub part_in : List ℕ → List ℕ → M Bool
+part_in part cs = do
+  spend (length cs * max 1 (length part))
+  give (is_some (first_place part cs))
+
+abbrev pub not_iterable : {A : Type 0} → Value → M A
+not_iterable v = type_error (quoted_kind v ++ codes " object is not iterable")
+
+abbrev pub member : Comparison → Value → Value → M Bool
+member comparison (text part) (text cs) = part_in part cs
+member comparison a (text cs) = bad_operands (comparison_sign comparison) a (text cs)
+member comparison a b = not_iterable b
+
+abbrev pub negated : M Bool → M Bool
+negated m = do
+  found ← m
+  give (not found)
+
+abbrev pub compare : Comparison → Value → Value → M Bool
+compare comparisons.Less a b = ordered comparisons.Less is_lt a b
+compare comparisons.LessEqual a b = ordered comparisons.LessEqual is_le a b
+compare comparisons.Greater a b = ordered comparisons.Greater is_gt a b
+compare comparisons.GreaterEqual a b = ordered comparisons.GreaterEqual is_ge a b
+compare comparisons.Equal a b = equal a b
+compare comparisons.NotEqual a b = negated (equal a b)
+compare comparisons.In a b = member comparisons.In a b
+compare comparisons.NotIn a b = negated (member comparisons.NotIn a b)
+compare comparisons.Is a b = identical a b
+compare comparisons.IsNot a b = negated (identical a b)
