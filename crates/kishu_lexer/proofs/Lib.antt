@@ -10,3 +10,4 @@ pub mod Rules
 pub mod Complete
 pub mod Lengths
 pub mod Edges
+pub mod Alone

@@ -3,7 +3,7 @@ ghost use Rattle.std.specs.Prelude.{◌≡◌, ◌<◌, ◌≤◌, ◌+◌, ◌^
 ghost use Rattle.std.specs.Str.{chars, encode_utf8_all};
 ghost use Rattle.kishu_model.specs.PlainLines.{plain_lines};
 ghost use Rattle.kishu_model.specs.Places.{InOrder};
-ghost use Rattle.kishu_model.specs.LineRules.{HasTokens};
+ghost use Rattle.kishu_model.specs.TokenRules.{ByRules, AllWritten};
 ghost use Rattle.kishu_model.specs.Lexemes as pieces;
 ghost use Rattle.kishu_model.specs.Layout as spec;
 ghost use Rattle.kishu_model.specs.Tokens as tokens;
@@ -103,10 +103,15 @@ pub fn tokens(alloc: Global, profile: Profile, text: &str) -> Result<Vec<Token>,
     // They begin and end at the edges of its characters.
     ensures boundaries { IfOk result (λ v. Placed (encode_utf8_all (plain_lines (chars text.now))) v.items) }
 
-    // They are those that the rules of lines, brackets and indentation give, as a language of
-    // pieces; and where these rules give tokens, no fault is answered.
-    ensures rules { IfOk result (λ v. HasTokens (plain_lines (chars text.now)) (tokens_of v.items)) }
-    ensures only { (ts : List spec.Token) → HasTokens (plain_lines (chars text.now)) ts → MatchResult result (λ v. tokens_of v.items ≡ ts) (λ e. e ≡ SyntaxFault.NoMemory) }
+    // They are those that the rules alone give: the rules of texts, numbers, names and operators, and
+    // those of lines, brackets and indentation, as languages; and where these rules give tokens, no
+    // fault is answered.
+    ensures rules { IfOk result (λ v. ByRules (plain_lines (chars text.now)) (tokens_of v.items)) }
+    ensures only { (ts : List spec.Token) → ByRules (plain_lines (chars text.now)) ts → MatchResult result (λ v. tokens_of v.items ≡ ts) (λ e. e ≡ SyntaxFault.NoMemory) }
+
+    // The places of each name, number, text and mark are those of its piece, which the rules relate
+    // to its value: a text by its escapes, a number by its digits.
+    ensures texts { IfOk result (λ v. AllWritten (plain_lines (chars text.now)) (tokens_of v.items)) }
 {
     match profile {
         Profile::One => {

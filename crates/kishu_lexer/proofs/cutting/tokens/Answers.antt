@@ -4,18 +4,20 @@ use Rattle.std.specs.Str.{chars}
 use Rattle.kishu_model.specs.PlainLines.{plain_lines}
 use Rattle.kishu_lexer.proofs.Edges.{placed_at_edges}
 use Rattle.kishu_lexer.proofs.Order.{placed}
-use Rattle.kishu_lexer.proofs.Rules.{by_rules}
-use Rattle.kishu_lexer.proofs.Complete.{by_reading}
+use Rattle.kishu_lexer.proofs.Alone.{rules_alone, written_alone, only_alone}
 use Rattle.kishu_lexer.proofs.cutting.tokens.Goals as goal
 
 pub returns-clause-places : goal.returns-clause-places
 returns-clause-places c = placed c.as_slice.result.now (plain_lines (chars c.args.text.now)) c.layout.result (λ v. v.items) (c.as_slice.ensures.value ∙ c.in_ok-plain.ensures.value) c.layout.ensures
 
 pub returns-clause-only : goal.returns-clause-only
-returns-clause-only c = λ ts t. by_rules c.as_slice.result.now (plain_lines (chars c.args.text.now)) ts c.layout.result (λ v. v.items) (c.as_slice.ensures.value ∙ c.in_ok-plain.ensures.value) c.layout.ensures t
+returns-clause-only c = λ ts t. only_alone c.as_slice.result.now (plain_lines (chars c.args.text.now)) ts c.layout.result (λ v. v.items) (c.as_slice.ensures.value ∙ c.in_ok-plain.ensures.value) c.layout.ensures t
 
 pub returns-clause-rules : goal.returns-clause-rules
-returns-clause-rules c = by_reading c.as_slice.result.now (plain_lines (chars c.args.text.now)) c.layout.result (λ v. v.items) (c.as_slice.ensures.value ∙ c.in_ok-plain.ensures.value) c.layout.ensures
+returns-clause-rules c = rules_alone c.as_slice.result.now (plain_lines (chars c.args.text.now)) c.layout.result (λ v. v.items) (c.as_slice.ensures.value ∙ c.in_ok-plain.ensures.value) c.layout.ensures
 
 pub returns-clause-boundaries : goal.returns-clause-boundaries
 returns-clause-boundaries c = placed_at_edges c.as_slice.result.now (chars c.args.text.now) c.layout.result (λ v. v.items) (c.as_slice.ensures.value ∙ c.in_ok-plain.ensures.value) (scalars-chars c.args.text.now c.utf8.text) c.layout.ensures
+
+pub returns-clause-texts : goal.returns-clause-texts
+returns-clause-texts c = written_alone c.as_slice.result.now (plain_lines (chars c.args.text.now)) c.layout.result (λ v. v.items) (c.as_slice.ensures.value ∙ c.in_ok-plain.ensures.value) c.layout.ensures
