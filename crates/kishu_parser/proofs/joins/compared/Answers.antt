@@ -1,0 +1,9 @@
+use Rattle.std.proofs.Common.{◌≡◌, refl, sym, ap, ◌∙◌, length, false-eqb}
+use Rattle.kishu_model.specs.Grammar.{compared_with}
+use Rattle.kishu_parser.specs.Trees.{link_of}
+use Rattle.kishu_parser.proofs.Rows.{compared_is}
+use Rattle.kishu_parser.proofs.Parts.{many}
+use Rattle.kishu_parser.proofs.joins.compared.Goals as goal
+
+pub returns : goal.returns
+returns c = rw (compared_is, c.in_ok-new.ensures.ok) (many link_of compared_with _ _ (λ e. false-eqb _ 0 (sym (sym c.is_empty.ensures ∙ c.if-is_empty.false)) (c.args.links.ok.0 ∙ e)))

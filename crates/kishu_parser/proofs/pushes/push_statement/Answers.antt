@@ -1,0 +1,7 @@
+use Rattle.std.proofs.Common.{refl}
+use Rattle.kishu_model.specs.Tree.{statement_of}
+use Rattle.kishu_parser.proofs.Parts.{pushed}
+use Rattle.kishu_parser.proofs.pushes.push_statement.Goals as goal
+
+pub returns : goal.returns
+returns c = pushed statement_of _ _ _ _ c.in_ok-push.ensures.items refl

@@ -1,0 +1,8 @@
+pub mod Views
+pub mod Trees
+pub mod Turns
+pub mod Bodies
+pub mod Statements
+pub mod Sets
+pub mod TopLevel
+pub mod TopLaws

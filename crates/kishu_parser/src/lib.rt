@@ -1,0 +1,27 @@
+//! Reads the tree of a text (Python Language Reference 3, "Full Grammar specification"): exactly the
+//! one that `kishu_model`'s grammar says, or the line of its fault. It goes once through the tokens,
+//! and recurses no deeper than a few levels for each nesting, of which a text has at most 60.
+#![tactic(auto)]
+
+mod blocks;
+mod cursor;
+mod expressions;
+mod functions;
+mod joins;
+mod looks;
+mod mentions;
+mod pieces;
+mod primaries;
+mod pushes;
+mod refusals;
+mod simple;
+mod targets;
+mod texts;
+mod top;
+
+pub use kishu_lexer::SyntaxFault;
+pub use pieces::Piece;
+pub use top::{parse, parse_def, parse_pieces};
+
+#[cfg(test)]
+mod tests;
