@@ -5,11 +5,13 @@
 
 mod cursor;
 mod index;
+mod ordering;
 mod repr;
 mod search;
 mod space;
 
 pub use index::{at, count, slice};
+pub use ordering::order;
 pub use repr::quote;
 pub use search::{find, occurrences, replace, split};
 pub use space::{split_space, strip};
