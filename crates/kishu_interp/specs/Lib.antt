@@ -1,5 +1,6 @@
-pub mod Tokens
-pub mod State
-pub mod Tree
-pub mod Reading
-pub mod Raised
+pub mod Trees
+pub mod Heights
+pub mod Unrecorded
+pub mod Machine
+pub mod Answers
+pub mod Form

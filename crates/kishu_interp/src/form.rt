@@ -1,84 +1,62 @@
-ghost use Rattle.std.specs.Prelude.{IsTrue, ◌≡◌, ◌≤◌, length, nat_lt, is_some, IfOk, IsNone, IsSome, ◌↔◌};
-ghost use Rattle.std.specs.List.{list_all};
-ghost use Rattle.kishu_model.specs.Lines.{lines_of};
-ghost use Rattle.kishu_model.specs.Spelling.{IsSpelling, IsSpelled};
-ghost use Rattle.kishu_model.specs.Plain.{line_of, is_plain_text, first_later, later_line, cell_of};
+// Which cells can be run.
+ghost use Rattle.std.specs.Prelude.{◌≡◌, ◌≤◌, length, map, IfOk, IsNone, ◌↔◌};
+ghost use Rattle.std.specs.Str.{IsUtf8};
+ghost use Rattle.kishu_model.specs.Later.{later_line};
+ghost use Rattle.kishu_parser.specs.TopLevel.{piece_of};
+ghost use Rattle.kishu_interp.specs.Form.{first_later, HasForm};
 
-use crate::lines::read_line;
-use crate::tokens::cut_line;
+use crate::later::are_known_statements;
+use kishu_model::Profile;
+use kishu_parser::{Piece, SyntaxFault, parse_pieces};
 use std::alloc::{AllocError, Global};
 
-// The longest cell of the form, in bytes.
-const LONGEST_CELL: usize = 65_536;
-
-fn is_ascii(text: &[u8]) -> bool
-    ensures { result ≡ list_all (λ c. nat_lt c 128) text.now }
+// The line of the first piece that has a form that isn't built yet.
+fn first_later(pieces: &[Piece]) -> Option<u32>
+    ensures { result ≡ first_later (map piece_of pieces.now) }
 {
-    text.iter().all(|c| *c < 128)
-}
-
-fn is_plain_text(text: &[u8]) -> bool
-    ensures { result ≡ is_plain_text text.now }
-{
-    text.len() <= LONGEST_CELL && is_ascii(text)
-}
-
-// Whether a line can be run.
-fn has_form(alloc: Global, line: &[u8]) -> Result<bool, AllocError>
-    ensures { IfOk result (λ b. b ≡ is_some (line_of line.now)) }
-{
-    match read_line(alloc, line)? {
-        Some(_) => Ok(true),
-        None => Ok(false),
-    }
-}
-
-fn first_later(alloc: Global, text: &[u8]) -> Result<Option<u32>, AllocError>
-    requires { length text.now ≤ 65536 }
-    ensures { IfOk result (λ o. o ≡ first_later 1 (lines_of text.now)) }
-{
-    let mut number: u32 = 1;
-    let mut rest = text;
-    while !rest.is_empty() {
-        let (line, after) = cut_line(rest);
-        if !has_form(alloc, line)? {
-            return Ok(Some(number));
+    for piece in pieces {
+        if !are_known_statements(&piece.statements) {
+            return Some(piece.line);
         }
-        number += 1;
-        rest = after;
     }
-    Ok(None)
+    None
 }
 
-/// Whether a text can be run by `run_plain`: None where it can, else the number of the first line
-/// that can't, the lines being counted from 1. A text that isn't ASCII, or has more than 65,536
-/// bytes, answers 1.
+// The same for bytes that are UTF-8.
+fn later_in(alloc: Global, text: &str) -> Result<Option<u32>, AllocError>
+    requires utf8 { IsUtf8 text.now }
+    requires fits { length text.now ≤ 1048576 }
+    ensures line { IfOk result (λ o. o ≡ later_line text.now) }
+    ensures form { IfOk result (λ o. IsNone o ↔ HasForm text.now) }
+{
+    match parse_pieces(alloc, Profile::One, text) {
+        Ok(pieces) => Ok(first_later(&pieces)),
+        Err(SyntaxFault::Syntax { .. }) => Ok(None),
+        Err(SyntaxFault::NoMemory) => Err(AllocError),
+    }
+}
+
+/// Whether a cell of at most 1,048,576 bytes has a form that isn't built yet: None where it has
+/// none, else the line on which the first of its top-level pieces begins that has one, the lines
+/// being counted from 1. Bytes that aren't UTF-8 have no such form, and neither has a text without a
+/// tree.
 ///
-/// Each line that can be run is blank, `NAME = SUM` or `print(SUM)`. A SUM is names and decimal
-/// numbers below 2^127, joined by `+`, `-` and `*`. A NAME is neither a reserved word nor that of a
-/// builtin function or a class. Spaces may stand between the tokens and at the end of a line, and no
-/// other white space. The line's own form is Python's (Python Language Reference 3, "Simple
-/// statements" and "Binary arithmetic operations").
+/// What is built are names that are no builtin's, numbers, texts, `None`, `True`, `False`,
+/// parentheses, the operators and comparisons, conditional expressions, and calls of `print` without
+/// keywords (Python Language Reference 3, "Expressions"), expressions as statements, assignments to
+/// names, also by `+=` and its like, `if`, `while`, `break`, `continue` and `pass` ("Simple
+/// statements" and "Compound statements").
 ///
 /// The only error is want of memory.
 pub fn later_form(alloc: Global, text: &[u8]) -> Result<Option<u32>, AllocError>
+    requires { length text.now ≤ 1048576 }
     ensures line { IfOk result (λ o. o ≡ later_line text.now) }
-    ensures form { IfOk result (λ o. IsNone o ↔ IsSome (cell_of text.now)) }
-{
-    if is_plain_text(text) {
-        first_later(alloc, text)
-    } else {
-        Ok(Some(1))
-    }
-}
 
-/// Whether a line can be run by `run_plain`: whether some line of the form is spelled so. A text
-/// spells one line at most.
-///
-/// The only error is want of memory.
-pub fn is_line(alloc: Global, line: &[u8]) -> Result<bool, AllocError>
-    ensures line { IfOk result (λ b. IsTrue b ↔ IsSpelled line.now) }
-    ensures spelling { IsSpelling line.now }
+    // None comes exactly where all statements of the text's tree have the forms that are built.
+    ensures form { IfOk result (λ o. IsNone o ↔ HasForm text.now) }
 {
-    has_form(alloc, line)
+    match str::from_utf8(text) {
+        Ok(text) => later_in(alloc, text),
+        Err(_) => Ok(None),
+    }
 }

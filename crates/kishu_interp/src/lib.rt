@@ -1,19 +1,28 @@
-//! Tells which cells are of sums alone, and runs them: each line is blank, `NAME = SUM` or
-//! `print(SUM)`. A run gives exactly the outcome, the outputs and the names that `kishu_model`'s
-//! definition of a cell's run says. No call recurses, however long a sum is.
+//! Runs a cell: reads its text's tree, and runs that by steps: expressions, assignments to names,
+//! `if`, `while` and `print`. A run gives exactly the outcome, the outputs and the names that
+//! `kishu_model`'s definition of a cell's run says, and it ends, since each turn of a loop takes a
+//! step. No call recurses deeper than the tree is high.
 #![tactic(auto)]
 
+mod calls;
+mod cell;
+mod compare;
+mod expressions;
+mod fault;
 mod form;
-mod lines;
+mod later;
+mod machine;
+mod names;
+mod numbers;
+mod operators;
 mod run;
+mod show;
 mod state;
-mod sums;
-mod tokens;
-mod tree;
+mod statements;
+mod texts;
 mod values;
-mod words;
 
-pub use form::{is_line, later_form};
+pub use form::later_form;
 pub use run::run_plain;
 pub use state::PlainState;
 

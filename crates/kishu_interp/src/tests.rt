@@ -1,211 +1,201 @@
-use crate::{PlainState, is_line, later_form, run_plain};
-use kishu_model::{CellResult, Outcome, Output};
-use std::alloc::Global;
+// Cells as texts, with what they give.
+mod forms;
+
+use crate::cell::{run_program, syntax_fault};
+use crate::{PlainState, run_plain};
+use kishu_model::{CellResult, Outcome, Output, Program};
+use std::alloc::{AllocError, Global};
 use std::test::Fail;
 
-// One text a line, and none of them can be run.
-const LATER: &str =
-    "y\n x = 1\n\tx = 1\nx\t= 1\nx = 1\t\nx = 1\r\n\r\n\x0c\nx = 01\nx = 00\nx = 1_0\nx = 0x1\n\
-    x = 170141183460469231731687303715884105728\nx = -1\nx = (1)\nx =\nx = 1 +\nx = + 1\nx = 1 2\n\
-    x = 1 + * 2\nx = y z\nx = 2 ** 3\nx = 1 // 2\nx == 1\nx = y = 1\nx += 1\nx = 1;\nx.y = 1\nx = 'a'\n\
-    1x = 1\nx = 1x\n1 = 1\nif = 1\nassert = 1\nx = None\nlen = 1\nprint = 1\nx = len\nKeyError = 1\n\
-    print()\nprint(1\nprint 1\nprint(1))\nprint(1) 2\nprint(1, 2)\nprint(1) # one\nprint(if)\nPrint(1)\né = 1";
-
-// One text a line, and each can be run.
-const PLAIN: &str =
-    "\n \n    \nx = 0\nx=1\nx  =  1  \nx = 170141183460469231731687303715884105727\nx = y+2*z-3\n\
-    _1 = _\nprint(1)\nprint (1)\nprint  (  1 + x  )  \nyields = iffy\nlength = 10";
-
-#[test]
-fn texts_of_one_line(rt: HostRuntime) -> Result<(), Fail> {
-    let alloc = rt.alloc();
-    for text in LATER.split('\n') {
-        assert_eq!(rt; later_form(alloc, text.as_bytes())?, Some(1), "at {text}");
-    }
-    for text in PLAIN.split('\n') {
-        assert_eq!(rt; later_form(alloc, text.as_bytes())?, None, "at {text}");
-    }
-    assert_eq!(rt; later_form(alloc, b"x = \xff")?, Some(1));
-    assert!(rt; is_line(alloc, b"x = 1")?);
-    assert!(rt; !is_line(alloc, b"x = 1\n")?);
-    Ok(())
-}
-
-#[test]
-fn lines_are_counted(rt: HostRuntime) -> Result<(), Fail> {
-    let alloc = rt.alloc();
-    let table = [
-        ("", None),
-        ("\n\n", None),
-        ("x = 1\nprint(x)\n", None),
-        ("x = 1\ny", Some(2)),
-        ("x = 1\n\n  \n y = 1\nz", Some(4)),
-        ("x = 1\nx = 2 ?\nx = \u{e9}", Some(1)),
-    ];
-    for (text, want) in table {
-        assert_eq!(rt; later_form(alloc, text.as_bytes())?, want, "at {text}");
-    }
-    Ok(())
-}
-
-fn repeated(alloc: Global, front: &str, piece: &str, count: usize) -> Result<String, Fail> {
-    let mut text = String::from_str(alloc, front)?;
-    for _ in 0..count {
-        text.push_str(piece)?;
-    }
-    Ok(text)
-}
-
-#[test]
-fn longest(rt: HostRuntime) -> Result<(), Fail> {
-    let alloc = rt.alloc();
-    let table = [
-        ("", "x", 255, " = 1", None),
-        ("", "x", 256, " = 1", Some(1)),
-        ("x = 1", " ", 65_531, "", None),
-        ("x = 1", " ", 65_532, "", Some(1)),
-        ("\n", "\n", 65_534, "y", Some(65_536)),
-    ];
-    for (front, piece, count, back, want) in table {
-        let mut text = repeated(alloc, front, piece, count)?;
-        text.push_str(back)?;
-        assert_eq!(rt; later_form(alloc, text.as_bytes())?, want, "at {count}");
-    }
-    Ok(())
-}
-
-// What a run showed, as Python writes it.
-fn shown(alloc: Global, state: &mut PlainState, text: &str) -> Result<String, Fail> {
-    let Some(result) = run(alloc, state, text)? else {
-        return Ok(String::from_str(alloc, "later")?);
-    };
-    let mut shown = String::new(alloc);
-    let mut ended = Outcome::Done;
-    for output in &result.outputs {
-        match output {
-            Output::Stream { text } => shown.push_str(text)?,
-            Output::Shown { text } => shown.push_str(text)?,
-            Output::Fault { ename, evalue } => {
-                shown.push_str(ename)?;
-                shown.push_str(": ")?;
-                shown.push_str(evalue)?;
-                ended = Outcome::Raised;
-            }
+fn push_output(told: &mut String, output: &Output) -> Result<(), AllocError> {
+    match output {
+        Output::Stream { text } => {
+            told.push_str(" <")?;
+            told.push_str(text.as_str())?;
+            told.push_str(">")
+        }
+        Output::Shown { text } => {
+            told.push_str(" ")?;
+            told.push_str(text.as_str())
+        }
+        Output::Fault { ename, evalue } => {
+            told.push_str(" ")?;
+            told.push_str(ename.as_str())?;
+            told.push_str(": ")?;
+            told.push_str(evalue.as_str())
         }
     }
-    if result.outcome != ended {
-        shown.push_str("!")?;
-    }
-    Ok(shown)
 }
 
-fn run(alloc: Global, state: &mut PlainState, text: &str) -> Result<Option<CellResult>, Fail> {
-    match later_form(alloc, text.as_bytes())? {
-        None => Ok(Some(run_plain(alloc, text, state)?)),
-        Some(_) => Ok(None),
+// The outcome and the outputs: what was printed stands in `<` and `>`.
+fn told(alloc: Global, ran: &CellResult) -> Result<String, AllocError> {
+    let outcome = match ran.outcome {
+        Outcome::Done => "done",
+        Outcome::Raised => "raised",
+        Outcome::Stopped => "stopped",
+    };
+    let mut told = String::from_str(alloc, outcome)?;
+    for output in &ran.outputs {
+        push_output(&mut told, output)?;
     }
+    Ok(told)
 }
+
+fn run(alloc: Global, text: &str, state: &mut PlainState) -> Result<String, AllocError> {
+    if text.len() > 1_048_576 {
+        return String::from_str(alloc, "too long");
+    }
+    let ran = run_plain(alloc, text, state)?;
+    told(alloc, &ran)
+}
+
+// Each on a state of its own.
+const CELLS: [(&str, &str); 38] = [
+    ("", "done"),
+    ("print(1 + 2)", "done <3\n>"),
+    ("x = 2\nprint(x * x + 1)", "done <5\n>"),
+    (
+        "print(-7 // 2, -7 % 2, 7 // -2, 7 % -2)",
+        "done <-4 1 -4 -1\n>",
+    ),
+    (
+        "print(2 + 3 * 4 - 10 % 4, (2 + 3) * -4, -2 ** 2)",
+        "done <12 -20 -4\n>",
+    ),
+    ("2 ** 10;", "done 1024"),
+    ("print()\nNone", "done <\n>"),
+    ("print(None, True, 'it\\'s')", "done <None True it's\n>"),
+    ("'it\\'s'", "done \"it's\""),
+    ("'\\u00e9\\t' + 'x' * 3", "done 'é\\txxx'"),
+    ("3 * 'ab' + 'c' * -1", "done 'ababab'"),
+    ("0 and x", "done 0"),
+    ("1 and '' and x", "done ''"),
+    ("'' or 0 or 'b'", "done 'b'"),
+    ("2 or x", "done 2"),
+    (
+        "print(not 0, not 'a', +True, -True)",
+        "done <True False 1 -1\n>",
+    ),
+    (
+        "print(1 < 2 < 3, 1 < 3 < 2, 3 < 2 < x)",
+        "done <True False False\n>",
+    ),
+    (
+        "print(1 == True, 'a' == 1, None is None, 1 is not 1)",
+        "done <True False True False\n>",
+    ),
+    (
+        "print('a' < 'b' <= 'ba', 'an' in 'banana', 'x' not in 'y')",
+        "done <True True True\n>",
+    ),
+    ("'yes' if 1 else x", "done 'yes'"),
+    ("x = (y) = 5\nprint(x, y)", "done <5 5\n>"),
+    ("s = 'a'\ns *= 3\ns += 'b'\ns", "done 'aaab'"),
+    ("n = 7\nn -= 1; n //= 2; n **= 3; n %= 10\nn", "done 7"),
+    (
+        "x = 0\nif x: print(1)\nelif x == 0: print(2)\nelse: print(3)",
+        "done <2\n>",
+    ),
+    (
+        "n = 0\nwhile n < 10:\n    n += 1\n    if n % 2: continue\n    if n > 6: break\n    print(n)\nn",
+        "done <2\n4\n6\n> 8",
+    ),
+    (
+        "while 1:\n    while 1: break\n    break\n'out'",
+        "done 'out'",
+    ),
+    ("print(z)", "raised NameError: name 'z' is not defined"),
+    (
+        "print('a')\n1 // 0\nprint('b')",
+        "raised <a\n> ZeroDivisionError: division by zero",
+    ),
+    ("2 ** -1", "raised ValueError: negative power"),
+    (
+        "170141183460469231731687303715884105727 + 1",
+        "raised OverflowError: whole number too large",
+    ),
+    (
+        "170141183460469231731687303715884105728",
+        "raised SyntaxError: invalid syntax, line 1",
+    ),
+    (
+        "'a' + 1",
+        "raised TypeError: bad operand types for +: 'str' and 'int'",
+    ),
+    (
+        "None < 1",
+        "raised TypeError: bad operand types for <: 'NoneType' and 'int'",
+    ),
+    ("-'a'", "raised TypeError: bad operand type for -: 'str'"),
+    ("1 in 2", "raised TypeError: 'int' object is not iterable"),
+    ("1()", "raised TypeError: 'int' object is not callable"),
+    (
+        "x = 1\nif x:\n    y = ",
+        "raised SyntaxError: invalid syntax, line 2",
+    ),
+    ("'abc", "raised SyntaxError: invalid syntax, line 1"),
+];
 
 #[test]
-fn cells(rt: HostRuntime) -> Result<(), Fail> {
+fn cells_run(rt: HostRuntime) -> Result<(), Fail> {
     let alloc = rt.alloc();
-    let table = [
-        ("", ""),
-        ("print(1 + 2)", "3\n"),
-        ("x = 2\nprint(x * x + 1)", "5\n"),
-        ("print(z)", "NameError: name 'z' is not defined"),
-        ("print(2 + 3 * 4 - 5 * 6 * 7)", "-196\n"),
-        (
-            "print(10 - 3 - 4)\nprint(2 - 3 * 4)\nprint(0 - 0)",
-            "3\n-10\n0\n",
-        ),
-        ("\n  \nprint( 7 )  \n\n_ = 5\nprint(_*_)\n", "7\n25\n"),
-        (
-            "a=1\na=a+a\nprint(a*a-1)\nprint(c)\nprint(a)",
-            "3\nNameError: name 'c' is not defined",
-        ),
-        ("print(1 * z + w)", "NameError: name 'z' is not defined"),
-    ];
-    for (text, want) in table {
+    for (text, want) in CELLS {
         let mut state = PlainState::new(alloc);
-        assert_eq!(rt; shown(alloc, &mut state, text)?.as_str(), want, "at {text}");
+        assert_eq!(rt; run(alloc, text, &mut state)?.as_str(), want, "at {text}");
     }
     Ok(())
 }
 
-// M is the largest whole number, L the least, H and N have the product L, and R has the largest square.
-const EDGES: &str =
-    "M = 170141183460469231731687303715884105727\nL = 0 - M - 1\nH = 9223372036854775808\n\
-    N = 0 - 18446744073709551616\nR = 13043817825332782212\nprint(L)\nprint(M)\nprint(H * N)\nprint(R * R)\n\
-    print(L + M)\nprint(L * 1 - L)";
-
-#[test]
-fn edges(rt: HostRuntime) -> Result<(), Fail> {
-    let alloc = rt.alloc();
-    let mut state = PlainState::new(alloc);
-    let want = "-170141183460469231731687303715884105728\n170141183460469231731687303715884105727\n\
-        -170141183460469231731687303715884105728\n170141183460469231722567801800623612944\n-1\n0\n";
-    assert_eq!(rt; shown(alloc, &mut state, EDGES)?.as_str(), want);
-    for sum in [
-        "M + 1",
-        "L - 1",
-        "0 - L",
-        "L * 2",
-        "H * H * 2",
-        "R * R + R + R + 1",
-        "M * M",
-        "L * L",
-        "M + 1 + w",
-        "0 * z - 1 + M * 2",
-    ] {
-        let mut text = String::from_str(alloc, "z = 0\nprint(")?;
-        text.push_str(sum)?;
-        text.push_str(")\nprint(1)")?;
-        assert_eq!(rt;
-            shown(alloc, &mut state, text.as_str())?.as_str(),
-            "OverflowError: whole number too large",
-            "at {sum}"
-        );
-    }
-    Ok(())
-}
+// One after another on one state.
+const SESSION: [(&str, &str); 11] = [
+    (
+        "n = 1; m = 1 // 0; n = 2",
+        "raised ZeroDivisionError: division by zero",
+    ),
+    ("n", "done 1"),
+    ("m", "raised NameError: name 'm' is not defined"),
+    (
+        "n = 5\nn = n n",
+        "raised SyntaxError: invalid syntax, line 2",
+    ),
+    ("n; s = 'a' * 2000; p = 'a' * 1999; n", "done 1"),
+    // The search takes 3,998,000 steps, and eight are taken besides it and the repetition.
+    ("r = p in s and 'b' * 1992", "done"),
+    (
+        "t = p in s and 'b' * 1993",
+        "stopped Stopped: step budget spent",
+    ),
+    ("t", "raised NameError: name 't' is not defined"),
+    ("n = 0; t = 'a' * 100", "done"),
+    // One step, and then 10,010 a turn, of which six lead to the new n.
+    (
+        "while True: n += 1; t in t",
+        "stopped Stopped: step budget spent",
+    ),
+    ("n", "done 400"),
+];
 
 #[test]
 fn names_stay(rt: HostRuntime) -> Result<(), Fail> {
     let alloc = rt.alloc();
     let mut state = PlainState::new(alloc);
-    let table = [
-        ("b = 1\nc = 2\na = 3", ""),
-        ("print(a * 100 + b * 10 + c)", "312\n"),
-        (
-            "b = 7\nc = 170141183460469231731687303715884105727 + b\na = 0",
-            "OverflowError: whole number too large",
-        ),
-        ("print(a * 100 + b * 10 + c)", "372\n"),
-        (
-            "a = a * a\nb = d\nc = 0",
-            "NameError: name 'd' is not defined",
-        ),
-        ("print(a * 100 + b * 10 + c)", "972\n"),
-    ];
-    for (text, want) in table {
-        assert_eq!(rt; shown(alloc, &mut state, text)?.as_str(), want, "at {text}");
+    for (text, want) in SESSION {
+        assert_eq!(rt; run(alloc, text, &mut state)?.as_str(), want, "at {text}");
     }
     Ok(())
 }
 
 #[test]
-fn a_long_sum(rt: HostRuntime) -> Result<(), Fail> {
+fn trees_and_faults(rt: HostRuntime) -> Result<(), Fail> {
     let alloc = rt.alloc();
     let mut state = PlainState::new(alloc);
-    let mut text = repeated(alloc, "print(1", "+1", 30_000)?;
-    text.push_str(")")?;
+    let statements = Vec::new(alloc);
+    let ran = run_program(alloc, &Program { statements }, &mut state)?;
+    assert_eq!(rt; told(alloc, &ran)?.as_str(), "done");
+    let ran = syntax_fault(alloc, 12)?;
     assert_eq!(rt;
-        shown(alloc, &mut state, text.as_str())?.as_str(),
-        "30001\n"
+        told(alloc, &ran)?.as_str(),
+        "raised SyntaxError: invalid syntax, line 12"
     );
-    let mut text = repeated(alloc, "print(1", "*1", 30_000)?;
-    text.push_str(")")?;
-    assert_eq!(rt; shown(alloc, &mut state, text.as_str())?.as_str(), "1\n");
     Ok(())
 }

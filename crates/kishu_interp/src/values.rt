@@ -1,74 +1,61 @@
-// What sums are worth.
-ghost use Rattle.std.specs.Prelude.{◌≡◌, ◌+ℤ◌, ◌-ℤ◌, ◌*ℤ◌};
-ghost use Rattle.kishu_model.specs.Meaning.{item_value, times_all, product_value, applied, add_all, sum_value, whole};
-ghost use Rattle.kishu_interp.specs.Tree.{tree_item, tree_sign, tree_product, tree_sum};
-ghost use Rattle.kishu_interp.specs.Raised.{raised};
+// Values.
+ghost use Rattle.std.specs.Prelude.{◌≡◌, IfOk};
+ghost use Rattle.kishu_model.specs.Values.{value_of};
+ghost use Rattle.kishu_model.specs.Moment.{Moment, fine};
+ghost use Rattle.kishu_model.specs.Operators.{truth, kind_name, number_in};
 
-use crate::state::PlainState;
-use crate::tree::{Item, Product, Sign, Sum};
+use kishu_model::Value;
+use std::alloc::AllocError;
 
-/// What ends a cell before its end.
-#[derive(Clone, Copy)]
-pub(crate) enum Exception<'a> {
-    /// A name that isn't bound.
-    Unbound(&'a str),
-    /// A whole number outside -2^127 to 2^127-1.
-    TooLarge,
-}
-
-fn item_value<'a>(state: &PlainState, item: &Item<'a>) -> Result<i128, Exception<'a>>
-    ensures { raised result ≡ item_value state.now.names (tree_item item.now) }
+/// The same value once more.
+pub(crate) fn copied(value: &Value) -> Result<Value, AllocError>
+    ensures { IfOk result (λ v. value_of v ≡ value_of value.now) }
 {
-    match item {
-        Item::Number(number) => Ok(number.value()),
-        Item::Name(name) => match state.find(name) {
-            Some(value) => Ok(value),
-            None => Err(Exception::Unbound(name)),
-        },
-    }
-}
-
-fn times<'a>(left: i128, right: i128) -> Result<i128, Exception<'a>>
-    ensures { raised result ≡ whole (left *ℤ right) }
-{
-    match left.checked_mul(right) {
-        Some(value) => Ok(value),
-        None => Err(Exception::TooLarge),
-    }
-}
-
-fn applied<'a>(sign: Sign, left: i128, right: i128) -> Result<i128, Exception<'a>>
-    ensures { raised result ≡ whole (applied (tree_sign sign) left right) }
-{
-    let value = match sign {
-        Sign::Plus => left.checked_add(right),
-        Sign::Minus => left.checked_sub(right),
-    };
     match value {
-        Some(value) => Ok(value),
-        None => Err(Exception::TooLarge),
+        Value::None => Ok(Value::None),
+        Value::Bool(holds) => Ok(Value::Bool(*holds)),
+        Value::Int(number) => Ok(Value::Int(*number)),
+        Value::Text(text) => Ok(Value::Text(text.clone()?)),
+        Value::Builtin(builtin) => Ok(Value::Builtin(*builtin)),
+        Value::Class(class) => Ok(Value::Class(*class)),
     }
 }
 
-fn product_value<'a>(state: &PlainState, product: &Product<'a>) -> Result<i128, Exception<'a>>
-    ensures { raised result ≡ product_value state.now.names (tree_product product.now) }
+/// Whether a value is true (Python Language Reference 3, "Boolean operations").
+pub(crate) fn is_true(value: &Value) -> bool
+    ensures { (s : Moment) → truth (value_of value.now) s ≡ fine result s }
 {
-    let mut value = item_value(state, &product.first)?;
-    for item in &product.more {
-        let factor = item_value(state, item)?;
-        value = times(value, factor)?;
+    match value {
+        Value::None => false,
+        Value::Bool(holds) => *holds,
+        Value::Int(number) => *number != 0,
+        Value::Text(text) => !text.as_str().is_empty(),
+        Value::Builtin(_) => true,
+        Value::Class(_) => true,
     }
-    Ok(value)
 }
 
-/// What a sum is worth, or the exception that it raises.
-pub(crate) fn sum_value<'a>(state: &PlainState, sum: &Sum<'a>) -> Result<i128, Exception<'a>>
-    ensures { raised result ≡ sum_value state.now.names (tree_sum sum.now) }
+/// What messages call a value's kind.
+pub(crate) fn kind_name(value: &Value) -> &'static str
+    ensures { result.now ≡ kind_name (value_of value.now) }
 {
-    let mut value = product_value(state, &sum.first)?;
-    for term in &sum.more {
-        let product = product_value(state, &term.product)?;
-        value = applied(term.sign, value, product)?;
+    match value {
+        Value::None => "NoneType",
+        Value::Bool(_) => "bool",
+        Value::Int(_) => "int",
+        Value::Text(_) => "str",
+        Value::Builtin(_) => "builtin",
+        Value::Class(_) => "class",
     }
-    Ok(value)
+}
+
+/// The whole number that a value counts as, where it counts as one.
+pub(crate) fn number_in(value: &Value) -> Option<i128>
+    ensures { result ≡ number_in (value_of value.now) }
+{
+    match value {
+        Value::Bool(holds) => Some(i128::from(*holds)),
+        Value::Int(number) => Some(*number),
+        Value::None | Value::Text(_) | Value::Builtin(_) | Value::Class(_) => None,
+    }
 }

@@ -1,14 +1,14 @@
-use Rattle.std.proofs.Common.{◌∙◌, arith, sym}
-use Rattle.kishu_model.specs.Lines.{lines_of}
-use Rattle.kishu_interp.proofs.Later.{later_next, later_found}
+use Rattle.std.proofs.Common.{◌∙◌, sym}
+use Rattle.kishu_interp.proofs.Known.{block_known}
+use Rattle.kishu_interp.proofs.LaterForms.{first_here}
 use Rattle.kishu_interp.proofs.form.first_later.Goals as goal
 
-pub returns-then-not-branch : goal.returns-then-not-branch
-returns-then-not-branch c =
-    sym (c.loop-rest.invariant.later ∙ later_found c.loop-rest.number (lines_of c.loop-rest.rest.now) (lines_of c.cut_line.result.1.now) c.cut_line.result.0.now c.cut_line.ensures.lines (sym c.in_ok-has_form.ensures ∙ c.if-not-branch.true))
+pub returns-then-not-are_known_statements : goal.returns-then-not-are_known_statements
+returns-then-not-are_known_statements c =
+    let p = c.loop-piece.invariant ∙ first_here c.args.pieces.now c.loop-piece.piece-index c.piece-item.result c.loop-piece-test.true c.piece-item.is in
+    sym (rw (block_known c.deref.ensures.value ∙ sym c.are_known_statements.ensures ∙ c.if-not-are_known_statements.true) at p)
 
-pub loop-rest-preserved : goal.loop-rest-preserved
-loop-rest-preserved c = record {
-  later = c.loop-rest.invariant.later ∙ later_next c.loop-rest.number (lines_of c.loop-rest.rest.now) (lines_of c.cut_line.result.1.now) c.cut_line.result.0.now c.cut_line.ensures.lines (sym c.in_ok-has_form.ensures ∙ c.if-not-branch.false);
-  counted = omega (arith, c.cut_line.ensures.shorter);
-}
+pub loop-piece-preserved : goal.loop-piece-preserved
+loop-piece-preserved c =
+    let p = c.loop-piece.invariant ∙ first_here c.args.pieces.now c.loop-piece.piece-index c.piece-item.result c.loop-piece-test.true c.piece-item.is in
+    rw (block_known c.deref.ensures.value ∙ sym c.are_known_statements.ensures ∙ c.if-not-are_known_statements.false) at p

@@ -1,13 +1,7 @@
-use Rattle.std.proofs.Common.{◌≡◌, ◌+◌, ◌≤◌, length}
-use Rattle.kishu_model.specs.Lines.{lines_of}
-use Rattle.kishu_model.specs.Plain.{first_later}
+use Rattle.std.proofs.Common.{◌≡◌, drop, map}
+use Rattle.kishu_parser.specs.TopLevel.{piece_of}
+use Rattle.kishu_interp.specs.Form.{first_later}
 use Rattle.kishu_interp.proofs.form.first_later.Given as goal
 
-abbrev pub invariant-loop-rest : goal.invariant-loop-rest
-invariant-loop-rest l = record {
-  later : first_later 1 (lines_of l.text) ≡ first_later l.number (lines_of l.rest);
-  counted : l.number + length l.rest ≤ length l.text + 1;
-}
-
-abbrev pub decreases-loop-rest : goal.decreases-loop-rest
-decreases-loop-rest l = length l.rest
+abbrev pub invariant-loop-piece : goal.invariant-loop-piece
+invariant-loop-piece l = first_later (map piece_of l.pieces) ≡ first_later (map piece_of (drop l.piece-index l.pieces))
