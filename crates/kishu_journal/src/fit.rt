@@ -17,14 +17,14 @@ const LONGEST_CELL: usize = 1 << 20;
 const MOST_RECORDS: u64 = 1_000_000;
 
 /// Whether a text may be a cell of a commit.
-fn is_cell(alloc: Global, text: &[u8]) -> Result<bool, AllocError>
+fn is_cell(alloc: Global, text: &str) -> Result<bool, AllocError>
     ensures yes { result ≡ Ok true → IsCell text.now }
     ensures no { result ≡ Ok false → IsCell text.now → ⊥ }
 {
     if text.len() > LONGEST_CELL {
         return Ok(false);
     }
-    match later_form(alloc, text)? {
+    match later_form(alloc, text.as_bytes())? {
         Some(_) => Ok(false),
         None => Ok(true),
     }
@@ -36,7 +36,7 @@ fn are_cells(alloc: Global, cells: &[RcStr]) -> Result<bool, AllocError>
     ensures no { result ≡ Ok false → AreCells (map rc_str_bytes cells.now) → ⊥ }
 {
     for cell in cells {
-        if !is_cell(alloc, cell.as_bytes())? {
+        if !is_cell(alloc, cell.as_str())? {
             return Ok(false);
         }
     }

@@ -32,7 +32,7 @@ struct Case {
     after: &'static [u8],
 }
 
-const CASES: [Case; 10] = [
+const CASES: [Case; 12] = [
     Case {
         name: "nothing",
         file: b"",
@@ -83,9 +83,21 @@ const CASES: [Case; 10] = [
     },
     Case {
         name: "a cell of a later form",
-        file: b"KISHU-JOURNAL-1\n\xa5\0\0\0\0\0\0\0\x1b\0\0\0\x17\x01\0\0\0\0\x01\0\0\0\x01\0\0\0\x01y\0\0\0\0\0\0\0\0\0",
+        file: b"KISHU-JOURNAL-1\n\xa5\0\0\0\0\0\0\0\x1c\0\0\0\x18\x01\0\0\0\0\x01\0\0\0\x01\0\0\0\x02[]\0\0\0\0\0\0\0\0\0",
         answer: Err(JournalFault::Damaged { at: 16 }),
-        after: b"KISHU-JOURNAL-1\n\xa5\0\0\0\0\0\0\0\x1b\0\0\0\x17\x01\0\0\0\0\x01\0\0\0\x01\0\0\0\x01y\0\0\0\0\0\0\0\0\0",
+        after: b"KISHU-JOURNAL-1\n\xa5\0\0\0\0\0\0\0\x1c\0\0\0\x18\x01\0\0\0\0\x01\0\0\0\x01\0\0\0\x02[]\0\0\0\0\0\0\0\0\0",
+    },
+    Case {
+        name: "a cell without a tree",
+        file: b"KISHU-JOURNAL-1\n\xa5\0\0\0\0\0\0\0\x1b\0\0\0\x17\x01\0\0\0\0\x01\0\0\0\x01\0\0\0\x01)\0\0\0\0\0\0\0\0\0",
+        answer: Ok(1),
+        after: b"KISHU-JOURNAL-1\n\xa5\0\0\0\0\0\0\0\x1b\0\0\0\x17\x01\0\0\0\0\x01\0\0\0\x01\0\0\0\x01)\0\0\0\0\0\0\0\0\0",
+    },
+    Case {
+        name: "a cell that isn't UTF-8",
+        file: b"KISHU-JOURNAL-1\n\xa5\0\0\0\0\0\0\0\x1b\0\0\0\x17\x01\0\0\0\0\x01\0\0\0\x01\0\0\0\x01\xff\0\0\0\0\0\0\0\0\0",
+        answer: Err(JournalFault::Damaged { at: 16 }),
+        after: b"KISHU-JOURNAL-1\n\xa5\0\0\0\0\0\0\0\x1b\0\0\0\x17\x01\0\0\0\0\x01\0\0\0\x01\0\0\0\x01\xff\0\0\0\0\0\0\0\0\0",
     },
     Case {
         name: "a second record that is broken",

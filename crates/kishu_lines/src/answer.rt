@@ -7,6 +7,8 @@ use kishu_model::CellResult;
 /// Why a request is refused. A refused request changes nothing.
 #[derive(Clone, Copy, Debug, PartialEq, Eq)]
 pub enum Refusal {
+    /// The request has no reading.
+    BadRequest,
     /// The store holds as many records as it may.
     StoreFull,
 }
@@ -17,6 +19,7 @@ impl Refusal {
         ensures { result ≡ refusal_number (refusal_of self) }
     {
         match self {
+            Refusal::BadRequest => 1,
             Refusal::StoreFull => 5,
         }
     }
@@ -26,6 +29,7 @@ impl Refusal {
         ensures { result.now ≡ refusal_name (refusal_of self) }
     {
         match self {
+            Refusal::BadRequest => "BadRequest",
             Refusal::StoreFull => "StoreFull",
         }
     }

@@ -101,12 +101,21 @@ fn writes_no_outputs(rt: HostRuntime) -> Result<(), Fail> {
 }
 
 #[test]
-fn writes_a_refusal(rt: HostRuntime) -> Result<(), Fail> {
+fn writes_refusals(rt: HostRuntime) -> Result<(), Fail> {
     let alloc = rt.alloc();
-    let line = String::from_utf8(write_answer(alloc, &Answer::Refused(Refusal::StoreFull))?)?;
-    assert_eq!(rt;
-        line.as_str(),
-        "{\"answer\":\"refused\",\"number\":5,\"reason\":\"StoreFull\"}\n"
-    );
+    let rows: [(Refusal, &str); 2] = [
+        (
+            Refusal::BadRequest,
+            "{\"answer\":\"refused\",\"number\":1,\"reason\":\"BadRequest\"}\n",
+        ),
+        (
+            Refusal::StoreFull,
+            "{\"answer\":\"refused\",\"number\":5,\"reason\":\"StoreFull\"}\n",
+        ),
+    ];
+    for (refusal, want) in &rows {
+        let line = String::from_utf8(write_answer(alloc, &Answer::Refused(*refusal))?)?;
+        assert_eq!(rt; line.as_str(), *want);
+    }
     Ok(())
 }

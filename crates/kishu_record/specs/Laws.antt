@@ -1,16 +1,9 @@
 -- What follows from the bytes of a record.
-use Rattle.std.proofs.Common.{◌≡◌, Bool, true, false, ◌&&◌, if◌then◌else◌, nat_lt, nat_le, Option, Some, None, ◌≤◌, ◌<◌, ◌+◌, ◌^◌, ℕ, List, [], ◌∷◌, ◌++◌, length, refl, sym, ap, ◌∙◌, arith, length-append, append_assoc}
-use Rattle.std.proofs.lemmas.Str.{IsUtf8-from_ascii}
-use Rattle.std.proofs.lemmas.Str.Ascii.{IsAscii-from_all}
-use Rattle.std.proofs.lemmas.Bool.{false≢true}
-use Rattle.std.proofs.lemmas.Bool.Decides.{nat_tests}
-use Rattle.std.proofs.lemmas.List.Sums.{AllPass-from_list_all}
-use Rattle.std.specs.List.{list_all, All}
+use Rattle.std.proofs.Common.{◌≡◌, ◌≤◌, ◌<◌, ◌+◌, ◌^◌, ℕ, List, [], ◌∷◌, ◌++◌, length, refl, sym, ap, ◌∙◌, arith, length-append, append_assoc}
+use Rattle.std.proofs.lemmas.Str.{IsUtf8-from_is_utf8}
 use Rattle.kishu_model.specs.declared.profile.Profile.{Profile}
 use Rattle.kishu_model.specs.declared.profile.Profile.TheVariants.{One}
 use Rattle.kishu_model.specs.Record.{Entry, commit, four, texts_bytes, head_of, body_of, AreCells}
-use Rattle.kishu_model.specs.Plain.{later_line, is_plain_text, longest_plain}
-use Rattle.std.specs.Str.{IsUtf8}
 use Rattle.kishu_model.specs.Laws.{four-unique, append-unique}
 use Rattle.kishu_record.specs.Entries.{IsText, AreTexts, KeepsRules, BeginsText}
 
@@ -77,25 +70,9 @@ texts-follow (s ∷ ss) (t ∷ ts) x y l hs ht e =
 
 -- ---- cells are texts
 
-and_right : (a b : Bool) → (a && b) ≡ true → b ≡ true
-and_right true b e = e
-and_right false b e = absurd (false≢true e)
-
-plain_if_none : (b : Bool) (o : Option ℕ) → (if b then o else Some 1) ≡ None → b ≡ true
-plain_if_none true o e = refl
-plain_if_none false o e = absurd (cc e)
-
-below_128 : (text : List ℕ) → list_all (λ c. nat_lt c 128) text ≡ true → All (λ c. c < 128) text
-below_128 text h k d lt = let pass = AllPass-from_list_all (λ c. nat_lt c 128) text h k d lt in grind (arith, nat_tests, pass)
-
-pub utf8_from_plain : (text : List ℕ) → later_line text ≡ None → IsUtf8 text
-utf8_from_plain text plain =
-    let is_plain : is_plain_text text ≡ true = plain_if_none (is_plain_text text) _ plain in
-    IsUtf8-from_ascii text (IsAscii-from_all text (below_128 text (and_right (nat_le (length text) longest_plain) _ is_plain)))
-
 pub texts_from_cells : (cells : List (List ℕ)) → AreCells cells → AreTexts cells
 texts_from_cells [] h = tt
-texts_from_cells (c ∷ cs) h = (record { short = h.0.short; utf8 = utf8_from_plain c h.0.plain }, texts_from_cells cs h.1)
+texts_from_cells (c ∷ cs) h = (record { short = h.0.short; utf8 = IsUtf8-from_is_utf8 c h.0.utf8 }, texts_from_cells cs h.1)
 
 -- ---- two entries with one body are one
 

@@ -1,21 +1,20 @@
 -- One cell that is committed.
-use Rattle.std.proofs.Common.{◌≡◌, ◌<◌, ◌≤◌, ◌+◌, ℕ, suc, List, [], ◌∷◌, ◌++◌, refl, sym, ◌∙◌, ap, subst, arith}
-use Rattle.kishu_host.specs.Host.{State, Now, Only, DuringPut, Elapses}
+use Rattle.std.proofs.Common.{◌≡◌, ◌<◌, ◌≤◌, ◌+◌, ℕ, suc, List, [], ◌∷◌, length, None, refl, sym, ◌∙◌, ap, subst, arith}
+use Rattle.std.specs.Str.{IsUtf8}
+use Rattle.std.proofs.lemmas.Str.{is_utf8-from_IsUtf8}
+use Rattle.kishu_host.specs.Host.{State, Only, DuringPut, Elapses}
 use Rattle.kishu_host.specs.Going.{weaker, goes_on}
 use Rattle.kishu_model.specs.declared.profile.Profile.TheVariants.{One}
 use Rattle.kishu_model.specs.Values as values
 use Rattle.kishu_model.specs.Meaning.{run}
 use Rattle.kishu_model.specs.Graph.{Graph, newest, with_commit, count_of}
-use Rattle.kishu_model.specs.Replay.{replay}
-use Rattle.kishu_model.specs.Answers.{answer_line, ran_cell}
-use Rattle.kishu_model.specs.Step.{Stepped, cell, step, committed, most_records}
-use Rattle.kishu_model.specs.Record.{Entry, commit, changed, Fits, body_of}
-use Rattle.kishu_model.specs.Plain.{later_line}
-use Rattle.std.proofs.Common.{None}
-use Rattle.kishu_serve.proofs.Bodies.{plain-short}
-use Rattle.kishu_model.specs.Holds.{Holds, Ends, graph_of}
+use Rattle.kishu_model.specs.Answers.{Refusal, answer_line, ran_cell}
+use Rattle.kishu_model.specs.Step.{Request, Stepped, cell, step, committed, refused_with}
+use Rattle.kishu_model.specs.Record.{Entry, commit, changed, longest_cell, IsCell, Fits, body_of}
+use Rattle.kishu_model.specs.Later.{later_line}
+use Rattle.kishu_model.specs.Holds.{Holds, graph_of}
 use Rattle.kishu_model.specs.Serve.{after, answer_of}
-use Rattle.kishu_model.specs.Growth.{step-cell, step-full, replay-with_commit, count-with_commit}
+use Rattle.kishu_model.specs.Growth.{step-cell, replay-with_commit, count-with_commit}
 use Rattle.kishu_model.specs.Laws.{changed-push, ends-holds}
 use Rattle.kishu_model.specs.Graph.{new_graph}
 use Rattle.kishu_journal.specs.Stands.{JournalState, Stands, IsNext, with_entry}
@@ -24,6 +23,10 @@ use Rattle.kishu_serve.specs.declared.session.Session.{Session}
 use Rattle.kishu_serve.specs.Attached.{IsAttached}
 use Rattle.kishu_serve.specs.Headline.{IsPart}
 use Rattle.kishu_serve.proofs.Parts.{part-append, part-put}
+
+-- a text that a commit may hold
+pub cell-is : (text : List ℕ) → length text ≤ longest_cell → IsUtf8 text → later_line text ≡ None → IsCell text
+cell-is text short utf8 plain = record { short = short; utf8 = is_utf8-from_IsUtf8 text utf8; plain = plain }
 
 abbrev pub entry_for : Session → List ℕ → Entry
 entry_for session text = commit session.commits One (text ∷ [])
@@ -38,13 +41,13 @@ module _ (session : Session) (s : State) (g : Graph) (text : List ℕ) (a : IsAt
   pub moves : after g (cell text) ≡ changed (graph_of a.entries) (entry_for session text)
   moves = after-is ∙ ap (λ (x : Graph). with_commit One (text ∷ []) x) a.graph
 
-  fits : later_line text ≡ None → Fits (graph_of a.entries) (entry_for session text)
-  fits plain =
+  fits : IsCell text → Fits (graph_of a.entries) (entry_for session text)
+  fits fit =
       subst (λ (x : Graph). Fits x (entry_for session text)) a.graph
-      (omega (arith, a.records, a.commits), a.commits ∙ sym a.head, refl, omega arith, (record { short = omega (arith, plain-short text plain); plain = plain }, tt))
+      (omega (arith, a.records, a.commits), a.commits ∙ sym a.head, refl, omega arith, (fit, tt))
 
-  pub next-is : (journal : JournalState) (body : List ℕ) → later_line text ≡ None → journal ≡ session.journal → body ≡ body_of (entry_for session text) → IsNext journal s.file body a.entries (entry_for session text)
-  next-is journal body plain same is = record { stands = subst (λ (j : JournalState). Stands j s.file a.entries) (sym same) a.stands; fits = fits plain; body_is = is }
+  pub next-is : (journal : JournalState) (body : List ℕ) → IsCell text → journal ≡ session.journal → body ≡ body_of (entry_for session text) → IsNext journal s.file body a.entries (entry_for session text)
+  next-is journal body fit same is = record { stands = subst (λ (j : JournalState). Stands j s.file a.entries) (sym same) a.stands; fits = fits fit; body_is = is }
 
   pub line-is : (line : List ℕ) → line ≡ answer_line (ran_cell (session.commits + 1) (session.cells + 1) (run One text session.state).report) → line ≡ answer_of g (cell text)
   line-is line e =
@@ -84,13 +87,12 @@ module _ (session : Session) (s : State) (g : Graph) (text : List ℕ) (a : IsAt
           live = live ∙ ap (λ (t : values.State). (run One text t).state) a.live ∙ sym (replay-with_commit One (text ∷ []) g);
         })
 
-module _ (session : Session) (s : State) (g : Graph) (text : List ℕ) (a : IsAttached session s g) (full : 1000000 ≤ session.commits) where
-  pub refused-is : after g (cell text) ≡ g
-  refused-is = ap (λ (x : Stepped). x.graph) (step-full g text (omega (arith, full, a.records, a.commits)))
+module _ (session : Session) (s : State) (g : Graph) (q : Request) (refusal : Refusal) (a : IsAttached session s g) (is : step g q ≡ refused_with refusal g) where
+  pub refused-is : after g q ≡ g
+  refused-is = ap (λ (x : Stepped). x.graph) is
 
   -- nothing but the refusal goes out
-  pub refused-stop : (s1 : State) → Elapses s s1 (DuringPut s (answer_of g (cell text))) → Elapses s s1 (IsPart s g (cell text ∷ []))
+  pub refused-stop : (s1 : State) → Elapses s s1 (DuringPut s (answer_of g q)) → Elapses s s1 (IsPart s g (q ∷ []))
   refused-stop s1 time =
       let held : Holds s.file g = subst (λ (x : Graph). Holds s.file x) (sym a.graph) (ends-holds s.file a.entries a.stands.ends) in
-      weaker s s1 (IsPart s g (cell text ∷ [])) (DuringPut s (answer_of g (cell text))) time
-      (part-put s g (cell text) s (answer_of g (cell text)) refl a.durable (subst (λ (x : Graph). Holds s.file x) (sym refused-is) held) refl)
+      weaker s s1 (IsPart s g (q ∷ [])) (DuringPut s (answer_of g q)) time (part-put s g q s (answer_of g q) refl a.durable (subst (λ (x : Graph). Holds s.file x) (sym refused-is) held) refl)

@@ -1,5 +1,6 @@
 mod Items
 mod Bodies
+mod Readings
 mod Parts
 mod Commits
 mod Runs

@@ -1,15 +1,14 @@
 -- One request, as part of a run.
-use Rattle.std.proofs.Common.{◌≡◌, ◌⊎◌, inl, inr, ⊎_elim, ℕ, List, [], ◌∷◌, ◌++◌, refl, sym, ◌∙◌, ap, subst}
+use Rattle.std.proofs.Common.{◌≡◌, inl, inr, ⊎_elim, ℕ, List, [], ◌∷◌, ◌++◌, refl, sym, ◌∙◌, ap, subst}
 use Rattle.std.proofs.lemmas.List.{append-nil}
-use Rattle.kishu_host.specs.Host.{State, Now, Only, DuringPut, Elapses}
-use Rattle.kishu_host.specs.Going.{weaker, goes_on}
+use Rattle.kishu_host.specs.Host.{State, Now, Only, DuringPut}
 use Rattle.kishu_model.specs.Graph.{Graph}
 use Rattle.kishu_model.specs.Step.{Request}
 use Rattle.kishu_model.specs.Record.{Entry, changed}
-use Rattle.kishu_model.specs.Holds.{Holds, Ends, graph_of}
-use Rattle.kishu_model.specs.Serve.{after, answer_of, Reached, IsPrefix}
+use Rattle.kishu_model.specs.Holds.{Holds, graph_of}
+use Rattle.kishu_model.specs.Serve.{after, answer_of, IsPrefix}
 use Rattle.kishu_journal.specs.Going.{WithOrWithout}
-use Rattle.kishu_serve.specs.Headline.{IsPart, IsWhole}
+use Rattle.kishu_serve.specs.Headline.{IsPart}
 
 module _ (s : State) (g : Graph) (q : Request) where
   -- nothing is done yet

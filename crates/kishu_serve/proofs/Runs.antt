@@ -1,14 +1,14 @@
 -- A run: the opening, and then one request.
-use Rattle.std.proofs.Common.{◌≡◌, ◌⊎◌, ◌≤◌, ◌<◌, inl, inr, ⊎_elim, ℕ, List, [], ◌∷◌, ◌++◌, length, refl, sym, ◌∙◌, ap, subst, arith, Result, Ok, Err, IsOk, OnOk, Option, Some, None, is_some, true}
+use Rattle.std.proofs.Common.{◌≡◌, ◌⊎◌, ◌≤◌, ◌<◌, inl, inr, ⊎_elim, ℕ, List, [], ◌∷◌, ◌++◌, length, refl, sym, ◌∙◌, ap, subst, Result, Ok, Err, IsOk, OnOk, Option, Some, None, is_some, true}
 use Rattle.std.proofs.lemmas.Bool.{cases_lt}
 use Rattle.std.proofs.lemmas.List.{append-nil}
-use Rattle.kishu_host.specs.Host.{State, Now, Only, Elapses}
+use Rattle.kishu_host.specs.Host.{State, Now, Elapses}
 use Rattle.kishu_host.specs.Going.{weaker, goes_on}
 use Rattle.kishu_model.specs.Graph.{Graph, new_graph}
-use Rattle.kishu_model.specs.Step.{Request, cell}
-use Rattle.kishu_model.specs.Task.{Form, one_cell, task}
-use Rattle.kishu_model.specs.Holds.{Holds, graph_of}
-use Rattle.kishu_model.specs.Serve.{after, answer_of, Reached}
+use Rattle.kishu_model.specs.Step.{Request}
+use Rattle.kishu_model.specs.Task.{Form, one_cell, cell_request, task}
+use Rattle.kishu_model.specs.Holds.{Holds}
+use Rattle.kishu_model.specs.Serve.{after, answer_of}
 use Rattle.kishu_model.specs.Laws.{ends-holds}
 use Rattle.kishu_serve.specs.declared.session.Session.{Session}
 use Rattle.kishu_serve.specs.Attached.{IsAttached}
@@ -54,6 +54,6 @@ succeeded (Ok x) ok p = p
 succeeded (Err e) ok p = absurd (cc ok)
 
 -- what words of a form ask for
-pub asked : (form : Option Form) (text left : List ℕ) → is_some form ≡ true → text ≡ left → cell text ∷ [] ≡ task form left
-asked (Some one_cell) text left some same = ap (λ (t : List ℕ). cell t ∷ []) same
-asked None text left some same = absurd (cc some)
+pub asked : (form : Option Form) (q : Request) (input left : List ℕ) → is_some form ≡ true → q ≡ cell_request input → input ≡ left → q ∷ [] ≡ task form left
+asked (Some one_cell) q input left some is same = ap (λ (r : Request). r ∷ []) (is ∙ ap cell_request same)
+asked None q input left some is same = absurd (cc some)

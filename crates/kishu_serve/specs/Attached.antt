@@ -1,5 +1,5 @@
 -- A session that stands for the graph of the host's file.
-use Rattle.std.specs.Prelude.{◌≡◌, ℕ, List, length}
+use Rattle.std.specs.Prelude.{◌≡◌, List}
 use Rattle.kishu_host.specs.Host as host
 use Rattle.kishu_model.specs.Graph.{Graph, count_of, newest}
 use Rattle.kishu_model.specs.Replay.{replay}

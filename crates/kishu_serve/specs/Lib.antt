@@ -1,5 +1,6 @@
 pub mod Statuses
 pub mod Words
+pub mod Requests
 pub mod Headline
 pub mod Attached
 pub mod Midway

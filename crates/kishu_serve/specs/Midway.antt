@@ -1,13 +1,12 @@
 -- A replay of stored records that has come to some of them.
-use Rattle.std.specs.Prelude.{◌≡◌, ◌≤◌, ◌<◌, ℕ, suc, ◌+◌, ◌*◌, ◌^◌, List, [], ◌∷◌, ◌++◌, length, refl}
-use Rattle.std.proofs.Common.{sym, ◌∙◌, ap, subst, arith, length-append, mul_comm}
-use Rattle.std.specs.Int.{w32, to_be_bytes}
+use Rattle.std.specs.Prelude.{◌≡◌, ◌≤◌, ℕ, suc, ◌+◌, ◌*◌, ◌^◌, List, [], ◌∷◌, ◌++◌, length, refl}
+use Rattle.std.proofs.Common.{sym, ◌∙◌, ap, subst, arith, length-append}
 use Rattle.kishu_model.specs.declared.profile.Profile.{Profile}
 use Rattle.kishu_model.specs.declared.profile.Profile.TheVariants.{One}
 use Rattle.kishu_model.specs.Values.{State, empty}
-use Rattle.kishu_model.specs.Graph.{Graph, new_graph, newest, count_of, with_commit}
+use Rattle.kishu_model.specs.Graph.{Graph, new_graph, newest, count_of}
 use Rattle.kishu_model.specs.Replay.{replay, after_cells}
-use Rattle.kishu_model.specs.Record.{Entry, commit, cells_of, profile_of, changed, changed_by, AreRecords, AreCells, head_of, body_of, texts_bytes, four, profile_number, longest_body}
+use Rattle.kishu_model.specs.Record.{Entry, commit, cells_of, profile_of, changed, changed_by, AreRecords, AreCells, head_of, body_of, texts_bytes, four, profile_number}
 use Rattle.kishu_model.specs.Holds.{graph_of}
 use Rattle.kishu_model.specs.Laws.{graph-linear}
 use Rattle.kishu_model.specs.Growth.{replay-with_commit, count-with_commit}

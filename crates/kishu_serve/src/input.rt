@@ -13,14 +13,15 @@ pub(crate) enum InputStop {
     NoMemory,
 }
 
-/// The longest input, in bytes.
-pub(crate) const LONGEST: usize = 65536;
+/// The longest input that is one cell, in bytes.
+pub(crate) const LONGEST: usize = 1_048_576;
 
 /// All that a source has left. Reading stops once more than the longest input was taken.
 pub(crate) fn read_input<S: Source>(alloc: Global, source: &mut S) -> Result<Vec<u8>, InputStop>
     ensures whole { IfOk result (λ v. (S.source source.old).tells ≡ true → (v.items ≡ (S.source source.old).left) × ((S.source source.new).left ≡ [])) }
     ensures short { IfOk result (λ v. length v.items ≤ LONGEST) }
-    ensures too_long { IsErrOf result TooLong → (S.source source.old).tells ≡ true → LONGEST < length (S.source source.old).left }
+    ensures too_long { IsErrOf result TooLong → (S.source source.old).tells ≡ true → LONGEST + length (S.source source.new).left < length (S.source source.old).left }
+    ensures taken { (S.source source.old).tells ≡ true → length (S.source source.old).left ≤ LONGEST + 4096 + length (S.source source.new).left }
     ensures fault { IsErrOf result Fault → Rises (S.source source.old).in_faults (S.source source.new).in_faults }
     ensures faults { (S.source source.old).in_faults ≤ (S.source source.new).in_faults }
 {

@@ -1,16 +1,21 @@
 ghost use Rattle.std.specs.Prelude.{◌≡◌, ◌≤◌, ◌<◌, ◌⊎◌, ◌+◌, ◌^◌, ◌++◌, ◌∷◌, [], ℕ, List, length, false, None, IfOk, OnOk, IsErrOf};
 ghost use Rattle.kishu_host.specs.Host.{State, Told, Now, Only, Elapses, Rises, DuringPut};
-ghost use Rattle.kishu_model.specs.Plain.{later_line};
+ghost use Rattle.kishu_model.specs.Later.{later_line};
 ghost use Rattle.kishu_model.specs.Graph.{Graph};
-ghost use Rattle.kishu_model.specs.Step.{Request, cell};
+ghost use Rattle.kishu_model.specs.Record.{longest_cell};
+ghost use Rattle.kishu_model.specs.Step as spec;
+ghost use Rattle.kishu_model.specs.Step.{cell, step, refused_with};
 ghost use Rattle.kishu_model.specs.Holds.{Holds, IsForeign, IsBroken};
 ghost use Rattle.kishu_model.specs.Serve.{after, answer_of};
+ghost use Rattle.kishu_lines.specs.Lines.{refusal_of};
 ghost use Rattle.kishu_serve.specs.Headline.{IsPart};
+ghost use Rattle.kishu_serve.specs.Requests.{request_of, IsBuilt};
 ghost use Rattle.kishu_serve.specs.Attached.{IsAttached};
 ghost use Rattle.kishu_journal.specs.declared.journal.JournalFault.TheVariants.{NotAJournal, Damaged};
 ghost use Rattle.kishu_journal.specs.declared.journal.JournalFault.TheVariants.{DiskFault as NoDisk};
 ghost use Rattle.kishu_serve.specs.declared.session.Halt.TheVariants.{DiskFault, OutputFault};
 
+use crate::request::Request;
 use crate::session::{Halt, Session, replay_stored};
 use kishu_host::Host;
 use kishu_journal::{Journal, JournalFault};
@@ -57,19 +62,19 @@ impl Session {
     }
 }
 
-/// Answers that the store is full.
-fn refuse<H: Host>(alloc: Global, host: &mut H) -> Result<(), Halt>
-    ensures answered { (g : Graph) (text : List ℕ) → 1000000 ≤ g.records → OnOk result (Told (H.state host.old) ((H.state host.new).out ≡ (H.state host.old).out ++ answer_of g (cell text))) }
+/// Answers that a request is refused.
+fn refuse<H: Host>(alloc: Global, host: &mut H, refusal: Refusal) -> Result<(), Halt>
+    ensures answered { (g : Graph) (q : spec.Request) → step g q ≡ refused_with (refusal_of refusal) g → OnOk result (Told (H.state host.old) ((H.state host.new).out ≡ (H.state host.old).out ++ answer_of g q)) }
     ensures file { (H.state host.new).file ≡ (H.state host.old).file }
     ensures crash { (c : List ℕ) → (H.state host.new).may_leave c → (H.state host.old).may_leave c }
-    ensures stop { (g : Graph) (text : List ℕ) → 1000000 ≤ g.records → Elapses (H.state host.old) (H.state host.new) (DuringPut (H.state host.old) (answer_of g (cell text))) }
+    ensures stop { (g : Graph) (q : spec.Request) → step g q ≡ refused_with (refusal_of refusal) g → Elapses (H.state host.old) (H.state host.new) (DuringPut (H.state host.old) (answer_of g q)) }
     ensures tells { (H.state host.new).tells ≡ (H.state host.old).tells }
     ensures no_disk { IsErrOf result DiskFault → ⊥ }
     ensures output_fault { IsErrOf result OutputFault → Rises (H.state host.old).out_faults (H.state host.new).out_faults }
     ensures disk { (H.state host.old).disk_faults ≤ (H.state host.new).disk_faults }
     ensures outs { (H.state host.old).out_faults ≤ (H.state host.new).out_faults }
 {
-    let Ok(line) = write_answer(alloc, &Answer::Refused(Refusal::StoreFull)) else {
+    let Ok(line) = write_answer(alloc, &Answer::Refused(refusal)) else {
         return Err(Halt::NoMemory);
     };
     let Ok(()) = host.put(&line) else {
@@ -83,6 +88,7 @@ impl Session {
     fn commit_cell<H: Host>(&mut self, alloc: Global, host: &mut H, text: &str) -> Result<(), Halt>
         requires opened { self.old.journal.closed ≡ false }
         requires room { self.old.commits < 1000000 }
+        requires short { length text.now ≤ longest_cell }
         requires plain { later_line text.now ≡ None }
         requires stands { Told (H.state host.old) ((g : Graph) × IsAttached self.old (H.state host.old) g) }
 
@@ -116,30 +122,33 @@ impl Session {
 }
 
 impl Session {
-    /// Answers the request to run a cell: it is committed, or the store is full.
+    /// Answers a request: a cell is committed, or the request is refused.
     pub(crate) fn serve<H: Host>(
         &mut self,
         alloc: Global,
         host: &mut H,
-        text: &str,
+        request: Request,
     ) -> Result<(), Halt>
         requires opened { self.old.journal.closed ≡ false }
-        requires plain { later_line text.now ≡ None }
+        requires built { IsBuilt (request_of request) }
         requires stands { Told (H.state host.old) ((g : Graph) × IsAttached self.old (H.state host.old) g) }
 
-        ensures attached { OnOk result (Told (H.state host.old) ((g : Graph) → IsAttached self.old (H.state host.old) g → IsAttached self.new (H.state host.new) (after g (cell text.now)))) }
+        ensures attached { OnOk result (Told (H.state host.old) ((g : Graph) → IsAttached self.old (H.state host.old) g → IsAttached self.new (H.state host.new) (after g (request_of request.entry)))) }
         ensures answered { OnOk result (Told (H.state host.old) ((g : Graph) → IsAttached self.old (H.state host.old) g
-            → (H.state host.new).out ≡ (H.state host.old).out ++ answer_of g (cell text.now))) }
+            → (H.state host.new).out ≡ (H.state host.old).out ++ answer_of g (request_of request.entry))) }
         ensures stop { Told (H.state host.old) ((g : Graph) → IsAttached self.old (H.state host.old) g
-            → Elapses (H.state host.old) (H.state host.new) (IsPart (H.state host.old) g (cell text.now ∷ []))) }
+            → Elapses (H.state host.old) (H.state host.new) (IsPart (H.state host.old) g (request_of request.entry ∷ []))) }
         ensures tells { (H.state host.new).tells ≡ (H.state host.old).tells }
         ensures disk_fault { IsErrOf result DiskFault → Rises (H.state host.old).disk_faults (H.state host.new).disk_faults }
         ensures output_fault { IsErrOf result OutputFault → Rises (H.state host.old).out_faults (H.state host.new).out_faults }
         ensures disk { (H.state host.old).disk_faults ≤ (H.state host.new).disk_faults }
         ensures outs { (H.state host.old).out_faults ≤ (H.state host.new).out_faults }
     {
+        let Request::Cell(text) = request else {
+            return refuse(alloc, host, Refusal::BadRequest);
+        };
         if self.commits >= MOST_RECORDS {
-            return refuse(alloc, host);
+            return refuse(alloc, host, Refusal::StoreFull);
         }
         self.commit_cell(alloc, host, text)
     }

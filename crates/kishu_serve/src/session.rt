@@ -1,11 +1,11 @@
 ghost use Rattle.std.specs.Prelude.{◌≡◌, ◌≤◌, ◌<◌, ◌⊎◌, ◌+◌, ◌*◌, ◌^◌, ◌++◌, ◌∷◌, [], ℕ, List, length, false, None, IfOk, OnOk, IfErr, IsErr, IsErrOf};
 ghost use Rattle.kishu_model.specs.declared.profile.Profile.TheVariants.{One};
-ghost use Rattle.kishu_model.specs.Plain.{later_line};
+ghost use Rattle.kishu_model.specs.Later.{later_line};
 ghost use Rattle.kishu_model.specs.Meaning.{run};
 ghost use Rattle.kishu_model.specs.Graph.{new_graph, count_of};
 ghost use Rattle.kishu_model.specs.Replay.{replay, after_cells};
 ghost use Rattle.kishu_model.specs.Answers.{answer_line, ran_cell};
-ghost use Rattle.kishu_model.specs.Record.{commit, body_of, cells_of, AreCells, AreRecords};
+ghost use Rattle.kishu_model.specs.Record.{commit, body_of, cells_of, longest_cell, AreCells, AreRecords};
 ghost use Rattle.kishu_model.specs.Holds.{graph_of};
 ghost use Rattle.kishu_record.specs.Entries.{entry_of};
 ghost use Rattle.kishu_journal.specs.Found.{entries_of};
@@ -96,6 +96,7 @@ fn one_cell(alloc: Global, parent: u32, text: &str) -> Result<Entry, AllocError>
 impl Session {
     /// Runs a cell on the live state, and answers what its commit writes.
     pub(crate) fn prepared(&mut self, alloc: Global, text: &str) -> Result<Prepared, AllocError>
+        requires short { length text.now ≤ longest_cell }
         requires plain { later_line text.now ≡ None }
         requires room { self.old.commits < 1000000 }
         ensures body { IfOk result (λ p. p.body.items ≡ body_of (commit self.old.commits One (text.now ∷ []))) }

@@ -22,6 +22,8 @@ pub enum Status {
     OutputFault,
     /// Memory ran out.
     NoMemory,
+    /// The input has more bytes than a cell may have.
+    InputTooLong,
     /// The cell has a form that isn't built yet; this is the first line, counted from 1, that has it.
     NotYet { line: u32 },
 }
@@ -39,6 +41,7 @@ impl Status {
             Status::InputFault => 6,
             Status::OutputFault => 7,
             Status::NoMemory => 8,
+            Status::InputTooLong => 9,
             Status::NotYet { .. } => 10,
         }
     }
@@ -56,6 +59,7 @@ impl Status {
             Status::InputFault => String::from_str(alloc, "input fault"),
             Status::OutputFault => String::from_str(alloc, "output fault"),
             Status::NoMemory => String::from_str(alloc, "no memory"),
+            Status::InputTooLong => String::from_str(alloc, "input too long"),
             Status::NotYet { line } => format!(in alloc; "not yet: line {line}"),
         }
     }

@@ -1,5 +1,7 @@
 ghost use Rattle.std.specs.Prelude.{◌≡◌, ◌<◌};
 
+mod cells;
+
 use super::*;
 use kishu_host::{Host, MemHost, MemSource, Source};
 use kishu_model::Steps;
@@ -158,39 +160,118 @@ fn stores_of_all_kinds(rt: HostRuntime) -> Result<(), Fail> {
     Ok(())
 }
 
-#[test]
-fn cells_in_turn(rt: HostRuntime) -> Result<(), Fail> {
-    let alloc = rt.alloc();
+/// Runs cells in turn on a store that is empty at first, each with its status and its answer.
+fn run_in_turn(rt: &impl Abort, alloc: Global, rows: &[(&str, Status, &str)]) -> Result<(), Fail> {
     let mut host = host_over(alloc, &[], Vec::new(alloc), None)?.ok_or("room")?;
-    let rows: [(&str, Status, &str); 5] = [
-        (
-            "x = 2\nprint(x * x + 1)",
-            Status::Done,
-            "{\"answer\":\"cell\",\"commit\":1,\"count\":1,\"outcome\":\"ok\",\"outputs\":[{\"name\":\"stdout\",\"output_type\":\"stream\",\"text\":\"5\\n\"}]}\n",
-        ),
-        ("y", Status::NotYet { line: 1 }, ""),
-        (
-            "print(z)",
-            Status::Done,
-            "{\"answer\":\"cell\",\"commit\":2,\"count\":2,\"outcome\":\"error\",\"outputs\":[{\"ename\":\"NameError\",\"evalue\":\"name 'z' is not defined\",\"output_type\":\"error\",\"traceback\":[\"NameError: name 'z' is not defined\"]}]}\n",
-        ),
-        ("a = 1\n\nb = a +", Status::NotYet { line: 3 }, ""),
-        (
-            "",
-            Status::Done,
-            "{\"answer\":\"cell\",\"commit\":3,\"count\":3,\"outcome\":\"ok\",\"outputs\":[]}\n",
-        ),
-    ];
-    let status = run_cell_of(alloc, &mut host, b"y".as_slice())?;
-    assert_eq!(rt; (status, status.code()), (Status::NotYet { line: 1 }, 10));
-    assert_eq!(rt; host.file(), b"".as_slice());
     let mut told = Vec::new(alloc);
-    for (input, want, line) in &rows {
+    for (input, want, line) in rows {
         let status = run_cell_of(alloc, &mut host, input.as_bytes())?;
         assert_eq!(rt; status, *want, "{input}");
         told.extend_from_slice(line.as_bytes())?;
         assert_eq!(rt; host.out(), told.as_slice(), "{input}");
     }
+    Ok(())
+}
+
+#[test]
+fn cells_in_turn(rt: HostRuntime) -> Result<(), Fail> {
+    let rows: [(&str, Status, &str); 6] = [
+        (
+            "x = 2\nprint(x * x + 1)",
+            Status::Done,
+            "{\"answer\":\"cell\",\"commit\":1,\"count\":1,\"outcome\":\"ok\",\"outputs\":[{\"name\":\"stdout\",\"output_type\":\"stream\",\"text\":\"5\\n\"}]}\n",
+        ),
+        ("[x]", Status::NotYet { line: 1 }, ""),
+        (
+            "print(z)",
+            Status::Done,
+            "{\"answer\":\"cell\",\"commit\":2,\"count\":2,\"outcome\":\"error\",\"outputs\":[{\"ename\":\"NameError\",\"evalue\":\"name 'z' is not defined\",\"output_type\":\"error\",\"traceback\":[\"NameError: name 'z' is not defined\"]}]}\n",
+        ),
+        (
+            "a = 1\n\nif a:\n    b = len(x)",
+            Status::NotYet { line: 3 },
+            "",
+        ),
+        (
+            "a = 1\n\nb = a +",
+            Status::Done,
+            "{\"answer\":\"cell\",\"commit\":3,\"count\":3,\"outcome\":\"error\",\"outputs\":[{\"ename\":\"SyntaxError\",\"evalue\":\"invalid syntax, line 3\",\"output_type\":\"error\",\"traceback\":[\"SyntaxError: invalid syntax, line 3\"]}]}\n",
+        ),
+        (
+            "",
+            Status::Done,
+            "{\"answer\":\"cell\",\"commit\":4,\"count\":4,\"outcome\":\"ok\",\"outputs\":[]}\n",
+        ),
+    ];
+    run_in_turn(&rt, rt.alloc(), &rows)
+}
+
+#[test]
+fn later_forms_leave_the_store(rt: HostRuntime) -> Result<(), Fail> {
+    let alloc = rt.alloc();
+    let mut host = host_over(alloc, &[], Vec::new(alloc), None)?.ok_or("room")?;
+    let status = run_cell_of(alloc, &mut host, b"x = 1\nx.y".as_slice())?;
+    assert_eq!(rt; (status, status.code()), (Status::NotYet { line: 2 }, 10));
+    assert_eq!(rt; host.file(), b"".as_slice());
+    assert_eq!(rt; host.out(), b"".as_slice());
+    Ok(())
+}
+
+// What a cell bound before it raised, or before its steps were spent, stays bound.
+#[test]
+fn names_outlive_their_cells(rt: HostRuntime) -> Result<(), Fail> {
+    let raised: [(&str, Status, &str); 2] = [
+        (
+            "n = 1; m = 1 // 0; n = 2",
+            Status::Done,
+            "{\"answer\":\"cell\",\"commit\":1,\"count\":1,\"outcome\":\"error\",\"outputs\":[{\"ename\":\"ZeroDivisionError\",\"evalue\":\"division by zero\",\"output_type\":\"error\",\"traceback\":[\"ZeroDivisionError: division by zero\"]}]}\n",
+        ),
+        (
+            "n",
+            Status::Done,
+            "{\"answer\":\"cell\",\"commit\":2,\"count\":2,\"outcome\":\"ok\",\"outputs\":[{\"data\":{\"text/plain\":\"1\"},\"execution_count\":2,\"metadata\":{},\"output_type\":\"execute_result\"}]}\n",
+        ),
+    ];
+    run_in_turn(&rt, rt.alloc(), &raised)?;
+    // Three steps come before the first turn, and each turn takes six.
+    let stopped: [(&str, Status, &str); 2] = [
+        (
+            "n = 0\nwhile True: n += 1",
+            Status::Done,
+            "{\"answer\":\"cell\",\"commit\":1,\"count\":1,\"outcome\":\"stopped\",\"outputs\":[{\"ename\":\"Stopped\",\"evalue\":\"step budget spent\",\"output_type\":\"error\",\"traceback\":[\"Stopped: step budget spent\"]}]}\n",
+        ),
+        (
+            "print(n)",
+            Status::Done,
+            "{\"answer\":\"cell\",\"commit\":2,\"count\":2,\"outcome\":\"ok\",\"outputs\":[{\"name\":\"stdout\",\"output_type\":\"stream\",\"text\":\"666666\\n\"}]}\n",
+        ),
+    ];
+    run_in_turn(&rt, rt.alloc(), &stopped)
+}
+
+/// Whether a row's cell, on an empty store, is answered as the row wants.
+fn keeps(alloc: Global, row: &str) -> Result<bool, Fail> {
+    let Some((want, text)) = row.split_once('\x1f') else {
+        return Ok(false);
+    };
+    let mut host = host_over(alloc, &[], Vec::new(alloc), None)?.ok_or("room")?;
+    let status = run_cell_of(alloc, &mut host, text.as_bytes())?;
+    let (begin, end) = (cells::BEGIN, cells::END);
+    let line = format!(in alloc; "{begin}{want}{end}")?;
+    Ok(status == Status::Done && host.out() == line.as_bytes())
+}
+
+#[test]
+fn cells_show_what_they_mean(rt: HostRuntime) -> Result<(), Fail> {
+    let alloc = rt.alloc();
+    let mut count: usize = 0;
+    for row in cells::ROWS.split('\x1e') {
+        if !row.is_empty() {
+            assert!(rt; keeps(alloc, row)?, "at {row}");
+            count = count.wrapping_add(1);
+        }
+    }
+    assert_eq!(rt; count, cells::COUNT);
     Ok(())
 }
 
@@ -213,7 +294,7 @@ fn words_and_statuses(rt: HostRuntime) -> Result<(), Fail> {
         let status = run_in_memory(alloc, &words, &mut source, &mut host);
         assert_eq!(rt; status, Status::Usage);
     }
-    let texts: [(Status, u8, &str); 9] = [
+    let texts: [(Status, u8, &str); 10] = [
         (Status::Done, 0, "done"),
         (Status::Usage, 2, "usage: kishu STORE COMMAND"),
         (Status::NotAJournal, 3, "not a journal"),
@@ -222,12 +303,48 @@ fn words_and_statuses(rt: HostRuntime) -> Result<(), Fail> {
         (Status::InputFault, 6, "input fault"),
         (Status::OutputFault, 7, "output fault"),
         (Status::NoMemory, 8, "no memory"),
+        (Status::InputTooLong, 9, "input too long"),
         (Status::NotYet { line: 12 }, 10, "not yet: line 12"),
     ];
     for (status, code, text) in &texts {
         assert_eq!(rt; status.code(), *code);
         let told = status.text(alloc)?;
         assert_eq!(rt; told.as_str(), *text);
+    }
+    Ok(())
+}
+
+/// The status of an input of so many line feeds on an empty store, and the file's length then.
+fn run_long(alloc: Global, length: usize) -> Result<(Status, usize), Fail> {
+    let mut host = MemHost::new(alloc, Vec::new(alloc), 1_100_000, Vec::new(alloc), None)?;
+    let input = vec![in alloc; b'\n'; length]?;
+    let status = run_cell_of(alloc, &mut host, &input)?;
+    Ok((status, host.file().len()))
+}
+
+#[test]
+fn inputs_past_the_limit(rt: HostRuntime) -> Result<(), Fail> {
+    let alloc = rt.alloc();
+    // The longest cell is run and stored. It has no statement.
+    assert_eq!(rt; run_long(alloc, 1_048_576)?, (Status::Done, 1_048_628));
+    assert_eq!(rt; run_long(alloc, 1_048_577)?, (Status::InputTooLong, 0));
+    Ok(())
+}
+
+#[test]
+fn refuses_what_is_no_text(rt: HostRuntime) -> Result<(), Fail> {
+    let alloc = rt.alloc();
+    let files: [(&[u8], &[u8]); 2] = [(b"", b"KISHU-JOURNAL-1\n\0"), (&FIRST, &FIRST)];
+    for (before, after) in &files {
+        for input in [b"\xff".as_slice(), b"print(1)\n\xc3".as_slice()] {
+            let mut host = host_over(alloc, before, Vec::new(alloc), None)?.ok_or("room")?;
+            assert_eq!(rt; run_cell_of(alloc, &mut host, input)?, Status::Done);
+            assert_eq!(rt;
+                host.out(),
+                b"{\"answer\":\"refused\",\"number\":1,\"reason\":\"BadRequest\"}\n".as_slice()
+            );
+            assert_eq!(rt; host.file(), *after);
+        }
     }
     Ok(())
 }

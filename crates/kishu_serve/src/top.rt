@@ -1,19 +1,21 @@
 ghost use Rattle.std.specs.Prelude.{◌≡◌, ◌≤◌, ◌<◌, ◌⊎◌, ◌↔◌, ◌+◌, ◌^◌, ◌++◌, ◌∷◌, [], ℕ, List, length, true, false, Some, None, is_some, IfOk, OnOk, IsOk, IsSome, Err};
 ghost use Rattle.kishu_host.specs.Host.{State, Told, Now, Only, Elapses, Rises};
 ghost use Rattle.kishu_host.specs.Source.{SourceState};
-ghost use Rattle.kishu_model.specs.Plain.{later_line};
+ghost use Rattle.kishu_model.specs.Later.{later_line};
 ghost use Rattle.kishu_model.specs.Graph.{Graph};
-ghost use Rattle.kishu_model.specs.Step.{cell};
+ghost use Rattle.kishu_model.specs.Record.{longest_cell};
 ghost use Rattle.kishu_model.specs.Task.{task, one_cell};
 ghost use Rattle.kishu_model.specs.Holds.{Holds, IsForeign, IsBroken};
 ghost use Rattle.kishu_serve.specs.Headline.{IsPart, IsWhole, IsGiven};
+ghost use Rattle.kishu_serve.specs.Requests.{request_of, IsBuilt};
 ghost use Rattle.kishu_serve.specs.Words.{texts, form_of};
-ghost use Rattle.kishu_serve.specs.declared.status.Status.TheVariants.{Done, Usage, NotAJournal, Damaged, DiskFault, InputFault, OutputFault, NoMemory, NotYet};
+ghost use Rattle.kishu_serve.specs.declared.status.Status.TheVariants.{Done, Usage, NotAJournal, Damaged, DiskFault, InputFault, OutputFault, NoMemory, InputTooLong, NotYet};
 ghost use Rattle.kishu_serve.specs.declared.session.Halt.TheVariants.{DiskFault as HaltDisk, OutputFault as HaltOutput};
 ghost use Rattle.kishu_journal.specs.declared.journal.JournalFault.TheVariants.{NotAJournal as Foreign, Damaged as Broken, DiskFault as NoDisk};
 
 use crate::Status;
 use crate::input::{InputStop, read_input};
+use crate::request::{Request, cell_request};
 use crate::session::{Halt, Session};
 use crate::words::is_cell;
 use kishu_host::{Host, Source};
@@ -22,17 +24,6 @@ use kishu_journal::JournalFault;
 use kishu_model::Steps;
 use std::alloc::{AllocError, Global};
 use std::sync::ledger::Ledger;
-
-/// The input as a text, where it has the form of a cell of sums.
-fn plain_text(input: &[u8]) -> &str
-    requires { later_line input.now ≡ None }
-    ensures { result.now ≡ input.now }
-{
-    match std::str::from_utf8(input) {
-        Ok(text) => text,
-        Err(_) => unreachable!(),
-    }
-}
 
 /// How a run ends whose request was served so.
 fn served(outcome: Result<(), Halt>) -> Status
@@ -66,22 +57,22 @@ fn unopened(fault: JournalFault) -> Status
     }
 }
 
-/// Opens the store, and answers the cell that this text is.
-fn run_cell<H: Host>(alloc: Global, host: &mut H, text: &str) -> Status
-    requires plain { later_line text.now ≡ None }
+/// Opens the store, and answers a request.
+fn run_request<H: Host>(alloc: Global, host: &mut H, request: Request) -> Status
+    requires built { IsBuilt (request_of request) }
 
     ensures run { Told (H.state host.old) ((g : Graph) → Holds (H.state host.old).file g
-        → IsPart (H.state host.old) g (cell text.now ∷ []) (H.state host.new).file (H.state host.new).out) }
+        → IsPart (H.state host.old) g (request_of request.entry ∷ []) (H.state host.new).file (H.state host.new).out) }
     ensures done { result ≡ Done → Told (H.state host.old) ((g : Graph) → Holds (H.state host.old).file g
-        → IsWhole (H.state host.old) (H.state host.new) g (cell text.now ∷ [])) }
+        → IsWhole (H.state host.old) (H.state host.new) g (request_of request.entry ∷ [])) }
     ensures stop { Told (H.state host.old) ((g : Graph) → Holds (H.state host.old).file g
-        → Elapses (H.state host.old) (H.state host.new) (λ c o. Now (H.state host.old) c o ⊎ IsPart (H.state host.old) g (cell text.now ∷ []) c o)) }
+        → Elapses (H.state host.old) (H.state host.new) (λ c o. Now (H.state host.old) c o ⊎ IsPart (H.state host.old) g (request_of request.entry ∷ []) c o)) }
     ensures settled { Told (H.state host.old) ((g : Graph) → Holds (H.state host.old).file g
-        → (result ≡ DiskFault) ⊎ ((c : List ℕ) → (H.state host.new).may_leave c → IsPart (H.state host.old) g (cell text.now ∷ []) c (H.state host.new).out)) }
+        → (result ≡ DiskFault) ⊎ ((c : List ℕ) → (H.state host.new).may_leave c → IsPart (H.state host.old) g (request_of request.entry ∷ []) c (H.state host.new).out)) }
     ensures good { result ≡ Done → Told (H.state host.old) ((g : Graph) × Holds (H.state host.old).file g) }
     ensures bad { Told (H.state host.old) (((g : Graph) → Holds (H.state host.old).file g → ⊥) → (H.state host.new).file ≡ (H.state host.old).file) }
 
-    ensures these { (result ≡ Usage → ⊥) × (result ≡ InputFault → ⊥) × ((line : ℕ) → result ≡ NotYet line → ⊥) }
+    ensures these { (result ≡ Usage → ⊥) × (result ≡ InputFault → ⊥) × (result ≡ InputTooLong → ⊥) × ((line : ℕ) → result ≡ NotYet line → ⊥) }
     ensures foreign { result ≡ NotAJournal → Told (H.state host.old) (IsForeign (H.state host.old).file) }
     ensures damaged { (at : ℕ) → result ≡ Damaged at → Told (H.state host.old) (IsBroken (H.state host.old).file at) }
     ensures disk_fault { result ≡ DiskFault → Rises (H.state host.old).disk_faults (H.state host.new).disk_faults }
@@ -90,7 +81,7 @@ fn run_cell<H: Host>(alloc: Global, host: &mut H, text: &str) -> Status
         → (result ≡ Done) ⊎ (result ≡ NoMemory) ⊎ (result ≡ DiskFault) ⊎ (result ≡ OutputFault)) }
 {
     match Session::open(alloc, host) {
-        Ok(mut session) => served(session.serve(alloc, host, text)),
+        Ok(mut session) => served(session.serve(alloc, host, request)),
         Err(fault) => unopened(fault),
     }
 }
@@ -99,6 +90,7 @@ fn run_cell<H: Host>(alloc: Global, host: &mut H, text: &str) -> Status
 ///
 /// The words are those of the command line without the program's name. `STORE cell` runs the whole
 /// input as one cell: it is committed to the store, and one line tells its number and its outputs.
+/// Input of more than 1,048,576 bytes isn't read to its end.
 /// At `Done` all is answered, and the store holds it whatever happens then. At any other status the
 /// store holds what it held, or the cell besides.
 pub fn kishu<H: Host, S: Source, L: Ledger>(
@@ -129,16 +121,24 @@ pub fn kishu<H: Host, S: Source, L: Ledger>(
     // Each status has its cause.
     ensures usage { result ≡ Usage ↔ (form_of (texts words.now) ≡ None) }
     ensures unread { result ≡ Usage → source.new ≡ source.old }
-    ensures untouched { (result ≡ Usage) ⊎ (result ≡ InputFault) ⊎ ((line : ℕ) × (result ≡ NotYet line)) → host.new ≡ host.old }
+    ensures untouched { (result ≡ Usage) ⊎ (result ≡ InputFault) ⊎ (result ≡ InputTooLong) ⊎ ((line : ℕ) × (result ≡ NotYet line)) → host.new ≡ host.old }
     ensures foreign { result ≡ NotAJournal → Told (H.state host.old) (IsForeign (H.state host.old).file) }
     ensures damaged { (at : ℕ) → result ≡ Damaged at → Told (H.state host.old) (IsBroken (H.state host.old).file at) }
     ensures disk_fault { result ≡ DiskFault → Rises (H.state host.old).disk_faults (H.state host.new).disk_faults }
     ensures input_fault { result ≡ InputFault → Rises (S.source source.old).in_faults (S.source source.new).in_faults }
     ensures output_fault { result ≡ OutputFault → Rises (H.state host.old).out_faults (H.state host.new).out_faults }
 
-    // A cell of a later form is told by its line, unless the input fails or memory runs out before.
-    ensures not_yet { (line : ℕ) → result ≡ NotYet line → (S.source source.old).tells ≡ true → later_line (S.source source.old).left ≡ Some line }
-    ensures later { (line : ℕ) → (S.source source.old).tells ≡ true → later_line (S.source source.old).left ≡ Some line
+    // Input past the limit is told so once more than the limit was taken, unless the input fails or memory runs out
+    // before. Then no more is taken, and before it at most 4,096 bytes at once.
+    ensures too_long { result ≡ InputTooLong → (S.source source.old).tells ≡ true → longest_cell + length (S.source source.new).left < length (S.source source.old).left }
+    ensures limit { (S.source source.old).tells ≡ true → longest_cell < length (S.source source.old).left
+        → (result ≡ InputTooLong) ⊎ (result ≡ Usage) ⊎ (result ≡ InputFault) ⊎ (result ≡ NoMemory) }
+    ensures taken { (S.source source.old).tells ≡ true → length (S.source source.old).left ≤ longest_cell + 4096 + length (S.source source.new).left }
+
+    // Within the limit, a cell of a later form is told by its line, unless the input fails or memory runs out before.
+    ensures not_yet { (line : ℕ) → result ≡ NotYet line → (S.source source.old).tells ≡ true
+        → (length (S.source source.old).left ≤ longest_cell) × (later_line (S.source source.old).left ≡ Some line) }
+    ensures later { (line : ℕ) → (S.source source.old).tells ≡ true → length (S.source source.old).left ≤ longest_cell → later_line (S.source source.old).left ≡ Some line
         → (result ≡ NotYet line) ⊎ (result ≡ Usage) ⊎ (result ≡ InputFault) ⊎ (result ≡ NoMemory) }
 
     // Where no fault came, it does its work, or memory ran out.
@@ -146,7 +146,7 @@ pub fn kishu<H: Host, S: Source, L: Ledger>(
         → (Rises (H.state host.old).disk_faults (H.state host.new).disk_faults → ⊥)
         → (Rises (H.state host.old).out_faults (H.state host.new).out_faults → ⊥)
         → (Rises (S.source source.old).in_faults (S.source source.new).in_faults → ⊥)
-        → (result ≡ Done) ⊎ (result ≡ NoMemory) ⊎ ((line : ℕ) × (result ≡ NotYet line)) }
+        → (result ≡ Done) ⊎ (result ≡ NoMemory) ⊎ (result ≡ InputTooLong) ⊎ ((line : ℕ) × (result ≡ NotYet line)) }
 
     // Over a file that holds no graph it isn't done, and the file stays.
     ensures good { result ≡ Done → Told (H.state host.old) ((g : Graph) × Holds (H.state host.old).file g) }
@@ -161,11 +161,11 @@ pub fn kishu<H: Host, S: Source, L: Ledger>(
     let input = match read_input(alloc, source) {
         Ok(input) => input,
         Err(InputStop::Fault) => return Status::InputFault,
-        Err(InputStop::TooLong) => return Status::NotYet { line: 1 },
+        Err(InputStop::TooLong) => return Status::InputTooLong,
         Err(InputStop::NoMemory) => return Status::NoMemory,
     };
     match later_form(alloc, &input) {
-        Ok(None) => run_cell(alloc, host, plain_text(&input)),
+        Ok(None) => run_request(alloc, host, cell_request(&input)),
         Ok(Some(line)) => Status::NotYet { line },
         Err(AllocError) => Status::NoMemory,
     }

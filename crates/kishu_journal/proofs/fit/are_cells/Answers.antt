@@ -9,14 +9,14 @@ loop-cell-init c all = all
 
 pub loop-cell-preserved : goal.loop-cell-preserved
 loop-cell-preserved c rest =
-    let text = c.as_bytes.ensures.value ∙ c.deref.ensures.value ∙ ap rc_str_bytes c.cell-item.is in
+    let text = c.as_str.ensures.value ∙ ap rc_str_bytes c.cell-item.is in
     let inside : c.loop-cell.cell-index < length c.args.cells.now = omega arith in
-    let good : IsCell c.as_bytes.result.now = c.in_ok-is_cell.ensures.yes (cc (c.if-not-branch.false)) in
+    let good : IsCell c.as_str.result.now = c.in_ok-is_cell.ensures.yes (cc (c.if-not-branch.false)) in
     c.loop-cell.invariant (cells-on c.args.cells.now c.loop-cell.cell-index c.cell-item.result inside (subst (λ (t : List ℕ). IsCell t) text good) rest)
 
 pub returns-then-not-branch-clause-no : goal.returns-then-not-branch-clause-no
 returns-then-not-branch-clause-no c err all =
-    let text = c.as_bytes.ensures.value ∙ c.deref.ensures.value ∙ ap rc_str_bytes c.cell-item.is in
+    let text = c.as_str.ensures.value ∙ ap rc_str_bytes c.cell-item.is in
     let inside : c.loop-cell.cell-index < length c.args.cells.now = omega arith in
     let here = cell-there c.args.cells.now c.loop-cell.cell-index c.cell-item.result inside all in
     c.in_ok-is_cell.ensures.no (cc (c.if-not-branch.true)) (subst (λ (t : List ℕ). IsCell t) (sym text) here)

@@ -1,11 +1,10 @@
-use Rattle.std.proofs.Common.{◌≡◌, ◌+◌, ◌≤◌, ◌*◌, ◌^◌, ℕ, List, ◌∷◌, drop, length, sym, ◌∙◌, ap, subst, arith, [], refl}
+use Rattle.std.proofs.Common.{◌+◌, ◌≤◌, ◌*◌, ◌^◌, ℕ, List, drop, subst, arith}
 use Rattle.std.proofs.lemmas.List.{drop_all, length-map}
-use Rattle.kishu_model.specs.Values.{State}
 use Rattle.kishu_model.specs.Record.{Entry}
 use Rattle.kishu_model.specs.Holds.{graph_of}
 use Rattle.kishu_record.specs.Entries.{entry_of}
 use Rattle.kishu_journal.specs.Found.{entries_of}
-use Rattle.kishu_serve.specs.Midway.{Midway, midway-start, midway-cells, midway-on, midway-end, midway-small}
+use Rattle.kishu_serve.specs.Midway.{Midway, midway-cells, midway-on, midway-end, midway-small}
 use Rattle.kishu_serve.proofs.Items.{drop-map}
 use Rattle.kishu_serve.proofs.session.replay_stored.Goals as goal
 

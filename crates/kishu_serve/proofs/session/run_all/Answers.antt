@@ -1,12 +1,11 @@
-use Rattle.std.proofs.Common.{◌≡◌, ◌+◌, ℕ, List, ◌∷◌, drop, sym, ◌∙◌, ap, subst}
+use Rattle.std.proofs.Common.{◌+◌, ℕ, List, length, drop, sym, ◌∙◌, ap, subst, arith}
 use Rattle.std.specs.Rc.{rc_str_bytes}
 use Rattle.kishu_model.specs.declared.profile.Profile.TheVariants.{One}
-use Rattle.kishu_model.specs.Plain.{later_line}
-use Rattle.std.proofs.Common.{None}
+use Rattle.kishu_model.specs.Later.{later_line}
 use Rattle.kishu_model.specs.Values.{State}
 use Rattle.kishu_model.specs.Meaning.{run}
 use Rattle.kishu_model.specs.Replay.{after_cells}
-use Rattle.kishu_model.specs.Record.{AreCells, IsCell}
+use Rattle.kishu_model.specs.Record.{AreCells}
 use Rattle.kishu_serve.specs.Texts.{texts_of}
 use Rattle.kishu_serve.proofs.Items.{drop-map}
 use Rattle.kishu_serve.proofs.session.run_all.Goals as goal
@@ -15,7 +14,7 @@ pub run_plain-requires : goal.run_plain-requires
 run_plain-requires c =
     let here = drop-map (λ text. rc_str_bytes text) c.args.texts.now c.loop-text.text-index c.text-item.result c.loop-text-test.true c.text-item.is in
     let cells = subst AreCells here c.loop-text.invariant.cells in
-    ap later_line c.as_str.ensures.value ∙ cells.0.plain
+    omega (arith, ap length c.as_str.ensures.value, cells.0.short)
 
 pub loop-text-preserved : goal.loop-text-preserved
 loop-text-preserved c =

@@ -1,7 +1,6 @@
-use Rattle.std.proofs.Common.{◌≡◌, ◌⊎◌, inl, inr, ⊎_elim, ℕ, List, [], ◌∷◌, is_some, true, sym, ◌∙◌, ap, subst}
-use Rattle.kishu_host.specs.Host.{State, Now, Elapses}
-use Rattle.kishu_model.specs.Step.{Request, cell}
-use Rattle.kishu_model.specs.Task.{task}
+use Rattle.std.proofs.Common.{◌⊎◌, inl, inr, ℕ, List, sym, ◌∙◌, subst}
+use Rattle.kishu_host.specs.Host.{Now, Elapses}
+use Rattle.kishu_model.specs.Step.{Request}
 use Rattle.kishu_serve.specs.Words.{texts, form_of}
 use Rattle.kishu_serve.specs.Headline.{IsPart, IsWhole}
 use Rattle.kishu_serve.proofs.Runs.{asked}
@@ -11,37 +10,37 @@ pub returns-in-Ok-None-clause-done : goal.returns-in-Ok-None-clause-done
 returns-in-Ok-None-clause-done g c done g' given =
     let st = g.H.Host.state in
     let whole = c.in-Ok.ensures.whole given.source_tells in
-    let is = asked (form_of (texts c.args.words.now)) c.plain_text.result.now _ (sym c.is_cell.ensures ∙ c.if-not-is_cell.false) (c.plain_text.ensures ∙ c.deref-in-Ok-None.ensures.value ∙ whole.0) in
-    (subst (λ (qs : List Request). IsWhole (st c.args.host.now) (st c.run_cell.new.host) g' qs) is (c.run_cell.ensures.done done given.host_tells g' given.holds), whole.1)
+    let is = asked (form_of (texts c.args.words.now)) _ _ _ (sym c.is_cell.ensures ∙ c.if-not-is_cell.false) c.cell_request.ensures (c.deref-in-Ok-None.ensures.value ∙ whole.0) in
+    (subst (λ (qs : List Request). IsWhole (st c.args.host.now) (st c.run_request.new.host) g' qs) is (c.run_request.ensures.done done given.host_tells g' given.holds), whole.1)
 
 pub returns-in-Ok-None-clause-stop : goal.returns-in-Ok-None-clause-stop
 returns-in-Ok-None-clause-stop g c g' given =
     let st = g.H.Host.state in
     let s0 = st c.args.host.now in
     let whole = c.in-Ok.ensures.whole given.source_tells in
-    let is = asked (form_of (texts c.args.words.now)) c.plain_text.result.now _ (sym c.is_cell.ensures ∙ c.if-not-is_cell.false) (c.plain_text.ensures ∙ c.deref-in-Ok-None.ensures.value ∙ whole.0) in
-    subst (λ (qs : List Request). Elapses s0 (st c.run_cell.new.host) (λ (f o : List ℕ). Now s0 f o ⊎ IsPart s0 g' qs f o)) is (c.run_cell.ensures.stop given.host_tells g' given.holds)
+    let is = asked (form_of (texts c.args.words.now)) _ _ _ (sym c.is_cell.ensures ∙ c.if-not-is_cell.false) c.cell_request.ensures (c.deref-in-Ok-None.ensures.value ∙ whole.0) in
+    subst (λ (qs : List Request). Elapses s0 (st c.run_request.new.host) (λ (f o : List ℕ). Now s0 f o ⊎ IsPart s0 g' qs f o)) is (c.run_request.ensures.stop given.host_tells g' given.holds)
 
 pub returns-in-Ok-None-clause-settled : goal.returns-in-Ok-None-clause-settled
 returns-in-Ok-None-clause-settled g c g' given =
     let st = g.H.Host.state in
     let s0 = st c.args.host.now in
     let whole = c.in-Ok.ensures.whole given.source_tells in
-    let is = asked (form_of (texts c.args.words.now)) c.plain_text.result.now _ (sym c.is_cell.ensures ∙ c.if-not-is_cell.false) (c.plain_text.ensures ∙ c.deref-in-Ok-None.ensures.value ∙ whole.0) in
-    inr (elim (c.run_cell.ensures.settled given.host_tells g' given.holds) [
+    let is = asked (form_of (texts c.args.words.now)) _ _ _ (sym c.is_cell.ensures ∙ c.if-not-is_cell.false) c.cell_request.ensures (c.deref-in-Ok-None.ensures.value ∙ whole.0) in
+    inr (elim (c.run_request.ensures.settled given.host_tells g' given.holds) [
       | inl fault ↦ inl fault
-      | inr each ↦ inr (λ f now. subst (λ (qs : List Request). IsPart s0 g' qs f (st c.run_cell.new.host).out) is (each f now))
+      | inr each ↦ inr (λ f now. subst (λ (qs : List Request). IsPart s0 g' qs f (st c.run_request.new.host).out) is (each f now))
     ])
 
 pub returns-in-Ok-None-clause-complete : goal.returns-in-Ok-None-clause-complete
 returns-in-Ok-None-clause-complete g c g' given form no_disk no_out no_in =
-    elim (c.run_cell.ensures.complete given.host_tells g' given.holds) [
+    elim (c.run_request.ensures.complete given.host_tells g' given.holds) [
       | inl done ↦ inl done
       | inr rest ↦ elim rest [
         | inl none ↦ inr (inl none)
         | inr faults ↦ elim faults [
-          | inl disk ↦ absurd (no_disk (c.run_cell.ensures.disk_fault disk))
-          | inr out ↦ absurd (no_out (c.run_cell.ensures.output_fault out))
+          | inl disk ↦ absurd (no_disk (c.run_request.ensures.disk_fault disk))
+          | inr out ↦ absurd (no_out (c.run_request.ensures.output_fault out))
         ]
       ]
     ]

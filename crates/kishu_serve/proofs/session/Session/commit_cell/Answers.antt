@@ -1,9 +1,7 @@
-use Rattle.std.proofs.Common.{◌≡◌, ◌+◌, ◌<◌, ℕ, List, length, refl, sym, ◌∙◌, ap, subst, arith}
+use Rattle.std.proofs.Common.{◌+◌, length, refl, ◌∙◌, ap, arith}
 use Rattle.kishu_model.specs.declared.profile.Profile.TheVariants.{One}
-use Rattle.kishu_model.specs.Record.{body_of}
-use Rattle.kishu_journal.specs.Stands.{JournalState, Stands}
-use Rattle.kishu_serve.proofs.Bodies.{plain-short, length-body_of}
-use Rattle.kishu_serve.proofs.Commits.{entry_for, next-is, append-stop, put-stop, line-is, attached-after}
+use Rattle.kishu_serve.proofs.Bodies.{length-body_of}
+use Rattle.kishu_serve.proofs.Commits.{entry_for, cell-is, next-is, append-stop, put-stop, line-is, attached-after}
 use Rattle.kishu_serve.proofs.session.Session.commit_cell.Goals as goal
 
 pub append-requires-clause-short : goal.append-requires-clause-short
@@ -12,7 +10,18 @@ append-requires-clause-short g c =
       arith,
       ap length (c.deref.ensures.value ∙ c.in-Ok.ensures.body),
       length-body_of c.args.self.now.commits One c.args.text.now,
-      plain-short c.args.text.now c.requires.plain,
+      c.requires.short,
+    )
+
+pub append-requires-clause-next : goal.append-requires-clause-next
+append-requires-clause-next g c told =
+    let self = c.args.self.now in
+    let text = c.args.text.now in
+    let attached = c.requires.stands told in
+    let body = c.deref.ensures.value ∙ c.in-Ok.ensures.body in (
+      attached.1.entries,
+      entry_for self text,
+      next-is self (g.H.Host.state c.args.host.now) attached.0 text attached.1 c.requires.room _ _ (cell-is text c.requires.short c.utf8.text c.requires.plain) c.prepared.ensures.rest.0 body,
     )
 
 pub returns-in-Err-DiskFault-clause-stop : goal.returns-in-Err-DiskFault-clause-stop
@@ -23,7 +32,7 @@ returns-in-Err-DiskFault-clause-stop g c told g' a =
     let s0 = st c.args.host.now in
     let room = c.requires.room in
     let body = c.deref.ensures.value ∙ c.in-Ok.ensures.body in
-    let stop = c.append.ensures.stop told a.durable a.entries (entry_for self text) (next-is self s0 g' text a room _ _ c.requires.plain c.prepared.ensures.rest.0 body) in
+    let stop = c.append.ensures.stop told a.durable a.entries (entry_for self text) (next-is self s0 g' text a room _ _ (cell-is text c.requires.short c.utf8.text c.requires.plain) c.prepared.ensures.rest.0 body) in
     append-stop self s0 g' text a room (st c.append.new.host) stop
 
 pub returns-in_default-put-clause-stop : goal.returns-in_default-put-clause-stop
@@ -34,7 +43,7 @@ returns-in_default-put-clause-stop g c told g' a =
     let s0 = st c.args.host.now in
     let room = c.requires.room in
     let body = c.deref.ensures.value ∙ c.in-Ok.ensures.body in
-    let next = next-is self s0 g' text a room _ _ c.requires.plain c.prepared.ensures.rest.0 body in
+    let next = next-is self s0 g' text a room _ _ (cell-is text c.requires.short c.utf8.text c.requires.plain) c.prepared.ensures.rest.0 body in
     let stop = c.append.ensures.stop told a.durable a.entries (entry_for self text) next in
     let stands = c.in-Ok-append.ensures.stands told a.entries (entry_for self text) next in
     let line = line-is self s0 g' text a room _ (c.deref-2.ensures.value ∙ c.in-Ok.ensures.line) in
@@ -48,7 +57,7 @@ returns-clause-stop g c told g' a =
     let s0 = st c.args.host.now in
     let room = c.requires.room in
     let body = c.deref.ensures.value ∙ c.in-Ok.ensures.body in
-    let next = next-is self s0 g' text a room _ _ c.requires.plain c.prepared.ensures.rest.0 body in
+    let next = next-is self s0 g' text a room _ _ (cell-is text c.requires.short c.utf8.text c.requires.plain) c.prepared.ensures.rest.0 body in
     let stop = c.append.ensures.stop told a.durable a.entries (entry_for self text) next in
     let stands = c.in-Ok-append.ensures.stands told a.entries (entry_for self text) next in
     let line = line-is self s0 g' text a room _ (c.deref-2.ensures.value ∙ c.in-Ok.ensures.line) in
@@ -62,7 +71,7 @@ returns-clause-attached g c told g' a =
     let s0 = st c.args.host.now in
     let room = c.requires.room in
     let body = c.deref.ensures.value ∙ c.in-Ok.ensures.body in
-    let next = next-is self s0 g' text a room _ _ c.requires.plain c.prepared.ensures.rest.0 body in
+    let next = next-is self s0 g' text a room _ _ (cell-is text c.requires.short c.utf8.text c.requires.plain) c.prepared.ensures.rest.0 body in
     let stands = c.in-Ok-append.ensures.stands told a.entries (entry_for self text) next in
     let rest = c.prepared.ensures.rest in
     attached-after self s0 g' text a room _ (st c.append.new.host) stands (c.in-Ok-append.ensures.durable told) c.append.ensures.out _ (st c.put.new.self)

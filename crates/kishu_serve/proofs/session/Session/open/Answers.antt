@@ -1,16 +1,13 @@
-use Rattle.std.proofs.Common.{⊎_elim, ◌≡◌, ◌≤◌, ◌*◌, ◌^◌, ℕ, List, [], length, refl, sym, ◌∙◌, ap, subst, arith, Err}
+use Rattle.std.proofs.Common.{⊎_elim, ◌≡◌, List, length, sym, ◌∙◌, ap, subst, arith, Err}
 use Rattle.std.proofs.lemmas.List.{length-map}
 use Rattle.kishu_host.specs.Host.{Told, Only}
-use Rattle.kishu_model.specs.Graph.{Graph, newest, count_of}
-use Rattle.kishu_model.specs.Values.{State}
-use Rattle.kishu_model.specs.Replay.{replay}
-use Rattle.kishu_model.specs.Holds.{Holds, graph_of}
+use Rattle.kishu_model.specs.Graph.{Graph, newest}
+use Rattle.kishu_model.specs.Holds.{graph_of}
 use Rattle.kishu_model.specs.Laws.{one_graph, graph-linear}
 use Rattle.kishu_record.specs.Entries.{entry_of}
 use Rattle.kishu_journal.specs.declared.journal.JournalFault.{JournalFault}
 use Rattle.kishu_journal.specs.declared.journal.JournalFault.TheVariants.{Damaged}
 use Rattle.kishu_journal.specs.Found.{entries_of}
-use Rattle.kishu_serve.specs.Attached.{IsAttached}
 use Rattle.kishu_serve.specs.Midway.{Replayed}
 use Rattle.kishu_serve.proofs.Runs.{long-bad}
 use Rattle.kishu_serve.proofs.session.Session.open.Goals as goal

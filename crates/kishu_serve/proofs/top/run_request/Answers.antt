@@ -1,27 +1,27 @@
-use Rattle.std.proofs.Common.{◌≡◌, ◌⊎◌, inl, inr, ⊎_elim, ℕ, List, [], ◌∷◌, ◌++◌, refl, sym, ◌∙◌, ap, subst, Err}
+use Rattle.std.proofs.Common.{inl, inr, ⊎_elim, ℕ, List, [], ◌∷◌, sym, ◌∙◌, ap, subst, Err}
 use Rattle.kishu_host.specs.Host.{Told, Only}
 use Rattle.kishu_host.specs.Going.{now_has, now_each}
-use Rattle.kishu_model.specs.Step.{cell}
 use Rattle.kishu_model.specs.Holds.{Holds}
 use Rattle.kishu_model.specs.Laws.{broken-holds, foreign-holds}
 use Rattle.kishu_journal.specs.declared.journal.JournalFault.{JournalFault}
 use Rattle.kishu_serve.specs.Headline.{IsPart}
+use Rattle.kishu_serve.specs.Requests.{request_of}
 use Rattle.kishu_serve.proofs.Parts.{part-none, part-now}
 use Rattle.kishu_serve.proofs.Runs.{attached-holds, opening-stop, part-from, serving-stop, whole, succeeded}
-use Rattle.kishu_serve.proofs.top.run_cell.Goals as goal
+use Rattle.kishu_serve.proofs.top.run_request.Goals as goal
 
 pub returns-in-Ok-clause-stop : goal.returns-in-Ok-clause-stop
 returns-in-Ok-clause-stop g c told g' holds =
     let st = g.H.Host.state in
     let a = c.in-Ok.ensures.attached told g' holds in
-    serving-stop (st c.args.host.now) (st c.open.new.host) g' (cell c.args.text.now) (c.open.ensures.stop told g' holds) c.open.ensures.out (st c.serve.new.host)
+    serving-stop (st c.args.host.now) (st c.open.new.host) g' (request_of c.args.request) (c.open.ensures.stop told g' holds) c.open.ensures.out (st c.serve.new.host)
     (c.serve.ensures.stop (c.open.ensures.tells ∙ told) g' a)
 
 pub returns-in-Ok-clause-run : goal.returns-in-Ok-clause-run
 returns-in-Ok-clause-run g c told g' holds =
     let st = g.H.Host.state in
     let laws = g.met.H.Host in
-    let q = cell c.args.text.now in
+    let q = request_of c.args.request in
     let s0 = st c.args.host.now in
     let s1 = st c.open.new.host in
     let s2 = st c.serve.new.host in
@@ -36,7 +36,7 @@ pub returns-in-Ok-clause-settled : goal.returns-in-Ok-clause-settled
 returns-in-Ok-clause-settled g c told g' holds =
     let st = g.H.Host.state in
     let laws = g.met.H.Host in
-    let q = cell c.args.text.now in
+    let q = request_of c.args.request in
     let s0 = st c.args.host.now in
     let s1 = st c.open.new.host in
     let s2 = st c.serve.new.host in
@@ -49,7 +49,7 @@ returns-in-Ok-clause-settled g c told g' holds =
 pub returns-in-Ok-clause-done : goal.returns-in-Ok-clause-done
 returns-in-Ok-clause-done g c done told g' holds =
     let st = g.H.Host.state in
-    let q = cell c.args.text.now in
+    let q = request_of c.args.request in
     let s0 = st c.args.host.now in
     let s1 = st c.open.new.host in
     let s2 = st c.serve.new.host in
@@ -66,12 +66,12 @@ returns-in-Ok-clause-bad g c told bad =
 pub returns-in-Err-clause-run : goal.returns-in-Err-clause-run
 returns-in-Err-clause-run g c told g' holds =
     let st = g.H.Host.state in
-    part-none (st c.args.host.now) g' (cell c.args.text.now) _ _ (c.open.ensures.held told g' holds) c.open.ensures.out
+    part-none (st c.args.host.now) g' (request_of c.args.request) _ _ (c.open.ensures.held told g' holds) c.open.ensures.out
 
 pub returns-in-Err-clause-stop : goal.returns-in-Err-clause-stop
 returns-in-Err-clause-stop g c told g' holds =
     let st = g.H.Host.state in
-    opening-stop (st c.args.host.now) (st c.open.new.host) g' (cell c.args.text.now) (c.open.ensures.stop told g' holds)
+    opening-stop (st c.args.host.now) (st c.open.new.host) g' (request_of c.args.request) (c.open.ensures.stop told g' holds)
 
 pub returns-in-Err-clause-settled : goal.returns-in-Err-clause-settled
 returns-in-Err-clause-settled g c told g' holds =
@@ -79,7 +79,7 @@ returns-in-Err-clause-settled g c told g' holds =
     let s0 = st c.args.host.now in
     let s1 = st c.open.new.host in
     ⊎_elim (λ e. inl (c.unopened.ensures.disk (cc (e, c.in-Err.is))))
-    (λ (d : Told s0 (Only s1.file s1.may_leave)). inr (λ f now. part-none s0 g' (cell c.args.text.now) f s1.out (subst (λ (x : List ℕ). Holds x g') (sym (d told f now)) (c.open.ensures.held told g' holds)) c.open.ensures.out))
+    (λ (d : Told s0 (Only s1.file s1.may_leave)). inr (λ f now. part-none s0 g' (request_of c.args.request) f s1.out (subst (λ (x : List ℕ). Holds x g') (sym (d told f now)) (c.open.ensures.held told g' holds)) c.open.ensures.out))
     c.open.ensures.durable
 
 pub returns-in-Err-clause-damaged : goal.returns-in-Err-clause-damaged
