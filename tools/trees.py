@@ -1,155 +1,23 @@
 #!/usr/bin/env python3
-"""Makes the table of texts with their trees or the lines of their faults by which the grammar is
+"""Makes the tables of texts with their trees, or the lines of their faults, by which the grammar is
 tested.
 
 Usage: tools/trees.py antt TREES FAULTS OTHERS    (TreeExamples.antt, FaultExamples.antt and
                                                    OtherExamples.antt in crates/kishu_model/proofs)
+       tools/trees.py rust                        (crates/kishu_parser/src/tests/table.rt)
 
-The trees come from CPython's `ast.parse`; parentheses, which leave a trace in our trees, from
-`tokenize`. Of SAME and OTHER CPython must accept each text, and of BOTH_REFUSE none; OTHER are the
-texts that Python accepts and this language refuses. The line of each fault stands here by hand.
+The texts stand in tree_texts.py, and their trees come from CPython (python_trees.py). A text that
+CPython doesn't take as tree_texts.py says is told on standard error.
 """
-import ast
-import io
 import sys
-import tokenize
 import warnings
+
+from python_trees import PythonTrees
+from tree_texts import BOTH_REFUSE, MORE, MORE_FAULTS, MORE_OTHER, OTHER, SAME, nested
 
 warnings.simplefilter("ignore")
 
-# Read as CPython reads them.
-SAME = [
-    "",
-    "x\n",
-    "x = 1\n",
-    "a = b = c, d\n",
-    "a, b = b, a\n",
-    "a, = x\n",
-    "(a, b), [c, d] = x\n",
-    "(a) = [b] = x\n",
-    "a.b = c[1] = d[1, 2] = x\n",
-    "a.b(c).d[e].f = 1\n",
-    "a += 1, 2\n",
-    "a.b -= 1; a[0] *= 2; a //= 3; a %= 4; a **= 5\n",
-    "1 + 2 - 3 + 4\n",
-    "1 * 2 // 3 % 4 + 5\n",
-    "(1 + 2) * 3\n",
-    "1 + (2 + 3)\n",
-    "-1 + +2 - -3\n",
-    "-a ** -b ** c\n",
-    "a ** b ** c\n",
-    "a < b <= c > d >= e == f != g\n",
-    "a in b not in c is d is not e\n",
-    "(a < b) < c\n",
-    "not a == b\n",
-    "not not a and b or c and not d\n",
-    "a or (b or c) or d\n",
-    "x if a else y if b else z\n",
-    "a.b.c(d)[e](f, g=1, h=2,)\n",
-    "f()\n",
-    "f((a))\n",
-    "f((a, b), ())\n",
-    "a[1:2], a[:], a[::], a[1:], a[:2], a[::3], a[1:2:3], a[:2:], a[():1]\n",
-    "a[1, 2], a[1,]\n",
-    "(), (a,), ((a)), [], [a], [a, b,], {}, {a: b}, {a: b, c: d,}\n",
-    "'a' 'b' \"c\"\n",
-    "None, True, False\n",
-    "pass; x; y;\n",
-    "assert a\nassert a, b\n",
-    "del a, b.c, d[0]\n",
-    "from types import SimpleNamespace\nfrom types import SimpleNamespace as S\n",
-    "if a: b\nelif c: d\nelif e: f\nelse: g\n",
-    "if a:\n  if b:\n    c\n  else:\n    d\n",
-    "while a:\n  if b: break\n  else: continue\n",
-    "for a, b in c, d:\n  e\n",
-    "for (a, b), in c: d\n",
-    "for a.b[c] in d: e\n",
-    "try:\n  a\nexcept A as b:\n  raise\nexcept (B, C):\n  c\nexcept:\n  d\nelse:\n  e\nfinally:\n  f\n",
-    "try: a\nfinally: b\n",
-    "raise a\n",
-    "def f(): pass\n",
-    "def f(a, b=1, c=(2),):\n  global d, e\n  d = a\n  return d, b\n# c\nf(1)\n",
-    "def f():\n  for x in a:\n    if x: return\n  return x\n",
-    "def f():\n  global a\n  global a\n  a = 1\n",
-    "(\n  a,\n  b\n)\n",
-    "# c\n",
-    "def f(): a;\n",
-    "if a:\n  def f():\n\n    b ;  # c\n\n# d\nelse: e\n",
-    "for x, in a: b; c;\n",
-    "for (x) in a in b: c\n",
-    "for [x, y] in a: b\n",
-    "[a, b,] = [c] = (d)[0] = [e].f = g\n",
-    "del a[1,], (b).c\n",
-    "a[1,] += b,\n",
-    "x if a else (y if b else z) if c else w\n",
-    "a < -b ** +c, not a in b, (not a) in b\n",
-    "f(a if b else c, d=e or f)(a == 1)\n",
-    "def f(a=b, c=a):\n  global b, f\n  b = f = 1\n",
-    "def f():\n  if a: global b\n  else: b = 1\n",
-    "def f():\n  x.a(b=1)\n  global a, b, a\n",
-    "while a:\n  try: b\n  except: break\n  else: continue\n  finally: break\n",
-    "while a:\n  def f():\n    for b in c:\n      return b\n  break\n",
-    "try: a\nexcept A:\n  while b:\n    if c: raise\n",
-    "def f():\n  try: a\n  except:\n    try: raise\n    finally: raise\n",
-    "try: a\nexcept A: b\n\n# c\nelse: d\n\nfinally: e\n",
-]
-
-# Refused by Python and by this language, with the line of the fault.
-BOTH_REFUSE = [
-    ("a = = 1\n", 1), ("(a) += 1, = 2\n", 1), ("x\na[1:2] += = 3\n", 2), ("f(a=1, 2)\n", 1), ("x if y\n", 1),
-    ("for x in\n", 1), ("f(a=1, a=2)\n", 1), ("a + = 1\n", 1), ("(a, b) += 1\n", 1), ("f() = 1\n", 1),
-    ("a + b = 1\n", 1), ("a, b += 1\n", 1), ("1 = a\n", 1), ("a not b\n", 1), ("a < not b\n", 1),
-    ("a ** not b\n", 1), ("- not a\n", 1), ("del a + b\n", 1), ("del f()\n", 1), ("a b\n", 1),
-    ("a.1\n", 1), ("{a}, {b: c, d}\n", 1), ("a[]\n", 1), ("(,)\n", 1), ("f(,)\n", 1), ("pass pass\n", 1),
-    (";\n", 1), ("a;; b\n", 1), ("if a b\n", 1), ("if a:\nb\n", 1), ("x\nelse: y\n", 1),
-    ("x\ny\nif a: b\nelif: c\nz\n", 3), ("x\ntry: a\ny\n", 2), ("try: a\nelse: b\n", 1),
-    ("while a: b\nelif c: d\n", 1), ("  a\n", 1), ("a\n  b\nc\n", 1), ("if a:\n  b\n    c\nd\n", 1),
-    ("return\n", 1), ("x\nbreak\n", 2), ("continue\n", 1), ("if a: break\n", 1),
-    ("while a:\n  def f(): break\n", 1), ("def f(a, a): pass\n", 1), ("def f(a=1, b): pass\n", 1),
-    ("def f(a):\n  global a\n", 1), ("def f():\n  a = 1\n  global a\n", 1), ("def f():\n  x.a(a)\n  global b, a\n", 1),
-    ("def f():\n  for a in b: c\n  global a\n", 1), ("def f(,): pass\n", 1), ("def f(1): pass\n", 1),
-    ("try: a\nexcept: b\nexcept A: c\n", 1), ("from types import\n", 1), ("global\n", 1),
-    ("assert a, b, c\n", 1), ("x = yield = 1\n", 1), ("raise a, b\n", 1), ("x = (pass)\n", 1),
-    ("x\n\n# c\nif a:\n  b\n\n  c +\nd\n", 4),
-    ("x += y = z\n", 1), ("x = y += z\n", 1), ("if a: if b: c\n", 1), ("for x in a: while b: c\n", 1), ("if a: b\n  c\n", 1),
-    ("x\n\nelse: y\nz\n", 1), ("x\nif a: b\nexcept: c\n", 2), ("x\nif a: b\n\nelif c: d\nelse: e\nelse: f\ng\n", 2),
-    ("else: x\ny\n", 1), ("\n\n  x\ny\n", 3), ("x\n(\n  a\n) b\n", 2), ("pass\n;\n", 2), ("x;;\n", 1),
-    ("def f():\n  if a:\n    b\n  global b\n", 1), ("def f():\n  global a; a = 1; global a\n", 1),
-    ("def f():\n  try: a\n  except A as b: global b\n", 1), ("def f():\n  a.b = c\n  global d, c\n", 1),
-    ("def f():\n  for a in b: global a\n", 1), ("def f():\n  del a\n  global a\n", 1), ("def f():\n  a += 1\n  global a\n", 1),
-    ("try: a\nfinally: b\nexcept: c\n", 1), ("try: a\nexcept A, B: c\n", 1), ("try: a\nexcept as b: c\n", 1), ("try: a\n", 1),
-    ("global a,\n", 1), ("assert a,\n", 1), ("x if a\n", 1), ("x if a if b else c else d\n", 1), ("a = not = b\n", 1),
-    ("{a: b: c}\n", 1), ("f(a b)\n", 1), ("f(1=a)\n", 1), ("f(a.b=1)\n", 1), ("a..b\n", 1), ("a[1:2:3:4]\n", 1), ("None = 1\n", 1),
-    ("(a + b) = 1\n", 1), ("'a' = b\n", 1), ("for a + b in c: d\n", 1), ("for x in a b: c\n", 1), ("def f(a b): c\n", 1), ("def f(a.b): c\n", 1),
-    ("def f()\n  a\n", 1), ("while a:\n  if b:\n    c\n    def f(): continue\n", 1), ("if a:\n", 1), ("from types import SimpleNamespace as\n", 1), ("from types import SimpleNamespace,\n", 1),
-    ("def f(a=1, b=2, c): d\n", 1), ("def f(a, b, a): c\n", 1), ("def f(): return\nreturn\n", 2), ("f(a=1, b, c=2)\n", 1),
-]
-
-# Accepted by Python, and refused here, with the line of the fault.
-OTHER = [
-    ("(a) += 1\n", 1), ("del (a)\n", 1), ("del a,\n", 1), ("a[1:2] = 3\n", 1), ("() = a\n", 1), ("[] = a\n", 1),
-    ("a[1, 2:3]\n", 1), ("raise\n", 1), ("raise a from b\n", 1), ("def f():\n  def g(): pass\n", 1),
-    ("x\nglobal a\n", 2), ("f(*a)\n", 1), ("f(**a)\n", 1), ("lambda: a\n", 1), ("[a for a in b]\n", 1),
-    ("{a, b}\n", 1), ("class A: pass\n", 1), ("import types\n", 1), ("from types import FunctionType\n", 1),
-    ("while a: b\nelse: c\n", 1), ("for a in b: c\nelse: d\n", 1), ("def f(a) -> b: pass\n", 1), ("a: b\n", 1),
-    ("a, *b = c\n", 1), ("x = yield_ = (yield_ := 1)\n", 1), ("with a: b\n", 1), ("try:\n  a\nexcept A:\n  def f(): raise\n", 1),
-    ("try: a\nexcept A: b\nelse: raise\n", 1), ("try: a\nexcept A: b\nfinally: raise\n", 1), ("def f(): raise\n", 1), ("if a:\n  def f():\n    if b:\n      def g(): c\n", 1),
-    ("(a, b)[0:1] += 1\n", 1), ("[] = () = a\n", 1), ("for () in a: b\n", 1), ("del [a]\n", 1), ("del (a, b)\n", 1), ("(a): b = 1\n", 1),
-    ("a[1:2, 3] = b\n", 1), ("{**a}\n", 1), ("(a for b in c)\n", 1), ("def f(a, /, b): c\n", 1), ("def f(*a): b\n", 1), ("def f(a: b): c\n", 1),
-    ("def f():\n  from types import SimpleNamespace as a\n  global a\n", 1),
-    ("def f():\n  from types import SimpleNamespace\n  global SimpleNamespace\n", 1),
-    ("from types import (SimpleNamespace)\n", 1), ("nonlocal_ = 1\nimport a\n", 2), ("try: a\nexcept* A: b\n", 1),
-]
-
-
-def same_tree(text):
-    return Trees(text).program()
-
-
-OPERATORS = {ast.Add: "Add", ast.Sub: "Subtract", ast.Mult: "Multiply", ast.FloorDiv: "FloorDivide", ast.Mod: "Modulo", ast.Pow: "Power"}
-COMPARISONS = {ast.Lt: "Less", ast.LtE: "LessEqual", ast.Gt: "Greater", ast.GtE: "GreaterEqual", ast.Eq: "Equal", ast.NotEq: "NotEqual", ast.In: "In", ast.NotIn: "NotIn", ast.Is: "Is", ast.IsNot: "IsNot"}
-SUM = (ast.Add, ast.Sub)
-PRODUCT = (ast.Mult, ast.FloorDiv, ast.Mod)
+NAMED = {"none": "None", "true": "True", "false": "False"}
 
 
 def codes(text):
@@ -158,241 +26,275 @@ def codes(text):
     raise SystemExit("not plain: %r" % text)
 
 
-def listed(items):
-    return "(" + "".join(i + " ∷ " for i in items) + "[])"
+def pair(first, second):
+    return "(%s, %s)" % (first, second)
 
 
-def some(value):
-    return "None" if value is None else "(Some %s)" % value
+class Defined:
+    """Trees as the definitions of Tree write them."""
+
+    def listed(self, items):
+        return "(" + "".join(i + " ∷ " for i in items) + "[])"
+
+    def some(self, value, write):
+        return "None" if value is None else "(Some %s)" % write(value)
+
+    def expressions(self, es):
+        return "(expressions %s)" % self.listed(self.expression(e) for e in es)
+
+    def operands(self, prefix, found):
+        return self.listed(pair(prefix + operator, self.expression(e)) for operator, e in found)
+
+    def expression(self, e):
+        match e:
+            case ("name" | "text" as kind, text):
+                return "(t.%s %s)" % (kind, codes(text))
+            case ("integer", value):
+                return "(t.integer (pos %d))" % value
+            case ("none" | "true" | "false" as kind,):
+                return "t." + kind
+            case ("tuple" | "list" | "or" | "and" as kind, es):
+                return "(t.%s %s)" % (kind, self.expressions(es))
+            case ("dict", found):
+                return "(t.dict (pairs %s))" % self.listed(pair(self.expression(k), self.expression(v)) for k, v in found)
+            case ("signed", sign, operand):
+                return "(t.signed s.%s %s)" % (sign, self.expression(operand))
+            case ("compared", first, found):
+                return "(t.compared %s (links %s))" % (self.expression(first), self.operands("c.", found))
+            case ("sum" | "product" as kind, first, found):
+                return "(t.%s %s (operands %s))" % (kind, self.expression(first), self.operands("o.", found))
+            case ("primary", first, found):
+                return "(t.primary %s (trailers %s))" % (self.expression(first), self.listed(self.trailer(t) for t in found))
+            case (kind, *parts):
+                return "(t.%s %s)" % (kind, " ".join(self.expression(p) for p in parts))
+
+    def trailer(self, trailer):
+        match trailer:
+            case ("attribute", name):
+                return "t.attribute %s" % codes(name)
+            case ("call", found):
+                return "t.call (arguments %s)" % self.listed(self.argument(a) for a in found)
+            case ("index", index):
+                return "t.index %s" % self.expression(index)
+            case ("slice", *bounds):
+                return "t.slice %s" % " ".join("absent" if b is None else "(bound %s)" % self.expression(b) for b in bounds)
+
+    def argument(self, argument):
+        match argument:
+            case ("plain", value):
+                return "t.plain %s" % self.expression(value)
+            case ("keyword", name, value):
+                return "t.keyword %s %s" % (codes(name), self.expression(value))
+
+    def statements(self, body):
+        return "(statements %s)" % self.listed(self.statement(x) for x in body)
+
+    def handler(self, found):
+        kind, name, body = found
+        return "record { class = %s; caught = %s; body = %s }" % (self.some(kind, self.expression), self.some(name, codes), self.statements(body))
+
+    def arm(self, arm):
+        test, body = arm
+        return pair(self.expression(test), self.statements(body))
+
+    def statement(self, x):
+        match x:
+            case ("pass" | "break" | "continue" as kind,):
+                return "t." + kind
+            case ("return" | "raise" as kind, value):
+                return "t.%s %s" % (kind, self.some(value, self.expression))
+            case ("assert", test, message):
+                return "t.assert %s %s" % (self.expression(test), self.some(message, self.expression))
+            case ("delete", places):
+                return "t.delete %s" % self.listed(self.expression(e) for e in places)
+            case ("global", names):
+                return "t.global %s" % self.listed(codes(n) for n in names)
+            case ("import", name):
+                return "t.import %s" % self.some(name, codes)
+            case ("update", place, operator, value):
+                return "t.update %s o.%s %s" % (self.expression(place), operator, self.expression(value))
+            case ("assign", [], value):
+                return "t.assign [] %s" % self.expression(value)
+            case ("assign", targets, value):
+                return "t.assign %s %s" % (self.listed(self.expression(e) for e in targets), self.expression(value))
+        return self.compound(x)
+
+    def compound(self, x):
+        match x:
+            case ("choose", arms, other):
+                return "t.choose (arms %s) %s" % (self.listed(map(self.arm, arms)), self.statements(other))
+            case ("while", test, body):
+                return "t.while %s %s" % (self.expression(test), self.statements(body))
+            case ("for", targets, walked, body):
+                return "t.for %s %s %s" % (self.expression(targets), self.expression(walked), self.statements(body))
+            case ("try", body, handlers, other, last):
+                found = self.listed(self.handler(h) for h in handlers)
+                return "t.try %s (handlers %s) %s %s" % (self.statements(body), found, self.statements(other), self.statements(last))
+            case ("finally", body, last):
+                return "t.finally %s %s" % (self.statements(body), self.statements(last))
+            case ("define", name, parameters, body, code):
+                found = self.listed(pair(codes(p), self.some(d, self.expression)) for p, d in parameters)
+                return "t.define %s %s %s %s" % (codes(name), found, self.statements(body), codes(code))
+
+    def program(self, statements):
+        return "Ok %s" % self.listed(self.statement(x) for x in statements)
 
 
-class Trees:
-    """The trees of a text, as the definitions of Tree write them."""
+class DeepDefined(Defined):
+    """Deep trees, without the parentheses that could be spared."""
 
-    def __init__(self, text):
-        self.text = text
-        self.tree = ast.parse(text)
-        kept = (tokenize.OP, tokenize.NAME, tokenize.NUMBER, tokenize.STRING)
-        self.tokens = [t for t in tokenize.generate_tokens(io.StringIO(text).readline) if t.type in kept]
-        self.starts = {t.start: i for i, t in enumerate(self.tokens)}
-        self.ends = {t.end: i for i, t in enumerate(self.tokens)}
-        self.pairs, opened = {}, []
-        for i, t in enumerate(self.tokens):
-            if t.string in ("(", "[", "{"):
-                opened.append(i)
-            elif t.string in (")", "]", "}"):
-                self.pairs[opened.pop()] = i
-        # the parentheses that belong to a call or a function
-        self.taken = set()
-        for node in ast.walk(self.tree):
-            if isinstance(node, ast.Call):
-                last = self.ends[(node.end_lineno, node.end_col_offset)]
-                self.taken.add(next(i for i, j in self.pairs.items() if j == last))
+    def listed(self, items):
+        return super().listed(items).replace("([])", "[]")
 
-    def span(self, e):
-        return self.starts[(e.lineno, e.col_offset)], self.ends[(e.end_lineno, e.end_col_offset)]
+    def arm(self, arm):
+        test, body = arm
+        return pair(self.expression(test), "statements %s" % self.listed(self.statement(x) for x in body))
 
-    def parens(self, e):
-        """How many pairs of parentheses stand around an expression."""
-        i, j = self.span(e)
-        count = 0
-        if isinstance(e, ast.Tuple) and e.elts and self.tokens[i].string == "(" and self.pairs[i] == j:
-            count = 1
-        while i > 0 and self.tokens[i - 1].string == "(" and self.pairs[i - 1] == j + 1 and i - 1 not in self.taken:
-            i, j, count = i - 1, j + 1, count + 1
-        return count
 
-    def expr(self, e):
-        inside = self.bare(e)
-        for _ in range(self.parens(e)):
-            inside = "(t.paren %s)" % inside
-        return inside
+class Shown:
+    """Trees as the tests of kishu_parser write them."""
 
-    def exprs(self, es):
-        return "(expressions %s)" % listed(self.expr(e) for e in es)
+    def optional(self, e):
+        return "_" if e is None else self.expression(e)
 
-    def grouped(self, e, kinds, make):
-        found = []
-        while isinstance(e, ast.BinOp) and isinstance(e.op, kinds) and (not found or not self.parens(e)):
-            found.insert(0, "(o.%s, %s)" % (OPERATORS[type(e.op)], self.expr(e.right)))
-            e = e.left
-        return "(t.%s %s (operands %s))" % (make, self.expr(e), listed(found))
+    def words(self, word, found):
+        return "(%s)" % " ".join([word, *found])
 
-    def bare(self, e):
-        if isinstance(e, ast.Name):
-            return "(t.name %s)" % codes(e.id)
-        if isinstance(e, ast.Constant):
-            if e.value is None or e.value is True or e.value is False:
-                return "t.%s" % str(e.value).lower()
-            if isinstance(e.value, str):
-                return "(t.text %s)" % codes(e.value)
-            return "(t.integer (pos %d))" % e.value
-        if isinstance(e, ast.Tuple):
-            return "(t.tuple %s)" % self.exprs(e.elts)
-        if isinstance(e, ast.List):
-            return "(t.list %s)" % self.exprs(e.elts)
-        if isinstance(e, ast.Dict):
-            return "(t.dict (pairs %s))" % listed("(%s, %s)" % (self.expr(k), self.expr(v)) for k, v in zip(e.keys, e.values))
-        if isinstance(e, ast.IfExp):
-            return "(t.conditional %s %s %s)" % (self.expr(e.body), self.expr(e.test), self.expr(e.orelse))
-        if isinstance(e, ast.BoolOp):
-            return "(t.%s %s)" % ("or" if isinstance(e.op, ast.Or) else "and", self.exprs(e.values))
-        if isinstance(e, ast.UnaryOp):
-            if isinstance(e.op, ast.Not):
-                return "(t.not %s)" % self.expr(e.operand)
-            return "(t.signed s.%s %s)" % ("Plus" if isinstance(e.op, ast.UAdd) else "Minus", self.expr(e.operand))
-        if isinstance(e, ast.Compare):
-            found = ["(c.%s, %s)" % (COMPARISONS[type(o)], self.expr(r)) for o, r in zip(e.ops, e.comparators)]
-            return "(t.compared %s (links %s))" % (self.expr(e.left), listed(found))
-        if isinstance(e, ast.BinOp):
-            if isinstance(e.op, ast.Pow):
-                return "(t.power %s %s)" % (self.expr(e.left), self.expr(e.right))
-            return self.grouped(e, SUM, "sum") if isinstance(e.op, SUM) else self.grouped(e, PRODUCT, "product")
-        return self.primary(e)
+    def several(self, word, es):
+        return self.words(word, [self.expression(e) for e in es])
 
-    def primary(self, e):
-        found, first = [], True
-        while isinstance(e, (ast.Attribute, ast.Call, ast.Subscript)) and (first or not self.parens(e)):
-            first = False
-            if isinstance(e, ast.Attribute):
-                found.insert(0, "t.attribute %s" % codes(e.attr))
-                e = e.value
-            elif isinstance(e, ast.Call):
-                args = ["t.plain %s" % self.expr(a) for a in e.args] + ["t.keyword %s %s" % (codes(k.arg), self.expr(k.value)) for k in e.keywords]
-                found.insert(0, "t.call (arguments %s)" % listed(args))
-                e = e.func
-            else:
-                found.insert(0, self.subscript(e.slice))
-                e = e.value
-        return "(t.primary %s (trailers %s))" % (self.expr(e), listed(found))
+    def operands(self, found):
+        return ["%s %s" % (operator, self.expression(e)) for operator, e in found]
 
-    def subscript(self, index):
-        if isinstance(index, ast.Slice):
-            bounds = ["absent" if b is None else "(bound %s)" % self.expr(b) for b in (index.lower, index.upper, index.step)]
-            return "t.slice %s" % " ".join(bounds)
-        return "t.index %s" % self.expr(index)
+    def expression(self, e):
+        match e:
+            case ("name", text):
+                return text
+            case ("text", text):
+                return "'%s'" % text
+            case ("integer", value):
+                return "#%d" % value
+            case ("none" | "true" | "false" as kind,):
+                return NAMED[kind]
+            case ("tuple" | "list" | "or" | "and" as kind, es):
+                return self.several(kind, es)
+            case ("dict", found):
+                return self.several("dict", [e for both in found for e in both])
+            case ("signed", sign, operand):
+                return self.several(sign, [operand])
+            case ("compared" | "sum" | "product" as kind, first, found):
+                return self.words(kind, [self.expression(first), *self.operands(found)])
+            case ("primary", first, found):
+                return self.words("primary", [self.expression(first), *map(self.trailer, found)])
+            case ("conditional", *parts):
+                return self.several("if", parts)
+            case (kind, *parts):
+                return self.several(kind, parts)
+
+    def trailer(self, trailer):
+        match trailer:
+            case ("attribute", name):
+                return "(. %s)" % name
+            case ("call", found):
+                return self.words("call", [self.argument(a) for a in found])
+            case ("index", index):
+                return self.several("index", [index])
+            case ("slice", *bounds):
+                return self.words("slice", [self.optional(b) for b in bounds])
+
+    def argument(self, argument):
+        match argument:
+            case ("plain", value):
+                return self.expression(value)
+            case ("keyword", name, value):
+                return "(= %s %s)" % (name, self.expression(value))
 
     def block(self, body):
-        return "(statements %s)" % listed(self.stmt(x) for x in body)
+        return " {%s}" % "".join(self.statement(x) for x in body)
 
-    def stmt(self, x):
-        kind = type(x).__name__
-        if kind in ("Pass", "Break", "Continue"):
-            return "t.%s" % kind.lower()
-        if kind == "Return":
-            return "t.return %s" % some(x.value and self.expr(x.value))
-        if kind == "Raise":
-            return "t.raise %s" % some(x.exc and self.expr(x.exc))
-        if kind == "Assert":
-            return "t.assert %s %s" % (self.expr(x.test), some(x.msg and self.expr(x.msg)))
-        if kind == "Delete":
-            return "t.delete %s" % listed(self.expr(e) for e in x.targets)
-        if kind == "Global":
-            return "t.global %s" % listed(codes(n) for n in x.names)
-        if kind == "ImportFrom":
-            return "t.import %s" % some(x.names[0].asname and codes(x.names[0].asname))
-        if kind == "AugAssign":
-            return "t.update %s o.%s %s" % (self.expr(x.target), OPERATORS[type(x.op)], self.expr(x.value))
-        if kind == "Assign":
-            return "t.assign %s %s" % (listed(self.expr(e) for e in x.targets), self.expr(x.value))
-        if kind == "Expr":
-            return "t.assign [] %s" % self.expr(x.value)
-        if kind == "If":
-            return self.choice(x)
-        if kind == "While":
-            return "t.while %s %s" % (self.expr(x.test), self.block(x.body))
-        if kind == "For":
-            return "t.for %s %s %s" % (self.expr(x.target), self.expr(x.iter), self.block(x.body))
-        if kind == "Try" and not x.handlers:
-            return "t.finally %s %s" % (self.block(x.body), self.block(x.finalbody))
-        if kind == "Try":
-            found = ["record { class = %s; caught = %s; body = %s }" % (some(h.type and self.expr(h.type)), some(h.name and codes(h.name)), self.block(h.body)) for h in x.handlers]
-            return "t.try %s (handlers %s) %s %s" % (self.block(x.body), listed(found), self.block(x.orelse), self.block(x.finalbody))
-        if kind == "FunctionDef":
-            return self.define(x)
-        raise SystemExit("not read: %s" % kind)
+    def statement(self, x):
+        match x:
+            case ("pass" | "break" | "continue" as kind,):
+                return "(%s)" % kind
+            case ("return" | "raise" as kind, value):
+                return self.words(kind, [self.optional(value)])
+            case ("assert", test, message):
+                return self.words("assert", [self.expression(test), self.optional(message)])
+            case ("delete", places):
+                return self.several("del", places)
+            case ("global", names):
+                return self.words("global", names)
+            case ("import", name):
+                return self.words("import", [name or "_"])
+            case ("update", place, operator, value):
+                return self.words("update", [self.expression(place), operator, self.expression(value)])
+            case ("assign", targets, value):
+                return self.words("=", [self.several("to", targets), self.expression(value)])
+        return self.compound(x)
 
-    def choice(self, x):
-        found = []
-        while True:
-            found.append("(%s, %s)" % (self.expr(x.test), self.block(x.body)))
-            if len(x.orelse) == 1 and isinstance(x.orelse[0], ast.If) and self.tokens[self.span(x.orelse[0])[0]].string == "elif":
-                x = x.orelse[0]
-            else:
-                return "t.choose (arms %s) %s" % (listed(found), self.block(x.orelse))
+    def compound(self, x):
+        match x:
+            case ("choose", arms, other):
+                found = "".join("[%s%s]" % (self.expression(e), self.block(b)) for e, b in arms)
+                return "(if %s%s)" % (found, self.block(other))
+            case ("while", test, body):
+                return "(while %s%s)" % (self.expression(test), self.block(body))
+            case ("for", targets, walked, body):
+                return "(for %s %s%s)" % (self.expression(targets), self.expression(walked), self.block(body))
+            case ("try", body, handlers, other, last):
+                found = "".join(" [%s %s%s]" % (self.optional(k), n or "_", self.block(b)) for k, n, b in handlers)
+                return "(try%s%s%s%s)" % (self.block(body), found, self.block(other), self.block(last))
+            case ("finally", body, last):
+                return "(finally%s%s)" % (self.block(body), self.block(last))
+            case ("define", name, parameters, body, code):
+                found = "".join(" (%s %s)" % (p, self.optional(d)) for p, d in parameters)
+                return "(def %s%s%s '%s')" % (name, found, self.block(body), code)
 
-    def define(self, x):
-        args = x.args.args
-        defaults = [None] * (len(args) - len(x.args.defaults)) + x.args.defaults
-        found = ["(%s, %s)" % (codes(a.arg), some(d and self.expr(d))) for a, d in zip(args, defaults)]
-        code = ast.get_source_segment(self.text, x)
-        # CPython leaves out a `;` at the end of the body.
-        last = self.span(x)[1]
-        if last + 1 < len(self.tokens) and self.tokens[last + 1].string == ";":
-            code += self.text.split("\n")[x.end_lineno - 1].encode()[x.end_col_offset:self.tokens[last + 1].end[1]].decode()
-        return "t.define %s %s %s %s" % (codes(x.name), listed(found), self.block(x.body), codes(code))
-
-    def program(self):
-        return "Ok %s" % listed(self.stmt(x) for x in self.tree.body)
+    def program(self, statements):
+        return "".join(self.statement(x) for x in statements)
 
 
-def nested(n):
-    """Texts with n nestings around their innermost point."""
-    blocks = "".join("  " * i + "if a:\n" for i in range(n)) + "  " * n + "b\n"
-    in_line = "".join("  " * i + "if a:\n" for i in range(n - 1)) + "  " * (n - 1) + "if a: pass\n"
-    return [
-        "(" * n + "a" + ")" * n + "\n",
-        "[" * n + "a" + "]" * n + "\n",
-        "a" + "[a" * n + "]" * n + "\n",
-        "f(" * n + "a" + ")" * n + "\n",
-        "not " * n + "a\n",
-        "- " * n + "a\n",
-        "a ** " * n + "a\n",
-        "a if b else " * n + "a\n",
-        "(" * n + "a" + ")" * n + " = b\n",
-        # Empty brackets count as well.
-        "(" * n + ")" * n + "\n",
-        "[" * n + "]" * n + "\n",
-        "f(" * n + ")" * n + "\n",
-        "a[" * n + ":" + "]" * n + "\n",
-        "{a: " * (n - 1) + "{" + "}" * n + "\n",
-        blocks,
-        in_line,
-    ]
-
-
-def deep_tree(n):
-    a, b, f = ('(t.name (codes "%s"))' % x for x in "abf")
+def deep_trees(n):
+    """The trees of nested(n)."""
+    a, b, f = (("name", x) for x in "abf")
 
     def around(inside, wrap, times=n):
         for _ in range(times):
             inside = wrap(inside)
         return inside
 
-    def value(e):
-        return "Ok (t.assign [] %s ∷ [])" % e
+    def parens(e):
+        return ("paren", e)
 
-    def blocks(x):
-        return "Ok (%s ∷ [])" % around(x, lambda x: "t.choose (arms ((%s, statements (%s ∷ [])) ∷ [])) (statements [])" % (a, x))
+    def called(e):
+        return ("primary", f, [("call", [("plain", e)])])
 
-    return [
-        value(around(a, lambda x: "(t.paren %s)" % x)),
-        value(around(a, lambda x: "(t.list (expressions (%s ∷ [])))" % x)),
-        value(around(a, lambda x: "(t.primary %s (trailers (t.index %s ∷ [])))" % (a, x))),
-        value(around(a, lambda x: "(t.primary %s (trailers (t.call (arguments (t.plain %s ∷ [])) ∷ [])))" % (f, x))),
-        value(around(a, lambda x: "(t.not %s)" % x)),
-        value(around(a, lambda x: "(t.signed s.Minus %s)" % x)),
-        value(around(a, lambda x: "(t.power %s %s)" % (a, x))),
-        value(around(a, lambda x: "(t.conditional %s %s %s)" % (a, b, x))),
-        "Ok (t.assign (%s ∷ []) %s ∷ [])" % (around(a, lambda x: "(t.paren %s)" % x), b),
-        value(around("(t.tuple (expressions []))", lambda x: "(t.paren %s)" % x, n - 1)),
-        value(around("(t.list (expressions []))", lambda x: "(t.list (expressions (%s ∷ [])))" % x, n - 1)),
-        value(around("(t.primary %s (trailers (t.call (arguments []) ∷ [])))" % f, lambda x: "(t.primary %s (trailers (t.call (arguments (t.plain %s ∷ [])) ∷ [])))" % (f, x), n - 1)),
-        value(around("(t.primary %s (trailers (t.slice absent absent absent ∷ [])))" % a, lambda x: "(t.primary %s (trailers (t.index %s ∷ [])))" % (a, x), n - 1)),
-        value(around("(t.dict (pairs []))", lambda x: "(t.dict (pairs ((%s, %s) ∷ [])))" % (a, x), n - 1)),
-        blocks("t.assign [] %s" % b),
-        blocks("t.pass"),
+    def indexed(e):
+        return ("primary", a, [("index", e)])
+
+    def one(e):
+        return ("list", [e])
+
+    values = [
+        around(a, parens),
+        around(a, one),
+        around(a, indexed),
+        around(a, called),
+        around(a, lambda e: ("not", e)),
+        around(a, lambda e: ("signed", "Minus", e)),
+        around(a, lambda e: ("power", a, e)),
+        around(a, lambda e: ("conditional", a, b, e)),
     ]
+    empty = [
+        around(("tuple", []), parens, n - 1),
+        around(("list", []), one, n - 1),
+        around(("primary", f, [("call", [])]), called, n - 1),
+        around(("primary", a, [("slice", None, None, None)]), indexed, n - 1),
+        around(("dict", []), lambda e: ("dict", [(a, e)]), n - 1),
+    ]
+    blocks = [around(x, lambda x: ("choose", [(a, [x])], [])) for x in (("assign", [], b), ("pass",))]
+    statements = [("assign", [], e) for e in values] + [("assign", [values[0]], b)] + [("assign", [], e) for e in empty] + blocks
+    return [[x] for x in statements]
 
 
 IMPORTS = """use Rattle.std.proofs.Common.{%s}
@@ -433,6 +335,35 @@ def write(path, head, imports, name, rows):
             out.write("\n%s_%d : read_chars One %s ≡ %s\n%s\n%s_%d = refl\n" % (name, i, codes(text), answer, UNFOLDING, name, i))
 
 
+def rows_of(texts, form, deep_form):
+    """The texts with their trees, and those that are as deep as may be."""
+    rows = [(text, form.program(PythonTrees(text).program())) for text in texts]
+    return rows + list(zip(nested(60), map(deep_form.program, deep_trees(60))))
+
+
+def write_antt(trees, faults, others):
+    too_deep = [(text, 1) for text in nested(61)]
+    write(trees, "Which trees some texts have", TREE_IMPORTS, "tree", rows_of(SAME, Defined(), DeepDefined()))
+    write(faults, "On which line some texts have a fault", FAULT_IMPORTS, "fault", [(text, "Err %d" % line) for text, line in BOTH_REFUSE])
+    write(others, "On which line texts that Python reads have a fault", FAULT_IMPORTS, "other", [(text, "Err %d" % line) for text, line in OTHER + too_deep])
+
+
+def quoted(text):
+    plain = text.replace("\\", "\\\\").replace('"', '\\"').replace("\n", "\\n").replace("\r", "\\r")
+    return "".join(c if ord(c) < 127 else "\\u{%x}" % ord(c) for c in plain)
+
+
+def write_rust():
+    too_deep = [(text, 1) for text in nested(61)]
+    rows = rows_of(SAME + MORE, Shown(), Shown()) + [(text, "line %d" % line) for text, line in BOTH_REFUSE + MORE_FAULTS + OTHER + MORE_OTHER + too_deep]
+    print("// Made by tools/trees.py: what is wanted and the text, with \\x1f between, and \\x1e behind each row.")
+    print("pub(crate) const COUNT: usize = %d;\n" % len(rows))
+    print('pub(crate) const ROWS: &str = "\\')
+    for text, want in rows:
+        print("    %s\\x1f%s\\x1e\\" % (quoted(want), quoted(text)))
+    print('    ";')
+
+
 def accepts(text):
     try:
         compile(text, "cell", "exec")
@@ -441,19 +372,21 @@ def accepts(text):
         return False
 
 
-def main():
-    for text in SAME + nested(60)[:-2] + [row[0] for row in OTHER]:
+def compare_with_python():
+    for text in SAME + MORE + nested(60)[:-2] + [text for text, _ in OTHER + MORE_OTHER]:
         if not accepts(text):
             print("refused by Python: %r" % text, file=sys.stderr)
-    for text, _ in BOTH_REFUSE:
+    for text, _ in BOTH_REFUSE + MORE_FAULTS:
         if accepts(text):
             print("accepted by Python: %r" % text, file=sys.stderr)
-    trees = [(text, same_tree(text)) for text in SAME] + list(zip(nested(60), deep_tree(60)))
-    faults = [(text, "Err %d" % line) for text, line in BOTH_REFUSE]
-    others = [(text, "Err %d" % line) for text, line in OTHER + [(text, 1) for text in nested(61)]]
-    write(sys.argv[2], "Which trees some texts have", TREE_IMPORTS, "tree", trees)
-    write(sys.argv[3], "On which line some texts have a fault", FAULT_IMPORTS, "fault", faults)
-    write(sys.argv[4], "On which line texts that Python reads have a fault", FAULT_IMPORTS, "other", others)
+
+
+def main():
+    compare_with_python()
+    if sys.argv[1] == "rust":
+        write_rust()
+    else:
+        write_antt(*sys.argv[2:])
 
 
 main()

@@ -1,0 +1,302 @@
+#!/usr/bin/env python3
+"""Makes the tables of cells and of what they show by which the meaning of cells is tested.
+
+Usage: tools/cells.py rust CELLS                  (crates/kishu_serve/src/tests/cells.rt)
+       tools/cells.py antt FOLDER                 (crates/kishu_model/proofs, for MeaningExamples.antt,
+                                                   MoreExamples.antt, BudgetExamples.antt, LaterExamples.antt,
+                                                   DepthExamples.antt)
+
+A cell is read by CPython's `ast.parse` and run by the small machine of cell_machine.py, which
+counts the steps. Each cell of SAME also runs in CPython, and prints, shows, binds and raises the
+same there. FAULTS gives the line of each syntax fault.
+"""
+import ast
+import contextlib
+import io
+import json
+import re
+import sys
+import warnings
+
+from cell_machine import Ran, later_line
+
+warnings.simplefilter("ignore")
+
+# CPython prints, shows, binds and raises the same.
+SAME = [
+    "", "pass", "# nothing\n\n", "1", "-7", "None", "True; False", "1;", "1; 2", "x = 1; x;", "x = 1 # c\nx", "((1))",
+    "'a'", "\"it's\"", "'\"'", "'\\'\"'", "'a\\tb\\n\\r\\\\'", "'\\0\\x1f\\x7f'", "r'\\n'", "'a' \"b\"", "'''a\nb'''", "'\\x41\\u00e9'", "'é😀'",
+    "0xff + 0o17 + 0b11", "1_000", "print(1 + 2)", "x = 2\nprint(x * x + 1)", "print(z)", "print()", "print('')", "print(print(1))",
+    "print(None, True, False, 0, -5, 'x')", "print('a\\tb', '\\\\')", "print('é' * 2)", "print(1)\nprint(2)\n3", "print('x'); 1 // 0; print('y')",
+    "1 + 2 * 3 - 4 // 3 % 2", "(1 + 2) * 3", "print(-7 // 2, -7 % 2)", "print(7 // -2, 7 % -2, -7 // -2, -7 % -2)", "print(0 // 5, 0 % -5)",
+    "print(2 ** 10, 0 ** 0, -2 ** 2, (-2) ** 3, 2 ** 3 ** 2)", "print(True + True, True * 3, -True, +False, True ** 2)",
+    "-2 ** 126 * 2", "170141183460469231731687303715884105727", "1 // 0", "1 % 0", "0 // False",
+    "'a' + 'b'", "'ab' * 3", "3 * 'ab'", "print('ab' * -1, 'ab' * True, False * 'ab', '' * 10)",
+    "'a' + 1", "1 + 'a'", "'a' - 'b'", "None + 1", "'a' * 'b'", "None * 2", "'a' // 2", "'a' % 1", "1 ** 'a'", "1 % None", "-'a'", "+None",
+    "1 < 'a'", "None < 1", "'a' >= 2", "None > None", "1 <= None", "1 in 'a'", "None not in 'a'", "'a' in 1", "'a' not in None",
+    "print(1 < 2 < 3, 3 > 2 > 2, 1 <= 1, 2 >= 3)", "print(1 == True, 1 is True, 1 != 2, None is None, None == None, 'a' == 1, None != 0)",
+    "print('a' < 'b', 'ab' < 'abc', 'b' > 'abc', '' <= '', 'a' >= 'b')", "print('ab' == 'ab', 'ab' != 'abc')", "'é' < '😀'",
+    "print('an' in 'banana', '' in '', 'x' not in 'abc', 'abcd' in 'abc')", "1 < 2 == True", "(1 < 2) == True",
+    "print(1 is 2, True is False, 'a' is 'ab', 1 is not 2, None is 0, 'a' is 1, 0 is False)", "print(2 >= 2, 2 <= 2, 2 > 2, 2 < 2, 'b' >= 'b', 'b' > 'b', 1 != True, 0 == False)", "print(1 == 2, True == False, 0 == False, 1 == 'a', None == 0, '' == None)",
+    "print(1) == print(2) != print(3)", "1 > 2 > print(3)", "1 < 2 < 'a'", "1 is 1 is not None",
+    "0 or 'a'", "'' and 1", "1 and 2 and 3", "0 or None or ''", "1 and 0 and print(1)", "1 or print(2)", "(0 or 1) and 'b'", "0 or x",
+    "not 0", "not 'a'", "not not None", "not -0 == 0", "1 if 'x' else 2", "print(1) if 0 else 'no'", "1 if 0 else 2 if '' else 3", "x = -(1 if None else -(2)) ** (0 or 3)\nx", "x if 1 else 2",
+    "a = b = 'q'\na + b", "x = 5; x -= 2; x *= 4; x //= 5; x **= 3; x %= 5\nx", "x = 'a'\nx += 'b'\nx *= 2\nx", "x = 1\nx += 'a'",
+    "y += 1 // 0", "x = 1\nx += y", "a = 1 // 0", "a = 1\na = b", "n = 1; m = 1 // 0; n = 2", "x = 1; x // 0", "_a1 = Zz = 0; _a1", "x = None; y = not x; z = 'é'; y", "b = a = 0; B = a; a_ = B",
+    "(a) = 1; a", "(a) = (b) = c = 3; print(a, b, c)", "((a)) = 1\n(a) = a + 1\na", "(print)(1)", "((print))((2), 'x')", "((x)) = (y)",
+    "x = 3\nif x > 2: 'big'", "if 0: print(1)\nelif '': print(2)\nelif 1: print(3)\nelse: print(4)", "if None: pass\nelse: print('else')", "if 0: x = 1\nelif None: x = 2",
+    "if 1:\n  if '':\n    print(1)\n  else:\n    print(2)\n  x = 5\nx", "if y: pass", "if 0 or 1: x = not 1\nx",
+    "n = 3\nwhile n: print(n); n -= 1", "while 0: print(1)", "while x: pass", "n = 0\nwhile True:\n  n += 1\n  if n == 2: continue\n  if n == 4: break\n  print(n)\nn",
+    "i = 0\nwhile i < 2:\n  j = 0\n  while True:\n    j += 1\n    if j > i: break\n  print(i, j)\n  i += 1", "n = 3\nwhile n:\n  n -= 1\n  n // (n - 1)",
+]
+
+# What CPython does otherwise, doesn't promise, or takes too long for.
+OWN = [
+    "2 ** 127", "170141183460469231731687303715884105727 + 1", "-170141183460469231731687303715884105727 - 2", "x = -2 ** 126 * 2; x // -1", "x = -2 ** 126 * 2; -x",
+    "2 ** -1", "0 ** -1", "x = 'ab'; x is 'a' 'b'", "'a' is not 'b'", "print(1)\r\nprint(2)\r", "print('''a\r\nb''')",
+    "n = 0\nwhile True: n += 1", "print('before')\nwhile True: pass", "x = 'a' * 4000000", "x = 'a' * 3999996", "x = 'a' * 3999997",
+    "x = 'a' * 2000000\nprint('one')\nprint(x)", "'a' * 1999999", "'a' * 170141183460469231731687303715884105727", "('b' * 2000) in 'b' * 2000",
+]
+
+# Texts without a tree, with the line of the fault.
+FAULTS = [
+    ("170141183460469231731687303715884105728", 1), ("x = 1\nif x:\n    y = ", 2), ("'abc", 1), ("a = = 1", 1), ("pass\n\nx = (1", 3), ("x\n  y\nz", 1),
+    ("print('no')\nbreak", 2), ("x = 01", 1), ("while 1:\npass", 1), ("x = 1 $ 2", 1), ("\n\nx = 1 +\n", 3), ("if 1: pass\nelse pass", 1),
+]
+
+# How many steps are left, and the cell.
+FEW = [
+    (20, "n = 0\nwhile True: n += 1"), (21, "n = 0\nwhile True: n += 1"), (16, "n = 0\nwhile True: n += 1"), (3, "x = 1 + 2"), (4, "x = 1 + 2"), (0, "pass"), (1, "pass"),
+    (8, "print('abc')"), (7, "print('abc')"), (9, "print(1, 2)"), (8, "print(1, 2)"), (4, "print()"), (3, "print()"), (3, "'a'"), (5, "'a'"), (4, "'a'"),
+    (7, "x = 'ab' + 'cd'"), (8, "x = 'ab' + 'cd'"), (9, "x = 'ab' * 3"), (10, "x = 'ab' * 3"), (21, "1 // 0"), (20, "1 // 0"), (4, "1 // 0"), (3, "1 // 0"), (25, "x"), (26, "x"), (2, "x"),
+    (6, "x = 'ab' < 'abc'"), (5, "x = 'ab' < 'abc'"), (6, "x = 'ab' is 'abc'"), (5, "x = 'ab' is 'abc'"), (10, "x = 'ab' in 'abc'"), (9, "x = 'ab' in 'abc'"), (4, "x = '' in 'a'"), (5, "x = '' in 'a'"),
+    (6, "x = 'abc' > 'ab'"), (6, "x = 'abc' != 'ab'"), (4, "x = 1 == 'a'"), (6, "x = 1\nx = 2 if x else 3"), (5, "x = 1\nx = 2 if x else 3"), (5, "x = 0 or not 1"), (4, "x = 0 or not 1"), (3, "while 1: pass"), (4, "while 1: pass"),
+    (7, "x = 'a'\nx += 'b'"), (8, "x = 'a'\nx += 'b'"), (12, "print(1)\nprint(2)"), (10, "print(1)\nprint(2)"),
+    (2, "x if y else z"), (2, "x or 1"), (2, "x and 1"), (2, "not x"), (2, "-x"), (2, "x + 1"), (2, "x < 1"), (2, "print(x)"), (3, "print(x)"), (2, "while x: pass"), (2, "if x: pass"),
+    (5, "x = 1\nx + y"), (5, "x = 1\nx * y"), (5, "x = 1\nx ** y"), (5, "x = 1\nx < y"), (5, "x = 1\nx += y"), (4, "x = 1\nx += y"), (3, "x = 1\nx += y"), (3, "while 1: x"), (4, "while 1: x"), (5, "while 1: x"),
+    (8, "x = 1 < 2 < y"), (6, "x = 1 < 2 < y"), (5, "x = 1 < 2 < y"),
+]
+
+# ---- beside CPython
+
+
+def in_python(text):
+    """What CPython prints, shows, binds and raises."""
+    names, out, shown, error = {}, io.StringIO(), [], None
+    body = ast.parse(text).body
+    last = body.pop() if body and isinstance(body[-1], ast.Expr) else None
+    with contextlib.redirect_stdout(out):
+        try:
+            exec(compile(ast.Module(body, []), "cell", "exec"), names)
+            found = eval(compile(ast.Expression(last.value), "cell", "eval"), names) if last else None
+            shown = [] if found is None else [("shown", repr(found))]
+        except Exception as raised:
+            error = type(raised).__name__
+    names.pop("__builtins__", None)
+    return out.getvalue(), shown, names, error
+
+
+def in_machine(ran):
+    shown = [o for o in ran.outputs if o[0] == "shown"]
+    error = next((o[1] for o in ran.outputs if o[0] == "fault"), None)
+    return ran.machine.out, shown, ran.names, error
+
+
+def is_refused(text):
+    try:
+        compile(text, "cell", "exec")
+        return False
+    except SyntaxError:
+        return True
+
+
+def check(rows):
+    for text, ran in rows[: len(SAME)]:
+        if repr(in_python(text)) != repr(in_machine(ran)):
+            sys.exit("CPython differs at %r: %r, and not %r" % (text, in_python(text), in_machine(ran)))
+    for text, line in LATER:
+        if later_line(text) != line:
+            sys.exit("the line of %r is %r" % (text, later_line(text)))
+    for text, _ in FAULTS[1:]:
+        if not is_refused(text):
+            sys.exit("CPython accepts %r" % text)
+
+
+# ---- the tables
+
+
+def rust_text(text):
+    def char(c):
+        if c in "\"\\":
+            return "\\" + c
+        if c in "\n\r\t\0":
+            return {"\n": "\\n", "\r": "\\r", "\t": "\\t", "\0": "\\0"}[c]
+        if ord(c) < 32 or ord(c) == 127:
+            return "\\x%02x" % ord(c)
+        return c if ord(c) < 128 else "\\u{%x}" % ord(c)
+
+    return "".join(map(char, text))
+
+
+def output_json(output):
+    if output[0] == "stream":
+        return {"name": "stdout", "output_type": "stream", "text": output[1]}
+    if output[0] == "shown":
+        return {"data": {"text/plain": output[1]}, "execution_count": 1, "metadata": {}, "output_type": "execute_result"}
+    return {"ename": output[1], "evalue": output[2], "output_type": "error", "traceback": ["%s: %s" % output[1:]]}
+
+
+RUST_HEAD = """// Made by tools/cells.py: the cell's outcome and outputs in its answer, and its text, with \\x1f between, and
+// \\x1e behind each row. The answer is BEGIN, this, END.
+pub(crate) const COUNT: usize = %d;
+
+pub(crate) const BEGIN: &str = "{\\"answer\\":\\"cell\\",\\"commit\\":1,\\"count\\":1,\\"outcome\\":";
+
+pub(crate) const END: &str = "}\\n";
+
+pub(crate) const ROWS: &str = "\\
+"""
+
+
+def rust(path, rows):
+    with open(path, "w") as out:
+        out.write(RUST_HEAD % len(rows))
+        for text, ran in rows:
+            outputs = json.dumps([output_json(o) for o in ran.outputs], ensure_ascii=False, separators=(",", ":"), sort_keys=True)
+            out.write("    %s\\x1f%s\\x1e\\\n" % (rust_text('"%s","outputs":%s' % (ran.outcome, outputs)), rust_text(text)))
+        out.write('";\n')
+
+
+def codes(text, of=lambda t: t.encode()):
+    if all(32 <= ord(c) < 127 or c == "\n" for c in text):
+        return '(codes "%s")' % text.replace("\\", "\\\\").replace('"', '\\"').replace("\n", "\\n")
+    return "(" + "".join("%d ∷ " % c for c in of(text)) + "[])"
+
+
+def listed(items):
+    items = list(items)
+    return "(" + "".join(i + " ∷ " for i in items) + "[])" if items else "[]"
+
+
+def antt_value(value):
+    if value is None:
+        return "none"
+    if isinstance(value, str):
+        return "text %s" % codes(value, lambda t: map(ord, t))
+    if isinstance(value, bool):
+        return "bool %s" % str(value).lower()
+    return "integer (pos %d)" % value if value >= 0 else "integer (negsuc %d)" % (-value - 1)
+
+
+def antt_ran(ran):
+    outcome = {"ok": "Done", "error": "Raised", "stopped": "Stopped"}[ran.outcome]
+    outputs = listed(["%s %s" % (o[0], " ".join(codes(part) for part in o[1:])) for o in ran.outputs])
+    names = listed(["(codes \"%s\", %s)" % (n, antt_value(ran.names[n])) for n in sorted(ran.names)])
+    accessed = listed(['codes "%s"' % n for n in ran.accessed])
+    return "ran %s %s %s %s %d" % (outcome, outputs, names, accessed, ran.charge)
+
+
+# How many nestings stand around the innermost point that is evaluated.
+DEEP = [
+    (0, "x = y = 1\nx += y * 2 - 3"), (0, "x = 1\nx < 2 and x or (1)"), (1, "(1)"), (2, "((1))"), (1, "print(1)"), (2, "print((1))"), (2, "print(print(1))"), (1, "not 1"), (2, "not not 1"), (1, "-1"), (3, "- -(1)"),
+    (1, "2 ** 3"), (1, "(1) ** 2"), (2, "2 ** 3 ** 1"), (4, "2 ** -(-1)"), (1, "1 if 0 else 2"), (2, "1 if 0 else 2 if 0 else 3"), (0, "1 if 2 else (3)"), (1, "(1) if 2 else 3"), (1, "1 < (2)"), (0, "1 > 2 > (3)"), (0, "0 and (1)"),
+    (1, "if 1: pass"), (2, "if 1:\n  if 1: pass"), (1, "if 0: pass\nelse: 1"), (2, "if 0: pass\nelif 1: (1)"), (0, "if 0: (1)"), (2, "if 1: x = not 1"), (1, "while 1: break"), (2, "while 1:\n  if 1: break"), (1, "while (0): pass"), (1, "x = 1\nx += (2)"),
+    (1, "(1); (2)"), (1, "(1) + -2 * (3)"), (2, "x = 3\nwhile x: x -= (1)"),
+]
+
+# The line of the first piece with a form that no cell has yet.
+LATER = [
+    ("", None), ("x = 1\nwhile x: x -= 1\nprint(x)", None), ("a = b = 'é' if not x else -(1) ** 2 * 3\nif a in b is None: pass", None), ("x += 1\nx -= (1)", None),
+    ("print", 1), ("x = print", 1), ("print = 1", 1), ("print += 1", 1), ("len", 1), ("int", 1), ("print(len)", 1), ("print(1 + print)", 1), ("ValueError", 1), ("SimpleNamespace", 1),
+    ("x = 1\nx.a", 2), ("x\n\n# c\nif x:\n  [1]\ny", 4), ("x; y; {}", 1), ("pass\nx = (1 +\n 2); y = [\n1]", 2), ("\r\rx\r\n[1]", 4), ("x = '''\n''' + y\n[1]\n()", 3),
+    ("print(1, end='')", 1), ("print(1)(2)", 1), ("print(1)[2]", 1), ("print.a", 1), ("f()", 1), ("len(x)", 1), ("'a'(1)", 1), ("'a'.b(1)", 1),
+    ("(1, 2)", 1), ("x = 1, 2", 1), ("x += 1,", 1), ("()", 1), ("[]", 1), ("{1: 2}", 1), ("x[0]", 1), ("x[1:2]", 1),
+    ("a, b = 1, 2", 1), ("[a] = x", 1), ("x[0] = 1", 1), ("x = x[0] = 1", 1), ("x.a += 1", 1), ("x = y.a", 1),
+    ("for i in x: pass", 1), ("def f(): pass", 1), ("del x", 1), ("assert x", 1), ("raise x", 1), ("try: pass\nexcept: pass", 1), ("x = 1\ntry: x\nfinally: x", 2), ("from types import SimpleNamespace", 1),
+    ("not (-x ** [1])", 1), ("1 if 2 else [3]", 1), ("1 if [2] else 3", 1), ("x and y or ()", 1), ("x < y < []", 1), ("1 + 2 - []", 1), ("2 * []", 1), ("[] ** 2", 1), ("print(1, ([]))", 1),
+    ("while []: pass", 1), ("while 1:\n  while 2: []", 1), ("if 1: pass\nelif []: pass", 1), ("if 1: pass\nelif 2: []", 1), ("if 1: pass\nelse: []", 1), ("x += []", 1),
+    ("x = [1]\na = = 1", None), ("[1]\n'abc", None), ("x = [1\n", None), ("f()\nbreak", None), ("len(1 $ 2)", None),
+    ("(a) = 1\n(print)(a)", None), ("x = 1\n(len)(x)", 2), ("(print)", 1), ("(print) = 1", 1), ("((print))(x).y", 1),
+]
+# bytes that are no text in UTF-8
+NO_TEXTS = [b"\xff", b"x = [1] # \x80", b"'\xc3'", b"[\xed\xa0\x80]"]
+
+EXPRESSIONS = "keyword_begins another argument attribute call slice_after item_or_slice trailer parenthesised list pair dict atom primary_parts primary power unary_level term sum compared negated_level conjunction disjunction expr_level exprs_level phrase"
+STATEMENTS = "primary_at another_simple raise return assertion delete global import update_of assignment_of update_or_assignment simple simples line block block_after arm choice while for caught handler handled finished try parameter definition define compound chunk program"
+UNFOLDING = (
+    "unfolding reserved_marks delimiter operator numeral Q.escape Q.item Q.closes Q.body Q.quoted token_piece lexeme cut indented begin bracket step layout encode_utf8 code_of "
+    + " ".join("E." + x for x in EXPRESSIONS.split()) + " " + " ".join("S." + x for x in STATEMENTS.split()) + " R.piece read_chars chars digits power builtin_names class_names"
+)
+IMPORTS = """use Rattle.std.proofs.Common.{◌≡◌, ◌∷◌, [], refl}
+use Rattle.std.specs.Prelude.{%s}
+use Rattle.std.specs.Char.{encode_utf8}
+use Rattle.std.specs.Fmt.{digits}
+use Rattle.std.specs.Str.{chars%s}
+%suse Rattle.kishu_model.specs.Names.{builtin_names, class_names}
+use Rattle.kishu_model.specs.Numbers.{power}
+use Rattle.kishu_model.specs.Marks.{reserved_marks, delimiter, operator}
+use Rattle.kishu_model.specs.Numerals.{numeral}
+use Rattle.kishu_model.specs.Quoted as Q
+use Rattle.kishu_model.specs.Lexemes.{token_piece, lexeme}
+use Rattle.kishu_model.specs.Layout.{cut, indented, begin, bracket, step, layout}
+use Rattle.kishu_model.specs.Code.{code_of}
+use Rattle.kishu_model.specs.ReadExpressions as E
+use Rattle.kishu_model.specs.ReadStatements as S
+use Rattle.kishu_model.specs.ReadText as R
+use Rattle.kishu_model.specs.ReadText.{read_chars}
+%s"""
+
+
+FIRST = "pos negsuc true false codes Some None"
+PROFILES = ("use Rattle.kishu_model.specs.declared.profile.Profile.TheVariants.{%s}\n", "One")
+OUTCOMES = ("use Rattle.kishu_model.specs.declared.result.Outcome.TheVariants.{%s}\n", "Done Raised Stopped")
+GROUPS = (
+    ("use Rattle.kishu_model.specs.Values.{%s}\n", "none bool integer text empty stream shown fault"),
+    ("use Rattle.kishu_model.specs.Meaning.{%s}\n", "run"),
+    ("use Rattle.kishu_model.specs.Later.{%s}\n", "later_line"),
+    ("use Rattle.kishu_model.proofs.Cells.{%s}\n", "ran run_with run_at"),
+)
+
+
+def imports(rows):
+    words = set(re.findall(r"\w+", re.sub(r'"(\\.|[^"\\])*"', "", " ".join(call + " " + answer for call, answer in rows))))
+
+    def line(group):
+        names = ", ".join(n for n in group[1].split() if n in words)
+        return group[0] % names if names else ""
+
+    return IMPORTS % (line(("%s", FIRST)), ", is_utf8" if "later_line" in words else "", line(PROFILES) + line(OUTCOMES), "".join(map(line, GROUPS)))
+
+
+def antt(path, head, name, first, rows):
+    own = rows[0][0].split()[0]
+    unfolding = UNFOLDING + {"run": " run", "later_line": " is_utf8 later_line"}.get(own, "")
+    with open(path, "w") as out:
+        out.write("-- %s: computed on the definition. Made by tools/cells.py.\n%s" % (head, imports(rows)))
+        for i, (call, answer) in enumerate(rows, first):
+            out.write("\n%s_%d : %s ≡ %s\n%s\n%s_%d = refl\n" % (name, i, call, answer, unfolding, name, i))
+
+
+TOO_DEEP = 'fault (codes "RecursionError") (codes "depth limit reached") ∷ []'
+
+
+def main():
+    rows = [(text, Ran(text)) for text in SAME + OWN] + [(text, Ran(text, line)) for text, line in FAULTS]
+    check(rows)
+    if sys.argv[1] == "rust":
+        return rust(sys.argv[2], rows)
+    short = [("run One %s empty" % codes(text), antt_ran(ran)) for text, ran in rows if ran.charge < 500]
+    few = [("run_with %d %s" % (n, codes(text)), antt_ran(Ran(text, budget=n))) for n, text in FEW]
+    later = [(codes(text), line) for text, line in LATER] + [(listed(map(str, text)), None) for text in NO_TEXTS]
+    deep = [("run_at %d %s" % (1000 - n, codes(text)), antt_ran(Ran(text))) for n, text in DEEP]
+    too_deep = [("(run_at %d %s).report.outputs" % (1001 - n, codes(text)), TOO_DEEP) for n, text in DEEP if n > 0]
+    half = len(short) // 2
+    folder = sys.argv[2]
+    antt(folder + "/MeaningExamples.antt", "What some cells give", "cell", 1, short[:half])
+    antt(folder + "/MoreExamples.antt", "What further cells give", "cell", half + 1, short[half:])
+    antt(folder + "/BudgetExamples.antt", "What some cells give where few steps are left", "few", 1, few)
+    antt(folder + "/DepthExamples.antt", "What some cells give that begin at a great depth", "deep", 1, deep + too_deep)
+    antt(folder + "/LaterExamples.antt", "Which cells have a form that no cell has yet", "later", 1, [("later_line " + text, "Some %d" % line if line else "None") for text, line in later])
+
+
+main()
