@@ -19,6 +19,7 @@ import sys
 import warnings
 
 from cell_machine import Ran, later_line
+from rust_text import escaped
 
 warnings.simplefilter("ignore")
 
@@ -126,16 +127,7 @@ def check(rows):
 
 
 def rust_text(text):
-    def char(c):
-        if c in "\"\\":
-            return "\\" + c
-        if c in "\n\r\t\0":
-            return {"\n": "\\n", "\r": "\\r", "\t": "\\t", "\0": "\\0"}[c]
-        if ord(c) < 32 or ord(c) == 127:
-            return "\\x%02x" % ord(c)
-        return c if ord(c) < 128 else "\\u{%x}" % ord(c)
-
-    return "".join(map(char, text))
+    return escaped(text, str.isascii)
 
 
 def output_json(output):

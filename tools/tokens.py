@@ -16,6 +16,8 @@ import sys
 import tokenize
 import warnings
 
+from rust_text import escaped
+
 warnings.simplefilter("ignore")
 
 SIGNS = {
@@ -240,16 +242,7 @@ def shown(tokens):
 
 
 def rust_text(text):
-    def char(c):
-        if c in "\"\\":
-            return "\\" + c
-        if c in "\n\r\t\0":
-            return {"\n": "\\n", "\r": "\\r", "\t": "\\t", "\0": "\\0"}[c]
-        if ord(c) < 32 or ord(c) == 127:
-            return f"\\x{ord(c):02x}"
-        return c if c.isprintable() and ord(c) < 0x10000 else f"\\u{{{ord(c):x}}}"
-
-    return '"' + "".join(map(char, text)) + '"'
+    return '"' + escaped(text, lambda c: c.isprintable() and ord(c) < 0x10000) + '"'
 
 
 def antt_text(text):
