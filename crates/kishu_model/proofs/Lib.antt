@@ -14,3 +14,6 @@ mod MoreExamples
 mod BudgetExamples
 mod DepthExamples
 mod LaterExamples
+mod KeyExamples
+mod NodeExamples
+mod EqualExamples

@@ -14,7 +14,7 @@ use Rattle.kishu_model.specs.Tree as t
 use Rattle.kishu_model.specs.ReadText.{read_chars}
 use Rattle.kishu_model.specs.Values.{Value, none, bool, integer, text, builtin, class, State, Output, stream, shown, fault, Report, Ran}
 use Rattle.kishu_model.specs.Moment.{Moment, Thrown, fresh, Ends, fine, raised, stopped, M, ◌>>=◌, ◌>>◌, give, raise, later, spend, tick, most_steps, deeper, read, assign, put_out}
-use Rattle.kishu_model.specs.Operators.{kind_name, quoted_kind, type_error, truth, operate, signed_value, compare}
+use Rattle.kishu_model.specs.Operators.{quoted_kind, type_error, truth, operate, signed_value, compare}
 use Rattle.kishu_model.specs.Show.{repr_of, show_all, show_thrown, class_name}
 
 -- ---- calls
@@ -34,7 +34,7 @@ abbrev pub call_builtin : ℕ → List Value → M Value
 call_builtin n vs = if n == print_number then print (codes " ") (line_feed ∷ []) vs else later
 
 abbrev pub not_callable : {A : Type 0} → Value → M A
-not_callable v = type_error (quoted_kind v ++ codes " object is not callable")
+not_callable v = λ s. type_error (quoted_kind s.nodes v ++ codes " object is not callable") s
 
 abbrev pub apply : Value → List Value → M Value
 apply (builtin n) vs = call_builtin n vs

@@ -1,5 +1,5 @@
 -- What operators and comparisons do (Python Language Reference 3, "Binary arithmetic operations", "Unary arithmetic operations", "Comparisons" and "Boolean operations").
-use Rattle.std.specs.Prelude.{ℕ, zero, suc, ◌+◌, ◌*◌, ◌==◌, min, max, ℤ, pos, negsuc, ◌+ℤ◌, ◌-ℤ◌, ◌*ℤ◌, neg_ℤ, Bool, true, false, not, if◌then◌else◌, List, [], ◌∷◌, ◌++◌, length, replicate, codes, Option, Some, None, is_some}
+use Rattle.std.specs.Prelude.{ℕ, zero, suc, ◌+◌, ◌*◌, ◌==◌, min, max, ℤ, pos, negsuc, ◌+ℤ◌, ◌-ℤ◌, ◌*ℤ◌, neg_ℤ, Bool, true, false, not, if◌then◌else◌, List, [], ◌∷◌, ◌++◌, length, replicate, codes, Option, Some, None, is_some, slice_get}
 use Rattle.std.specs.declared.cmp.Ordering.{Ordering}
 use Rattle.std.specs.Bool.{beq}
 use Rattle.std.specs.Ordering.{is_lt, is_le, is_gt, is_ge, nat_cmp, int_cmp, int_eq}
@@ -14,53 +14,78 @@ use Rattle.kishu_model.specs.declared.tree.Comparison.{Comparison}
 use Rattle.kishu_model.specs.declared.tree.Comparison.TheVariants as comparisons
 use Rattle.kishu_model.specs.Numbers.{is_whole, floor_quotient, floor_remainder, power}
 use Rattle.kishu_model.specs.Texts.{first_place}
-use Rattle.kishu_model.specs.Values.{Value, none, bool, integer, text, builtin, class}
+use Rattle.kishu_model.specs.Values.{Value, none, bool, integer, text, range, builtin, class, node, Node, list, tuple, dict, object, function, exception}
+pub use Rattle.kishu_model.specs.Keys.{number_of_bool}
+pub use Rattle.kishu_model.specs.Equal.{number_in, is_same, pair_steps, by_numbers, is_equal}
+use Rattle.kishu_model.specs.Equal.{range_length, equal, less}
+use Rattle.kishu_model.specs.Show.{class_name}
 use Rattle.kishu_model.specs.Moment.{M, ◌>>=◌, ◌>>◌, give, raise, spend}
 
-abbrev pub kind_name : Value → List ℕ
-kind_name none = codes "NoneType"
-kind_name (bool b) = codes "bool"
-kind_name (integer z) = codes "int"
-kind_name (text cs) = codes "str"
-kind_name (builtin n) = codes "builtin"
-kind_name (class n) = codes "class"
+-- An exception's kind is its class.
+abbrev pub node_kind : Node → List ℕ
+node_kind (list vs) = codes "list"
+node_kind (tuple vs) = codes "tuple"
+node_kind (dict es) = codes "dict"
+node_kind (object as') = codes "SimpleNamespace"
+node_kind (function profile code vs) = codes "function"
+node_kind (exception kind vs) = class_name kind
 
-abbrev pub quoted_kind : Value → List ℕ
-quoted_kind v = codes "'" ++ kind_name v ++ codes "'"
+abbrev pub kind_at : Option Node → List ℕ
+kind_at (Some n) = node_kind n
+kind_at None = []
+
+-- of a value among these nodes
+abbrev pub kind_in : List Node → Value → List ℕ
+kind_in ns none = codes "NoneType"
+kind_in ns (bool b) = codes "bool"
+kind_in ns (integer z) = codes "int"
+kind_in ns (text cs) = codes "str"
+kind_in ns (range a b c) = codes "range"
+kind_in ns (builtin n) = codes "builtin"
+kind_in ns (class n) = codes "class"
+kind_in ns (node i) = kind_at (slice_get ns i)
+
+abbrev pub quoted_kind : List Node → Value → List ℕ
+quoted_kind ns v = codes "'" ++ kind_in ns v ++ codes "'"
 
 abbrev pub type_error : {A : Type 0} → List ℕ → M A
 type_error message = raise 23 message
 
 abbrev pub bad_operands : {A : Type 0} → List ℕ → Value → Value → M A
-bad_operands sign a b = type_error (codes "bad operand types for " ++ sign ++ codes ": " ++ quoted_kind a ++ codes " and " ++ quoted_kind b)
+bad_operands sign a b = λ s. type_error (codes "bad operand types for " ++ sign ++ codes ": " ++ quoted_kind s.nodes a ++ codes " and " ++ quoted_kind s.nodes b) s
 
 abbrev pub bad_operand : {A : Type 0} → List ℕ → Value → M A
-bad_operand sign v = type_error (codes "bad operand type for " ++ sign ++ codes ": " ++ quoted_kind v)
+bad_operand sign v = λ s. type_error (codes "bad operand type for " ++ sign ++ codes ": " ++ quoted_kind s.nodes v) s
 
 abbrev pub value_error : {A : Type 0} → List ℕ → M A
 value_error message = raise 24 message
 
 -- ---- truth
 
+-- A list, a tuple and a dict are true where they are not empty, and other nodes always.
+abbrev pub is_full : Node → Bool
+is_full (list vs) = not (length vs == 0)
+is_full (tuple vs) = not (length vs == 0)
+is_full (dict es) = not (length es == 0)
+is_full (object as') = true
+is_full (function profile code vs) = true
+is_full (exception kind vs) = true
+
+abbrev pub is_full_at : Option Node → Bool
+is_full_at (Some n) = is_full n
+is_full_at None = true
+
 abbrev pub truth : Value → M Bool
 truth none = give false
 truth (bool b) = give b
 truth (integer z) = give (not (int_eq z (pos 0)))
 truth (text cs) = give (not (length cs == 0))
+truth (range a b c) = give (not (range_length a b c == 0))
 truth (builtin n) = give true
 truth (class n) = give true
+truth (node i) = λ s. give (is_full_at (slice_get s.nodes i)) s
 
 -- ---- whole numbers
-
-abbrev pub number_of_bool : Bool → ℤ
-number_of_bool false = pos 0
-number_of_bool true = pos 1
-
--- a bool counts as 0 or 1
-abbrev pub number_in : Value → Option ℤ
-number_in (bool b) = Some (number_of_bool b)
-number_in (integer z) = Some z
-number_in _ = None
 
 abbrev pub whole : ℤ → M Value
 whole z = if is_whole z then give (integer z) else raise 10 (codes "whole number too large")
@@ -161,47 +186,10 @@ comparison_sign comparisons.NotIn = codes "not in"
 comparison_sign comparisons.Is = codes "is"
 comparison_sign comparisons.IsNot = codes "is not"
 
--- the same kind and the same value
-abbrev pub is_same : Value → Value → Bool
-is_same none none = true
-is_same (bool a) (bool b) = beq a b
-is_same (integer a) (integer b) = int_eq a b
-is_same (text a) (text b) = bytes_eq a b
-is_same (builtin a) (builtin b) = a == b
-is_same (class a) (class b) = a == b
-is_same _ _ = false
-
--- A comparison of two texts takes the code points of the shorter as steps.
-abbrev pub pair_steps : Value → Value → ℕ
-pair_steps (text a) (text b) = min (length a) (length b)
-pair_steps _ _ = 0
-
-abbrev pub by_numbers : {A : Type 0} → Option ℤ → Option ℤ → (ℤ → ℤ → A) → A → A
-by_numbers (Some a) (Some b) numbers other = numbers a b
-by_numbers _ _ numbers other = other
-
--- Numbers are equal by value, and all else where it is the same.
-abbrev pub is_equal : Value → Value → Bool
-is_equal a b = by_numbers (number_in a) (number_in b) int_eq (is_same a b)
-
-abbrev pub text_order : Comparison → Value → Value → M Ordering
-text_order comparison (text a) (text b) = give (slice_cmp nat_cmp a b)
-text_order comparison a b = bad_operands (comparison_sign comparison) a b
-
--- Numbers have an order, and texts by their code points.
-abbrev pub order : Comparison → Value → Value → M Ordering
-order comparison a b = by_numbers (number_in a) (number_in b) (λ x y. give (int_cmp x y)) (text_order comparison a b)
-
-abbrev pub ordered : Comparison → (Ordering → Bool) → Value → Value → M Bool
-ordered comparison test a b = do
-  spend (pair_steps a b)
-  found ← order comparison a b
-  give (test found)
-
-abbrev pub equal : Value → Value → M Bool
-equal a b = do
-  spend (pair_steps a b)
-  give (is_equal a b)
+-- The left one is less, where the two have an order.
+abbrev pub or_unordered : Comparison → Value → Value → Option Bool → M Bool
+or_unordered comparison a b (Some found) = give found
+or_unordered comparison a b None = bad_operands (comparison_sign comparison) a b
 
 abbrev pub identical : Value → Value → M Bool
 identical a b = do
@@ -215,7 +203,7 @@ part_in part cs = do
   give (is_some (first_place part cs))
 
 abbrev pub not_iterable : {A : Type 0} → Value → M A
-not_iterable v = type_error (quoted_kind v ++ codes " object is not iterable")
+not_iterable v = λ s. type_error (quoted_kind s.nodes v ++ codes " object is not iterable") s
 
 abbrev pub member : Comparison → Value → Value → M Bool
 member comparison (text part) (text cs) = part_in part cs
@@ -228,10 +216,10 @@ negated m = do
   give (not found)
 
 abbrev pub compare : Comparison → Value → Value → M Bool
-compare comparisons.Less a b = ordered comparisons.Less is_lt a b
-compare comparisons.LessEqual a b = ordered comparisons.LessEqual is_le a b
-compare comparisons.Greater a b = ordered comparisons.Greater is_gt a b
-compare comparisons.GreaterEqual a b = ordered comparisons.GreaterEqual is_ge a b
+compare comparisons.Less a b = less a b >>= or_unordered comparisons.Less a b
+compare comparisons.LessEqual a b = negated (less b a >>= or_unordered comparisons.LessEqual a b)
+compare comparisons.Greater a b = less b a >>= or_unordered comparisons.Greater a b
+compare comparisons.GreaterEqual a b = negated (less a b >>= or_unordered comparisons.GreaterEqual a b)
 compare comparisons.Equal a b = equal a b
 compare comparisons.NotEqual a b = negated (equal a b)
 compare comparisons.In a b = member comparisons.In a b

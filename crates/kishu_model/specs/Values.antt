@@ -4,11 +4,13 @@ use Rattle.std.specs.Ordering.{nat_cmp, match_ordering}
 use Rattle.std.specs.Cmp.Lexicographic.{slice_cmp}
 use Rattle.std.specs.Str.{bytes_eq, chars}
 use Rattle.std.specs.Rc.{rc_str_bytes}
+use Rattle.kishu_model.specs.declared.profile.Profile.{Profile}
 use Rattle.kishu_model.specs.declared.value.Value as rust
 use Rattle.kishu_model.specs.declared.value.Value.TheVariants as rust_value
 use Rattle.kishu_model.specs.declared.result.Output as rust_output
 use Rattle.kishu_model.specs.declared.result.CellResult.{CellResult}
 use Rattle.kishu_model.specs.declared.result.Outcome.{Outcome}
+use Rattle.kishu_model.specs.Keys.{Key}
 
 pub data Value : Type 0 where
   none : Value
@@ -16,20 +18,36 @@ pub data Value : Type 0 where
   integer : ℤ → Value
   -- the code points of a text
   text : List ℕ → Value
+  -- its start, its stop and its step, which isn't 0
+  range : (start stop step : ℤ) → Value
   -- a builtin function and a class, by their numbers
   builtin : ℕ → Value
   class : ℕ → Value
+  -- a node of the heap, by its number
+  node : ℕ → Value
 
 abbrev pub value_of : rust.Value → Value
 value_of rust_value.None = none
 value_of (rust_value.Bool b) = bool b
 value_of (rust_value.Int z) = integer z
 value_of (rust_value.Text x) = text (chars (rc_str_bytes x))
+value_of (rust_value.Range a b c) = range a b c
 value_of (rust_value.Builtin n) = builtin n.0
 value_of (rust_value.Class n) = class n.0
+value_of (rust_value.Node n) = node n.0
 
--- A node of the heap. No kind of node is there yet.
+-- A node of the heap: what has an identity and can be changed (Python Language Reference 3, "Objects, values and types").
 pub data Node : Type 0 where
+  list : List Value → Node
+  tuple : List Value → Node
+  -- the keys, no two of them one, with their values in the order of insertion
+  dict : List (Key × Value) → Node
+  -- the attributes, each once, with their values in the order of their first setting
+  object : List (List ℕ × Value) → Node
+  -- a function's code, by which its tree is known, and the values of its defaults in order
+  function : Profile → (code : List ℕ) → (defaults : List Value) → Node
+  -- the class by its number, and the arguments
+  exception : (kind : ℕ) → (arguments : List Value) → Node
 
 -- the names that are bound, each once, in byte order, with their values
 abbrev pub Names : Type 0

@@ -3,6 +3,8 @@
 //! run writes. Whoever wants to know what Kishu promises reads those definitions.
 #![tactic(auto)]
 
+mod budget;
+mod key;
 mod names;
 mod profile;
 mod result;
@@ -11,6 +13,8 @@ mod token;
 mod tree;
 mod value;
 
+pub use budget::Budget;
+pub use key::{Key, KeyPart};
 pub use names::{builtin_name, builtin_named, class_name, class_named, is_builtin, is_reserved};
 pub use profile::Profile;
 pub use result::{CellResult, Outcome, Output};
@@ -20,4 +24,4 @@ pub use tree::{
     Argument, Arm, Comparison, Def, Expr, Handler, Link, Operand, Operator, Pair, Program, Sign,
     Stmt, Trailer,
 };
-pub use value::{Builtin, ClassId, Value};
+pub use value::{Builtin, ClassId, NodeId, Value};
