@@ -17,3 +17,5 @@ pub mod Handlers
 pub mod Chunks
 pub mod Compounds
 pub mod TopPieces
+pub mod OneFunction
+pub mod FunctionRead

@@ -1,30 +1,21 @@
 -- The trees of texts.
-use Rattle.std.specs.Prelude.{◌≡◌, ℕ, Bool, true, false, not, List, [], ◌∷◌, length, Result, Ok, Err}
+use Rattle.std.specs.Prelude.{◌≡◌, ℕ, Bool, true, false, not, List, [], length, Result, Ok}
 use Rattle.std.specs.Str.{chars, bytes_eq}
 use Rattle.std.proofs.lemmas.Slice.Eq.{bytes_eq-Decides}
-use Rattle.std.proofs.Common.{refl, sym, ap, ◌∙◌}
+use Rattle.std.proofs.Common.{refl, sym, ap, ◌∙◌, inl}
 use Rattle.kishu_model.specs.declared.profile.Profile.{Profile}
 use Rattle.kishu_model.specs.Tree.{Text, Statement, Definition}
 use Rattle.kishu_model.specs.Tree as t
 use Rattle.kishu_model.specs.Language.{Tokens}
 use Rattle.kishu_model.specs.Tokens.{tokens}
-use Rattle.kishu_model.specs.Parse.{plain_text, Parse, Line}
+use Rattle.kishu_model.specs.Parse.{plain_text, Parse, Line, LineDef}
 use Rattle.kishu_model.specs.ReadText.{pieces, tree_in, read_chars}
 use Rattle.kishu_model.specs.ExactText.{line_found, no_line}
 use Rattle.kishu_lexer.specs.declared.fault.SyntaxFault.{SyntaxFault}
 use Rattle.kishu_lexer.specs.declared.fault.SyntaxFault.TheVariants as fault
-use Rattle.kishu_parser.specs.declared.cursor.Stop.{Stop}
-use Rattle.kishu_parser.specs.declared.cursor.Stop.TheVariants as stop
-use Rattle.kishu_parser.specs.Statements.{defined, FailsOn, FaultOf, GivesFunction}
+use Rattle.kishu_parser.specs.Statements.{defined, FailsOn, FaultOf}
 
--- ---- a function's statement
-
-abbrev is_define : Statement → Bool
-is_define (t.define x ps body code) = true
-is_define _ = false
-
-pub other : {s v : Statement} (text : Text) → s ≡ v → is_define v ≡ false → (d : Definition) → s ≡ defined d text → ⊥
-other text e none d h = let clash : true ≡ false = ap is_define (sym h) ∙ ap is_define e ∙ none in cc
+-- ---- a function and its code
 
 abbrev code_in : Text → Statement → Text
 code_in text (t.define x ps body code) = code
@@ -34,11 +25,11 @@ abbrev function_in : Definition → Statement → Definition
 function_in d (t.define x ps body code) = record { title = x; parameters = ps; body = body }
 function_in d _ = d
 
-pub other_code : {s : Statement} (text code : Text) (d : Definition) → s ≡ defined d code → (code ≡ text → ⊥) → (e : Definition) → s ≡ defined e text → ⊥
-other_code text code d is differ e h = differ (ap (code_in text) (sym is ∙ h))
+pub same_code : (d e : Definition) (code text : Text) → defined d code ≡ defined e text → code ≡ text
+same_code d e code text h = ap (code_in text) h
 
-pub its_code : {s : Statement} (text code : Text) (d e : Definition) → s ≡ defined d code → code ≡ text → d ≡ e → s ≡ defined e text
-its_code text code d e is same found = is ∙ ap (λ x. defined d x) same ∙ ap (λ f. defined f text) found
+pub one_function : {text : Text} (d e : Definition) → defined d text ≡ defined e text → d ≡ e
+one_function d e h = ap (function_in d) h
 
 pub differs : (x code text : Text) (b : Bool) → x ≡ code → b ≡ not (bytes_eq x text) → b ≡ true → code ≡ text → ⊥
 differs x code text b same is e h = let clash : true ≡ false = sym e ∙ is ∙ ap not ((bytes_eq-Decides x text).1 (same ∙ h)) in cc
@@ -49,9 +40,6 @@ equal x code text b same is e = sym same ∙ by (bytes_eq x text) refl
     by : (k : Bool) → bytes_eq x text ≡ k → x ≡ text
     by true h = (bytes_eq-Decides x text).0 h
     by false h = let clash : false ≡ true = sym e ∙ is ∙ ap not h in cc
-
-pub one_function : {text : Text} (d e : Definition) → defined d text ≡ defined e text → d ≡ e
-one_function d e h = ap (function_in d) h
 
 -- ---- a text's tree
 
@@ -69,9 +57,7 @@ pub no_fault : (profile : Profile) (text : Text) (tree : List Statement) (e : Sy
 no_fault profile text tree (fault.Syntax line) h is = absurd (no_line profile text tree line is h)
 no_fault profile text tree fault.NoMemory h is = refl
 
-pub only_one : (d e : Definition) (text : Text) {ss : List Statement} → ss ≡ defined d text ∷ [] → ss ≡ defined e text ∷ [] → d ≡ e
-only_one d e text h k = let same : defined d text ∷ [] ≡ defined e text ∷ [] = sym h ∙ k in one_function {text = text} d e cc
-
-pub no_function : (Is : Definition → Type 0) (e : Stop) → e ≡ stop.Refused → GivesFunction Is (Err e) → (d : Definition) → Is d → ⊥
-no_function Is stop.Refused same h = h
-no_function Is stop.NoMemory same h = absurd cc
+-- What has no tree is no function's code.
+pub fault_besides : (profile : Profile) (text : Text) (e : SyntaxFault) → FaultOf (Line profile text) e → FaultOf (LineDef profile text) e
+fault_besides profile text (fault.Syntax line) h = inl h
+fault_besides profile text fault.NoMemory h = tt

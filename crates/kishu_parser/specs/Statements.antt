@@ -2,7 +2,6 @@
 use Rattle.std.specs.Prelude.{◌≡◌, ℕ, suc, ◌-◌, ◌+◌, Bool, true, false, not, List, [], ◌∷◌, ◌++◌, map, length, take, Option, Some, None, Result, Ok, Err}
 use Rattle.std.specs.declared.alloc.Global.{Global}
 use Rattle.std.specs.declared.vec.Vec.{Vec}
-use Rattle.std.specs.declared.rc.Rc.{Rc}
 use Rattle.std.specs.declared.rc.RcStr.{RcStr}
 use Rattle.kishu_model.specs.declared.token.Mark.TheVariants as m
 use Rattle.kishu_model.specs.declared.tree.Expr.{Expr}
@@ -155,11 +154,11 @@ AnswersPiece outcome line (Ok v) = outcome ≡ Some (statements_in v)
 AnswersPiece outcome line (Err (fault.Syntax at)) = (outcome ≡ None) × (at ≡ line)
 AnswersPiece outcome line (Err fault.NoMemory) = Unit {0}
 
--- a function, or why there is none
-abbrev pub GivesFunction : (Definition → Type 0) → Result (Rc Def Global) Stop → Type 0
-GivesFunction Is (Ok d) = Is (definition_of d.value)
-GivesFunction Is (Err stop.Refused) = (d : Definition) → Is d → ⊥
-GivesFunction Is (Err stop.NoMemory) = Unit {0}
+-- a function whose code is the text, where all the tokens are read as it
+abbrev pub GivesFunction : Outcome Statement → Text → Result Def Stop → Type 0
+GivesFunction outcome text (Ok d) = outcome ≡ Some (defined (definition_of d) text, [])
+GivesFunction outcome text (Err stop.Refused) = (d : Definition) → outcome ≡ Some (defined d text, []) → ⊥
+GivesFunction outcome text (Err stop.NoMemory) = Unit {0}
 
 -- how many blocks are open behind a token, and whether a line or a block ends with it
 abbrev pub after_kind : Option Kind → ℕ → ℕ × Bool

@@ -15,6 +15,7 @@ ghost use Rattle.kishu_parser.specs.Statements as lines;
 use crate::cursor::{Parser, Stop};
 use crate::expressions::Phrase;
 use crate::mentions::globals_fit;
+use crate::pieces::DEEPEST;
 use crate::pushes::{defined, push_parameter};
 use crate::refusals::parameters_fit;
 use crate::simple::Around;
@@ -110,6 +111,23 @@ impl<'a> Parser<'a> {
         let definition = self.definition(at, room)?;
         let code = self.code_between(before, *at)?;
         Ok(defined(self.alloc, definition, code)?)
+    }
+
+    /// The function that all the tokens spell, where the text is its code.
+    pub(crate) fn whole_function(&self, text: &str) -> Result<Def, Stop>
+        requires { lines.Placed self.now.source.now self.now.tokens.now }
+        ensures { lines.GivesFunction (spec.define self.now.source.now 60 (spec.chunk self.now.source.now 60) lines.top (tokens_of self.now.tokens.now)) text.now result }
+    {
+        let mut at = 0;
+        let definition = self.definition(&mut at, DEEPEST - 1)?;
+        if self.left(at) > 0 {
+            return Err(Stop::Refused);
+        }
+        let code = self.code_between(0, at)?;
+        if code.as_str() != text {
+            return Err(Stop::Refused);
+        }
+        Ok(definition)
     }
 
     /// The code of the function that the tokens from one place to another spell.

@@ -8,6 +8,7 @@ mod cursor;
 mod expressions;
 mod functions;
 mod joins;
+mod laws;
 mod looks;
 mod mentions;
 mod pieces;
@@ -20,8 +21,6 @@ mod texts;
 mod top;
 
 pub use kishu_lexer::SyntaxFault;
+pub use laws::codes_read;
 pub use pieces::Piece;
 pub use top::{parse, parse_def, parse_pieces};
-
-#[cfg(test)]
-mod tests;

@@ -1,8 +1,9 @@
 // The trees of texts.
 ghost use Rattle.std.specs.Prelude.{◌≡◌, ◌≤◌, List, [], ◌∷◌, length, map, IfOk, IfErr, MatchResult};
-ghost use Rattle.kishu_model.specs.Tree.{Statement, Definition, statements, statement_of, program_of, definition_of};
-ghost use Rattle.kishu_model.specs.Height.{of_statements};
+ghost use Rattle.kishu_model.specs.Tree.{Statement, Definition, statements, program_of, definition_of};
+ghost use Rattle.kishu_model.specs.Height.{of_statement, of_statements};
 ghost use Rattle.kishu_model.specs.Parse.{Parse, Line, ParseDef, LineDef};
+ghost use Rattle.kishu_model.specs.FunctionCodes.{CodesRead};
 ghost use Rattle.kishu_parser.specs.Statements as lines;
 ghost use Rattle.kishu_parser.specs.TopLevel.{Lined, piece_of, HasPieces};
 ghost use Rattle.kishu_parser.specs.TopLaws.{statements_of};
@@ -12,7 +13,6 @@ use crate::pieces::Piece;
 use kishu_lexer::{SyntaxFault, plain_lines, tokens};
 use kishu_model::{Def, Profile, Program, Stmt};
 use std::alloc::{AllocError, Global};
-use std::rc::Rc;
 
 /// The tree of a text of at most 1,048,576 bytes, under the rules of a profile (Python Language
 /// Reference 3, "Full Grammar specification"). Syntax says that it has none, with the line of its
@@ -24,6 +24,9 @@ pub fn parse(alloc: Global, profile: Profile, text: &str) -> Result<Program, Syn
 
     // A text that has a tree gets that tree, and no other is its tree.
     ensures only { (tree : List Statement) → Parse profile text.now tree → MatchResult result (λ p. program_of p ≡ tree) (λ e. e ≡ SyntaxFault.NoMemory) }
+
+    // The code of each function in the tree reads as that function, and is no longer than the text.
+    ensures codes { IfOk result (λ p. CodesRead profile text.now (program_of p)) }
 
     // Syntax comes only where there is no tree, with the line of the fault.
     ensures line { IfErr result (lines.FaultOf (Line profile text.now)) }
@@ -63,61 +66,33 @@ pub fn parse_pieces(alloc: Global, profile: Profile, text: &str) -> Result<Vec<P
 /// The function whose code a text of at most 1,048,576 bytes is (Python Language Reference 3,
 /// "Function definitions"). Syntax says that it isn't one function's code and nothing else: with the
 /// line of its fault where it has no tree, else with line 1.
-pub fn parse_def(alloc: Global, profile: Profile, text: &str) -> Result<Rc<Def>, SyntaxFault>
+pub fn parse_def(alloc: Global, profile: Profile, text: &str) -> Result<Def, SyntaxFault>
     requires { length text.now ≤ 1048576 }
-    ensures found { IfOk result (λ d. ParseDef profile text.now (definition_of d.value)) }
+    ensures found { IfOk result (λ d. ParseDef profile text.now (definition_of d)) }
 
     // A text that is one function's code gets that function, and is no other's.
-    ensures only { (d : Definition) → ParseDef profile text.now d → MatchResult result (λ found. definition_of found.value ≡ d) (λ e. e ≡ SyntaxFault.NoMemory) }
+    ensures only { (d : Definition) → ParseDef profile text.now d → MatchResult result (λ found. definition_of found ≡ d) (λ e. e ≡ SyntaxFault.NoMemory) }
 
     // Syntax comes only where it is none, with the line of its fault, or line 1 where it has a tree.
     ensures line { IfErr result (lines.FaultOf (LineDef profile text.now)) }
+
+    // The function as a statement is no higher than 611, as in the tree of a text.
+    ensures height { IfOk result (λ d. of_statement (lines.defined (definition_of d) text.now) ≤ 611) }
 {
-    let program = parse(alloc, profile, text)?;
-    match only_function(program.statements.as_slice(), text) {
+    let found = tokens(alloc, profile, text)?;
+    let source = plain_lines(alloc, text)?;
+    let parser = Parser {
+        alloc,
+        source: source.as_str(),
+        tokens: found.as_slice(),
+    };
+    match parser.whole_function(text) {
         Ok(definition) => Ok(definition),
         Err(Stop::NoMemory) => Err(SyntaxFault::NoMemory),
-        Err(Stop::Refused) => Err(SyntaxFault::Syntax { line: 1 }),
-    }
-}
-
-/// The function that is all of the statements, where the text is its code.
-fn only_function(statements: &[Stmt], text: &str) -> Result<Rc<Def>, Stop>
-    ensures { lines.GivesFunction (λ d. map statement_of statements.now ≡ lines.defined d text.now ∷ []) result }
-{
-    match statements {
-        [statement] => function_with(statement, text),
-        _ => Err(Stop::Refused),
-    }
-}
-
-/// The function that the statement defines, where the text is its code.
-fn function_with(statement: &Stmt, text: &str) -> Result<Rc<Def>, Stop>
-    ensures { lines.GivesFunction (λ d. statement_of statement.now ≡ lines.defined d text.now) result }
-{
-    match statement {
-        Stmt::Def(definition, code) => {
-            if code.as_str() != text {
-                return Err(Stop::Refused);
-            }
-            Ok(definition.clone()?)
+        Err(Stop::Refused) => {
+            parser.lined_pieces()?;
+            Err(SyntaxFault::Syntax { line: 1 })
         }
-        Stmt::Pass => Err(Stop::Refused),
-        Stmt::Break => Err(Stop::Refused),
-        Stmt::Continue => Err(Stop::Refused),
-        Stmt::Return(_) => Err(Stop::Refused),
-        Stmt::Raise(_) => Err(Stop::Refused),
-        Stmt::Assert(_, _) => Err(Stop::Refused),
-        Stmt::Del(_) => Err(Stop::Refused),
-        Stmt::Global(_) => Err(Stop::Refused),
-        Stmt::Import(_) => Err(Stop::Refused),
-        Stmt::Update(_, _, _) => Err(Stop::Refused),
-        Stmt::Assign(_, _) => Err(Stop::Refused),
-        Stmt::If(_, _) => Err(Stop::Refused),
-        Stmt::While(_, _) => Err(Stop::Refused),
-        Stmt::For(_, _, _) => Err(Stop::Refused),
-        Stmt::Try { .. } => Err(Stop::Refused),
-        Stmt::Finally(_, _) => Err(Stop::Refused),
     }
 }
 

@@ -1,6 +1,7 @@
 use Rattle.std.proofs.Common.{sym, subst, map}
 use Rattle.std.proofs.lemmas.Result.{err_from_is_err_and}
 use Rattle.kishu_model.specs.Parse.{Parse}
+use Rattle.kishu_model.specs.CodeLaws.{codes_read}
 use Rattle.kishu_model.specs.ExactText.{one_parse}
 use Rattle.kishu_model.specs.HeightLaws.{tree_height}
 use Rattle.kishu_parser.specs.TopLevel.{piece_of}
@@ -22,4 +23,8 @@ returns-clause-only c tree h = one_parse c.args.profile c.args.text.now _ tree
 
 pub returns-clause-height : goal.returns-clause-height
 returns-clause-height c = tree_height c.args.profile c.args.text.now _
+    (subst (λ t. Parse c.args.profile c.args.text.now t) (sym c.in_ok-statements.ensures) (pieces_tree c.args.profile c.args.text.now (map piece_of c.in_ok-all.all.items) c.in_ok-all.ensures.found))
+
+pub returns-clause-codes : goal.returns-clause-codes
+returns-clause-codes c = codes_read c.args.profile c.args.text.now c.utf8.text _
     (subst (λ t. Parse c.args.profile c.args.text.now t) (sym c.in_ok-statements.ensures) (pieces_tree c.args.profile c.args.text.now (map piece_of c.in_ok-all.all.items) c.in_ok-all.ensures.found))

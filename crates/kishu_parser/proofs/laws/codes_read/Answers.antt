@@ -1,0 +1,5 @@
+use Rattle.kishu_model.specs.CodeLaws as laws
+use Rattle.kishu_parser.proofs.laws.codes_read.Goals as goal
+
+pub returns : goal.returns
+returns c = laws.codes_read
