@@ -14,17 +14,17 @@ use Rattle.std.specs.Map.{lookup}
 use Rattle.std.specs.Str.{bytes_eq}
 use Rattle.std.proofs.lemmas.Map.Text.{is_eq-slice_cmp}
 use Rattle.std.proofs.lemmas.Slice.Eq.{bytes_eq-Decides}
-use Rattle.kishu_model.specs.declared.value.Value as rust
-use Rattle.kishu_model.specs.Values.{Value, value_of, find, bind}
-use Rattle.kishu_interp.specs.Machine.{names_of}
+use Rattle.kishu_model.specs.Values.{Value, find, bind}
+use Rattle.kishu_interp.specs.declared.values.Value as plain
+use Rattle.kishu_interp.specs.Machine.{value_of, names_of}
 
 abbrev Entry : Type 0
-Entry = RcStr Global × rust.Value
+Entry = RcStr Global × plain.Value
 
 abbrev by_name : RcStr Global → RcStr Global → Ordering
 by_name x y = slice_cmp nat_cmp (rc_str_bytes x) (rc_str_bytes y)
 
-find_step : (v : rust.Value) (rest : Option rust.Value) (names : Option Value) (b : Bool) → option_map value_of rest ≡ names → option_map value_of (cond b (Some v) rest) ≡ cond b (Some (value_of v)) names
+find_step : (v : plain.Value) (rest : Option plain.Value) (names : Option Value) (b : Bool) → option_map value_of rest ≡ names → option_map value_of (cond b (Some v) rest) ≡ cond b (Some (value_of v)) names
 find_step v rest names true ih = refl
 find_step v rest names false ih = ih
 
@@ -32,7 +32,7 @@ pub finds : (name : List ℕ) → (entries : List Entry) → option_map value_of
 finds name [] = refl
 finds name (e ∷ es) = rw (is_eq-slice_cmp name (rc_str_bytes e.0)) (find_step e.1 _ _ (bytes_eq name (rc_str_bytes e.0)) (finds name es))
 
-bind_step : (k : RcStr Global) (v : rust.Value) → (e : Entry) (es : List Entry) (o : Ordering) → by_name k e.0 ≡ o
+bind_step : (k : RcStr Global) (v : plain.Value) → (e : Entry) (es : List Entry) (o : Ordering) → by_name k e.0 ≡ o
     → names_of (insert_entry by_name es k v) ≡ bind (rc_str_bytes k) (value_of v) (names_of es)
     → names_of (match_ordering o ((k, v) ∷ e ∷ es) ((e.0, v) ∷ es) (e ∷ insert_entry by_name es k v))
     ≡ match_ordering o ((rc_str_bytes k, value_of v) ∷ names_of (e ∷ es)) ((rc_str_bytes k, value_of v) ∷ names_of es) ((rc_str_bytes e.0, value_of e.1) ∷ bind (rc_str_bytes k) (value_of v) (names_of es))
@@ -42,10 +42,10 @@ bind_step k v e es Equal h ih =
     rw same refl
 bind_step k v e es Greater h ih = rw ih refl
 
-pub binds : (k : RcStr Global) (v : rust.Value) → (entries : List Entry) → names_of (insert_entry by_name entries k v) ≡ bind (rc_str_bytes k) (value_of v) (names_of entries)
+pub binds : (k : RcStr Global) (v : plain.Value) → (entries : List Entry) → names_of (insert_entry by_name entries k v) ≡ bind (rc_str_bytes k) (value_of v) (names_of entries)
 binds k v [] = refl
 binds k v (e ∷ es) = bind_step k v e es _ refl (binds k v es)
 
-pub copied_value : (o : Option (Bor rust.Value)) → option_map (λ v. value_of v.now) o ≡ option_map value_of (option_copied o)
+pub copied_value : (o : Option (Bor plain.Value)) → option_map (λ v. value_of v.now) o ≡ option_map value_of (option_copied o)
 copied_value None = refl
 copied_value (Some v) = refl

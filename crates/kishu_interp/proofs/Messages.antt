@@ -16,10 +16,10 @@ use Rattle.std.proofs.lemmas.Str.{chars-append, chars-IsAscii, IsAscii-append, I
 use Rattle.std.proofs.Math.Utf8.{encodes}
 use Rattle.kishu_model.specs.declared.tree.Operator.{Operator}
 use Rattle.kishu_model.specs.declared.tree.Operator.TheVariants as operators
-use Rattle.kishu_model.specs.Values.{Value, none, bool, integer, text, builtin, class}
+use Rattle.kishu_model.specs.Values.{Value, none, bool, integer, text, range, builtin, class, node}
 use Rattle.kishu_model.specs.declared.tree.Sign.{Sign}
 use Rattle.kishu_model.specs.declared.tree.Sign.TheVariants as signs
-use Rattle.kishu_model.specs.Operators.{kind_name, quoted_kind, operator_sign, sign_text}
+use Rattle.kishu_model.specs.Operators.{kind_in, quoted_kind, operator_sign, sign_text}
 use Rattle.kishu_interp.specs.Answers.{operands_text}
 use borrow.Author.Tests.{ltb-true}
 
@@ -35,13 +35,15 @@ all-IsAscii (b ∷ bs) e (suc i) = all-IsAscii bs (is_both (nat_lt b 128) (list_
 pub chars-plain : (bs : List ℕ) → list_all (λ c. nat_lt c 128) bs ≡ true → chars bs ≡ bs
 chars-plain bs e = chars-IsAscii bs (all-IsAscii bs e)
 
-pub kind-IsAscii : (v : Value) → IsAscii (kind_name v)
+pub kind-IsAscii : (v : Value) → IsAscii (kind_in [] v)
 kind-IsAscii none = all-IsAscii (codes "NoneType") refl
 kind-IsAscii (bool b) = all-IsAscii (codes "bool") refl
 kind-IsAscii (integer z) = all-IsAscii (codes "int") refl
 kind-IsAscii (text cs) = all-IsAscii (codes "str") refl
+kind-IsAscii (range a b c) = all-IsAscii (codes "range") refl
 kind-IsAscii (builtin n) = all-IsAscii (codes "builtin") refl
 kind-IsAscii (class n) = all-IsAscii (codes "class") refl
+kind-IsAscii (node i) = all-IsAscii [] refl
 
 pub pushed_text : {T E : Type 0} (r : Result T E) (new old more : List ℕ) → IsUtf8 old → new ≡ (if is_ok r then old ++ more else old) → OnOk r (chars new ≡ chars old ++ chars more)
 pushed_text (Ok x) new old more v e = ap chars e ∙ chars-append old more v
@@ -69,8 +71,8 @@ is_nothing bs v = none_of (chars bs) ∙ ap (λ x. length x == 0) (encodes-chars
 
 -- ---- messages
 
-pub quoted-IsAscii : (v : Value) → IsAscii (quoted_kind v)
-quoted-IsAscii v = IsAscii-append (codes "'" ++ kind_name v) (codes "'") (IsAscii-append (codes "'") (kind_name v) (all-IsAscii (codes "'") refl) (kind-IsAscii v)) (all-IsAscii (codes "'") refl)
+pub quoted-IsAscii : (v : Value) → IsAscii (quoted_kind [] v)
+quoted-IsAscii v = IsAscii-append (codes "'" ++ kind_in [] v) (codes "'") (IsAscii-append (codes "'") (kind_in [] v) (all-IsAscii (codes "'") refl) (kind-IsAscii v)) (all-IsAscii (codes "'") refl)
 
 pub sign-IsAscii : (o : Operator) → IsAscii (operator_sign o)
 sign-IsAscii operators.Add = all-IsAscii (codes "+") refl
@@ -89,20 +91,20 @@ operands-IsAscii sign a b h =
     let begin = codes "bad operand types for " in
     let one = begin ++ sign in
     let two = one ++ codes ": " in
-    let three = two ++ quoted_kind a in
+    let three = two ++ quoted_kind [] a in
     let four = three ++ codes " and " in
-    IsAscii-append four (quoted_kind b)
+    IsAscii-append four (quoted_kind [] b)
     (IsAscii-append three (codes " and ")
-    (IsAscii-append two (quoted_kind a)
+    (IsAscii-append two (quoted_kind [] a)
     (IsAscii-append one (codes ": ")
     (IsAscii-append begin sign (all-IsAscii begin refl) h) (all-IsAscii (codes ": ") refl)) (quoted-IsAscii a)) (all-IsAscii (codes " and ") refl)) (quoted-IsAscii b)
 
-pub operand-IsAscii : (s : Sign) (v : Value) → IsAscii (codes "bad operand type for " ++ sign_text s ++ codes ": " ++ quoted_kind v)
+pub operand-IsAscii : (s : Sign) (v : Value) → IsAscii (codes "bad operand type for " ++ sign_text s ++ codes ": " ++ quoted_kind [] v)
 operand-IsAscii s v =
     let begin = codes "bad operand type for " in
     let one = begin ++ sign_text s in
     let two = one ++ codes ": " in
-    IsAscii-append two (quoted_kind v)
+    IsAscii-append two (quoted_kind [] v)
     (IsAscii-append one (codes ": ") (IsAscii-append begin (sign_text s) (all-IsAscii begin refl) (minus-IsAscii s)) (all-IsAscii (codes ": ") refl)) (quoted-IsAscii v)
 
 seven_pieces : (b sign s ka a kb q : List ℕ) → b ++ (sign ++ ((s ++ q) ++ (ka ++ ((q ++ (a ++ q)) ++ (kb ++ q))))) ≡ b ++ sign ++ s ++ (q ++ ka ++ q) ++ a ++ (q ++ kb ++ q)
@@ -112,8 +114,8 @@ seven_pieces b sign s ka a kb q = simp append_assoc
 pub operands_pieces : (sign ka kb : List ℕ) → codes "bad operand types for " ++ (sign ++ (codes ": '" ++ (ka ++ (codes "' and '" ++ (kb ++ codes "'"))))) ≡ codes "bad operand types for " ++ sign ++ codes ": " ++ (codes "'" ++ ka ++ codes "'") ++ codes " and " ++ (codes "'" ++ kb ++ codes "'")
 operands_pieces sign ka kb = seven_pieces (codes "bad operand types for ") sign (codes ": ") ka (codes " and ") kb (codes "'")
 
-pub behind-IsAscii : (v : Value) (bs : List ℕ) → list_all (λ c. nat_lt c 128) bs ≡ true → IsAscii (quoted_kind v ++ bs)
-behind-IsAscii v bs e = IsAscii-append (quoted_kind v) bs (quoted-IsAscii v) (all-IsAscii bs e)
+pub behind-IsAscii : (v : Value) (bs : List ℕ) → list_all (λ c. nat_lt c 128) bs ≡ true → IsAscii (quoted_kind [] v ++ bs)
+behind-IsAscii v bs e = IsAscii-append (quoted_kind [] v) bs (quoted-IsAscii v) (all-IsAscii bs e)
 
 pub chars-name : (x : List ℕ) → IsUtf8 x → chars (codes "name '" ++ (x ++ codes "' is not defined")) ≡ codes "name '" ++ chars x ++ codes "' is not defined"
 chars-name x v =

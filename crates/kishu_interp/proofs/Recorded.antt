@@ -1,11 +1,9 @@
 -- The meaning without the record of accesses is the same meaning.
 use Rattle.std.proofs.Common.{◌≡◌, sym, refl, subst, ℕ, suc, Bool, true, false, List, [], ◌∷◌, ◌++◌, Option, Some, None}
-use Rattle.std.specs.Cmp.Lexicographic.{slice_cmp}
 use Rattle.std.specs.List.{flat_map}
 use Rattle.kishu_model.specs.Texts.{first_place}
 use Rattle.std.specs.Prelude.{ℤ, pos, negsuc, ◌+ℤ◌, ◌-ℤ◌, ◌*ℤ◌, replicate, not, if◌then◌else◌, nat_le, nat_lt, ◌==◌, ◌*◌, ◌-◌, ◌+◌, length, max, is_some, codes}
-use Rattle.std.specs.Ordering.{int_eq, int_cmp, nat_cmp, is_lt, is_le, is_gt, is_ge}
-use Rattle.std.specs.declared.cmp.Ordering.{Ordering}
+use Rattle.std.specs.Ordering.{int_eq}
 use Rattle.std.specs.Str.{chars}
 use Rattle.kishu_model.specs.declared.tree.Operator.{Operator}
 use Rattle.kishu_model.specs.declared.tree.Operator.TheVariants as operators
@@ -14,8 +12,10 @@ use Rattle.kishu_model.specs.declared.tree.Comparison.{Comparison}
 use Rattle.kishu_model.specs.declared.tree.Comparison.TheVariants as comparisons
 use Rattle.kishu_model.specs.Numbers.{is_whole, floor_quotient, floor_remainder, power}
 use Rattle.kishu_model.specs.Names.{builtin_names, class_names, place_among}
-use Rattle.kishu_model.specs.Values.{Value, none, bool, integer, text, builtin, class, find}
+use Rattle.kishu_model.specs.Values.{Value, none, bool, integer, text, range, builtin, class, node, find}
 use Rattle.kishu_model.specs.Moment.{Moment, Ends, fine, raised, stopped, M, and_then, ◌>>=◌, give, raise, later, spend, deeper, most_depth, back_at, recursion_error, read, read_in, assign, bind_in, or_other, or_builtin, or_class, put_out}
+use Rattle.kishu_model.specs.Counting.{Counted, answer, too_deep, spent, ended_in}
+use Rattle.kishu_model.specs.Equal.{range_length, equal, equal_in, less, less_in}
 use Rattle.kishu_model.specs.Operators as o
 use Rattle.kishu_interp.specs.Unrecorded as u
 
@@ -114,8 +114,10 @@ quiet_truth none = quiet_give false
 quiet_truth (bool h) = quiet_give h
 quiet_truth (integer z) = quiet_give (not (int_eq z (pos 0)))
 quiet_truth (text cs) = quiet_give (not (length cs == 0))
+quiet_truth (range a b c) = quiet_give (not (range_length a b c == 0))
 quiet_truth (builtin n) = quiet_give true
 quiet_truth (class n) = quiet_give true
+quiet_truth (node n) = record { runs = λ s kept. record { same = refl; kept = kept } }
 
 quiet_whole : (z : ℤ) → Quiet (o.whole z) (o.whole z)
 quiet_whole z = quiet_if (is_whole z) (quiet_give (integer z)) (quiet_raise 10 (codes "whole number too large"))
@@ -135,8 +137,8 @@ quiet_arithmetic operators.FloorDivide a b = quiet_divided b (floor_quotient a b
 quiet_arithmetic operators.Modulo a b = quiet_divided b (floor_remainder a b)
 quiet_arithmetic operators.Power a b = quiet_power a b
 
-quiet_bad : (sign : List ℕ) (a b : Value) → Quiet {A = Value} (o.bad_operands sign a b) (o.bad_operands sign a b)
-quiet_bad sign a b = quiet_raise 23 (codes "bad operand types for " ++ sign ++ codes ": " ++ o.quoted_kind a ++ codes " and " ++ o.quoted_kind b)
+quiet_bad : {A : Type 0} (sign : List ℕ) (a b : Value) → Quiet {A = A} (o.bad_operands sign a b) (o.bad_operands sign a b)
+quiet_bad sign a b = record { runs = λ s kept. record { same = refl; kept = kept } }
 
 quiet_joined : (a b : List ℕ) → Quiet (o.joined a b) (o.joined a b)
 quiet_joined a b = quiet_bind (quiet_spend (length a + length b)) (λ _. quiet_give (text (a ++ b)))
@@ -149,76 +151,132 @@ quiet_times none none = quiet_bad (o.operator_sign operators.Multiply) none none
 quiet_times none (bool i) = quiet_bad (o.operator_sign operators.Multiply) none (bool i)
 quiet_times none (integer y) = quiet_bad (o.operator_sign operators.Multiply) none (integer y)
 quiet_times none (text ds) = quiet_bad (o.operator_sign operators.Multiply) none (text ds)
+quiet_times none (range u v w) = quiet_bad (o.operator_sign operators.Multiply) none (range u v w)
 quiet_times none (builtin m) = quiet_bad (o.operator_sign operators.Multiply) none (builtin m)
 quiet_times none (class m) = quiet_bad (o.operator_sign operators.Multiply) none (class m)
+quiet_times none (node m) = quiet_bad (o.operator_sign operators.Multiply) none (node m)
 quiet_times (bool h) none = quiet_bad (o.operator_sign operators.Multiply) (bool h) none
 quiet_times (bool h) (bool i) = quiet_bad (o.operator_sign operators.Multiply) (bool h) (bool i)
 quiet_times (bool h) (integer y) = quiet_bad (o.operator_sign operators.Multiply) (bool h) (integer y)
 quiet_times (bool h) (text ds) = quiet_repeated ds (o.number_of_bool h)
+quiet_times (bool h) (range u v w) = quiet_bad (o.operator_sign operators.Multiply) (bool h) (range u v w)
 quiet_times (bool h) (builtin m) = quiet_bad (o.operator_sign operators.Multiply) (bool h) (builtin m)
 quiet_times (bool h) (class m) = quiet_bad (o.operator_sign operators.Multiply) (bool h) (class m)
+quiet_times (bool h) (node m) = quiet_bad (o.operator_sign operators.Multiply) (bool h) (node m)
 quiet_times (integer z) none = quiet_bad (o.operator_sign operators.Multiply) (integer z) none
 quiet_times (integer z) (bool i) = quiet_bad (o.operator_sign operators.Multiply) (integer z) (bool i)
 quiet_times (integer z) (integer y) = quiet_bad (o.operator_sign operators.Multiply) (integer z) (integer y)
 quiet_times (integer z) (text ds) = quiet_repeated ds z
+quiet_times (integer z) (range u v w) = quiet_bad (o.operator_sign operators.Multiply) (integer z) (range u v w)
 quiet_times (integer z) (builtin m) = quiet_bad (o.operator_sign operators.Multiply) (integer z) (builtin m)
 quiet_times (integer z) (class m) = quiet_bad (o.operator_sign operators.Multiply) (integer z) (class m)
+quiet_times (integer z) (node m) = quiet_bad (o.operator_sign operators.Multiply) (integer z) (node m)
 quiet_times (text cs) none = quiet_bad (o.operator_sign operators.Multiply) (text cs) none
 quiet_times (text cs) (bool i) = quiet_repeated cs (o.number_of_bool i)
 quiet_times (text cs) (integer y) = quiet_repeated cs y
 quiet_times (text cs) (text ds) = quiet_bad (o.operator_sign operators.Multiply) (text cs) (text ds)
+quiet_times (text cs) (range u v w) = quiet_bad (o.operator_sign operators.Multiply) (text cs) (range u v w)
 quiet_times (text cs) (builtin m) = quiet_bad (o.operator_sign operators.Multiply) (text cs) (builtin m)
 quiet_times (text cs) (class m) = quiet_bad (o.operator_sign operators.Multiply) (text cs) (class m)
+quiet_times (text cs) (node m) = quiet_bad (o.operator_sign operators.Multiply) (text cs) (node m)
+quiet_times (range p q r) none = quiet_bad (o.operator_sign operators.Multiply) (range p q r) none
+quiet_times (range p q r) (bool i) = quiet_bad (o.operator_sign operators.Multiply) (range p q r) (bool i)
+quiet_times (range p q r) (integer y) = quiet_bad (o.operator_sign operators.Multiply) (range p q r) (integer y)
+quiet_times (range p q r) (text ds) = quiet_bad (o.operator_sign operators.Multiply) (range p q r) (text ds)
+quiet_times (range p q r) (range u v w) = quiet_bad (o.operator_sign operators.Multiply) (range p q r) (range u v w)
+quiet_times (range p q r) (builtin m) = quiet_bad (o.operator_sign operators.Multiply) (range p q r) (builtin m)
+quiet_times (range p q r) (class m) = quiet_bad (o.operator_sign operators.Multiply) (range p q r) (class m)
+quiet_times (range p q r) (node m) = quiet_bad (o.operator_sign operators.Multiply) (range p q r) (node m)
 quiet_times (builtin n) none = quiet_bad (o.operator_sign operators.Multiply) (builtin n) none
 quiet_times (builtin n) (bool i) = quiet_bad (o.operator_sign operators.Multiply) (builtin n) (bool i)
 quiet_times (builtin n) (integer y) = quiet_bad (o.operator_sign operators.Multiply) (builtin n) (integer y)
 quiet_times (builtin n) (text ds) = quiet_bad (o.operator_sign operators.Multiply) (builtin n) (text ds)
+quiet_times (builtin n) (range u v w) = quiet_bad (o.operator_sign operators.Multiply) (builtin n) (range u v w)
 quiet_times (builtin n) (builtin m) = quiet_bad (o.operator_sign operators.Multiply) (builtin n) (builtin m)
 quiet_times (builtin n) (class m) = quiet_bad (o.operator_sign operators.Multiply) (builtin n) (class m)
+quiet_times (builtin n) (node m) = quiet_bad (o.operator_sign operators.Multiply) (builtin n) (node m)
 quiet_times (class n) none = quiet_bad (o.operator_sign operators.Multiply) (class n) none
 quiet_times (class n) (bool i) = quiet_bad (o.operator_sign operators.Multiply) (class n) (bool i)
 quiet_times (class n) (integer y) = quiet_bad (o.operator_sign operators.Multiply) (class n) (integer y)
 quiet_times (class n) (text ds) = quiet_bad (o.operator_sign operators.Multiply) (class n) (text ds)
+quiet_times (class n) (range u v w) = quiet_bad (o.operator_sign operators.Multiply) (class n) (range u v w)
 quiet_times (class n) (builtin m) = quiet_bad (o.operator_sign operators.Multiply) (class n) (builtin m)
 quiet_times (class n) (class m) = quiet_bad (o.operator_sign operators.Multiply) (class n) (class m)
+quiet_times (class n) (node m) = quiet_bad (o.operator_sign operators.Multiply) (class n) (node m)
+quiet_times (node n) none = quiet_bad (o.operator_sign operators.Multiply) (node n) none
+quiet_times (node n) (bool i) = quiet_bad (o.operator_sign operators.Multiply) (node n) (bool i)
+quiet_times (node n) (integer y) = quiet_bad (o.operator_sign operators.Multiply) (node n) (integer y)
+quiet_times (node n) (text ds) = quiet_bad (o.operator_sign operators.Multiply) (node n) (text ds)
+quiet_times (node n) (range u v w) = quiet_bad (o.operator_sign operators.Multiply) (node n) (range u v w)
+quiet_times (node n) (builtin m) = quiet_bad (o.operator_sign operators.Multiply) (node n) (builtin m)
+quiet_times (node n) (class m) = quiet_bad (o.operator_sign operators.Multiply) (node n) (class m)
+quiet_times (node n) (node m) = quiet_bad (o.operator_sign operators.Multiply) (node n) (node m)
 
 quiet_text_joined : (a b : Value) → Quiet (o.text_joined a b) (o.text_joined a b)
 quiet_text_joined none none = quiet_bad (o.operator_sign operators.Add) none none
 quiet_text_joined none (bool i) = quiet_bad (o.operator_sign operators.Add) none (bool i)
 quiet_text_joined none (integer y) = quiet_bad (o.operator_sign operators.Add) none (integer y)
 quiet_text_joined none (text ds) = quiet_bad (o.operator_sign operators.Add) none (text ds)
+quiet_text_joined none (range u v w) = quiet_bad (o.operator_sign operators.Add) none (range u v w)
 quiet_text_joined none (builtin m) = quiet_bad (o.operator_sign operators.Add) none (builtin m)
 quiet_text_joined none (class m) = quiet_bad (o.operator_sign operators.Add) none (class m)
+quiet_text_joined none (node m) = quiet_bad (o.operator_sign operators.Add) none (node m)
 quiet_text_joined (bool h) none = quiet_bad (o.operator_sign operators.Add) (bool h) none
 quiet_text_joined (bool h) (bool i) = quiet_bad (o.operator_sign operators.Add) (bool h) (bool i)
 quiet_text_joined (bool h) (integer y) = quiet_bad (o.operator_sign operators.Add) (bool h) (integer y)
 quiet_text_joined (bool h) (text ds) = quiet_bad (o.operator_sign operators.Add) (bool h) (text ds)
+quiet_text_joined (bool h) (range u v w) = quiet_bad (o.operator_sign operators.Add) (bool h) (range u v w)
 quiet_text_joined (bool h) (builtin m) = quiet_bad (o.operator_sign operators.Add) (bool h) (builtin m)
 quiet_text_joined (bool h) (class m) = quiet_bad (o.operator_sign operators.Add) (bool h) (class m)
+quiet_text_joined (bool h) (node m) = quiet_bad (o.operator_sign operators.Add) (bool h) (node m)
 quiet_text_joined (integer z) none = quiet_bad (o.operator_sign operators.Add) (integer z) none
 quiet_text_joined (integer z) (bool i) = quiet_bad (o.operator_sign operators.Add) (integer z) (bool i)
 quiet_text_joined (integer z) (integer y) = quiet_bad (o.operator_sign operators.Add) (integer z) (integer y)
 quiet_text_joined (integer z) (text ds) = quiet_bad (o.operator_sign operators.Add) (integer z) (text ds)
+quiet_text_joined (integer z) (range u v w) = quiet_bad (o.operator_sign operators.Add) (integer z) (range u v w)
 quiet_text_joined (integer z) (builtin m) = quiet_bad (o.operator_sign operators.Add) (integer z) (builtin m)
 quiet_text_joined (integer z) (class m) = quiet_bad (o.operator_sign operators.Add) (integer z) (class m)
+quiet_text_joined (integer z) (node m) = quiet_bad (o.operator_sign operators.Add) (integer z) (node m)
 quiet_text_joined (text cs) none = quiet_bad (o.operator_sign operators.Add) (text cs) none
 quiet_text_joined (text cs) (bool i) = quiet_bad (o.operator_sign operators.Add) (text cs) (bool i)
 quiet_text_joined (text cs) (integer y) = quiet_bad (o.operator_sign operators.Add) (text cs) (integer y)
 quiet_text_joined (text cs) (text ds) = quiet_joined cs ds
+quiet_text_joined (text cs) (range u v w) = quiet_bad (o.operator_sign operators.Add) (text cs) (range u v w)
 quiet_text_joined (text cs) (builtin m) = quiet_bad (o.operator_sign operators.Add) (text cs) (builtin m)
 quiet_text_joined (text cs) (class m) = quiet_bad (o.operator_sign operators.Add) (text cs) (class m)
+quiet_text_joined (text cs) (node m) = quiet_bad (o.operator_sign operators.Add) (text cs) (node m)
+quiet_text_joined (range p q r) none = quiet_bad (o.operator_sign operators.Add) (range p q r) none
+quiet_text_joined (range p q r) (bool i) = quiet_bad (o.operator_sign operators.Add) (range p q r) (bool i)
+quiet_text_joined (range p q r) (integer y) = quiet_bad (o.operator_sign operators.Add) (range p q r) (integer y)
+quiet_text_joined (range p q r) (text ds) = quiet_bad (o.operator_sign operators.Add) (range p q r) (text ds)
+quiet_text_joined (range p q r) (range u v w) = quiet_bad (o.operator_sign operators.Add) (range p q r) (range u v w)
+quiet_text_joined (range p q r) (builtin m) = quiet_bad (o.operator_sign operators.Add) (range p q r) (builtin m)
+quiet_text_joined (range p q r) (class m) = quiet_bad (o.operator_sign operators.Add) (range p q r) (class m)
+quiet_text_joined (range p q r) (node m) = quiet_bad (o.operator_sign operators.Add) (range p q r) (node m)
 quiet_text_joined (builtin n) none = quiet_bad (o.operator_sign operators.Add) (builtin n) none
 quiet_text_joined (builtin n) (bool i) = quiet_bad (o.operator_sign operators.Add) (builtin n) (bool i)
 quiet_text_joined (builtin n) (integer y) = quiet_bad (o.operator_sign operators.Add) (builtin n) (integer y)
 quiet_text_joined (builtin n) (text ds) = quiet_bad (o.operator_sign operators.Add) (builtin n) (text ds)
+quiet_text_joined (builtin n) (range u v w) = quiet_bad (o.operator_sign operators.Add) (builtin n) (range u v w)
 quiet_text_joined (builtin n) (builtin m) = quiet_bad (o.operator_sign operators.Add) (builtin n) (builtin m)
 quiet_text_joined (builtin n) (class m) = quiet_bad (o.operator_sign operators.Add) (builtin n) (class m)
+quiet_text_joined (builtin n) (node m) = quiet_bad (o.operator_sign operators.Add) (builtin n) (node m)
 quiet_text_joined (class n) none = quiet_bad (o.operator_sign operators.Add) (class n) none
 quiet_text_joined (class n) (bool i) = quiet_bad (o.operator_sign operators.Add) (class n) (bool i)
 quiet_text_joined (class n) (integer y) = quiet_bad (o.operator_sign operators.Add) (class n) (integer y)
 quiet_text_joined (class n) (text ds) = quiet_bad (o.operator_sign operators.Add) (class n) (text ds)
+quiet_text_joined (class n) (range u v w) = quiet_bad (o.operator_sign operators.Add) (class n) (range u v w)
 quiet_text_joined (class n) (builtin m) = quiet_bad (o.operator_sign operators.Add) (class n) (builtin m)
 quiet_text_joined (class n) (class m) = quiet_bad (o.operator_sign operators.Add) (class n) (class m)
+quiet_text_joined (class n) (node m) = quiet_bad (o.operator_sign operators.Add) (class n) (node m)
+quiet_text_joined (node n) none = quiet_bad (o.operator_sign operators.Add) (node n) none
+quiet_text_joined (node n) (bool i) = quiet_bad (o.operator_sign operators.Add) (node n) (bool i)
+quiet_text_joined (node n) (integer y) = quiet_bad (o.operator_sign operators.Add) (node n) (integer y)
+quiet_text_joined (node n) (text ds) = quiet_bad (o.operator_sign operators.Add) (node n) (text ds)
+quiet_text_joined (node n) (range u v w) = quiet_bad (o.operator_sign operators.Add) (node n) (range u v w)
+quiet_text_joined (node n) (builtin m) = quiet_bad (o.operator_sign operators.Add) (node n) (builtin m)
+quiet_text_joined (node n) (class m) = quiet_bad (o.operator_sign operators.Add) (node n) (class m)
+quiet_text_joined (node n) (node m) = quiet_bad (o.operator_sign operators.Add) (node n) (node m)
 
 quiet_sequences : (op : Operator) (a b : Value) → Quiet (o.on_sequences op a b) (o.on_sequences op a b)
 quiet_sequences operators.Add a b = quiet_text_joined a b
@@ -238,70 +296,30 @@ quiet_operate op a b = quiet_on op (o.number_in a) (o.number_in b) (quiet_sequen
 
 quiet_signed_in : (sign : Sign) (v : Value) (x : Option ℤ) → Quiet (o.signed_in sign v x) (o.signed_in sign v x)
 quiet_signed_in sign v (Some z) = quiet_whole (o.signed_number sign z)
-quiet_signed_in sign v None = quiet_raise 23 (codes "bad operand type for " ++ o.sign_text sign ++ codes ": " ++ o.quoted_kind v)
+quiet_signed_in sign v None = record { runs = λ s kept. record { same = refl; kept = kept } }
 
 pub quiet_signed : (sign : Sign) (v : Value) → Quiet (o.signed_value sign v) (o.signed_value sign v)
 quiet_signed sign v = quiet_signed_in sign v (o.number_in v)
 
 -- ---- comparisons
 
-quiet_not_ordered : (sign : List ℕ) (a b : Value) → Quiet {A = Ordering} (o.bad_operands sign a b) (o.bad_operands sign a b)
-quiet_not_ordered sign a b = quiet_raise 23 (codes "bad operand types for " ++ sign ++ codes ": " ++ o.quoted_kind a ++ codes " and " ++ o.quoted_kind b)
+counted_on : {A : Type 0} (e : Counted A) (s : Moment) → s.locals ≡ None → Hushes (ended_in s e) (ended_in (hush s) e)
+counted_on (answer a n) s kept = record { same = refl; kept = kept }
+counted_on (too_deep n) s kept = record { same = refl; kept = kept }
+counted_on (spent n) s kept = record { same = refl; kept = kept }
 
-quiet_no_member : (sign : List ℕ) (a b : Value) → Quiet {A = Bool} (o.bad_operands sign a b) (o.bad_operands sign a b)
-quiet_no_member sign a b = quiet_raise 23 (codes "bad operand types for " ++ sign ++ codes ": " ++ o.quoted_kind a ++ codes " and " ++ o.quoted_kind b)
+quiet_less : (a b : Value) → Quiet (less a b) (less a b)
+quiet_less a b = record { runs = λ s kept. counted_on (less_in s.nodes s.depth a b s.left) s kept }
 
-quiet_text_order : (k : Comparison) (a b : Value) → Quiet (o.text_order k a b) (o.text_order k a b)
-quiet_text_order k none none = quiet_not_ordered (o.comparison_sign k) none none
-quiet_text_order k none (bool i) = quiet_not_ordered (o.comparison_sign k) none (bool i)
-quiet_text_order k none (integer y) = quiet_not_ordered (o.comparison_sign k) none (integer y)
-quiet_text_order k none (text ds) = quiet_not_ordered (o.comparison_sign k) none (text ds)
-quiet_text_order k none (builtin m) = quiet_not_ordered (o.comparison_sign k) none (builtin m)
-quiet_text_order k none (class m) = quiet_not_ordered (o.comparison_sign k) none (class m)
-quiet_text_order k (bool h) none = quiet_not_ordered (o.comparison_sign k) (bool h) none
-quiet_text_order k (bool h) (bool i) = quiet_not_ordered (o.comparison_sign k) (bool h) (bool i)
-quiet_text_order k (bool h) (integer y) = quiet_not_ordered (o.comparison_sign k) (bool h) (integer y)
-quiet_text_order k (bool h) (text ds) = quiet_not_ordered (o.comparison_sign k) (bool h) (text ds)
-quiet_text_order k (bool h) (builtin m) = quiet_not_ordered (o.comparison_sign k) (bool h) (builtin m)
-quiet_text_order k (bool h) (class m) = quiet_not_ordered (o.comparison_sign k) (bool h) (class m)
-quiet_text_order k (integer z) none = quiet_not_ordered (o.comparison_sign k) (integer z) none
-quiet_text_order k (integer z) (bool i) = quiet_not_ordered (o.comparison_sign k) (integer z) (bool i)
-quiet_text_order k (integer z) (integer y) = quiet_not_ordered (o.comparison_sign k) (integer z) (integer y)
-quiet_text_order k (integer z) (text ds) = quiet_not_ordered (o.comparison_sign k) (integer z) (text ds)
-quiet_text_order k (integer z) (builtin m) = quiet_not_ordered (o.comparison_sign k) (integer z) (builtin m)
-quiet_text_order k (integer z) (class m) = quiet_not_ordered (o.comparison_sign k) (integer z) (class m)
-quiet_text_order k (text cs) none = quiet_not_ordered (o.comparison_sign k) (text cs) none
-quiet_text_order k (text cs) (bool i) = quiet_not_ordered (o.comparison_sign k) (text cs) (bool i)
-quiet_text_order k (text cs) (integer y) = quiet_not_ordered (o.comparison_sign k) (text cs) (integer y)
-quiet_text_order k (text cs) (text ds) = quiet_give (slice_cmp nat_cmp cs ds)
-quiet_text_order k (text cs) (builtin m) = quiet_not_ordered (o.comparison_sign k) (text cs) (builtin m)
-quiet_text_order k (text cs) (class m) = quiet_not_ordered (o.comparison_sign k) (text cs) (class m)
-quiet_text_order k (builtin n) none = quiet_not_ordered (o.comparison_sign k) (builtin n) none
-quiet_text_order k (builtin n) (bool i) = quiet_not_ordered (o.comparison_sign k) (builtin n) (bool i)
-quiet_text_order k (builtin n) (integer y) = quiet_not_ordered (o.comparison_sign k) (builtin n) (integer y)
-quiet_text_order k (builtin n) (text ds) = quiet_not_ordered (o.comparison_sign k) (builtin n) (text ds)
-quiet_text_order k (builtin n) (builtin m) = quiet_not_ordered (o.comparison_sign k) (builtin n) (builtin m)
-quiet_text_order k (builtin n) (class m) = quiet_not_ordered (o.comparison_sign k) (builtin n) (class m)
-quiet_text_order k (class n) none = quiet_not_ordered (o.comparison_sign k) (class n) none
-quiet_text_order k (class n) (bool i) = quiet_not_ordered (o.comparison_sign k) (class n) (bool i)
-quiet_text_order k (class n) (integer y) = quiet_not_ordered (o.comparison_sign k) (class n) (integer y)
-quiet_text_order k (class n) (text ds) = quiet_not_ordered (o.comparison_sign k) (class n) (text ds)
-quiet_text_order k (class n) (builtin m) = quiet_not_ordered (o.comparison_sign k) (class n) (builtin m)
-quiet_text_order k (class n) (class m) = quiet_not_ordered (o.comparison_sign k) (class n) (class m)
+quiet_equal : (a b : Value) → Quiet (equal a b) (equal a b)
+quiet_equal a b = record { runs = λ s kept. counted_on (equal_in s.nodes s.depth a b s.left) s kept }
 
-quiet_by : (x y : Option ℤ) (f : ℤ → ℤ → Ordering) {c d : M Ordering} → Quiet c d → Quiet (o.by_numbers x y (λ a b. give (f a b)) c) (o.by_numbers x y (λ a b. give (f a b)) d)
-quiet_by (Some a) (Some b) f q = quiet_give (f a b)
-quiet_by (Some a) None f q = q
-quiet_by None y f q = q
+quiet_unordered : (k : Comparison) (a b : Value) (found : Option Bool) → Quiet (o.or_unordered k a b found) (o.or_unordered k a b found)
+quiet_unordered k a b (Some found) = quiet_give found
+quiet_unordered k a b None = quiet_bad (o.comparison_sign k) a b
 
-quiet_order : (k : Comparison) (a b : Value) → Quiet (o.order k a b) (o.order k a b)
-quiet_order k a b = quiet_by (o.number_in a) (o.number_in b) int_cmp (quiet_text_order k a b)
-
-quiet_ordered : (k : Comparison) (test : Ordering → Bool) (a b : Value) → Quiet (o.ordered k test a b) (o.ordered k test a b)
-quiet_ordered k test a b = quiet_bind (quiet_spend (o.pair_steps a b)) (λ _. quiet_bind (quiet_order k a b) (λ found. quiet_give (test found)))
-
-quiet_equal : (a b : Value) → Quiet (o.equal a b) (o.equal a b)
-quiet_equal a b = quiet_bind (quiet_spend (o.pair_steps a b)) (λ _. quiet_give (o.is_equal a b))
+quiet_ordered : (k : Comparison) (a b v w : Value) → Quiet (less v w >>= o.or_unordered k a b) (less v w >>= o.or_unordered k a b)
+quiet_ordered k a b v w = quiet_bind (quiet_less v w) (quiet_unordered k a b)
 
 quiet_identical : (a b : Value) → Quiet (o.identical a b) (o.identical a b)
 quiet_identical a b = quiet_bind (quiet_spend (o.pair_steps a b)) (λ _. quiet_give (o.is_same a b))
@@ -310,54 +328,82 @@ quiet_part : (part cs : List ℕ) → Quiet (o.part_in part cs) (o.part_in part 
 quiet_part part cs = quiet_bind (quiet_spend (length cs * max 1 (length part))) (λ _. quiet_give (is_some (first_place part cs)))
 
 quiet_iterable : (v : Value) → Quiet {A = Bool} (o.not_iterable v) (o.not_iterable v)
-quiet_iterable v = quiet_raise 23 (o.quoted_kind v ++ codes " object is not iterable")
+quiet_iterable v = record { runs = λ s kept. record { same = refl; kept = kept } }
 
 quiet_member : (k : Comparison) (a b : Value) → Quiet (o.member k a b) (o.member k a b)
 quiet_member k none none = quiet_iterable none
 quiet_member k none (bool i) = quiet_iterable (bool i)
 quiet_member k none (integer y) = quiet_iterable (integer y)
-quiet_member k none (text ds) = quiet_no_member (o.comparison_sign k) none (text ds)
+quiet_member k none (text ds) = quiet_bad (o.comparison_sign k) none (text ds)
+quiet_member k none (range u v w) = quiet_iterable (range u v w)
 quiet_member k none (builtin m) = quiet_iterable (builtin m)
 quiet_member k none (class m) = quiet_iterable (class m)
+quiet_member k none (node m) = quiet_iterable (node m)
 quiet_member k (bool h) none = quiet_iterable none
 quiet_member k (bool h) (bool i) = quiet_iterable (bool i)
 quiet_member k (bool h) (integer y) = quiet_iterable (integer y)
-quiet_member k (bool h) (text ds) = quiet_no_member (o.comparison_sign k) (bool h) (text ds)
+quiet_member k (bool h) (text ds) = quiet_bad (o.comparison_sign k) (bool h) (text ds)
+quiet_member k (bool h) (range u v w) = quiet_iterable (range u v w)
 quiet_member k (bool h) (builtin m) = quiet_iterable (builtin m)
 quiet_member k (bool h) (class m) = quiet_iterable (class m)
+quiet_member k (bool h) (node m) = quiet_iterable (node m)
 quiet_member k (integer z) none = quiet_iterable none
 quiet_member k (integer z) (bool i) = quiet_iterable (bool i)
 quiet_member k (integer z) (integer y) = quiet_iterable (integer y)
-quiet_member k (integer z) (text ds) = quiet_no_member (o.comparison_sign k) (integer z) (text ds)
+quiet_member k (integer z) (text ds) = quiet_bad (o.comparison_sign k) (integer z) (text ds)
+quiet_member k (integer z) (range u v w) = quiet_iterable (range u v w)
 quiet_member k (integer z) (builtin m) = quiet_iterable (builtin m)
 quiet_member k (integer z) (class m) = quiet_iterable (class m)
+quiet_member k (integer z) (node m) = quiet_iterable (node m)
 quiet_member k (text cs) none = quiet_iterable none
 quiet_member k (text cs) (bool i) = quiet_iterable (bool i)
 quiet_member k (text cs) (integer y) = quiet_iterable (integer y)
 quiet_member k (text cs) (text ds) = quiet_part cs ds
+quiet_member k (text cs) (range u v w) = quiet_iterable (range u v w)
 quiet_member k (text cs) (builtin m) = quiet_iterable (builtin m)
 quiet_member k (text cs) (class m) = quiet_iterable (class m)
+quiet_member k (text cs) (node m) = quiet_iterable (node m)
+quiet_member k (range p q r) none = quiet_iterable none
+quiet_member k (range p q r) (bool i) = quiet_iterable (bool i)
+quiet_member k (range p q r) (integer y) = quiet_iterable (integer y)
+quiet_member k (range p q r) (text ds) = quiet_bad (o.comparison_sign k) (range p q r) (text ds)
+quiet_member k (range p q r) (range u v w) = quiet_iterable (range u v w)
+quiet_member k (range p q r) (builtin m) = quiet_iterable (builtin m)
+quiet_member k (range p q r) (class m) = quiet_iterable (class m)
+quiet_member k (range p q r) (node m) = quiet_iterable (node m)
 quiet_member k (builtin n) none = quiet_iterable none
 quiet_member k (builtin n) (bool i) = quiet_iterable (bool i)
 quiet_member k (builtin n) (integer y) = quiet_iterable (integer y)
-quiet_member k (builtin n) (text ds) = quiet_no_member (o.comparison_sign k) (builtin n) (text ds)
+quiet_member k (builtin n) (text ds) = quiet_bad (o.comparison_sign k) (builtin n) (text ds)
+quiet_member k (builtin n) (range u v w) = quiet_iterable (range u v w)
 quiet_member k (builtin n) (builtin m) = quiet_iterable (builtin m)
 quiet_member k (builtin n) (class m) = quiet_iterable (class m)
+quiet_member k (builtin n) (node m) = quiet_iterable (node m)
 quiet_member k (class n) none = quiet_iterable none
 quiet_member k (class n) (bool i) = quiet_iterable (bool i)
 quiet_member k (class n) (integer y) = quiet_iterable (integer y)
-quiet_member k (class n) (text ds) = quiet_no_member (o.comparison_sign k) (class n) (text ds)
+quiet_member k (class n) (text ds) = quiet_bad (o.comparison_sign k) (class n) (text ds)
+quiet_member k (class n) (range u v w) = quiet_iterable (range u v w)
 quiet_member k (class n) (builtin m) = quiet_iterable (builtin m)
 quiet_member k (class n) (class m) = quiet_iterable (class m)
+quiet_member k (class n) (node m) = quiet_iterable (node m)
+quiet_member k (node n) none = quiet_iterable none
+quiet_member k (node n) (bool i) = quiet_iterable (bool i)
+quiet_member k (node n) (integer y) = quiet_iterable (integer y)
+quiet_member k (node n) (text ds) = quiet_bad (o.comparison_sign k) (node n) (text ds)
+quiet_member k (node n) (range u v w) = quiet_iterable (range u v w)
+quiet_member k (node n) (builtin m) = quiet_iterable (builtin m)
+quiet_member k (node n) (class m) = quiet_iterable (class m)
+quiet_member k (node n) (node m) = quiet_iterable (node m)
 
 quiet_negated : {c : M Bool} → Quiet c c → Quiet (o.negated c) (o.negated c)
 quiet_negated q = quiet_bind q (λ found. quiet_give (not found))
 
 pub quiet_compare : (k : Comparison) (a b : Value) → Quiet (o.compare k a b) (o.compare k a b)
-quiet_compare comparisons.Less a b = quiet_ordered comparisons.Less is_lt a b
-quiet_compare comparisons.LessEqual a b = quiet_ordered comparisons.LessEqual is_le a b
-quiet_compare comparisons.Greater a b = quiet_ordered comparisons.Greater is_gt a b
-quiet_compare comparisons.GreaterEqual a b = quiet_ordered comparisons.GreaterEqual is_ge a b
+quiet_compare comparisons.Less a b = quiet_ordered comparisons.Less a b a b
+quiet_compare comparisons.LessEqual a b = quiet_negated (quiet_ordered comparisons.LessEqual a b b a)
+quiet_compare comparisons.Greater a b = quiet_ordered comparisons.Greater a b b a
+quiet_compare comparisons.GreaterEqual a b = quiet_negated (quiet_ordered comparisons.GreaterEqual a b a b)
 quiet_compare comparisons.Equal a b = quiet_equal a b
 quiet_compare comparisons.NotEqual a b = quiet_negated (quiet_equal a b)
 quiet_compare comparisons.In a b = quiet_member comparisons.In a b

@@ -10,13 +10,13 @@ use Rattle.kishu_model.specs.Lines.{line_feed}
 use Rattle.kishu_model.specs.Texts.{joined}
 use Rattle.kishu_model.specs.Tree.{Expression, Expressions, Operands, Links, Trailer, Trailers, Argument, Arguments, Statement, Statements, Arms, no_expressions, more_expressions, no_operands, more_operands, no_links, more_links, no_trailers, more_trailers, no_arguments, more_arguments, no_statements, more_statements, no_arms, more_arms}
 use Rattle.kishu_model.specs.Tree as t
-use Rattle.kishu_model.specs.Values.{Value, none, bool, integer, text, builtin, class}
+use Rattle.kishu_model.specs.Values.{Value, none, bool, integer, text, range, builtin, class, node}
 use Rattle.kishu_model.specs.Moment.{Moment, Thrown, fresh, Ends, fine, raised, stopped, M, and_then, ◌>>◌, give, tick}
 use Rattle.kishu_model.specs.Operators as o
 use Rattle.kishu_model.specs.Show as w
 use Rattle.kishu_model.specs.Meaning as m
 use Rattle.kishu_interp.specs.Unrecorded as u
-use Rattle.kishu_interp.proofs.Recorded.{Hushes, Quiet, hush, quiet_bind, quiet_give, quiet_raise, quiet_later, quiet_put, quiet_spend, quiet_if, quiet_deeper, quiet_read, quiet_assign, quiet_truth, quiet_operate, quiet_signed, quiet_compare}
+use Rattle.kishu_interp.proofs.Recorded.{Hushes, Quiet, hush, quiet_bind, quiet_give, quiet_later, quiet_put, quiet_spend, quiet_if, quiet_deeper, quiet_read, quiet_assign, quiet_truth, quiet_operate, quiet_signed, quiet_compare}
 
 -- ---- what is run is as well run by what is the same
 
@@ -42,15 +42,24 @@ quiet_made : (cs : List ℕ) → Quiet (w.made cs) (w.made cs)
 quiet_made cs = quiet_bind (quiet_spend (length cs)) (λ _. quiet_give cs)
 
 quiet_repr : (v : Value) → Quiet (w.repr_of v) (w.repr_of v)
-quiet_repr v = quiet_made (w.repr_text v)
+quiet_repr none = quiet_made (w.repr_text none)
+quiet_repr (bool b) = quiet_made (w.repr_text (bool b))
+quiet_repr (integer z) = quiet_made (w.repr_text (integer z))
+quiet_repr (text cs) = quiet_made (w.repr_text (text cs))
+quiet_repr (range a b c) = quiet_made (w.repr_text (range a b c))
+quiet_repr (builtin n) = quiet_made (w.repr_text (builtin n))
+quiet_repr (class n) = quiet_made (w.repr_text (class n))
+quiet_repr (node n) = quiet_later
 
 quiet_show : (v : Value) → Quiet (w.show v) (w.show v)
 quiet_show (text cs) = quiet_made cs
 quiet_show none = quiet_repr none
 quiet_show (bool b) = quiet_repr (bool b)
 quiet_show (integer z) = quiet_repr (integer z)
+quiet_show (range a b c) = quiet_repr (range a b c)
 quiet_show (builtin n) = quiet_repr (builtin n)
 quiet_show (class n) = quiet_repr (class n)
+quiet_show (node n) = quiet_repr (node n)
 
 quiet_show_all : (vs : List Value) → Quiet (w.show_all vs) (w.show_all vs)
 quiet_show_all [] = quiet_give []
@@ -71,7 +80,7 @@ quiet_call : (n : ℕ) (vs : List Value) → Quiet (m.call_builtin n vs) (m.call
 quiet_call n vs = quiet_if (n == m.print_number) (quiet_print (codes " ") (line_feed ∷ []) vs) quiet_later
 
 quiet_not_callable : (v : Value) → Quiet {A = Value} (m.not_callable v) (m.not_callable v)
-quiet_not_callable v = quiet_raise 23 (o.quoted_kind v ++ codes " object is not callable")
+quiet_not_callable v = record { runs = λ s kept. record { same = refl; kept = kept } }
 
 quiet_apply : (v : Value) (vs : List Value) → Quiet (m.apply v vs) (m.apply v vs)
 quiet_apply (builtin n) vs = quiet_call n vs
@@ -80,6 +89,8 @@ quiet_apply none vs = quiet_not_callable none
 quiet_apply (bool b) vs = quiet_not_callable (bool b)
 quiet_apply (integer z) vs = quiet_not_callable (integer z)
 quiet_apply (text cs) vs = quiet_not_callable (text cs)
+quiet_apply (range a b c) vs = quiet_not_callable (range a b c)
+quiet_apply (node n) vs = quiet_not_callable (node n)
 
 quiet_nodes : (ts : Trailers) → Quiet (m.nodes ts) (m.nodes ts)
 quiet_nodes no_trailers = quiet_give tt
@@ -92,8 +103,10 @@ truth_then none f h s = h false s
 truth_then (bool b) f h s = h b s
 truth_then (integer z) f h s = h _ s
 truth_then (text cs) f h s = h _ s
+truth_then (range a b c) f h s = h _ s
 truth_then (builtin n) f h s = h true s
 truth_then (class n) f h s = h true s
+truth_then (node n) f h s = h _ s
 
 either : (which : Bool) (v : Value) (b : Bool) (s : Moment) → (if beq b which then give v else give v) s ≡ fine v s
 either true v true s = refl
@@ -273,8 +286,10 @@ quiet_shown none = quiet_give None
 quiet_shown (bool b) = quiet_bind (quiet_repr (bool b)) (λ cs. quiet_give (Some cs))
 quiet_shown (integer z) = quiet_bind (quiet_repr (integer z)) (λ cs. quiet_give (Some cs))
 quiet_shown (text x) = quiet_bind (quiet_repr (text x)) (λ cs. quiet_give (Some cs))
+quiet_shown (range a b c) = quiet_bind (quiet_repr (range a b c)) (λ cs. quiet_give (Some cs))
 quiet_shown (builtin n) = quiet_bind (quiet_repr (builtin n)) (λ cs. quiet_give (Some cs))
 quiet_shown (class n) = quiet_bind (quiet_repr (class n)) (λ cs. quiet_give (Some cs))
+quiet_shown (node n) = quiet_bind (quiet_repr (node n)) (λ cs. quiet_give (Some cs))
 
 quiet_plain : (s : Statement) → Quiet {A = Option (List ℕ)} (m.act s >> give None) (u.silent_act s)
 quiet_plain s = quiet_bind (quiet_act s) (λ _. quiet_give None)

@@ -7,8 +7,7 @@ use Rattle.std.specs.declared.alloc.Global.{Global}
 use Rattle.std.specs.declared.rc.RcStr.{RcStr}
 use Rattle.std.specs.declared.string.String.{String}
 use Rattle.kishu_model.specs.declared.result.Output as rust_output
-use Rattle.kishu_model.specs.declared.value.Value as rust
-use Rattle.kishu_model.specs.Values.{Names, State, text, value_of, Output, output_of}
+use Rattle.kishu_model.specs.Values.{Value, none, bool, integer, text, builtin, class, Names, State, Output, output_of}
 use Rattle.kishu_model.specs.Moment.{Moment, Thrown, fresh, Ends, fine, raised, stopped}
 use Rattle.kishu_model.specs.Meaning.{Flow, onward, broke, continued}
 use Rattle.kishu_interp.specs.declared.fault.ExceptionClass.{ExceptionClass}
@@ -19,8 +18,18 @@ use Rattle.kishu_interp.specs.declared.fault.Fault.TheVariants as faults
 use Rattle.kishu_interp.specs.declared.machine.Machine.{Machine}
 use Rattle.kishu_interp.specs.declared.statements.Flow as rust_flow
 use Rattle.kishu_interp.specs.declared.statements.Flow.TheVariants as flows
+use Rattle.kishu_interp.specs.declared.values.Value as plain
+use Rattle.kishu_interp.specs.declared.values.Value.TheVariants as values
 
-abbrev pub names_of : List (RcStr Global × rust.Value) → Names
+abbrev pub value_of : plain.Value → Value
+value_of values.None = none
+value_of (values.Bool b) = bool b
+value_of (values.Int z) = integer z
+value_of (values.Text x) = text (chars (rc_str_bytes x))
+value_of (values.Builtin n) = builtin n.0
+value_of (values.Class n) = class n.0
+
+abbrev pub names_of : List (RcStr Global × plain.Value) → Names
 names_of = map (λ e. (rc_str_bytes e.0, value_of e.1))
 
 -- The machine records no accesses, and no function is in progress.

@@ -1,18 +1,16 @@
 // Calls.
-ghost use Rattle.std.specs.Prelude.{◌≡◌, ◌≤◌, ◌++◌, IfOk, codes, map};
+ghost use Rattle.std.specs.Prelude.{◌≡◌, ◌≤◌, ◌++◌, [], IfOk, codes, map};
 ghost use Rattle.std.specs.Str.{chars};
 ghost use Rattle.std.specs.String.{string_bytes};
-ghost use Rattle.kishu_model.specs.Values.{value_of};
-ghost use Rattle.kishu_model.specs.Moment.{Moment};
 ghost use Rattle.kishu_model.specs.Operators.{quoted_kind};
 ghost use Rattle.kishu_model.specs.Meaning.{call_builtin, apply, not_callable};
-ghost use Rattle.kishu_interp.specs.Machine.{moment_of, Gives};
+ghost use Rattle.kishu_interp.specs.Machine.{value_of, moment_of, Gives};
 
 use crate::fault::{Exception, ExceptionClass, Fault};
 use crate::machine::Machine;
 use crate::show::print;
-use crate::values::kind_name;
-use kishu_model::{Builtin, Value};
+use crate::values::{Value, kind_name};
+use kishu_model::Builtin;
 use std::alloc::{AllocError, Global};
 
 // The number of `print`.
@@ -30,16 +28,16 @@ fn call_builtin(machine: &mut Machine, builtin: Builtin, values: &[Value]) -> Re
 }
 
 fn callable_message(alloc: Global, value: &Value) -> Result<String, AllocError>
-    ensures { IfOk result (λ s. chars (string_bytes s) ≡ quoted_kind (value_of value.now) ++ codes " object is not callable") }
+    ensures { IfOk result (λ s. chars (string_bytes s) ≡ quoted_kind [] (value_of value.now) ++ codes " object is not callable") }
 {
     let kind = kind_name(value);
     format!(in alloc; "'{kind}' object is not callable")
 }
 
-fn not_callable(alloc: Global, value: &Value) -> Result<Value, Fault>
-    ensures { (s : Moment) → Gives value_of result s (not_callable (value_of value.now) s) }
+fn not_callable(machine: &Machine, value: &Value) -> Result<Value, Fault>
+    ensures { Gives value_of result (moment_of machine.now) (not_callable (value_of value.now) (moment_of machine.now)) }
 {
-    let text = callable_message(alloc, value)?;
+    let text = callable_message(machine.alloc, value)?;
     let class = ExceptionClass::Type;
     Err(Fault::Raised(Exception { class, text }))
 }
@@ -52,9 +50,9 @@ pub(crate) fn apply(machine: &mut Machine, callee: &Value, values: &[Value]) -> 
     match callee {
         Value::Builtin(builtin) => call_builtin(machine, *builtin, values),
         Value::Class(_) => Err(Fault::Stopped),
-        Value::None => not_callable(machine.alloc, callee),
-        Value::Bool(_) => not_callable(machine.alloc, callee),
-        Value::Int(_) => not_callable(machine.alloc, callee),
-        Value::Text(_) => not_callable(machine.alloc, callee),
+        Value::None => not_callable(machine, callee),
+        Value::Bool(_) => not_callable(machine, callee),
+        Value::Int(_) => not_callable(machine, callee),
+        Value::Text(_) => not_callable(machine, callee),
     }
 }

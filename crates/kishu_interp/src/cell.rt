@@ -2,12 +2,12 @@
 ghost use Rattle.std.specs.Prelude.{◌≡◌, ◌++◌, [], ℕ, List, Option, Ok, IfOk, OnOk, MatchOption, codes, map};
 ghost use Rattle.std.specs.Str.{chars};
 ghost use Rattle.std.specs.String.{string_bytes};
-ghost use Rattle.kishu_model.specs.Values.{value_of, output_of, report_of, shown, fault, empty};
+ghost use Rattle.kishu_model.specs.Values.{output_of, report_of, shown, fault, empty};
 ghost use Rattle.kishu_model.specs.Tree.{assign, expression_of, statement_of, program_of};
 ghost use Rattle.kishu_model.specs.Moment.{Ends};
 ghost use Rattle.kishu_model.specs.Show.{show_thrown};
 ghost use Rattle.kishu_model.specs.Meaning.{shown_text, printed, spent, uncaught, finished, run_tree, unread};
-ghost use Rattle.kishu_interp.specs.Machine.{moment_of, state_of, thrown_of, shown_of, outputs_in, Gives};
+ghost use Rattle.kishu_interp.specs.Machine.{value_of, moment_of, state_of, thrown_of, shown_of, outputs_in, Gives};
 ghost use Rattle.kishu_interp.specs.Unrecorded.{silent_act, last_act, each, cell};
 
 use crate::expressions::evaluate;
@@ -16,7 +16,8 @@ use crate::machine::{MOST_STEPS, Machine, tick};
 use crate::show::{made, repr_of};
 use crate::state::PlainState;
 use crate::statements::run_statement;
-use kishu_model::{CellResult, Expr, Outcome, Output, Program, Stmt, Value};
+use crate::values::Value;
+use kishu_model::{CellResult, Expr, Outcome, Output, Program, Stmt};
 use std::alloc::{AllocError, Global};
 use std::collections::BTreeMap;
 use std::mem;

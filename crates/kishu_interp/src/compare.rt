@@ -2,21 +2,21 @@
 ghost use Rattle.std.specs.Prelude.{◌≡◌, ◌≤◌, ◌++◌, ◌∷◌, [], IfOk, codes};
 ghost use Rattle.std.specs.Str.{chars};
 ghost use Rattle.std.specs.String.{string_bytes};
-ghost use Rattle.kishu_model.specs.Values.{value_of, bool, integer, text, builtin, class};
-ghost use Rattle.kishu_model.specs.Moment.{Moment, fresh, spend};
-ghost use Rattle.kishu_model.specs.Operators.{compare, comparison_sign, is_same, is_equal, pair_steps, text_order, order, ordered, equal, identical, member, quoted_kind};
-ghost use Rattle.kishu_interp.specs.Machine.{moment_of, thrown_of, Gives};
-ghost use Rattle.kishu_interp.specs.Answers.{operands_text, passes};
+ghost use Rattle.kishu_model.specs.Values.{bool, integer, text, builtin, class};
+ghost use Rattle.kishu_model.specs.Moment.{fresh, spend};
+ghost use Rattle.kishu_model.specs.Equal.{is_same, is_equal, pair_steps, less_texts, less_plain, equal, less};
+ghost use Rattle.kishu_model.specs.Operators.{compare, comparison_sign, or_unordered, identical, member, quoted_kind};
+ghost use Rattle.kishu_interp.specs.Machine.{value_of, moment_of, thrown_of, Gives};
+ghost use Rattle.kishu_interp.specs.Answers.{operands_text, ordered};
 
 use crate::fault::{Exception, ExceptionClass, Fault};
 use crate::machine::{Machine, spend};
 use crate::operators::operands_message;
 use crate::texts::{is_same_text, part_in, text_order};
-use crate::values::{kind_name, number_in};
-use kishu_model::{Builtin, ClassId, Comparison, Value};
+use crate::values::{Value, kind_name, number_in};
+use kishu_model::{Builtin, ClassId, Comparison};
 use kishu_text::count;
 use std::alloc::{AllocError, Global};
-use std::cmp::Ordering;
 
 fn comparison_sign(comparison: Comparison) -> &'static str
     ensures { result.now ≡ comparison_sign comparison }
@@ -126,61 +126,75 @@ fn spend_pair(machine: &mut Machine, a: &Value, b: &Value) -> Result<(), Fault>
     spend(machine, pair_steps(a, b) as u128)
 }
 
-// The order of two texts.
-fn order_of_texts(
-    alloc: Global,
-    comparison: Comparison,
-    a: &Value,
-    b: &Value,
-) -> Result<Ordering, Fault>
-    ensures { (s : Moment) → Gives (λ o. o) result s (text_order comparison (value_of a.now) (value_of b.now) s) }
+// Whether the left one of two texts is less.
+fn less_texts(a: &Value, b: &Value) -> Option<bool>
+    ensures { result ≡ less_texts (value_of a.now) (value_of b.now) }
 {
     if let (Value::Text(a), Value::Text(b)) = (a, b) {
-        return Ok(text_order(a.as_str(), b.as_str()));
+        return Some(text_order(a.as_str(), b.as_str()).is_lt());
     }
-    Err(Fault::Raised(bad_operands(alloc, comparison, a, b)?))
+    None
 }
 
 // Numbers have an order, and texts.
-fn order(alloc: Global, comparison: Comparison, a: &Value, b: &Value) -> Result<Ordering, Fault>
-    ensures { (s : Moment) → Gives (λ o. o) result s (order comparison (value_of a.now) (value_of b.now) s) }
+fn less_plain(a: &Value, b: &Value) -> Option<bool>
+    ensures { result ≡ less_plain (value_of a.now) (value_of b.now) }
 {
     if let (Some(a), Some(b)) = (number_in(a), number_in(b)) {
-        return Ok(a.cmp(&b));
+        return Some(a.cmp(&b).is_lt());
     }
-    order_of_texts(alloc, comparison, a, b)
+    less_texts(a, b)
 }
 
-// Whether two values in this order are as the comparison asks.
-fn passes(comparison: Comparison, found: Ordering) -> bool
-    ensures { result ≡ passes comparison found }
+fn less(machine: &mut Machine, a: &Value, b: &Value) -> Result<Option<bool>, Fault>
+    ensures gives { Gives (λ o. o) result (moment_of machine.new) (less (value_of a.now) (value_of b.now) (moment_of machine.old)) }
+    ensures left { machine.new.left ≤ machine.old.left }
 {
-    match comparison {
-        Comparison::Less => found.is_lt(),
-        Comparison::LessEqual => found.is_le(),
-        Comparison::Greater => found.is_gt(),
-        Comparison::GreaterEqual
-        | Comparison::Equal
-        | Comparison::NotEqual
-        | Comparison::In
-        | Comparison::NotIn
-        | Comparison::Is
-        | Comparison::IsNot => found.is_ge(),
+    spend_pair(machine, a, b)?;
+    Ok(less_plain(a, b))
+}
+
+fn or_unordered(
+    machine: &Machine,
+    comparison: Comparison,
+    a: &Value,
+    b: &Value,
+    found: Option<bool>,
+) -> Result<bool, Fault>
+    ensures { Gives (λ b. b) result (moment_of machine.now) (or_unordered comparison (value_of a.now) (value_of b.now) found (moment_of machine.now)) }
+{
+    match found {
+        Some(holds) => Ok(holds),
+        None => Err(Fault::Raised(bad_operands(machine.alloc, comparison, a, b)?)),
     }
 }
 
-fn ordered(
+// Whether the left operand is less.
+fn is_less(
     machine: &mut Machine,
     comparison: Comparison,
     a: &Value,
     b: &Value,
 ) -> Result<bool, Fault>
-    ensures gives { Gives (λ b. b) result (moment_of machine.new) (ordered comparison (passes comparison) (value_of a.now) (value_of b.now) (moment_of machine.old)) }
+    ensures gives { Gives (λ b. b) result (moment_of machine.new) (ordered comparison (value_of a.now) (value_of b.now) (value_of a.now) (value_of b.now) (moment_of machine.old)) }
     ensures left { machine.new.left ≤ machine.old.left }
 {
-    spend_pair(machine, a, b)?;
-    let found = order(machine.alloc, comparison, a, b)?;
-    Ok(passes(comparison, found))
+    let found = less(machine, a, b)?;
+    or_unordered(machine, comparison, a, b, found)
+}
+
+// Whether the right operand is less.
+fn is_greater(
+    machine: &mut Machine,
+    comparison: Comparison,
+    a: &Value,
+    b: &Value,
+) -> Result<bool, Fault>
+    ensures gives { Gives (λ b. b) result (moment_of machine.new) (ordered comparison (value_of a.now) (value_of b.now) (value_of b.now) (value_of a.now) (moment_of machine.old)) }
+    ensures left { machine.new.left ≤ machine.old.left }
+{
+    let found = less(machine, b, a)?;
+    or_unordered(machine, comparison, a, b, found)
 }
 
 fn equal(machine: &mut Machine, a: &Value, b: &Value) -> Result<bool, Fault>
@@ -200,7 +214,7 @@ fn identical(machine: &mut Machine, a: &Value, b: &Value) -> Result<bool, Fault>
 }
 
 fn iterable_message(alloc: Global, value: &Value) -> Result<String, AllocError>
-    ensures { IfOk result (λ s. chars (string_bytes s) ≡ quoted_kind (value_of value.now) ++ codes " object is not iterable") }
+    ensures { IfOk result (λ s. chars (string_bytes s) ≡ quoted_kind [] (value_of value.now) ++ codes " object is not iterable") }
 {
     let kind = kind_name(value);
     format!(in alloc; "'{kind}' object is not iterable")
@@ -252,10 +266,10 @@ pub(crate) fn compare(
     ensures left { machine.new.left ≤ machine.old.left }
 {
     match comparison {
-        Comparison::Less => ordered(machine, Comparison::Less, a, b),
-        Comparison::LessEqual => ordered(machine, Comparison::LessEqual, a, b),
-        Comparison::Greater => ordered(machine, Comparison::Greater, a, b),
-        Comparison::GreaterEqual => ordered(machine, Comparison::GreaterEqual, a, b),
+        Comparison::Less => is_less(machine, comparison, a, b),
+        Comparison::LessEqual => Ok(!is_greater(machine, comparison, a, b)?),
+        Comparison::Greater => is_greater(machine, comparison, a, b),
+        Comparison::GreaterEqual => Ok(!is_less(machine, comparison, a, b)?),
         Comparison::Equal => equal(machine, a, b),
         Comparison::NotEqual => Ok(!equal(machine, a, b)?),
         Comparison::In => member(machine, comparison, a, b),

@@ -1,13 +1,12 @@
 // Expressions.
 ghost use Rattle.std.specs.Prelude.{◌≡◌, ◌≤◌, map};
 ghost use Rattle.std.specs.Rc.{rc_str_bytes};
-ghost use Rattle.kishu_model.specs.Values.{value_of};
 ghost use Rattle.kishu_model.specs.Tree as t;
 ghost use Rattle.kishu_model.specs.Tree.{expression_of};
 ghost use Rattle.kishu_model.specs.Moment.{deeper};
 ghost use Rattle.kishu_model.specs.Meaning.{nodes};
 ghost use Rattle.kishu_interp.specs.Trees.{expressions_of, operands_of, links_of, trailers_of, trailer_of, arguments_of, argument_of};
-ghost use Rattle.kishu_interp.specs.Machine.{moment_of, Gives};
+ghost use Rattle.kishu_interp.specs.Machine.{value_of, moment_of, Gives};
 ghost use Rattle.kishu_interp.specs.Unrecorded.{expr, constant, decided, linked, behind, called, passed, passed_by};
 
 use crate::calls::apply;
@@ -16,8 +15,8 @@ use crate::fault::Fault;
 use crate::machine::{MOST_DEPTH, Machine, depth_fault, tick};
 use crate::names::read;
 use crate::operators::{operate, signed_value};
-use crate::values::is_true;
-use kishu_model::{Argument, Expr, Link, Operand, Operator, Sign, Trailer, Value};
+use crate::values::{Value, is_true};
+use kishu_model::{Argument, Expr, Link, Operand, Operator, Sign, Trailer};
 use std::rc::RcStr;
 
 /// The value of an expression (Python Language Reference 3, "Expressions").
@@ -144,7 +143,7 @@ fn value_with_sign(machine: &mut Machine, sign: Sign, e: &Expr) -> Result<Value,
 {
     let value = deeper_value(machine, e)?;
     tick(machine)?;
-    signed_value(machine.alloc, sign, &value)
+    signed_value(machine, sign, &value)
 }
 
 #[cycle(expression)]

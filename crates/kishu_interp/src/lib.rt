@@ -25,6 +25,3 @@ mod values;
 pub use form::later_form;
 pub use run::run_plain;
 pub use state::PlainState;
-
-#[cfg(test)]
-mod tests;

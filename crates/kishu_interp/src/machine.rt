@@ -6,7 +6,7 @@ ghost use Rattle.kishu_interp.specs.Machine.{moment_of, thrown_of, Gives};
 
 use crate::fault::{Exception, ExceptionClass, Fault};
 use crate::texts::message;
-use kishu_model::Value;
+use crate::values::Value;
 use std::alloc::{AllocError, Global};
 use std::collections::BTreeMap;
 use std::rc::RcStr;

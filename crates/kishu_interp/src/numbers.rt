@@ -1,14 +1,14 @@
 // Arithmetic.
 ghost use Rattle.std.specs.Prelude.{◌≡◌, IfOk};
-ghost use Rattle.kishu_model.specs.Values.{value_of};
 ghost use Rattle.kishu_model.specs.Moment.{Moment};
 ghost use Rattle.kishu_model.specs.Operators.{arithmetic, signed_number, whole};
-ghost use Rattle.kishu_interp.specs.Machine.{thrown_of, Gives};
+ghost use Rattle.kishu_interp.specs.Machine.{value_of, thrown_of, Gives};
 ghost use Rattle.kishu_interp.specs.Answers.{answer_of, answered, thrown_for};
 
 use crate::fault::{Exception, ExceptionClass, Fault};
 use crate::texts::message;
-use kishu_model::{Operator, Sign, Value};
+use crate::values::Value;
+use kishu_model::{Operator, Sign};
 use kishu_num::{NumFault, add, floor_div, modulo, mul, power, sub};
 use std::alloc::{AllocError, Global};
 

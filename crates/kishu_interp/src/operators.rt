@@ -4,18 +4,18 @@ ghost use Rattle.std.specs.List.{list_all};
 ghost use Rattle.std.specs.Rc.{rc_str_bytes};
 ghost use Rattle.std.specs.Str.{chars};
 ghost use Rattle.std.specs.String.{string_bytes};
-ghost use Rattle.kishu_model.specs.Values.{value_of, bool, integer, text};
-ghost use Rattle.kishu_model.specs.Moment.{Moment, fresh};
+ghost use Rattle.kishu_model.specs.Values.{bool, integer, text};
+ghost use Rattle.kishu_model.specs.Moment.{fresh};
 ghost use Rattle.kishu_model.specs.Operators.{operate, on_sequences, text_joined, text_times, signed_value, bad_operands, number_of_bool, quoted_kind, operator_sign, sign_text};
-ghost use Rattle.kishu_interp.specs.Machine.{moment_of, thrown_of, Gives};
+ghost use Rattle.kishu_interp.specs.Machine.{value_of, moment_of, thrown_of, Gives};
 ghost use Rattle.kishu_interp.specs.Answers.{operands_text};
 
 use crate::fault::{Exception, ExceptionClass, Fault};
 use crate::machine::Machine;
 use crate::numbers::{arithmetic, signed_number};
 use crate::texts::{joined, repeated};
-use crate::values::{kind_name, number_in};
-use kishu_model::{Operator, Sign, Value};
+use crate::values::{Value, kind_name, number_in};
+use kishu_model::{Operator, Sign};
 use std::alloc::{AllocError, Global};
 use std::rc::RcStr;
 
@@ -58,7 +58,7 @@ pub(crate) fn operands_message(
 }
 
 fn operand_message(alloc: Global, sign: Sign, value: &Value) -> Result<String, AllocError>
-    ensures { IfOk result (λ s. chars (string_bytes s) ≡ codes "bad operand type for " ++ sign_text sign ++ codes ": " ++ quoted_kind (value_of value.now)) }
+    ensures { IfOk result (λ s. chars (string_bytes s) ≡ codes "bad operand type for " ++ sign_text sign ++ codes ": " ++ quoted_kind [] (value_of value.now)) }
 {
     let sign = sign_text(sign);
     let kind = kind_name(value);
@@ -89,10 +89,10 @@ fn text_joined(machine: &mut Machine, a: &Value, b: &Value) -> Result<Value, Fau
     Err(Fault::Raised(bad_operands(machine.alloc, Operator::Add, a, b)?))
 }
 
-fn bad_times(alloc: Global, a: &Value, b: &Value) -> Result<Value, Fault>
-    ensures { (s : Moment) → Gives value_of result s (bad_operands (operator_sign Operator.Multiply) (value_of a.now) (value_of b.now) s) }
+fn bad_times(machine: &Machine, a: &Value, b: &Value) -> Result<Value, Fault>
+    ensures { Gives value_of result (moment_of machine.now) (bad_operands (operator_sign Operator.Multiply) (value_of a.now) (value_of b.now) (moment_of machine.now)) }
 {
-    Err(Fault::Raised(bad_operands(alloc, Operator::Multiply, a, b)?))
+    Err(Fault::Raised(bad_operands(machine.alloc, Operator::Multiply, a, b)?))
 }
 
 fn number_of(holds: bool) -> i128
@@ -115,10 +115,10 @@ fn text_repeated(
     match b {
         Value::Int(number) => repeated(machine, characters.as_str(), *number),
         Value::Bool(holds) => repeated(machine, characters.as_str(), number_of(*holds)),
-        Value::None => bad_times(machine.alloc, a, b),
-        Value::Text(_) => bad_times(machine.alloc, a, b),
-        Value::Builtin(_) => bad_times(machine.alloc, a, b),
-        Value::Class(_) => bad_times(machine.alloc, a, b),
+        Value::None => bad_times(machine, a, b),
+        Value::Text(_) => bad_times(machine, a, b),
+        Value::Builtin(_) => bad_times(machine, a, b),
+        Value::Class(_) => bad_times(machine, a, b),
     }
 }
 
@@ -135,11 +135,11 @@ fn number_repeated(
 {
     match b {
         Value::Text(text) => repeated(machine, text.as_str(), number),
-        Value::Int(_) => bad_times(machine.alloc, a, b),
-        Value::Bool(_) => bad_times(machine.alloc, a, b),
-        Value::None => bad_times(machine.alloc, a, b),
-        Value::Builtin(_) => bad_times(machine.alloc, a, b),
-        Value::Class(_) => bad_times(machine.alloc, a, b),
+        Value::Int(_) => bad_times(machine, a, b),
+        Value::Bool(_) => bad_times(machine, a, b),
+        Value::None => bad_times(machine, a, b),
+        Value::Builtin(_) => bad_times(machine, a, b),
+        Value::Class(_) => bad_times(machine, a, b),
     }
 }
 
@@ -152,9 +152,9 @@ fn text_times(machine: &mut Machine, a: &Value, b: &Value) -> Result<Value, Faul
         Value::Text(text) => text_repeated(machine, text, a, b),
         Value::Int(number) => number_repeated(machine, *number, a, b),
         Value::Bool(holds) => number_repeated(machine, number_of(*holds), a, b),
-        Value::None => bad_times(machine.alloc, a, b),
-        Value::Builtin(_) => bad_times(machine.alloc, a, b),
-        Value::Class(_) => bad_times(machine.alloc, a, b),
+        Value::None => bad_times(machine, a, b),
+        Value::Builtin(_) => bad_times(machine, a, b),
+        Value::Class(_) => bad_times(machine, a, b),
     }
 }
 
@@ -196,13 +196,13 @@ pub(crate) fn operate(
 }
 
 /// A value with a sign before it (Python Language Reference 3, "Unary arithmetic operations").
-pub(crate) fn signed_value(alloc: Global, sign: Sign, value: &Value) -> Result<Value, Fault>
-    ensures { (s : Moment) → Gives value_of result s (signed_value sign (value_of value.now) s) }
+pub(crate) fn signed_value(machine: &Machine, sign: Sign, value: &Value) -> Result<Value, Fault>
+    ensures { Gives value_of result (moment_of machine.now) (signed_value sign (value_of value.now) (moment_of machine.now)) }
 {
     match number_in(value) {
-        Some(number) => signed_number(alloc, sign, number),
+        Some(number) => signed_number(machine.alloc, sign, number),
         None => {
-            let text = operand_message(alloc, sign, value)?;
+            let text = operand_message(machine.alloc, sign, value)?;
             let class = ExceptionClass::Type;
             Err(Fault::Raised(Exception { class, text }))
         }

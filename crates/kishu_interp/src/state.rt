@@ -1,7 +1,7 @@
 ghost use Rattle.std.specs.Prelude.{◌≡◌};
 ghost use Rattle.kishu_model.specs.Values.{empty};
 
-use kishu_model::Value;
+use crate::values::Value;
 use std::alloc::Global;
 use std::collections::BTreeMap;
 use std::marker::Model;

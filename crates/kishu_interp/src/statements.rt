@@ -1,11 +1,10 @@
 // Statements.
 ghost use Rattle.std.specs.Prelude.{◌≡◌, ◌≤◌, map};
 ghost use Rattle.std.specs.Rc.{rc_str_bytes};
-ghost use Rattle.kishu_model.specs.Values.{value_of};
 ghost use Rattle.kishu_model.specs.Tree as t;
 ghost use Rattle.kishu_model.specs.Tree.{expression_of, statement_of};
 ghost use Rattle.kishu_model.specs.Meaning.{repeat, in_block};
-ghost use Rattle.kishu_interp.specs.Machine.{moment_of, flow_of, Gives};
+ghost use Rattle.kishu_interp.specs.Machine.{value_of, moment_of, flow_of, Gives};
 ghost use Rattle.kishu_interp.specs.Trees.{statements_of, arms_of};
 ghost use Rattle.kishu_interp.specs.Unrecorded.{expr, store, store_all, update_name, act, choice, acts};
 
@@ -14,8 +13,8 @@ use crate::fault::Fault;
 use crate::machine::{MOST_DEPTH, Machine, depth_fault, tick};
 use crate::names::{assign, read};
 use crate::operators::operate;
-use crate::values::{copied, is_true};
-use kishu_model::{Arm, Expr, Operator, Stmt, Value};
+use crate::values::{Value, copied, is_true};
+use kishu_model::{Arm, Expr, Operator, Stmt};
 use std::rc::RcStr;
 
 /// How a statement ended that raised nothing.

@@ -5,14 +5,14 @@ ghost use Rattle.std.specs.List.{flat_map, list_all};
 ghost use Rattle.std.specs.Ordering.{nat_cmp};
 ghost use Rattle.std.specs.Str.{bytes_eq, chars};
 ghost use Rattle.std.specs.String.{string_bytes};
-ghost use Rattle.kishu_model.specs.Values.{value_of, text};
+ghost use Rattle.kishu_model.specs.Values.{text};
 ghost use Rattle.kishu_model.specs.Moment.{spend};
 ghost use Rattle.kishu_model.specs.Operators.{joined, repeated, times, part_in};
-ghost use Rattle.kishu_interp.specs.Machine.{moment_of, Gives};
+ghost use Rattle.kishu_interp.specs.Machine.{value_of, moment_of, Gives};
 
 use crate::fault::Fault;
 use crate::machine::{Machine, spend};
-use kishu_model::Value;
+use crate::values::Value;
 use kishu_text::{count, find, order};
 use std::alloc::{AllocError, Global};
 use std::cmp::Ordering;

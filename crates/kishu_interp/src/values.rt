@@ -1,11 +1,24 @@
 // Values.
-ghost use Rattle.std.specs.Prelude.{◌≡◌, IfOk};
-ghost use Rattle.kishu_model.specs.Values.{value_of};
+ghost use Rattle.std.specs.Prelude.{◌≡◌, [], IfOk};
 ghost use Rattle.kishu_model.specs.Moment.{Moment, fine};
-ghost use Rattle.kishu_model.specs.Operators.{truth, kind_name, number_in};
+ghost use Rattle.kishu_model.specs.Operators.{truth, kind_in, number_in};
+ghost use Rattle.kishu_interp.specs.Machine.{value_of};
 
-use kishu_model::Value;
+use kishu_model::{Builtin, ClassId};
 use std::alloc::AllocError;
+use std::rc::RcStr;
+
+/// A value that the plain forms make: no range, and nothing that lies in a heap.
+#[derive(Drop)]
+pub(crate) enum Value {
+    None,
+    Bool(bool),
+    /// A whole number of -2^127 to 2^127-1.
+    Int(i128),
+    Text(RcStr),
+    Builtin(Builtin),
+    Class(ClassId),
+}
 
 /// The same value once more.
 pub(crate) fn copied(value: &Value) -> Result<Value, AllocError>
@@ -37,7 +50,7 @@ pub(crate) fn is_true(value: &Value) -> bool
 
 /// What messages call a value's kind.
 pub(crate) fn kind_name(value: &Value) -> &'static str
-    ensures { result.now ≡ kind_name (value_of value.now) }
+    ensures { result.now ≡ kind_in [] (value_of value.now) }
 {
     match value {
         Value::None => "NoneType",

@@ -1,10 +1,13 @@
-use Rattle.std.proofs.Common.{◌≡◌, ◌∙◌, [], map, ap, subst}
+use Rattle.std.proofs.Common.{◌≡◌, ◌∙◌, ℕ, List, [], Option, Ok, map, ap, subst}
 use Rattle.std.specs.Str.{chars}
 use Rattle.std.proofs.lemmas.Result.{IfOk-weaker, on_ok_weaker}
 use Rattle.std.proofs.lemmas.Str.{chars-nil}
 use Rattle.kishu_model.specs.Tree.{statement_of, program_of}
-use Rattle.kishu_model.specs.Meaning.{begun}
-use Rattle.kishu_interp.specs.Machine.{moment_of, names_of, shown_of, Gives}
+use Rattle.kishu_model.specs.declared.result.CellResult.{CellResult}
+use Rattle.kishu_model.specs.Values.{report_of}
+use Rattle.kishu_model.specs.Moment.{Ends}
+use Rattle.kishu_model.specs.Meaning.{begun, finished, run_tree}
+use Rattle.kishu_interp.specs.Machine.{moment_of, state_of, names_of, shown_of, Gives}
 use Rattle.kishu_interp.specs.Unrecorded.{cell}
 use Rattle.kishu_interp.proofs.Recorded.{hush}
 use Rattle.kishu_interp.proofs.RecordedRuns.{alike_run, quiet_begin}
@@ -20,9 +23,15 @@ ran c =
 pub returns-clause-report : goal.returns-clause-report
 returns-clause-report c =
     let tree = program_of c.args.program.now in
-    IfOk-weaker c.finish-result.result _ _ (λ r h. h (cell tree (hush (begun c.args.state.now))) (ran c) ∙ (alike_run tree c.args.state.now).report) c.finish-result.ensures.report
+    let s = c.args.state.now in
+    let e = cell tree (hush (begun s)) in
+    let told : (r : CellResult) → ((d : Ends (Option (List ℕ))) → Gives shown_of c.run_cell-end.result (moment_of c.run_cell-end.new.machine) d → report_of r ≡ (finished d).report) → report_of r ≡ (run_tree (Ok tree) s).report = λ r h. h e (ran c) ∙ (alike_run tree s).report in
+    IfOk-weaker c.finish-result.result _ (λ r. report_of r ≡ (run_tree (Ok tree) s).report) told c.finish-result.ensures.report
 
 pub returns-clause-state : goal.returns-clause-state
 returns-clause-state c =
     let tree = program_of c.args.program.now in
-    on_ok_weaker c.finish-result.result (λ h. h (cell tree (hush (begun c.args.state.now))) (ran c) ∙ (alike_run tree c.args.state.now).state) c.finish-result.ensures.state
+    let s = c.args.state.now in
+    let e = cell tree (hush (begun s)) in
+    let told : ((d : Ends (Option (List ℕ))) → Gives shown_of c.run_cell-end.result (moment_of c.run_cell-end.new.machine) d → state_of c.finish-result.new.machine ≡ (finished d).state) → state_of c.finish-result.new.machine ≡ (run_tree (Ok tree) s).state = λ h. h e (ran c) ∙ (alike_run tree s).state in
+    on_ok_weaker c.finish-result.result told c.finish-result.ensures.state

@@ -1,8 +1,7 @@
 use Rattle.std.proofs.Common.{◌∙◌, ap, sym, subst, rules, arith}
-use Rattle.kishu_model.specs.Values.{value_of}
 use Rattle.kishu_model.specs.Moment.{and_then}
 use Rattle.kishu_interp.specs.Trees.{links_of, operands_of}
-use Rattle.kishu_interp.specs.Machine.{moment_of, Gives}
+use Rattle.kishu_interp.specs.Machine.{value_of, moment_of, Gives}
 use Rattle.kishu_interp.specs.Unrecorded.{compared, operands}
 use Rattle.kishu_interp.proofs.Chains.{compared_linked, operands_here, operands_height, linked_here, links_height}
 use Rattle.kishu_interp.proofs.expressions.+expression.Goals as goal

@@ -1,11 +1,10 @@
 use Rattle.std.proofs.Common.{◌≡◌, ◌+◌, ◌*◌, ◌++◌, ◌≤◌, drop, map, max}
-use Rattle.kishu_model.specs.Values.{value_of}
 use Rattle.kishu_model.specs.Values as v
 use Rattle.kishu_model.specs.Moment.{and_then, fine}
 use Rattle.kishu_model.specs.Tree.{expression_of}
 use Rattle.kishu_interp.specs.Trees.{expressions_of, operands_of, links_of, trailers_of, trailer_of, arguments_of, argument_of}
 use Rattle.kishu_interp.specs.Heights.{height, height_of_expressions, height_of_operands, height_of_links, height_of_trailers, height_of_trailer, height_of_arguments, height_of_argument}
-use Rattle.kishu_interp.specs.Machine.{moment_of}
+use Rattle.kishu_interp.specs.Machine.{value_of, moment_of}
 use Rattle.kishu_interp.specs.Unrecorded.{deciding, operands, linked, all_behind, passed}
 use Rattle.kishu_interp.proofs.expressions.+expression.Given as goal
 

@@ -1,6 +1,6 @@
 use Rattle.std.proofs.Common.{◌∙◌, ap}
-use Rattle.kishu_model.specs.Values.{value_of, bind}
-use Rattle.kishu_interp.specs.Machine.{names_of}
+use Rattle.kishu_model.specs.Values.{bind}
+use Rattle.kishu_interp.specs.Machine.{value_of, names_of}
 use Rattle.kishu_interp.proofs.Bound.{binds}
 use Rattle.kishu_interp.proofs.names.bind.Goals as goal
 

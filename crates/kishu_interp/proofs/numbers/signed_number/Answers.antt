@@ -1,8 +1,7 @@
 use Rattle.std.proofs.Common.{◌≡◌, ◌∙◌, ap, subst}
 use Rattle.std.specs.Prelude.{pos, ◌-ℤ◌, neg_ℤ}
 use Rattle.kishu_num.specs.Results.{in_range}
-use Rattle.kishu_model.specs.Values.{value_of}
-use Rattle.kishu_interp.specs.Machine.{Gives}
+use Rattle.kishu_interp.specs.Machine.{value_of, Gives}
 use Rattle.kishu_interp.specs.Answers.{answered}
 use Rattle.kishu_interp.proofs.Arithmetic.{same_whole}
 use Rattle.std.specs.Int.{w128}

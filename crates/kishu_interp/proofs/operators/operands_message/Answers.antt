@@ -1,8 +1,8 @@
-use Rattle.std.proofs.Common.{◌≡◌, ◌++◌, IfOk, rules}
+use Rattle.std.proofs.Common.{◌≡◌, [], ◌++◌, IfOk, rules}
 use Rattle.std.specs.Prelude.{codes}
 use Rattle.std.specs.String.{string_bytes}
-use Rattle.kishu_model.specs.Operators.{kind_name}
-use Rattle.kishu_model.specs.Values.{value_of}
+use Rattle.kishu_model.specs.Operators.{kind_in}
+use Rattle.kishu_interp.specs.Machine.{value_of}
 use Rattle.kishu_interp.proofs.Messages.{ok_pieces, all-IsAscii, operands-IsAscii, operands_pieces}
 use Rattle.kishu_interp.proofs.operators.operands_message.Goals as goal
 
@@ -12,4 +12,4 @@ returns c =
     let a = value_of c.args.a.now in
     let b = value_of c.args.b.now in
     let h : IfOk c.format.result (λ s. string_bytes s ≡ codes "bad operand types for " ++ (sign ++ (codes ": '" ++ (c.kind_name-a.result.now ++ (codes "' and '" ++ (c.kind_name-b.result.now ++ codes "'")))))) = search rules in
-    ok_pieces c.format.result _ _ (operands-IsAscii sign a b (all-IsAscii sign c.requires)) (rw (c.kind_name-a.ensures, c.kind_name-b.ensures) (operands_pieces sign (kind_name a) (kind_name b))) h
+    ok_pieces c.format.result _ _ (operands-IsAscii sign a b (all-IsAscii sign c.requires)) (rw (c.kind_name-a.ensures, c.kind_name-b.ensures) (operands_pieces sign (kind_in [] a) (kind_in [] b))) h

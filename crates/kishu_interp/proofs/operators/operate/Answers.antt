@@ -1,8 +1,7 @@
 use Rattle.std.specs.Int.{w128}
 use Rattle.std.proofs.Common.{SFits, rules, sym, ◌∙◌}
 use Rattle.std.proofs.lemmas.Int.{to_z-of_z}
-use Rattle.kishu_model.specs.Values.{value_of}
-use Rattle.kishu_interp.specs.Machine.{moment_of}
+use Rattle.kishu_interp.specs.Machine.{value_of, moment_of}
 use Rattle.kishu_interp.proofs.Operands.{on_two}
 use Rattle.kishu_interp.proofs.operators.operate.Goals as goal
 

@@ -2,9 +2,8 @@ use Rattle.std.proofs.Common.{◌≡◌, ◌∙◌, ◌-◌, ◌<◌, ◌≤◌,
 use Rattle.kishu_model.specs.Tree.{expression_of}
 use Rattle.kishu_model.specs.Meaning.{in_block, turns}
 use Rattle.kishu_model.specs.Moment.{fine}
-use Rattle.kishu_model.specs.Values.{value_of}
 use Rattle.kishu_interp.specs.Trees.{statements_of}
-use Rattle.kishu_interp.specs.Machine.{moment_of, flow_of, Gives}
+use Rattle.kishu_interp.specs.Machine.{value_of, moment_of, flow_of, Gives}
 use Rattle.kishu_interp.specs.Unrecorded.{expr, acts}
 use Rattle.kishu_interp.proofs.Levels.{deep_block}
 use Rattle.kishu_interp.proofs.Turns.{arms_here, arms_height, some_turn, tick_less, one_turn, turned}

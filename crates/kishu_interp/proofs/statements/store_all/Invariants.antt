@@ -1,7 +1,6 @@
 use Rattle.std.proofs.Common.{◌≡◌, ◌≤◌, drop, map}
-use Rattle.kishu_model.specs.Values.{value_of}
 use Rattle.kishu_model.specs.Tree.{expression_of}
-use Rattle.kishu_interp.specs.Machine.{moment_of}
+use Rattle.kishu_interp.specs.Machine.{value_of, moment_of}
 use Rattle.kishu_interp.specs.Unrecorded.{store_all}
 use Rattle.kishu_interp.proofs.statements.store_all.Given as goal
 

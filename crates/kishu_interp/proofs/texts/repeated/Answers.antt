@@ -2,8 +2,7 @@ use Rattle.std.specs.Int.{w128}
 use Rattle.std.proofs.lemmas.Int.{to_z-of_z}
 use Rattle.std.specs.Str.{chars}
 use Rattle.std.specs.String.{string_bytes}
-use Rattle.kishu_model.specs.Values.{value_of}
-use Rattle.kishu_interp.specs.Machine.{moment_of}
+use Rattle.kishu_interp.specs.Machine.{value_of, moment_of}
 use Rattle.kishu_interp.proofs.Operands.{repeats}
 use Rattle.kishu_interp.proofs.texts.repeated.Goals as goal
 
