@@ -1,0 +1,7 @@
+pub mod Entries
+pub mod Changes
+pub mod Soundness
+pub mod Counts
+pub mod Held
+pub mod Walks
+pub mod OrderWalks

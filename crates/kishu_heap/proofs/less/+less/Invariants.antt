@@ -1,0 +1,20 @@
+use Rattle.std.proofs.Common.{◌≡◌, ◌+◌, ◌*◌, ◌≤◌, drop, map}
+use Rattle.kishu_model.specs.Values.{value_of}
+use Rattle.kishu_model.specs.Equal.{equal_nodes, less_nodes, items_less}
+use Rattle.kishu_heap.proofs.less.+less.Given as goal
+
+abbrev pub decreases-less_values : goal.decreases-less_values
+decreases-less_values g l = 3 * l.room
+
+abbrev pub decreases-less_items : goal.decreases-less_items
+decreases-less_items g l = 3 * l.room + 1
+
+abbrev pub decreases-less_nodes : goal.decreases-less_nodes
+decreases-less_nodes g l = 3 * l.room + 2
+
+abbrev pub invariant-less_items-loop-i : goal.invariant-less_items-loop-i
+invariant-less_items-loop-i g l = record {
+  told : items_less (equal_nodes l.heap l.room) (less_nodes l.heap l.room) (map value_of l.a) (map value_of l.b) l.fn.left ≡ items_less (equal_nodes l.heap l.room) (less_nodes l.heap l.room) (map value_of (drop l.i l.a)) (map value_of (drop l.i l.b)) l.left;
+  least : l.fn.left + l.fn.steps ≤ l.left + l.steps;
+  most : 8 * l.left + l.steps ≤ 8 * l.fn.left + l.fn.steps;
+}

@@ -1,0 +1,26 @@
+// Faults.
+use kishu_model::{ClassId, Value};
+use std::rc::RcStr;
+
+/// Why a comparison has no answer.
+#[derive(Clone, Copy, Debug, PartialEq, Eq)]
+pub enum CompareFault {
+    /// Two values were reached that have no order.
+    Unordered,
+    /// The nodes lie deeper in one another than is allowed.
+    Depth,
+    /// The budget of steps is spent.
+    Spent,
+}
+
+/// Why a call of a builtin function, a class or a method has no answer.
+#[derive(Drop)]
+pub enum CallFault {
+    /// An exception with a text.
+    Raise { class: ClassId, text: RcStr },
+    /// An exception with a value.
+    RaiseWith { class: ClassId, value: Value },
+    /// The budget of steps is spent.
+    Spent,
+    NoMemory,
+}

@@ -1,0 +1,22 @@
+// Functions.
+ghost use Rattle.std.specs.Prelude.{◌≡◌, ◌≤◌, length};
+ghost use Rattle.std.specs.Rc.{rc_str_bytes};
+ghost use Rattle.kishu_model.specs.Parse.{ParseDef};
+ghost use Rattle.kishu_model.specs.Sound.{default_count};
+ghost use Rattle.kishu_model.specs.Tree.{definition_of};
+
+use kishu_model::{Def, Profile, Value};
+use std::rc::{Rc, RcStr};
+
+/// A function: its code with the profile under which it is read, its tree, and the values of its
+/// defaults in order.
+#[derive(Drop)]
+pub struct FunctionNode {
+    pub profile: Profile,
+    pub code: RcStr,
+    pub def: Rc<Def>,
+    pub defaults: Vec<Value>,
+    ghost short: { length (rc_str_bytes code) ≤ 1048576 },
+    ghost read: { ∥ ParseDef profile (rc_str_bytes code) (definition_of def.value) ∥₁ },
+    ghost filled: { length defaults.items ≡ default_count (definition_of def.value) },
+}

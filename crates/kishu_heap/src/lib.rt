@@ -1,0 +1,22 @@
+//! The heap: nodes with an identity, that can be changed, and the comparison of values that lead to
+//! them (Python Language Reference 3, "Objects, values and types" and "Value comparisons").
+//!
+//! Each call that changes the heap changes one node as its name says, or adds nodes at its end, and
+//! leaves it as it was where memory runs out. `node` is the only way to read a node, and takes one
+//! step of the counter.
+#![tactic(auto)]
+
+mod compare;
+mod edit;
+mod fault;
+mod function;
+mod heap;
+mod less;
+mod node;
+mod plain;
+mod taken;
+
+pub use fault::{CallFault, CompareFault};
+pub use function::FunctionNode;
+pub use heap::Heap;
+pub use node::Node;
