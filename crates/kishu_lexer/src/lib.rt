@@ -16,6 +16,3 @@ mod quoted;
 pub use cutting::tokens;
 pub use fault::SyntaxFault;
 pub use lines::plain_lines;
-
-#[cfg(test)]
-mod tests;

@@ -10,8 +10,6 @@ mod request;
 mod serving;
 mod session;
 mod status;
-#[cfg(test)]
-mod tests;
 mod top;
 mod words;
 

@@ -1,6 +1,6 @@
 mod table;
 
-use crate::{SyntaxFault, plain_lines, tokens};
+use kishu_lexer::{SyntaxFault, plain_lines, tokens};
 use kishu_model::{Profile, Token, TokenKind};
 use std::alloc::{AllocError, Global};
 use std::fmt::Write;

@@ -2,9 +2,9 @@ ghost use Rattle.std.specs.Prelude.{◌≡◌, ◌<◌};
 
 mod cells;
 
-use super::*;
 use kishu_host::{Host, MemHost, MemSource, Source};
 use kishu_model::Steps;
+use kishu_serve::{Status, kishu};
 use std::alloc::{AllocError, Global};
 use std::marker::Brand;
 use std::process::Abort;

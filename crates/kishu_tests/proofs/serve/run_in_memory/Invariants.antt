@@ -1,4 +1,4 @@
-use Rattle.kishu_serve.proofs.tests.run_in_memory.Given as goal
+use Rattle.kishu_tests.proofs.serve.run_in_memory.Given as goal
 
 abbrev pub ghosts-counted : goal.ghosts-counted
 ghosts-counted a = record { name = a.blank.name; parts = a.blank.parts }
