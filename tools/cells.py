@@ -1,7 +1,7 @@
 #!/usr/bin/env python3
 """Makes the tables of cells and of what they show by which the meaning of cells is tested.
 
-Usage: tools/cells.py rust CELLS                  (crates/kishu_serve/src/tests/cells.rt)
+Usage: tools/cells.py rust CELLS                  (crates/kishu_tests/src/serve/cells.rt)
        tools/cells.py antt FOLDER                 (crates/kishu_model/proofs, for MeaningExamples.antt,
                                                    MoreExamples.antt, BudgetExamples.antt, LaterExamples.antt,
                                                    DepthExamples.antt)
