@@ -57,7 +57,7 @@ fn texts(alloc: Global, heap: &mut Heap, id: NodeId, times: u32) -> Result<(), A
 }
 
 fn names(alloc: Global, names: &mut Names, times: u32) -> Result<u32, AllocError> {
-    let mut bound = 0;
+    let mut bound: u32 = 0;
     for i in 0..times {
         // The names come in no order.
         let number = u64::from(i) * 7_919 % u64::from(times.max(1));
@@ -66,7 +66,7 @@ fn names(alloc: Global, names: &mut Names, times: u32) -> Result<u32, AllocError
             names.bind(name.as_str(), Value::Int(i128::from(i)))?;
         }
         if names.get(name.as_str())?.is_some() {
-            bound += 1;
+            bound = bound.saturating_add(1);
         }
     }
     Ok(bound)
