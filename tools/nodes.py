@@ -31,14 +31,16 @@ def truth(b):
     return "true" if b else "false"
 
 
+def plain(v, spelled=""):
+    """None, a bool, a number or a text, as a value or, spelled with `p.`, as a part of a key."""
+    if v is None:
+        return f"{spelled}none"
+    kind, written = next(form for is_of, *form in ((bool, "bool", truth), (int, "integer", number), (str, "text", text)) if isinstance(v, is_of))
+    return f"({spelled}{kind} {written(v)})"
+
+
 def part(p):
-    if p is None:
-        return "p.none"
-    if isinstance(p, bool):
-        return f"(p.bool {truth(p)})"
-    if isinstance(p, int):
-        return f"(p.integer {number(p)})"
-    return f"(p.text {text(p)})"
+    return plain(p, "p.")
 
 
 def key(k):
@@ -55,14 +57,8 @@ class Heap:
         self.things = []
 
     def value(self, v):
-        if v is None:
-            return "none"
-        if isinstance(v, bool):
-            return f"(bool {truth(v)})"
-        if isinstance(v, int):
-            return f"(integer {number(v)})"
-        if isinstance(v, str):
-            return f"(text {text(v)})"
+        if v is None or isinstance(v, (bool, int, str)):
+            return plain(v)
         if isinstance(v, range):
             return f"(range {number(v.start)} {number(v.stop)} {number(v.step)})"
         if v is print:
