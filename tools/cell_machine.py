@@ -1,5 +1,5 @@
 #!/usr/bin/env python3
-"""Runs cells of the plain forms over CPython's trees, and counts the steps.
+"""Runs cells of the plain forms over CPython's trees, and counts the steps; node_machine.py adds the forms over nodes.
 
 The rules are written here a second time, so that the definitions of `kishu_model` have something
 to be compared with. No cell here nests deeply, so the depth isn't counted.
@@ -24,11 +24,11 @@ PRINT = object()
 
 
 class Raised(Exception):
-    """An exception of the language: its class, and the text that is its one argument."""
+    """An exception of the language: its class and its arguments, and its object where it has one."""
 
-    def __init__(self, kind, text):
-        super().__init__(kind, text)
-        self.kind, self.text = kind, text
+    def __init__(self, kind, *given, thing=None):
+        super().__init__(kind, *given)
+        self.kind, self.given, self.thing = kind, list(given), thing
 
 
 class Spent(Exception):
@@ -45,10 +45,6 @@ class Left(Exception):
 
 class NotRead(Exception):
     """No form of these cells."""
-
-
-def kind(value):
-    return "'%s'" % KINDS[type(value)]
 
 
 def is_number(value):
@@ -104,6 +100,12 @@ class Machine:
             raise Spent
         self.left -= n
 
+    def kind(self, value):
+        return "'%s'" % KINDS[type(value)]
+
+    def truth(self, value):
+        return bool(value)
+
     # ---- names
 
     def read(self, name):
@@ -131,7 +133,7 @@ class Machine:
         if sign == "*" and is_number(a) and isinstance(b, str):
             a, b = b, a
         elif not (sign == "*" and isinstance(a, str) and is_number(b)):
-            raise Raised("TypeError", "bad operand types for %s: %s and %s" % (sign, kind(a), kind(b)))
+            raise Raised("TypeError", "bad operand types for %s: %s and %s" % (sign, self.kind(a), self.kind(b)))
         self.step(len(a) * max(b, 0))
         return a * b if a else ""
 
@@ -147,25 +149,35 @@ class Machine:
             return (a == b) == (sign == "==")
         if both or is_number(a) and is_number(b):
             return ORDER[sign](a, b)
-        raise Raised("TypeError", "bad operand types for %s: %s and %s" % (sign, kind(a), kind(b)))
+        raise Raised("TypeError", "bad operand types for %s: %s and %s" % (sign, self.kind(a), self.kind(b)))
 
     def contains(self, sign, a, b):
         if not isinstance(b, str):
-            raise Raised("TypeError", "%s object is not iterable" % kind(b))
+            raise Raised("TypeError", "%s object is not iterable" % self.kind(b))
         if not isinstance(a, str):
-            raise Raised("TypeError", "bad operand types for %s: %s and %s" % (sign, kind(a), kind(b)))
+            raise Raised("TypeError", "bad operand types for %s: %s and %s" % (sign, self.kind(a), self.kind(b)))
         self.step(len(b) * max(len(a), 1))
         return a in b
 
+    def representation(self, value):
+        return representation(value)
+
     def text(self, value):
-        made = value if isinstance(value, str) else representation(value)
+        made = value if isinstance(value, str) else self.representation(value)
         self.step(len(made))
         return made
 
     def shown(self, value):
-        made = representation(value)
+        made = self.representation(value)
         self.step(len(made))
         return made
+
+    def exception_text(self, kind, given):
+        """The text of an exception with one argument, or without."""
+        if not given:
+            return ""
+        self.step()
+        return self.shown(given[0]) if kind == "KeyError" else self.text(given[0])
 
     def print(self, values):
         made = " ".join([self.text(v) for v in values])
@@ -193,12 +205,12 @@ class Machine:
         return e.value
 
     def IfExp(self, e):
-        return self.value(e.body) if self.value(e.test) else self.value(e.orelse)
+        return self.value(e.body) if self.truth(self.value(e.test)) else self.value(e.orelse)
 
     def BoolOp(self, e):
         for part in e.values[:-1]:
             found = self.value(part)
-            if bool(found) == isinstance(e.op, ast.Or):
+            if self.truth(found) == isinstance(e.op, ast.Or):
                 return found
         return self.value(e.values[-1])
 
@@ -206,10 +218,10 @@ class Machine:
         found = self.value(e.operand)
         self.step()
         if isinstance(e.op, ast.Not):
-            return not found
+            return not self.truth(found)
         sign = {ast.UAdd: "+", ast.USub: "-"}[type(e.op)]
         if not is_number(found):
-            raise Raised("TypeError", "bad operand type for %s: %s" % (sign, kind(found)))
+            raise Raised("TypeError", "bad operand type for %s: %s" % (sign, self.kind(found)))
         return whole(int(found) if sign == "+" else -int(found))
 
     def BinOp(self, e):
@@ -272,7 +284,7 @@ class Machine:
         self.assign(s.target.id, self.operate(OPERATORS[type(s.op)], before, operand))
 
     def choose(self, s):
-        while not self.value(s.test):
+        while not self.truth(self.value(s.test)):
             if len(s.orelse) == 1 and isinstance(s.orelse[0], ast.If) and s.orelse[0].col_offset == s.col_offset:
                 s = s.orelse[0]
             else:
@@ -280,7 +292,7 @@ class Machine:
         return self.block(s.body)
 
     def loop(self, s):
-        while self.value(s.test):
+        while self.truth(self.value(s.test)):
             self.step()
             try:
                 self.block(s.body)
@@ -302,8 +314,8 @@ class Machine:
 class Ran:
     """What a run gives."""
 
-    def __init__(self, text, line=None, names=(), budget=BUDGET):
-        self.machine = Machine(names, budget)
+    def __init__(self, text, line=None, names=(), budget=BUDGET, machine=Machine):
+        self.machine = machine(names, budget)
         if line is None:
             self.outcome, outputs = self.ended(ast.parse(re.sub("\r\n?", "\n", text)).body)
             self.charge = BUDGET - self.machine.left
@@ -318,8 +330,7 @@ class Ran:
             try:
                 return "ok", self.machine.cell(body)
             except Raised as raised:
-                self.machine.step()
-                return "error", [("fault", raised.kind, self.machine.text(raised.text))]
+                return "error", [("fault", raised.kind, self.machine.exception_text(raised.kind, raised.given))]
         except Spent:
             return "stopped", [("fault", "Stopped", "step budget spent")]
 
@@ -327,25 +338,16 @@ class Ran:
 # ---- which forms there are
 
 
-PLAIN = (
-    ast.Pass, ast.Break, ast.Continue, ast.Expr, ast.Assign, ast.AugAssign, ast.If, ast.While, ast.IfExp, ast.BoolOp, ast.UnaryOp, ast.BinOp,
-    ast.Compare, ast.Call, ast.Name, ast.Constant, ast.expr_context, ast.boolop, ast.unaryop, ast.operator, ast.cmpop,
-)
-
-
-def is_print(e):
-    return isinstance(e, ast.Call) and isinstance(e.func, ast.Name) and e.func.id == "print" and not e.keywords
+LATER = (ast.FunctionDef, ast.Return, ast.Global, ast.Raise, ast.Assert, ast.Try)
 
 
 def is_plain(node):
     """Whether a part of a tree has only the forms that the machine runs."""
-    if not isinstance(node, PLAIN) or isinstance(node, ast.Call) and not is_print(node):
+    if isinstance(node, LATER) or isinstance(node, ast.Name) and node.id in LISTED:
         return False
-    if isinstance(node, ast.Name) and node.id in LISTED:
-        return False
-    if isinstance(node, ast.Assign) and not all(isinstance(t, ast.Name) for t in node.targets):
-        return False
-    parts = node.args if isinstance(node, ast.Call) else ast.iter_child_nodes(node)
+    parts = list(ast.iter_child_nodes(node))
+    if isinstance(node, ast.Call) and isinstance(node.func, ast.Name) and node.func.id in ("print", "SimpleNamespace"):
+        parts.remove(node.func)
     return all(map(is_plain, parts))
 
 
@@ -361,6 +363,10 @@ def line_starts(text):
 
 
 def later_line(text):
+    return first_later(text, is_plain)
+
+
+def first_later(text, is_plain):
     """The line of the first piece with another form, or None; None also where there is no tree."""
     text = re.sub("\r\n?", "\n", text)
     try:

@@ -1,27 +1,51 @@
 #!/usr/bin/env python3
 """Makes the tables of cells and of what they show by which the meaning of cells is tested.
 
-Usage: tools/cells.py rust CELLS                  (crates/kishu_tests/src/serve/cells.rt)
-       tools/cells.py antt FOLDER                 (crates/kishu_model/proofs, for MeaningExamples.antt,
+Usage: tools/cells.py antt FOLDER                 (crates/kishu_model/proofs, for MeaningExamples.antt,
                                                    MoreExamples.antt, BudgetExamples.antt, LaterExamples.antt,
-                                                   DepthExamples.antt)
+                                                   DepthExamples.antt, those over nodes, Node..Cells.antt and the
+                                                   like, and those of functions and builtin functions)
+       tools/cells.py rust CELLS                  (a table for the program, once it runs the whole language:
+                                                   answers in JSON, as in crates/kishu_tests/src/serve/cells.rt)
+       tools/cells.py told CELLS                  (the same for the interpreter alone)
 
-A cell is read by CPython's `ast.parse` and run by the small machine of cell_machine.py, which
-counts the steps. Each cell of SAME also runs in CPython, and prints, shows, binds and raises the
-same there. FAULTS gives the line of each syntax fault.
+A cell is read by CPython's `ast.parse` and run by the small machine of cell_machine.py and
+node_machine.py, which counts the steps. Each cell of SAME also runs in CPython, and prints, shows,
+binds and raises the same there. FAULTS gives the line of each syntax fault. The cells over nodes stand
+in node_cells.py.
 """
 import ast
+import builtins
+import collections
 import contextlib
 import io
 import json
 import re
 import sys
 import warnings
+from types import SimpleNamespace
 
-from cell_machine import Ran, later_line
+import builtin_cells
+import function_cells
+import node_cells
+from cell_machine import LISTED, PRINT, later_line
+from cell_machine import Ran as CellRan
+from builtin_machine import Whole
+from function_machine import CLASSES
+from node_machine import Builtin, Class, Thing, representation
 from rust_text import escaped
 
 warnings.simplefilter("ignore")
+builtins.SimpleNamespace = SimpleNamespace
+
+
+def Ran(text, line=None, budget=None, names=()):
+    def machine(names, left):
+        return Whole(names, left if budget is None else budget, re.sub("\r\n?", "\n", text))
+
+    return CellRan(text, line, names=names, machine=machine)
+
+
 
 # CPython prints, shows, binds and raises the same.
 SAME = [
@@ -81,26 +105,31 @@ FEW = [
 # ---- beside CPython
 
 
-def in_python(text):
+def plain(text):
+    """A repr without modules and addresses."""
+    return re.sub(r"<function (\w+) at \w+>", r"<function \1>", text.replace("'types.", "'"))
+
+
+def in_python(text, names=()):
     """What CPython prints, shows, binds and raises."""
-    names, out, shown, error = {}, io.StringIO(), [], None
+    names, out, shown, error = dict(names), io.StringIO(), [], None
     body = ast.parse(text).body
     last = body.pop() if body and isinstance(body[-1], ast.Expr) else None
     with contextlib.redirect_stdout(out):
         try:
             exec(compile(ast.Module(body, []), "cell", "exec"), names)
             found = eval(compile(ast.Expression(last.value), "cell", "eval"), names) if last else None
-            shown = [] if found is None else [("shown", repr(found))]
+            shown = [] if found is None else [("shown", plain(repr(found)))]
         except Exception as raised:
             error = type(raised).__name__
     names.pop("__builtins__", None)
-    return out.getvalue(), shown, names, error
+    return out.getvalue(), shown, {n: plain(repr(v)) for n, v in names.items()}, error
 
 
 def in_machine(ran):
     shown = [o for o in ran.outputs if o[0] == "shown"]
     error = next((o[1] for o in ran.outputs if o[0] == "fault"), None)
-    return ran.machine.out, shown, ran.names, error
+    return ran.machine.out, shown, {n: representation(v) for n, v in ran.names.items()}, error
 
 
 def is_refused(text):
@@ -111,13 +140,17 @@ def is_refused(text):
         return True
 
 
-def check(rows):
-    for text, ran in rows[: len(SAME)]:
-        if repr(in_python(text)) != repr(in_machine(ran)):
-            sys.exit("CPython differs at %r: %r, and not %r" % (text, in_python(text), in_machine(ran)))
-    for text, line in LATER:
-        if later_line(text) != line:
-            sys.exit("the line of %r is %r" % (text, later_line(text)))
+def check_same(rows, names=()):
+    for text, ran in rows:
+        if repr(in_python(text, names)) != repr(in_machine(ran)):
+            sys.exit("CPython differs at %r: %r, and not %r" % (text, in_python(text, names), in_machine(ran)))
+
+
+def check(rows, later=None, line_of=later_line):
+    check_same(rows)
+    for text, line in LATER if later is None else later:
+        if line_of(text) != line:
+            sys.exit("the line of %r is %r" % (text, line_of(text)))
     for text, _ in FAULTS[1:]:
         if not is_refused(text):
             sys.exit("CPython accepts %r" % text)
@@ -138,7 +171,7 @@ def output_json(output):
     return {"ename": output[1], "evalue": output[2], "output_type": "error", "traceback": ["%s: %s" % output[1:]]}
 
 
-RUST_HEAD = """// Made by tools/cells.py: the cell's outcome and outputs in its answer, and its text, with \\x1f between, and
+RUST_HEAD = """// Made by %s: the cell's outcome and outputs in its answer, and its text, with \\x1f between, and
 // \\x1e behind each row. The answer is BEGIN, this, END.
 pub(crate) const COUNT: usize = %d;
 
@@ -150,12 +183,32 @@ pub(crate) const ROWS: &str = "\\
 """
 
 
-def rust(path, rows):
+def rust(path, rows, script):
     with open(path, "w") as out:
-        out.write(RUST_HEAD % len(rows))
+        out.write(RUST_HEAD % (script, len(rows)))
         for text, ran in rows:
             outputs = json.dumps([output_json(o) for o in ran.outputs], ensure_ascii=False, separators=(",", ":"), sort_keys=True)
             out.write("    %s\\x1f%s\\x1e\\\n" % (rust_text('"%s","outputs":%s' % (ran.outcome, outputs)), rust_text(text)))
+        out.write('";\n')
+
+
+TOLD_HEAD = """// Made by tools/cells.py: how a cell ended and what it shows, and its text, with \\x1f between, and \\x1e
+// behind each row. What was printed stands in `<` and `>`.
+pub(crate) const COUNT: usize = %d;
+
+pub(crate) const ROWS: &str = "\\
+"""
+
+
+def told_output(output):
+    return {"stream": " <%s>", "shown": " %s", "fault": " %s: %s"}[output[0]] % output[1:]
+
+
+def told(path, rows):
+    with open(path, "w") as out:
+        out.write(TOLD_HEAD % len(rows))
+        for text, ran in rows:
+            out.write("    %s\\x1f%s\\x1e\\\n" % (rust_text(ran.outcome + "".join(map(told_output, ran.outputs))), rust_text(text)))
         out.write('";\n')
 
 
@@ -170,9 +223,21 @@ def listed(items):
     return "(" + "".join(i + " ∷ " for i in items) + "[])" if items else "[]"
 
 
+def class_number(name):
+    return LISTED.index(name) - LISTED.index("bool")
+
+
 def antt_value(value):
     if value is None:
         return "none"
+    if isinstance(value, Class):
+        return "class %d" % class_number(value.name)
+    if value is PRINT or isinstance(value, Builtin):
+        return "builtin %d" % LISTED.index("print" if value is PRINT else value.name)
+    if isinstance(value, Thing):
+        return "node %d" % value.number
+    if isinstance(value, range):
+        return "range %s" % " ".join(antt_value(n).split(" ", 1)[1] for n in (value.start, value.stop, value.step))
     if isinstance(value, str):
         return "text %s" % codes(value, lambda t: map(ord, t))
     if isinstance(value, bool):
@@ -180,11 +245,31 @@ def antt_value(value):
     return "integer (pos %d)" % value if value >= 0 else "integer (negsuc %d)" % (-value - 1)
 
 
-def antt_ran(ran):
+def antt_key(key):
+    if isinstance(key, tuple):
+        return "p.tuple %s" % listed("p.%s" % antt_value(part) for part in key)
+    return "p.single (p.%s)" % antt_value(key) if key is not None else "p.single p.none"
+
+
+def antt_node(thing):
+    if thing.kind == "dict":
+        return "dict %s" % listed("(%s, %s)" % (antt_key(k), antt_value(v)) for k, v in thing.inside.items())
+    if thing.kind == "SimpleNamespace":
+        return "object %s" % listed("(%s, %s)" % (codes(k).strip("()"), antt_value(v)) for k, v in thing.inside.items())
+    if thing.kind == "function":
+        return "function One %s %s" % (codes(thing.inside.code), listed(map(antt_value, thing.inside.defaults)))
+    if thing.kind in CLASSES:
+        return "exception %d %s" % (class_number(thing.kind), listed(map(antt_value, thing.inside)))
+    return "%s %s" % (thing.kind, listed(map(antt_value, thing.inside)))
+
+
+def antt_ran(ran, stage=None):
     outcome = {"ok": "Done", "error": "Raised", "stopped": "Stopped"}[ran.outcome]
     outputs = listed(["%s %s" % (o[0], " ".join(codes(part) for part in o[1:])) for o in ran.outputs])
     names = listed(["(codes \"%s\", %s)" % (n, antt_value(ran.names[n])) for n in sorted(ran.names)])
-    accessed = listed(['codes "%s"' % n for n in ran.accessed])
+    accessed = listed(['codes "%s"' % n for n in (stage or WHOLE).accessed(ran.accessed)])
+    if getattr(ran.machine, "things", None):
+        return "ran_over %s %s %s %s %s %d" % (outcome, outputs, names, listed(map(antt_node, ran.machine.things)), accessed, ran.charge)
     return "ran %s %s %s %s %d" % (outcome, outputs, names, accessed, ran.charge)
 
 
@@ -200,15 +285,16 @@ DEEP = [
 LATER = [
     ("", None), ("x = 1\nwhile x: x -= 1\nprint(x)", None), ("a = b = 'é' if not x else -(1) ** 2 * 3\nif a in b is None: pass", None), ("x += 1\nx -= (1)", None),
     ("print", 1), ("x = print", 1), ("print = 1", 1), ("print += 1", 1), ("len", 1), ("int", 1), ("print(len)", 1), ("print(1 + print)", 1), ("ValueError", 1), ("SimpleNamespace", 1),
-    ("x = 1\nx.a", 2), ("x\n\n# c\nif x:\n  [1]\ny", 4), ("x; y; {}", 1), ("pass\nx = (1 +\n 2); y = [\n1]", 2), ("\r\rx\r\n[1]", 4), ("x = '''\n''' + y\n[1]\n()", 3),
-    ("print(1, end='')", 1), ("print(1)(2)", 1), ("print(1)[2]", 1), ("print.a", 1), ("f()", 1), ("len(x)", 1), ("'a'(1)", 1), ("'a'.b(1)", 1),
-    ("(1, 2)", 1), ("x = 1, 2", 1), ("x += 1,", 1), ("()", 1), ("[]", 1), ("{1: 2}", 1), ("x[0]", 1), ("x[1:2]", 1),
-    ("a, b = 1, 2", 1), ("[a] = x", 1), ("x[0] = 1", 1), ("x = x[0] = 1", 1), ("x.a += 1", 1), ("x = y.a", 1),
-    ("for i in x: pass", 1), ("def f(): pass", 1), ("del x", 1), ("assert x", 1), ("raise x", 1), ("try: pass\nexcept: pass", 1), ("x = 1\ntry: x\nfinally: x", 2), ("from types import SimpleNamespace", 1),
-    ("not (-x ** [1])", 1), ("1 if 2 else [3]", 1), ("1 if [2] else 3", 1), ("x and y or ()", 1), ("x < y < []", 1), ("1 + 2 - []", 1), ("2 * []", 1), ("[] ** 2", 1), ("print(1, ([]))", 1),
-    ("while []: pass", 1), ("while 1:\n  while 2: []", 1), ("if 1: pass\nelif []: pass", 1), ("if 1: pass\nelif 2: []", 1), ("if 1: pass\nelse: []", 1), ("x += []", 1),
-    ("x = [1]\na = = 1", None), ("[1]\n'abc", None), ("x = [1\n", None), ("f()\nbreak", None), ("len(1 $ 2)", None),
-    ("(a) = 1\n(print)(a)", None), ("x = 1\n(len)(x)", 2), ("(print)", 1), ("(print) = 1", 1), ("((print))(x).y", 1),
+    ("x = 1\nlen.a", 2), ("x\n\n# c\nif x:\n  [len]\ny", 4), ("x; y; {len: 1}", 1), ("pass\nx = (1 +\n 2); y = [\nlen]", 2), ("\r\rx\r\n[len]", 4), ("x = '''\n''' + y\n[len]\n()", 3),
+    ("print(1, end='')(2)[3].print", None), ("SimpleNamespace(len=1).len", None), ("(SimpleNamespace)(a=(print)(1))", None), ("f()\n'a'(1).b(2)[3]", None), ("print.a", 1), ("print[0]", 1), ("print[0](1)", 1), ("SimpleNamespace.a()", 1), ("len(x)", 1), ("x.a(len)", 1), ("x(a=len)", 1), ("x()(len)", 1),
+    ("(1, 2), [], {}, {1: [2]}, ()", None), ("(1, len)", 1), ("x = 1, len", 1), ("x += 1, len", 1), ("[1, len]", 1), ("{1: len}", 1), ("{len: 1}", 1), ("x[0][1:2][::-1]", None), ("x[len]", 1), ("x[len:]", 1), ("x[:len]", 1), ("x[::len]", 1), ("len[0]", 1), ("len[:]", 1),
+    ("a, (b, [c]) = x[0], y.b = z", None), ("a, len = 1, 2", 1), ("[a, (len, b)] = x", 1), ("x[len] = 1", 1), ("x = x[0] = len[0] = 1", 1), ("len.a += 1", 1), ("x = len.a", 1), ("x.a += 1\nx[0] **= 2\ndel x.a, x[0], x", None),
+    ("for a, b in x.items(): pass", None), ("for len in x: pass", 1), ("for i in len: pass", 1), ("for i in x: len", 1), ("def f(): pass", 1), ("del len", 1), ("del x, y[len]", 1), ("assert x", 1), ("raise x", 1), ("try: pass\nexcept: pass", 1), ("x = 1\ntry: x\nfinally: x", 2),
+    ("from types import SimpleNamespace", None), ("from types import SimpleNamespace as len", None), ("from types import SimpleNamespace as len\nlen", 2), ("from types import SimpleNamespace\nS = SimpleNamespace", 2), ("while x:\n  for i in x:\n    def f(): pass", 1),
+    ("not (-x ** len)", 1), ("1 if 2 else len", 1), ("1 if len else 3", 1), ("len if 1 else 3", 1), ("x and y or len", 1), ("x < y < len", 1), ("1 + 2 - len", 1), ("2 * len", 1), ("len ** 2", 1), ("print(1, (len))", 1),
+    ("while len: pass", 1), ("while 1:\n  while 2: len", 1), ("if 1: pass\nelif len: pass", 1), ("if 1: pass\nelif 2: len", 1), ("if 1: pass\nelse: len", 1), ("x += len", 1), ("while 1:\n  for i in x:\n    try: pass\n    finally: pass", 1),
+    ("x = len\na = = 1", None), ("len\n'abc", None), ("x = [len\n", None), ("f(len)\nbreak", None), ("len(1 $ 2)", None),
+    ("(a) = 1\n(print)(a)", None), ("x = 1\n(len)(x)", 2), ("(print)", 1), ("(print) = 1", 1), ("((print))(x).y", None),
 ]
 # bytes that are no text in UTF-8
 NO_TEXTS = [b"\xff", b"x = [1] # \x80", b"'\xc3'", b"[\xed\xa0\x80]"]
@@ -243,52 +329,115 @@ FIRST = "pos negsuc true false codes Some None"
 PROFILES = ("use Rattle.kishu_model.specs.declared.profile.Profile.TheVariants.{%s}\n", "One")
 OUTCOMES = ("use Rattle.kishu_model.specs.declared.result.Outcome.TheVariants.{%s}\n", "Done Raised Stopped")
 GROUPS = (
-    ("use Rattle.kishu_model.specs.Values.{%s}\n", "none bool integer text empty stream shown fault"),
-    ("use Rattle.kishu_model.specs.Meaning.{%s}\n", "run"),
+    ("use Rattle.kishu_model.specs.Keys as %s\n", "p"),
+    ("use Rattle.kishu_model.specs.Values.{%s}\n", "none bool integer text range builtin class node list tuple dict object function exception empty stream shown fault"),
+    ("use Rattle.kishu_model.specs.Meaning.{%s}\n", "run call"),
     ("use Rattle.kishu_model.specs.Later.{%s}\n", "later_line"),
-    ("use Rattle.kishu_model.proofs.Cells.{%s}\n", "ran run_with run_at"),
+    ("use Rattle.kishu_model.proofs.Cells.{%s}\n", "ran ran_over ranged run_with run_at"),
 )
 
+# Which script makes the rows, what they import, and how they tell the record of accesses.
+Stage = collections.namedtuple("Stage", "script groups accessed")
+WHOLE = Stage("tools/cells.py", GROUPS, lambda names: sorted(set(names)))
 
-def imports(rows):
+
+def imports(rows, groups):
     words = set(re.findall(r"\w+", re.sub(r'"(\\.|[^"\\])*"', "", " ".join(call + " " + answer for call, answer in rows))))
 
     def line(group):
         names = ", ".join(n for n in group[1].split() if n in words)
         return group[0] % names if names else ""
 
-    return IMPORTS % (line(("%s", FIRST)), ", is_utf8" if "later_line" in words else "", line(PROFILES) + line(OUTCOMES), "".join(map(line, GROUPS)))
+    return IMPORTS % (line(("%s", FIRST)), ", is_utf8" if "later_line" in words else "", line(PROFILES) + line(OUTCOMES), "".join(map(line, groups)))
 
 
-def antt(path, head, name, first, rows):
+def antt(path, head, name, first, rows, further="", stage=None):
+    stage = stage or WHOLE
     own = rows[0][0].split()[0]
-    unfolding = UNFOLDING + {"run": " run", "later_line": " is_utf8 later_line"}.get(own, "")
+    unfolding = UNFOLDING + {"run": " run", "later_line": " is_utf8 later_line"}.get(own, "") + further
     with open(path, "w") as out:
-        out.write("-- %s: computed on the definition. Made by tools/cells.py.\n%s" % (head, imports(rows)))
+        out.write("-- %s: computed on the definition. Made by %s.\n%s" % (head, stage.script, imports(rows + [(further, "")], stage.groups)))
         for i, (call, answer) in enumerate(rows, first):
             out.write("\n%s_%d : %s ≡ %s\n%s\n%s_%d = refl\n" % (name, i, call, answer, unfolding, name, i))
+
+
+def antt_nodes(folder, rows):
+    short = [("run One %s empty" % codes(text), antt_ran(ran)) for text, ran in rows if ran.charge < 500]
+    third = -(-len(short) // 3)
+    files = ("NodeCells", "What some cells over nodes give"), ("MoreNodeCells", "What further cells over nodes give"), ("LastNodeCells", "What the last cells over nodes give")
+    for i, (name, head) in enumerate(files):
+        antt("%s/%s.antt" % (folder, name), head, "over", third * i + 1, short[third * i : third * (i + 1)])
+    ranged = [(text, Ran(text, names=node_cells.RANGES)) for text in node_cells.RANGED + node_cells.RANGED_OWN]
+    check_same(ranged[: len(node_cells.RANGED)], node_cells.RANGES)
+    ranges = [("run One %s ranged" % codes(text), antt_ran(ran)) for text, ran in ranged]
+    antt(folder + "/RangeCells.antt", "What some cells give that begin with ranges", "along", 1, ranges)
+    few = [("run_with %d %s" % (n, codes(text)), antt_ran(Ran(text, budget=n))) for n, text in node_cells.FEW]
+    deep = [("run_at %d %s" % (1000 - n, codes(text)), antt_ran(Ran(text))) for n, text in node_cells.DEEP]
+    too_deep = [("(run_at %d %s).report.outputs" % (1001 - n, codes(text)), TOO_DEEP) for n, text in node_cells.DEEP if n > 0]
+    antt(folder + "/NodeBudget.antt", "What some cells over nodes give where few steps are left", "scarce", 1, few)
+    antt(folder + "/NodeDepth.antt", "What some cells over nodes give that begin at a great depth", "low", 1, deep + too_deep)
+
+
+def antt_functions(folder, rows):
+    short = [("run One %s empty" % codes(text), antt_ran(ran)) for text, ran in rows if ran.charge < 500]
+    half = len(short) // 2
+    antt(folder + "/FunctionCells.antt", "What some cells with functions and exceptions give", "way", 1, short[:half], " call")
+    antt(folder + "/MoreFunctionCells.antt", "What further cells with functions and exceptions give", "way", half + 1, short[half:], " call")
+    deep = [("run_at %d %s" % (1000 - n, codes(text)), antt_ran(Ran(text))) for n, text in function_cells.DEEP]
+    too_deep = [("(run_at %d %s).report.outputs" % (1001 - n, codes(text)), TOO_DEEP) for n, text in function_cells.DEEP if n > 0 and "except" not in text]
+    too_deep += [("(run_at %d %s).report.outputs" % (n, codes(text)), TOO_DEEP) for n, text in function_cells.TOO_DEEP]
+    few = [("run_with %d %s" % (n, codes(text)), antt_ran(Ran(text, budget=n))) for n, text in function_cells.FEW]
+    antt(folder + "/FunctionBudget.antt", "What some cells with functions and exceptions give where few steps are left", "short", 1, few, " call")
+    antt(folder + "/FunctionDepth.antt", "What some cells with functions and exceptions give that begin at a great depth", "far", 1, deep + too_deep, " call")
+
+
+def antt_builtins(folder, rows):
+    short = [("run One %s empty" % codes(text), antt_ran(ran)) for text, ran in rows if ran.charge < 500]
+    half = len(short) // 2
+    antt(folder + "/BuiltinCells.antt", "What some cells with builtin functions and classes give", "builtin", 1, short[:half], " call")
+    antt(folder + "/MoreBuiltinCells.antt", "What further cells with builtin functions and classes give", "builtin", half + 1, short[half:], " call")
+    few = [("run_with %d %s" % (n, codes(text)), antt_ran(Ran(text, budget=n))) for n, text in builtin_cells.FEW]
+    antt(folder + "/BuiltinBudget.antt", "What some cells with builtin functions and classes give where few steps are left", "spare", 1, few)
 
 
 TOO_DEEP = 'fault (codes "RecursionError") (codes "depth limit reached") ∷ []'
 
 
-def main():
-    rows = [(text, Ran(text)) for text in SAME + OWN] + [(text, Ran(text, line)) for text, line in FAULTS]
-    check(rows)
-    if sys.argv[1] == "rust":
-        return rust(sys.argv[2], rows)
-    short = [("run One %s empty" % codes(text), antt_ran(ran)) for text, ran in rows if ran.charge < 500]
-    few = [("run_with %d %s" % (n, codes(text)), antt_ran(Ran(text, budget=n))) for n, text in FEW]
-    later = [(codes(text), line) for text, line in LATER] + [(listed(map(str, text)), None) for text in NO_TEXTS]
-    deep = [("run_at %d %s" % (1000 - n, codes(text)), antt_ran(Ran(text))) for n, text in DEEP]
+def antt_plain(folder, rows, ran, later, stage=None, prefix=""):
+    """The rows of plain cells: what they give, with few steps, and at a great depth; and the lines of later forms."""
+    short = [("run One %s empty" % codes(text), antt_ran(r, stage)) for text, r in rows if r.charge < 500]
+    few = [("run_with %d %s" % (n, codes(text)), antt_ran(ran(text, budget=n), stage)) for n, text in FEW]
+    lines = [(codes(text), line) for text, line in later] + [(listed(map(str, text)), None) for text in NO_TEXTS]
+    deep = [("run_at %d %s" % (1000 - n, codes(text)), antt_ran(ran(text), stage)) for n, text in DEEP]
     too_deep = [("(run_at %d %s).report.outputs" % (1001 - n, codes(text)), TOO_DEEP) for n, text in DEEP if n > 0]
     half = len(short) // 2
+    tables = (
+        ("MeaningExamples", "What some cells give", "cell", 1, short[:half]),
+        ("MoreExamples", "What further cells give", "cell", half + 1, short[half:]),
+        ("BudgetExamples", "What some cells give where few steps are left", "few", 1, few),
+        ("DepthExamples", "What some cells give that begin at a great depth", "deep", 1, deep + too_deep),
+        ("LaterExamples", "Which cells have a form that no cell has yet", "later", 1, [("later_line " + text, "Some %d" % line if line else "None") for text, line in lines]),
+    )
+    for name, head, row, first, found in tables:
+        antt("%s/%s%s.antt" % (folder, prefix, name), head, row, first, found, stage=stage)
+
+
+def main():
+    rows = [(text, Ran(text)) for text in SAME + OWN] + [(text, Ran(text, line)) for text, line in FAULTS]
+    over_nodes = [(text, Ran(text)) for text in node_cells.SAME + node_cells.OWN]
+    functions = [(text, Ran(text)) for text in function_cells.SAME + function_cells.OWN]
+    with_builtins = [(text, Ran(text)) for text in builtin_cells.SAME + builtin_cells.OWN]
+    check(rows[: len(SAME)] + over_nodes[: len(node_cells.SAME)] + functions[: len(function_cells.SAME)] + with_builtins[: len(builtin_cells.SAME)])
+    if sys.argv[1] == "rust":
+        return rust(sys.argv[2], rows + over_nodes, WHOLE.script)
+    if sys.argv[1] == "told":
+        return told(sys.argv[2], rows + over_nodes + functions + with_builtins)
     folder = sys.argv[2]
-    antt(folder + "/MeaningExamples.antt", "What some cells give", "cell", 1, short[:half])
-    antt(folder + "/MoreExamples.antt", "What further cells give", "cell", half + 1, short[half:])
-    antt(folder + "/BudgetExamples.antt", "What some cells give where few steps are left", "few", 1, few)
-    antt(folder + "/DepthExamples.antt", "What some cells give that begin at a great depth", "deep", 1, deep + too_deep)
-    antt(folder + "/LaterExamples.antt", "Which cells have a form that no cell has yet", "later", 1, [("later_line " + text, "Some %d" % line if line else "None") for text, line in later])
+    antt_nodes(folder, over_nodes)
+    antt_functions(folder, functions)
+    antt_builtins(folder, with_builtins)
+    antt_plain(folder, rows, Ran, LATER)
 
 
-main()
+if __name__ == "__main__":
+    main()

@@ -19,8 +19,13 @@ def number(n):
     return f"(pos {n})" if n >= 0 else f"(negsuc {-n - 1})"
 
 
+def is_easy(t):
+    """Whether a text stands between quotes as it is."""
+    return t.isascii() and t.isprintable() and '"' not in t and "\\" not in t
+
+
 def text(t):
-    return f'(codes "{t}")' if t.isascii() and t else "[]" if not t else listing([str(ord(c)) for c in t])
+    return "[]" if not t else f'(codes "{t}")' if is_easy(t) else listing([str(ord(c)) for c in t])
 
 
 def listing(items):
@@ -49,6 +54,20 @@ def key(k):
     return f"(p.single {part(k)})"
 
 
+CLASSES = (
+    "bool dict int list range SimpleNamespace str tuple Exception ArithmeticError OverflowError ZeroDivisionError AssertionError AttributeError "
+    "LookupError IndexError KeyError NameError UnboundLocalError RuntimeError NotImplementedError RecursionError SyntaxError TypeError ValueError"
+).split()
+BUILTINS = "abs all any chr divmod isinstance len max min ord print repr sorted sum".split()
+
+
+class Function:
+    """Stands for a function of the language: its code, and the values of its defaults."""
+
+    def __init__(self, code, *defaults):
+        self.code, self.defaults = code, defaults
+
+
 class Heap:
     """The nodes that values lead to, numbered in the order of first meeting."""
 
@@ -61,10 +80,10 @@ class Heap:
             return plain(v)
         if isinstance(v, range):
             return f"(range {number(v.start)} {number(v.stop)} {number(v.step)})"
-        if v is print:
-            return "(builtin 10)"
-        if v is list:
-            return "(class 3)"
+        if isinstance(v, type(print)):
+            return f"(builtin {BUILTINS.index(v.__name__)})"
+        if isinstance(v, type):
+            return f"(class {CLASSES.index(v.__name__)})"
         if id(v) not in self.seen:
             self.seen[id(v)] = len(self.things)
             self.things.append(v)
@@ -84,7 +103,9 @@ class Heap:
         if isinstance(v, SimpleNamespace):
             return f"object {self.entries(vars(v), text)}"
         if isinstance(v, Exception):
-            return f"exception 24 {self.values(v.args)}"
+            return f"exception {CLASSES.index(type(v).__name__)} {self.values(v.args)}"
+        if isinstance(v, Function):
+            return f"function One {text(v.code)} {self.values(v.defaults)}"
         raise TypeError(v)
 
     def nodes(self):
@@ -233,8 +254,8 @@ def less_row(a, b, left=100, depth=0):
 
 # ---- the files
 
-def write(name, head, uses, rows, prefix, unfolding=""):
-    lines = [f"-- {head} Made by tools/nodes.py."] + uses + [""]
+def write(name, head, uses, rows, prefix, unfolding="", maker="nodes.py"):
+    lines = [f"-- {head} Made by tools/{maker}."] + uses + [""]
     for i, row in enumerate(rows, 1):
         lines.append(f"{prefix}_{i} : {row}")
         if unfolding:
@@ -357,4 +378,5 @@ def main():
            "use Rattle.kishu_model.specs.Counting.{answer, too_deep, spent}", "use Rattle.kishu_model.specs.Equal.{equal_in, less_in}"], equal_rows(), "compare")
 
 
-main()
+if __name__ == "__main__":
+    main()

@@ -389,4 +389,5 @@ def main():
         write_antt(*sys.argv[2:])
 
 
-main()
+if __name__ == "__main__":
+    main()

@@ -20,15 +20,15 @@ use Rattle.kishu_model.specs.ReadText.{read_chars}
 use Rattle.kishu_model.specs.Values.{bool, integer, text, stream, shown, fault}
 use Rattle.kishu_model.proofs.Cells.{ran, run_with}
 
-few_1 : run_with 20 (codes "n = 0\nwhile True: n += 1") ≡ ran Stopped (fault (codes "Stopped") (codes "step budget spent") ∷ []) ((codes "n", integer (pos 2)) ∷ []) (codes "n" ∷ codes "n" ∷ codes "n" ∷ codes "n" ∷ codes "n" ∷ codes "n" ∷ []) 4000000
+few_1 : run_with 20 (codes "n = 0\nwhile True: n += 1") ≡ ran Stopped (fault (codes "Stopped") (codes "step budget spent") ∷ []) ((codes "n", integer (pos 2)) ∷ []) (codes "n" ∷ []) 4000000
 unfolding reserved_marks delimiter operator numeral Q.escape Q.item Q.closes Q.body Q.quoted token_piece lexeme cut indented begin bracket step layout encode_utf8 code_of E.keyword_begins E.another E.argument E.attribute E.call E.slice_after E.item_or_slice E.trailer E.parenthesised E.list E.pair E.dict E.atom E.primary_parts E.primary E.power E.unary_level E.term E.sum E.compared E.negated_level E.conjunction E.disjunction E.expr_level E.exprs_level E.phrase S.primary_at S.another_simple S.raise S.return S.assertion S.delete S.global S.import S.update_of S.assignment_of S.update_or_assignment S.simple S.simples S.line S.block S.block_after S.arm S.choice S.while S.for S.caught S.handler S.handled S.finished S.try S.parameter S.definition S.define S.compound S.chunk S.program R.piece read_chars chars digits power builtin_names class_names
 few_1 = refl
 
-few_2 : run_with 21 (codes "n = 0\nwhile True: n += 1") ≡ ran Stopped (fault (codes "Stopped") (codes "step budget spent") ∷ []) ((codes "n", integer (pos 3)) ∷ []) (codes "n" ∷ codes "n" ∷ codes "n" ∷ codes "n" ∷ codes "n" ∷ codes "n" ∷ codes "n" ∷ []) 4000000
+few_2 : run_with 21 (codes "n = 0\nwhile True: n += 1") ≡ ran Stopped (fault (codes "Stopped") (codes "step budget spent") ∷ []) ((codes "n", integer (pos 3)) ∷ []) (codes "n" ∷ []) 4000000
 unfolding reserved_marks delimiter operator numeral Q.escape Q.item Q.closes Q.body Q.quoted token_piece lexeme cut indented begin bracket step layout encode_utf8 code_of E.keyword_begins E.another E.argument E.attribute E.call E.slice_after E.item_or_slice E.trailer E.parenthesised E.list E.pair E.dict E.atom E.primary_parts E.primary E.power E.unary_level E.term E.sum E.compared E.negated_level E.conjunction E.disjunction E.expr_level E.exprs_level E.phrase S.primary_at S.another_simple S.raise S.return S.assertion S.delete S.global S.import S.update_of S.assignment_of S.update_or_assignment S.simple S.simples S.line S.block S.block_after S.arm S.choice S.while S.for S.caught S.handler S.handled S.finished S.try S.parameter S.definition S.define S.compound S.chunk S.program R.piece read_chars chars digits power builtin_names class_names
 few_2 = refl
 
-few_3 : run_with 16 (codes "n = 0\nwhile True: n += 1") ≡ ran Stopped (fault (codes "Stopped") (codes "step budget spent") ∷ []) ((codes "n", integer (pos 2)) ∷ []) (codes "n" ∷ codes "n" ∷ codes "n" ∷ codes "n" ∷ codes "n" ∷ []) 4000000
+few_3 : run_with 16 (codes "n = 0\nwhile True: n += 1") ≡ ran Stopped (fault (codes "Stopped") (codes "step budget spent") ∷ []) ((codes "n", integer (pos 2)) ∷ []) (codes "n" ∷ []) 4000000
 unfolding reserved_marks delimiter operator numeral Q.escape Q.item Q.closes Q.body Q.quoted token_piece lexeme cut indented begin bracket step layout encode_utf8 code_of E.keyword_begins E.another E.argument E.attribute E.call E.slice_after E.item_or_slice E.trailer E.parenthesised E.list E.pair E.dict E.atom E.primary_parts E.primary E.power E.unary_level E.term E.sum E.compared E.negated_level E.conjunction E.disjunction E.expr_level E.exprs_level E.phrase S.primary_at S.another_simple S.raise S.return S.assertion S.delete S.global S.import S.update_of S.assignment_of S.update_or_assignment S.simple S.simples S.line S.block S.block_after S.arm S.choice S.while S.for S.caught S.handler S.handled S.finished S.try S.parameter S.definition S.define S.compound S.chunk S.program R.piece read_chars chars digits power builtin_names class_names
 few_3 = refl
 
@@ -172,11 +172,11 @@ few_38 : run_with 4 (codes "x = 1 == 'a'") ≡ ran Done [] ((codes "x", bool fal
 unfolding reserved_marks delimiter operator numeral Q.escape Q.item Q.closes Q.body Q.quoted token_piece lexeme cut indented begin bracket step layout encode_utf8 code_of E.keyword_begins E.another E.argument E.attribute E.call E.slice_after E.item_or_slice E.trailer E.parenthesised E.list E.pair E.dict E.atom E.primary_parts E.primary E.power E.unary_level E.term E.sum E.compared E.negated_level E.conjunction E.disjunction E.expr_level E.exprs_level E.phrase S.primary_at S.another_simple S.raise S.return S.assertion S.delete S.global S.import S.update_of S.assignment_of S.update_or_assignment S.simple S.simples S.line S.block S.block_after S.arm S.choice S.while S.for S.caught S.handler S.handled S.finished S.try S.parameter S.definition S.define S.compound S.chunk S.program R.piece read_chars chars digits power builtin_names class_names
 few_38 = refl
 
-few_39 : run_with 6 (codes "x = 1\nx = 2 if x else 3") ≡ ran Done [] ((codes "x", integer (pos 2)) ∷ []) (codes "x" ∷ codes "x" ∷ codes "x" ∷ []) 4000000
+few_39 : run_with 6 (codes "x = 1\nx = 2 if x else 3") ≡ ran Done [] ((codes "x", integer (pos 2)) ∷ []) (codes "x" ∷ []) 4000000
 unfolding reserved_marks delimiter operator numeral Q.escape Q.item Q.closes Q.body Q.quoted token_piece lexeme cut indented begin bracket step layout encode_utf8 code_of E.keyword_begins E.another E.argument E.attribute E.call E.slice_after E.item_or_slice E.trailer E.parenthesised E.list E.pair E.dict E.atom E.primary_parts E.primary E.power E.unary_level E.term E.sum E.compared E.negated_level E.conjunction E.disjunction E.expr_level E.exprs_level E.phrase S.primary_at S.another_simple S.raise S.return S.assertion S.delete S.global S.import S.update_of S.assignment_of S.update_or_assignment S.simple S.simples S.line S.block S.block_after S.arm S.choice S.while S.for S.caught S.handler S.handled S.finished S.try S.parameter S.definition S.define S.compound S.chunk S.program R.piece read_chars chars digits power builtin_names class_names
 few_39 = refl
 
-few_40 : run_with 5 (codes "x = 1\nx = 2 if x else 3") ≡ ran Stopped (fault (codes "Stopped") (codes "step budget spent") ∷ []) ((codes "x", integer (pos 1)) ∷ []) (codes "x" ∷ codes "x" ∷ []) 4000000
+few_40 : run_with 5 (codes "x = 1\nx = 2 if x else 3") ≡ ran Stopped (fault (codes "Stopped") (codes "step budget spent") ∷ []) ((codes "x", integer (pos 1)) ∷ []) (codes "x" ∷ []) 4000000
 unfolding reserved_marks delimiter operator numeral Q.escape Q.item Q.closes Q.body Q.quoted token_piece lexeme cut indented begin bracket step layout encode_utf8 code_of E.keyword_begins E.another E.argument E.attribute E.call E.slice_after E.item_or_slice E.trailer E.parenthesised E.list E.pair E.dict E.atom E.primary_parts E.primary E.power E.unary_level E.term E.sum E.compared E.negated_level E.conjunction E.disjunction E.expr_level E.exprs_level E.phrase S.primary_at S.another_simple S.raise S.return S.assertion S.delete S.global S.import S.update_of S.assignment_of S.update_or_assignment S.simple S.simples S.line S.block S.block_after S.arm S.choice S.while S.for S.caught S.handler S.handled S.finished S.try S.parameter S.definition S.define S.compound S.chunk S.program R.piece read_chars chars digits power builtin_names class_names
 few_40 = refl
 
@@ -196,19 +196,19 @@ few_44 : run_with 4 (codes "while 1: pass") ≡ ran Stopped (fault (codes "Stopp
 unfolding reserved_marks delimiter operator numeral Q.escape Q.item Q.closes Q.body Q.quoted token_piece lexeme cut indented begin bracket step layout encode_utf8 code_of E.keyword_begins E.another E.argument E.attribute E.call E.slice_after E.item_or_slice E.trailer E.parenthesised E.list E.pair E.dict E.atom E.primary_parts E.primary E.power E.unary_level E.term E.sum E.compared E.negated_level E.conjunction E.disjunction E.expr_level E.exprs_level E.phrase S.primary_at S.another_simple S.raise S.return S.assertion S.delete S.global S.import S.update_of S.assignment_of S.update_or_assignment S.simple S.simples S.line S.block S.block_after S.arm S.choice S.while S.for S.caught S.handler S.handled S.finished S.try S.parameter S.definition S.define S.compound S.chunk S.program R.piece read_chars chars digits power builtin_names class_names
 few_44 = refl
 
-few_45 : run_with 7 (codes "x = 'a'\nx += 'b'") ≡ ran Stopped (fault (codes "Stopped") (codes "step budget spent") ∷ []) ((codes "x", text (codes "a")) ∷ []) (codes "x" ∷ codes "x" ∷ []) 4000000
+few_45 : run_with 7 (codes "x = 'a'\nx += 'b'") ≡ ran Stopped (fault (codes "Stopped") (codes "step budget spent") ∷ []) ((codes "x", text (codes "a")) ∷ []) (codes "x" ∷ []) 4000000
 unfolding reserved_marks delimiter operator numeral Q.escape Q.item Q.closes Q.body Q.quoted token_piece lexeme cut indented begin bracket step layout encode_utf8 code_of E.keyword_begins E.another E.argument E.attribute E.call E.slice_after E.item_or_slice E.trailer E.parenthesised E.list E.pair E.dict E.atom E.primary_parts E.primary E.power E.unary_level E.term E.sum E.compared E.negated_level E.conjunction E.disjunction E.expr_level E.exprs_level E.phrase S.primary_at S.another_simple S.raise S.return S.assertion S.delete S.global S.import S.update_of S.assignment_of S.update_or_assignment S.simple S.simples S.line S.block S.block_after S.arm S.choice S.while S.for S.caught S.handler S.handled S.finished S.try S.parameter S.definition S.define S.compound S.chunk S.program R.piece read_chars chars digits power builtin_names class_names
 few_45 = refl
 
-few_46 : run_with 8 (codes "x = 'a'\nx += 'b'") ≡ ran Done [] ((codes "x", text (codes "ab")) ∷ []) (codes "x" ∷ codes "x" ∷ codes "x" ∷ []) 4000000
+few_46 : run_with 8 (codes "x = 'a'\nx += 'b'") ≡ ran Done [] ((codes "x", text (codes "ab")) ∷ []) (codes "x" ∷ []) 4000000
 unfolding reserved_marks delimiter operator numeral Q.escape Q.item Q.closes Q.body Q.quoted token_piece lexeme cut indented begin bracket step layout encode_utf8 code_of E.keyword_begins E.another E.argument E.attribute E.call E.slice_after E.item_or_slice E.trailer E.parenthesised E.list E.pair E.dict E.atom E.primary_parts E.primary E.power E.unary_level E.term E.sum E.compared E.negated_level E.conjunction E.disjunction E.expr_level E.exprs_level E.phrase S.primary_at S.another_simple S.raise S.return S.assertion S.delete S.global S.import S.update_of S.assignment_of S.update_or_assignment S.simple S.simples S.line S.block S.block_after S.arm S.choice S.while S.for S.caught S.handler S.handled S.finished S.try S.parameter S.definition S.define S.compound S.chunk S.program R.piece read_chars chars digits power builtin_names class_names
 few_46 = refl
 
-few_47 : run_with 12 (codes "print(1)\nprint(2)") ≡ ran Done (stream (codes "1\n2\n") ∷ []) [] (codes "print" ∷ codes "print" ∷ []) 4000000
+few_47 : run_with 12 (codes "print(1)\nprint(2)") ≡ ran Done (stream (codes "1\n2\n") ∷ []) [] (codes "print" ∷ []) 4000000
 unfolding reserved_marks delimiter operator numeral Q.escape Q.item Q.closes Q.body Q.quoted token_piece lexeme cut indented begin bracket step layout encode_utf8 code_of E.keyword_begins E.another E.argument E.attribute E.call E.slice_after E.item_or_slice E.trailer E.parenthesised E.list E.pair E.dict E.atom E.primary_parts E.primary E.power E.unary_level E.term E.sum E.compared E.negated_level E.conjunction E.disjunction E.expr_level E.exprs_level E.phrase S.primary_at S.another_simple S.raise S.return S.assertion S.delete S.global S.import S.update_of S.assignment_of S.update_or_assignment S.simple S.simples S.line S.block S.block_after S.arm S.choice S.while S.for S.caught S.handler S.handled S.finished S.try S.parameter S.definition S.define S.compound S.chunk S.program R.piece read_chars chars digits power builtin_names class_names
 few_47 = refl
 
-few_48 : run_with 10 (codes "print(1)\nprint(2)") ≡ ran Stopped (stream (codes "1\n") ∷ fault (codes "Stopped") (codes "step budget spent") ∷ []) [] (codes "print" ∷ codes "print" ∷ []) 4000000
+few_48 : run_with 10 (codes "print(1)\nprint(2)") ≡ ran Stopped (stream (codes "1\n") ∷ fault (codes "Stopped") (codes "step budget spent") ∷ []) [] (codes "print" ∷ []) 4000000
 unfolding reserved_marks delimiter operator numeral Q.escape Q.item Q.closes Q.body Q.quoted token_piece lexeme cut indented begin bracket step layout encode_utf8 code_of E.keyword_begins E.another E.argument E.attribute E.call E.slice_after E.item_or_slice E.trailer E.parenthesised E.list E.pair E.dict E.atom E.primary_parts E.primary E.power E.unary_level E.term E.sum E.compared E.negated_level E.conjunction E.disjunction E.expr_level E.exprs_level E.phrase S.primary_at S.another_simple S.raise S.return S.assertion S.delete S.global S.import S.update_of S.assignment_of S.update_or_assignment S.simple S.simples S.line S.block S.block_after S.arm S.choice S.while S.for S.caught S.handler S.handled S.finished S.try S.parameter S.definition S.define S.compound S.chunk S.program R.piece read_chars chars digits power builtin_names class_names
 few_48 = refl
 
@@ -256,27 +256,27 @@ few_59 : run_with 2 (codes "if x: pass") ≡ ran Stopped (fault (codes "Stopped"
 unfolding reserved_marks delimiter operator numeral Q.escape Q.item Q.closes Q.body Q.quoted token_piece lexeme cut indented begin bracket step layout encode_utf8 code_of E.keyword_begins E.another E.argument E.attribute E.call E.slice_after E.item_or_slice E.trailer E.parenthesised E.list E.pair E.dict E.atom E.primary_parts E.primary E.power E.unary_level E.term E.sum E.compared E.negated_level E.conjunction E.disjunction E.expr_level E.exprs_level E.phrase S.primary_at S.another_simple S.raise S.return S.assertion S.delete S.global S.import S.update_of S.assignment_of S.update_or_assignment S.simple S.simples S.line S.block S.block_after S.arm S.choice S.while S.for S.caught S.handler S.handled S.finished S.try S.parameter S.definition S.define S.compound S.chunk S.program R.piece read_chars chars digits power builtin_names class_names
 few_59 = refl
 
-few_60 : run_with 5 (codes "x = 1\nx + y") ≡ ran Stopped (fault (codes "Stopped") (codes "step budget spent") ∷ []) ((codes "x", integer (pos 1)) ∷ []) (codes "x" ∷ codes "x" ∷ codes "y" ∷ []) 4000000
+few_60 : run_with 5 (codes "x = 1\nx + y") ≡ ran Stopped (fault (codes "Stopped") (codes "step budget spent") ∷ []) ((codes "x", integer (pos 1)) ∷ []) (codes "x" ∷ codes "y" ∷ []) 4000000
 unfolding reserved_marks delimiter operator numeral Q.escape Q.item Q.closes Q.body Q.quoted token_piece lexeme cut indented begin bracket step layout encode_utf8 code_of E.keyword_begins E.another E.argument E.attribute E.call E.slice_after E.item_or_slice E.trailer E.parenthesised E.list E.pair E.dict E.atom E.primary_parts E.primary E.power E.unary_level E.term E.sum E.compared E.negated_level E.conjunction E.disjunction E.expr_level E.exprs_level E.phrase S.primary_at S.another_simple S.raise S.return S.assertion S.delete S.global S.import S.update_of S.assignment_of S.update_or_assignment S.simple S.simples S.line S.block S.block_after S.arm S.choice S.while S.for S.caught S.handler S.handled S.finished S.try S.parameter S.definition S.define S.compound S.chunk S.program R.piece read_chars chars digits power builtin_names class_names
 few_60 = refl
 
-few_61 : run_with 5 (codes "x = 1\nx * y") ≡ ran Stopped (fault (codes "Stopped") (codes "step budget spent") ∷ []) ((codes "x", integer (pos 1)) ∷ []) (codes "x" ∷ codes "x" ∷ codes "y" ∷ []) 4000000
+few_61 : run_with 5 (codes "x = 1\nx * y") ≡ ran Stopped (fault (codes "Stopped") (codes "step budget spent") ∷ []) ((codes "x", integer (pos 1)) ∷ []) (codes "x" ∷ codes "y" ∷ []) 4000000
 unfolding reserved_marks delimiter operator numeral Q.escape Q.item Q.closes Q.body Q.quoted token_piece lexeme cut indented begin bracket step layout encode_utf8 code_of E.keyword_begins E.another E.argument E.attribute E.call E.slice_after E.item_or_slice E.trailer E.parenthesised E.list E.pair E.dict E.atom E.primary_parts E.primary E.power E.unary_level E.term E.sum E.compared E.negated_level E.conjunction E.disjunction E.expr_level E.exprs_level E.phrase S.primary_at S.another_simple S.raise S.return S.assertion S.delete S.global S.import S.update_of S.assignment_of S.update_or_assignment S.simple S.simples S.line S.block S.block_after S.arm S.choice S.while S.for S.caught S.handler S.handled S.finished S.try S.parameter S.definition S.define S.compound S.chunk S.program R.piece read_chars chars digits power builtin_names class_names
 few_61 = refl
 
-few_62 : run_with 5 (codes "x = 1\nx ** y") ≡ ran Stopped (fault (codes "Stopped") (codes "step budget spent") ∷ []) ((codes "x", integer (pos 1)) ∷ []) (codes "x" ∷ codes "x" ∷ codes "y" ∷ []) 4000000
+few_62 : run_with 5 (codes "x = 1\nx ** y") ≡ ran Stopped (fault (codes "Stopped") (codes "step budget spent") ∷ []) ((codes "x", integer (pos 1)) ∷ []) (codes "x" ∷ codes "y" ∷ []) 4000000
 unfolding reserved_marks delimiter operator numeral Q.escape Q.item Q.closes Q.body Q.quoted token_piece lexeme cut indented begin bracket step layout encode_utf8 code_of E.keyword_begins E.another E.argument E.attribute E.call E.slice_after E.item_or_slice E.trailer E.parenthesised E.list E.pair E.dict E.atom E.primary_parts E.primary E.power E.unary_level E.term E.sum E.compared E.negated_level E.conjunction E.disjunction E.expr_level E.exprs_level E.phrase S.primary_at S.another_simple S.raise S.return S.assertion S.delete S.global S.import S.update_of S.assignment_of S.update_or_assignment S.simple S.simples S.line S.block S.block_after S.arm S.choice S.while S.for S.caught S.handler S.handled S.finished S.try S.parameter S.definition S.define S.compound S.chunk S.program R.piece read_chars chars digits power builtin_names class_names
 few_62 = refl
 
-few_63 : run_with 5 (codes "x = 1\nx < y") ≡ ran Stopped (fault (codes "Stopped") (codes "step budget spent") ∷ []) ((codes "x", integer (pos 1)) ∷ []) (codes "x" ∷ codes "x" ∷ codes "y" ∷ []) 4000000
+few_63 : run_with 5 (codes "x = 1\nx < y") ≡ ran Stopped (fault (codes "Stopped") (codes "step budget spent") ∷ []) ((codes "x", integer (pos 1)) ∷ []) (codes "x" ∷ codes "y" ∷ []) 4000000
 unfolding reserved_marks delimiter operator numeral Q.escape Q.item Q.closes Q.body Q.quoted token_piece lexeme cut indented begin bracket step layout encode_utf8 code_of E.keyword_begins E.another E.argument E.attribute E.call E.slice_after E.item_or_slice E.trailer E.parenthesised E.list E.pair E.dict E.atom E.primary_parts E.primary E.power E.unary_level E.term E.sum E.compared E.negated_level E.conjunction E.disjunction E.expr_level E.exprs_level E.phrase S.primary_at S.another_simple S.raise S.return S.assertion S.delete S.global S.import S.update_of S.assignment_of S.update_or_assignment S.simple S.simples S.line S.block S.block_after S.arm S.choice S.while S.for S.caught S.handler S.handled S.finished S.try S.parameter S.definition S.define S.compound S.chunk S.program R.piece read_chars chars digits power builtin_names class_names
 few_63 = refl
 
-few_64 : run_with 5 (codes "x = 1\nx += y") ≡ ran Stopped (fault (codes "Stopped") (codes "step budget spent") ∷ []) ((codes "x", integer (pos 1)) ∷ []) (codes "x" ∷ codes "x" ∷ codes "y" ∷ []) 4000000
+few_64 : run_with 5 (codes "x = 1\nx += y") ≡ ran Stopped (fault (codes "Stopped") (codes "step budget spent") ∷ []) ((codes "x", integer (pos 1)) ∷ []) (codes "x" ∷ codes "y" ∷ []) 4000000
 unfolding reserved_marks delimiter operator numeral Q.escape Q.item Q.closes Q.body Q.quoted token_piece lexeme cut indented begin bracket step layout encode_utf8 code_of E.keyword_begins E.another E.argument E.attribute E.call E.slice_after E.item_or_slice E.trailer E.parenthesised E.list E.pair E.dict E.atom E.primary_parts E.primary E.power E.unary_level E.term E.sum E.compared E.negated_level E.conjunction E.disjunction E.expr_level E.exprs_level E.phrase S.primary_at S.another_simple S.raise S.return S.assertion S.delete S.global S.import S.update_of S.assignment_of S.update_or_assignment S.simple S.simples S.line S.block S.block_after S.arm S.choice S.while S.for S.caught S.handler S.handled S.finished S.try S.parameter S.definition S.define S.compound S.chunk S.program R.piece read_chars chars digits power builtin_names class_names
 few_64 = refl
 
-few_65 : run_with 4 (codes "x = 1\nx += y") ≡ ran Stopped (fault (codes "Stopped") (codes "step budget spent") ∷ []) ((codes "x", integer (pos 1)) ∷ []) (codes "x" ∷ codes "x" ∷ []) 4000000
+few_65 : run_with 4 (codes "x = 1\nx += y") ≡ ran Stopped (fault (codes "Stopped") (codes "step budget spent") ∷ []) ((codes "x", integer (pos 1)) ∷ []) (codes "x" ∷ []) 4000000
 unfolding reserved_marks delimiter operator numeral Q.escape Q.item Q.closes Q.body Q.quoted token_piece lexeme cut indented begin bracket step layout encode_utf8 code_of E.keyword_begins E.another E.argument E.attribute E.call E.slice_after E.item_or_slice E.trailer E.parenthesised E.list E.pair E.dict E.atom E.primary_parts E.primary E.power E.unary_level E.term E.sum E.compared E.negated_level E.conjunction E.disjunction E.expr_level E.exprs_level E.phrase S.primary_at S.another_simple S.raise S.return S.assertion S.delete S.global S.import S.update_of S.assignment_of S.update_or_assignment S.simple S.simples S.line S.block S.block_after S.arm S.choice S.while S.for S.caught S.handler S.handled S.finished S.try S.parameter S.definition S.define S.compound S.chunk S.program R.piece read_chars chars digits power builtin_names class_names
 few_65 = refl
 

@@ -20,11 +20,11 @@ use Rattle.kishu_model.specs.ReadText.{read_chars}
 use Rattle.kishu_model.specs.Values.{bool, integer, stream, shown, fault}
 use Rattle.kishu_model.proofs.Cells.{ran, run_at}
 
-deep_1 : run_at 1000 (codes "x = y = 1\nx += y * 2 - 3") ≡ ran Done [] ((codes "x", integer (pos 0)) ∷ (codes "y", integer (pos 1)) ∷ []) (codes "x" ∷ codes "y" ∷ codes "x" ∷ codes "y" ∷ codes "x" ∷ []) 10
+deep_1 : run_at 1000 (codes "x = y = 1\nx += y * 2 - 3") ≡ ran Done [] ((codes "x", integer (pos 0)) ∷ (codes "y", integer (pos 1)) ∷ []) (codes "x" ∷ codes "y" ∷ []) 10
 unfolding reserved_marks delimiter operator numeral Q.escape Q.item Q.closes Q.body Q.quoted token_piece lexeme cut indented begin bracket step layout encode_utf8 code_of E.keyword_begins E.another E.argument E.attribute E.call E.slice_after E.item_or_slice E.trailer E.parenthesised E.list E.pair E.dict E.atom E.primary_parts E.primary E.power E.unary_level E.term E.sum E.compared E.negated_level E.conjunction E.disjunction E.expr_level E.exprs_level E.phrase S.primary_at S.another_simple S.raise S.return S.assertion S.delete S.global S.import S.update_of S.assignment_of S.update_or_assignment S.simple S.simples S.line S.block S.block_after S.arm S.choice S.while S.for S.caught S.handler S.handled S.finished S.try S.parameter S.definition S.define S.compound S.chunk S.program R.piece read_chars chars digits power builtin_names class_names
 deep_1 = refl
 
-deep_2 : run_at 1000 (codes "x = 1\nx < 2 and x or (1)") ≡ ran Done (shown (codes "1") ∷ []) ((codes "x", integer (pos 1)) ∷ []) (codes "x" ∷ codes "x" ∷ codes "x" ∷ []) 10
+deep_2 : run_at 1000 (codes "x = 1\nx < 2 and x or (1)") ≡ ran Done (shown (codes "1") ∷ []) ((codes "x", integer (pos 1)) ∷ []) (codes "x" ∷ []) 10
 unfolding reserved_marks delimiter operator numeral Q.escape Q.item Q.closes Q.body Q.quoted token_piece lexeme cut indented begin bracket step layout encode_utf8 code_of E.keyword_begins E.another E.argument E.attribute E.call E.slice_after E.item_or_slice E.trailer E.parenthesised E.list E.pair E.dict E.atom E.primary_parts E.primary E.power E.unary_level E.term E.sum E.compared E.negated_level E.conjunction E.disjunction E.expr_level E.exprs_level E.phrase S.primary_at S.another_simple S.raise S.return S.assertion S.delete S.global S.import S.update_of S.assignment_of S.update_or_assignment S.simple S.simples S.line S.block S.block_after S.arm S.choice S.while S.for S.caught S.handler S.handled S.finished S.try S.parameter S.definition S.define S.compound S.chunk S.program R.piece read_chars chars digits power builtin_names class_names
 deep_2 = refl
 
@@ -44,7 +44,7 @@ deep_6 : run_at 998 (codes "print((1))") ≡ ran Done (stream (codes "1\n") ∷ 
 unfolding reserved_marks delimiter operator numeral Q.escape Q.item Q.closes Q.body Q.quoted token_piece lexeme cut indented begin bracket step layout encode_utf8 code_of E.keyword_begins E.another E.argument E.attribute E.call E.slice_after E.item_or_slice E.trailer E.parenthesised E.list E.pair E.dict E.atom E.primary_parts E.primary E.power E.unary_level E.term E.sum E.compared E.negated_level E.conjunction E.disjunction E.expr_level E.exprs_level E.phrase S.primary_at S.another_simple S.raise S.return S.assertion S.delete S.global S.import S.update_of S.assignment_of S.update_or_assignment S.simple S.simples S.line S.block S.block_after S.arm S.choice S.while S.for S.caught S.handler S.handled S.finished S.try S.parameter S.definition S.define S.compound S.chunk S.program R.piece read_chars chars digits power builtin_names class_names
 deep_6 = refl
 
-deep_7 : run_at 998 (codes "print(print(1))") ≡ ran Done (stream (codes "1\nNone\n") ∷ []) [] (codes "print" ∷ codes "print" ∷ []) 13
+deep_7 : run_at 998 (codes "print(print(1))") ≡ ran Done (stream (codes "1\nNone\n") ∷ []) [] (codes "print" ∷ []) 13
 unfolding reserved_marks delimiter operator numeral Q.escape Q.item Q.closes Q.body Q.quoted token_piece lexeme cut indented begin bracket step layout encode_utf8 code_of E.keyword_begins E.another E.argument E.attribute E.call E.slice_after E.item_or_slice E.trailer E.parenthesised E.list E.pair E.dict E.atom E.primary_parts E.primary E.power E.unary_level E.term E.sum E.compared E.negated_level E.conjunction E.disjunction E.expr_level E.exprs_level E.phrase S.primary_at S.another_simple S.raise S.return S.assertion S.delete S.global S.import S.update_of S.assignment_of S.update_or_assignment S.simple S.simples S.line S.block S.block_after S.arm S.choice S.while S.for S.caught S.handler S.handled S.finished S.try S.parameter S.definition S.define S.compound S.chunk S.program R.piece read_chars chars digits power builtin_names class_names
 deep_7 = refl
 
@@ -144,7 +144,7 @@ deep_31 : run_at 999 (codes "while (0): pass") ≡ ran Done [] [] [] 2
 unfolding reserved_marks delimiter operator numeral Q.escape Q.item Q.closes Q.body Q.quoted token_piece lexeme cut indented begin bracket step layout encode_utf8 code_of E.keyword_begins E.another E.argument E.attribute E.call E.slice_after E.item_or_slice E.trailer E.parenthesised E.list E.pair E.dict E.atom E.primary_parts E.primary E.power E.unary_level E.term E.sum E.compared E.negated_level E.conjunction E.disjunction E.expr_level E.exprs_level E.phrase S.primary_at S.another_simple S.raise S.return S.assertion S.delete S.global S.import S.update_of S.assignment_of S.update_or_assignment S.simple S.simples S.line S.block S.block_after S.arm S.choice S.while S.for S.caught S.handler S.handled S.finished S.try S.parameter S.definition S.define S.compound S.chunk S.program R.piece read_chars chars digits power builtin_names class_names
 deep_31 = refl
 
-deep_32 : run_at 999 (codes "x = 1\nx += (2)") ≡ ran Done [] ((codes "x", integer (pos 3)) ∷ []) (codes "x" ∷ codes "x" ∷ codes "x" ∷ []) 6
+deep_32 : run_at 999 (codes "x = 1\nx += (2)") ≡ ran Done [] ((codes "x", integer (pos 3)) ∷ []) (codes "x" ∷ []) 6
 unfolding reserved_marks delimiter operator numeral Q.escape Q.item Q.closes Q.body Q.quoted token_piece lexeme cut indented begin bracket step layout encode_utf8 code_of E.keyword_begins E.another E.argument E.attribute E.call E.slice_after E.item_or_slice E.trailer E.parenthesised E.list E.pair E.dict E.atom E.primary_parts E.primary E.power E.unary_level E.term E.sum E.compared E.negated_level E.conjunction E.disjunction E.expr_level E.exprs_level E.phrase S.primary_at S.another_simple S.raise S.return S.assertion S.delete S.global S.import S.update_of S.assignment_of S.update_or_assignment S.simple S.simples S.line S.block S.block_after S.arm S.choice S.while S.for S.caught S.handler S.handled S.finished S.try S.parameter S.definition S.define S.compound S.chunk S.program R.piece read_chars chars digits power builtin_names class_names
 deep_32 = refl
 
@@ -156,7 +156,7 @@ deep_34 : run_at 999 (codes "(1) + -2 * (3)") ≡ ran Done (shown (codes "-5") �
 unfolding reserved_marks delimiter operator numeral Q.escape Q.item Q.closes Q.body Q.quoted token_piece lexeme cut indented begin bracket step layout encode_utf8 code_of E.keyword_begins E.another E.argument E.attribute E.call E.slice_after E.item_or_slice E.trailer E.parenthesised E.list E.pair E.dict E.atom E.primary_parts E.primary E.power E.unary_level E.term E.sum E.compared E.negated_level E.conjunction E.disjunction E.expr_level E.exprs_level E.phrase S.primary_at S.another_simple S.raise S.return S.assertion S.delete S.global S.import S.update_of S.assignment_of S.update_or_assignment S.simple S.simples S.line S.block S.block_after S.arm S.choice S.while S.for S.caught S.handler S.handled S.finished S.try S.parameter S.definition S.define S.compound S.chunk S.program R.piece read_chars chars digits power builtin_names class_names
 deep_34 = refl
 
-deep_35 : run_at 998 (codes "x = 3\nwhile x: x -= (1)") ≡ ran Done [] ((codes "x", integer (pos 0)) ∷ []) (codes "x" ∷ codes "x" ∷ codes "x" ∷ codes "x" ∷ codes "x" ∷ codes "x" ∷ codes "x" ∷ codes "x" ∷ codes "x" ∷ codes "x" ∷ codes "x" ∷ []) 22
+deep_35 : run_at 998 (codes "x = 3\nwhile x: x -= (1)") ≡ ran Done [] ((codes "x", integer (pos 0)) ∷ []) (codes "x" ∷ []) 22
 unfolding reserved_marks delimiter operator numeral Q.escape Q.item Q.closes Q.body Q.quoted token_piece lexeme cut indented begin bracket step layout encode_utf8 code_of E.keyword_begins E.another E.argument E.attribute E.call E.slice_after E.item_or_slice E.trailer E.parenthesised E.list E.pair E.dict E.atom E.primary_parts E.primary E.power E.unary_level E.term E.sum E.compared E.negated_level E.conjunction E.disjunction E.expr_level E.exprs_level E.phrase S.primary_at S.another_simple S.raise S.return S.assertion S.delete S.global S.import S.update_of S.assignment_of S.update_or_assignment S.simple S.simples S.line S.block S.block_after S.arm S.choice S.while S.for S.caught S.handler S.handled S.finished S.try S.parameter S.definition S.define S.compound S.chunk S.program R.piece read_chars chars digits power builtin_names class_names
 deep_35 = refl
 

@@ -33,7 +33,7 @@ unfolding reserved_marks delimiter operator numeral Q.escape Q.item Q.closes Q.b
 kept = refl
 
 added : run One (codes "m = n; n += 1; a = ''") (after (codes "n = 1"))
-    ≡ ran Done [] ((codes "a", text []) ∷ (codes "m", integer (pos 1)) ∷ (codes "n", integer (pos 2)) ∷ []) (codes "n" ∷ codes "m" ∷ codes "n" ∷ codes "n" ∷ codes "a" ∷ []) 8
+    ≡ ran Done [] ((codes "a", text []) ∷ (codes "m", integer (pos 1)) ∷ (codes "n", integer (pos 2)) ∷ []) (codes "a" ∷ codes "m" ∷ codes "n" ∷ []) 8
 unfolding reserved_marks delimiter operator numeral Q.escape Q.item Q.closes Q.body Q.quoted token_piece lexeme cut indented begin bracket step layout encode_utf8 code_of E.keyword_begins E.another E.argument E.attribute E.call E.slice_after E.item_or_slice E.trailer E.parenthesised E.list E.pair E.dict E.atom E.primary_parts E.primary E.power E.unary_level E.term E.sum E.compared E.negated_level E.conjunction E.disjunction E.expr_level E.exprs_level E.phrase S.primary_at S.another_simple S.raise S.return S.assertion S.delete S.global S.import S.update_of S.assignment_of S.update_or_assignment S.simple S.simples S.line S.block S.block_after S.arm S.choice S.while S.for S.caught S.handler S.handled S.finished S.try S.parameter S.definition S.define S.compound S.chunk S.program R.piece R.read_chars chars digits power builtin_names class_names run
 added = refl
 
@@ -45,14 +45,14 @@ nothing_run = refl
 -- What was printed before is put out, and the names that were bound before are kept.
 too_large : run One (codes "print(x)\n\ny = x + 1  \nx = 0\n") (after (codes "x = 170141183460469231731687303715884105727"))
     ≡ ran Raised (stream (codes "170141183460469231731687303715884105727\n") ∷ fault (codes "OverflowError") (codes "whole number too large") ∷ [])
-    ((codes "x", integer (pos 170141183460469231731687303715884105727)) ∷ []) (codes "print" ∷ codes "x" ∷ codes "x" ∷ []) 71
+    ((codes "x", integer (pos 170141183460469231731687303715884105727)) ∷ []) (codes "print" ∷ codes "x" ∷ []) 71
 unfolding reserved_marks delimiter operator numeral Q.escape Q.item Q.closes Q.body Q.quoted token_piece lexeme cut indented begin bracket step layout encode_utf8 code_of E.keyword_begins E.another E.argument E.attribute E.call E.slice_after E.item_or_slice E.trailer E.parenthesised E.list E.pair E.dict E.atom E.primary_parts E.primary E.power E.unary_level E.term E.sum E.compared E.negated_level E.conjunction E.disjunction E.expr_level E.exprs_level E.phrase S.primary_at S.another_simple S.raise S.return S.assertion S.delete S.global S.import S.update_of S.assignment_of S.update_or_assignment S.simple S.simples S.line S.block S.block_after S.arm S.choice S.while S.for S.caught S.handler S.handled S.finished S.try S.parameter S.definition S.define S.compound S.chunk S.program R.piece R.read_chars chars digits power builtin_names class_names run
 too_large = refl
 
 -- ---- moments
 
 abbrev start : Moment
-start = begun empty
+start = begun One empty
 
 -- The depth may be 1000, and what went deeper comes back.
 deep : deeper (give (integer (pos 1))) (record start { depth = 999 }) ≡ fine (integer (pos 1)) (record start { depth = 999 })

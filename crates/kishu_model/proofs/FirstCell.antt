@@ -17,8 +17,8 @@ use Rattle.kishu_model.specs.Code.{code_of}
 use Rattle.kishu_model.specs.ReadExpressions as E
 use Rattle.kishu_model.specs.ReadStatements as S
 use Rattle.kishu_model.specs.ReadText as R
-use Rattle.kishu_model.specs.Meaning.{run}
-use Rattle.kishu_model.specs.Later.{later_line}
+use Rattle.kishu_model.specs.PlainMeaning.{run}
+use Rattle.kishu_model.specs.PlainLater.{later_line}
 use Rattle.kishu_model.specs.Graph.{Graph, new_graph}
 use Rattle.kishu_model.specs.Answers.{answer_line}
 use Rattle.kishu_model.specs.Step.{cell, unreadable, step}
@@ -107,6 +107,10 @@ faulty_cell = record { short = omega arith; utf8 = refl; plain = refl }
 no_cell : IsCell (codes "x = [1]") → ⊥
 unfolding reserved_marks delimiter operator numeral Q.escape Q.item Q.closes Q.body Q.quoted token_piece lexeme L.cut L.indented L.begin L.bracket L.step L.layout encode_utf8 code_of E.keyword_begins E.another E.argument E.attribute E.call E.slice_after E.item_or_slice E.trailer E.parenthesised E.list E.pair E.dict E.atom E.primary_parts E.primary E.power E.unary_level E.term E.sum E.compared E.negated_level E.conjunction E.disjunction E.expr_level E.exprs_level E.phrase S.primary_at S.another_simple S.raise S.return S.assertion S.delete S.global S.import S.update_of S.assignment_of S.update_or_assignment S.simple S.simples S.line S.block S.block_after S.arm S.choice S.while S.for S.caught S.handler S.handled S.finished S.try S.parameter S.definition S.define S.compound S.chunk S.program R.piece R.read_chars chars digits power builtin_names class_names is_utf8 later_line
 no_cell c = none-some 1 (sym c.plain)
+
+no_cell_of_a_builtin : IsCell (codes "x = len") → ⊥
+unfolding reserved_marks delimiter operator numeral Q.escape Q.item Q.closes Q.body Q.quoted token_piece lexeme L.cut L.indented L.begin L.bracket L.step L.layout encode_utf8 code_of E.keyword_begins E.another E.argument E.attribute E.call E.slice_after E.item_or_slice E.trailer E.parenthesised E.list E.pair E.dict E.atom E.primary_parts E.primary E.power E.unary_level E.term E.sum E.compared E.negated_level E.conjunction E.disjunction E.expr_level E.exprs_level E.phrase S.primary_at S.another_simple S.raise S.return S.assertion S.delete S.global S.import S.update_of S.assignment_of S.update_or_assignment S.simple S.simples S.line S.block S.block_after S.arm S.choice S.while S.for S.caught S.handler S.handled S.finished S.try S.parameter S.definition S.define S.compound S.chunk S.program R.piece R.read_chars chars digits power builtin_names class_names is_utf8 later_line
+no_cell_of_a_builtin c = none-some 1 (sym c.plain)
 
 first_fits : Fits new_graph (commit 0 One (codes "print(1 + 2)" ∷ []))
 first_fits = (omega arith, refl, refl, omega arith, (first_cell, tt))

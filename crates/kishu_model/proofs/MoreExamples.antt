@@ -38,7 +38,7 @@ cell_84 : run One (codes "print(1 == 2, True == False, 0 == False, 1 == 'a', Non
 unfolding reserved_marks delimiter operator numeral Q.escape Q.item Q.closes Q.body Q.quoted token_piece lexeme cut indented begin bracket step layout encode_utf8 code_of E.keyword_begins E.another E.argument E.attribute E.call E.slice_after E.item_or_slice E.trailer E.parenthesised E.list E.pair E.dict E.atom E.primary_parts E.primary E.power E.unary_level E.term E.sum E.compared E.negated_level E.conjunction E.disjunction E.expr_level E.exprs_level E.phrase S.primary_at S.another_simple S.raise S.return S.assertion S.delete S.global S.import S.update_of S.assignment_of S.update_or_assignment S.simple S.simples S.line S.block S.block_after S.arm S.choice S.while S.for S.caught S.handler S.handled S.finished S.try S.parameter S.definition S.define S.compound S.chunk S.program R.piece read_chars chars digits power builtin_names class_names run
 cell_84 = refl
 
-cell_85 : run One (codes "print(1) == print(2) != print(3)") empty ≡ ran Done (stream (codes "1\n2\n3\n") ∷ shown (codes "False") ∷ []) [] (codes "print" ∷ codes "print" ∷ codes "print" ∷ []) 23
+cell_85 : run One (codes "print(1) == print(2) != print(3)") empty ≡ ran Done (stream (codes "1\n2\n3\n") ∷ shown (codes "False") ∷ []) [] (codes "print" ∷ []) 23
 unfolding reserved_marks delimiter operator numeral Q.escape Q.item Q.closes Q.body Q.quoted token_piece lexeme cut indented begin bracket step layout encode_utf8 code_of E.keyword_begins E.another E.argument E.attribute E.call E.slice_after E.item_or_slice E.trailer E.parenthesised E.list E.pair E.dict E.atom E.primary_parts E.primary E.power E.unary_level E.term E.sum E.compared E.negated_level E.conjunction E.disjunction E.expr_level E.exprs_level E.phrase S.primary_at S.another_simple S.raise S.return S.assertion S.delete S.global S.import S.update_of S.assignment_of S.update_or_assignment S.simple S.simples S.line S.block S.block_after S.arm S.choice S.while S.for S.caught S.handler S.handled S.finished S.try S.parameter S.definition S.define S.compound S.chunk S.program R.piece read_chars chars digits power builtin_names class_names run
 cell_85 = refl
 
@@ -114,7 +114,7 @@ cell_103 : run One (codes "1 if 0 else 2 if '' else 3") empty ≡ ran Done (show
 unfolding reserved_marks delimiter operator numeral Q.escape Q.item Q.closes Q.body Q.quoted token_piece lexeme cut indented begin bracket step layout encode_utf8 code_of E.keyword_begins E.another E.argument E.attribute E.call E.slice_after E.item_or_slice E.trailer E.parenthesised E.list E.pair E.dict E.atom E.primary_parts E.primary E.power E.unary_level E.term E.sum E.compared E.negated_level E.conjunction E.disjunction E.expr_level E.exprs_level E.phrase S.primary_at S.another_simple S.raise S.return S.assertion S.delete S.global S.import S.update_of S.assignment_of S.update_or_assignment S.simple S.simples S.line S.block S.block_after S.arm S.choice S.while S.for S.caught S.handler S.handled S.finished S.try S.parameter S.definition S.define S.compound S.chunk S.program R.piece read_chars chars digits power builtin_names class_names run
 cell_103 = refl
 
-cell_104 : run One (codes "x = -(1 if None else -(2)) ** (0 or 3)\nx") empty ≡ ran Done (shown (codes "8") ∷ []) ((codes "x", integer (pos 8)) ∷ []) (codes "x" ∷ codes "x" ∷ []) 13
+cell_104 : run One (codes "x = -(1 if None else -(2)) ** (0 or 3)\nx") empty ≡ ran Done (shown (codes "8") ∷ []) ((codes "x", integer (pos 8)) ∷ []) (codes "x" ∷ []) 13
 unfolding reserved_marks delimiter operator numeral Q.escape Q.item Q.closes Q.body Q.quoted token_piece lexeme cut indented begin bracket step layout encode_utf8 code_of E.keyword_begins E.another E.argument E.attribute E.call E.slice_after E.item_or_slice E.trailer E.parenthesised E.list E.pair E.dict E.atom E.primary_parts E.primary E.power E.unary_level E.term E.sum E.compared E.negated_level E.conjunction E.disjunction E.expr_level E.exprs_level E.phrase S.primary_at S.another_simple S.raise S.return S.assertion S.delete S.global S.import S.update_of S.assignment_of S.update_or_assignment S.simple S.simples S.line S.block S.block_after S.arm S.choice S.while S.for S.caught S.handler S.handled S.finished S.try S.parameter S.definition S.define S.compound S.chunk S.program R.piece read_chars chars digits power builtin_names class_names run
 cell_104 = refl
 
@@ -122,19 +122,19 @@ cell_105 : run One (codes "x if 1 else 2") empty ≡ ran Raised (fault (codes "N
 unfolding reserved_marks delimiter operator numeral Q.escape Q.item Q.closes Q.body Q.quoted token_piece lexeme cut indented begin bracket step layout encode_utf8 code_of E.keyword_begins E.another E.argument E.attribute E.call E.slice_after E.item_or_slice E.trailer E.parenthesised E.list E.pair E.dict E.atom E.primary_parts E.primary E.power E.unary_level E.term E.sum E.compared E.negated_level E.conjunction E.disjunction E.expr_level E.exprs_level E.phrase S.primary_at S.another_simple S.raise S.return S.assertion S.delete S.global S.import S.update_of S.assignment_of S.update_or_assignment S.simple S.simples S.line S.block S.block_after S.arm S.choice S.while S.for S.caught S.handler S.handled S.finished S.try S.parameter S.definition S.define S.compound S.chunk S.program R.piece read_chars chars digits power builtin_names class_names run
 cell_105 = refl
 
-cell_106 : run One (codes "a = b = 'q'\na + b") empty ≡ ran Done (shown (codes "'qq'") ∷ []) ((codes "a", text (codes "q")) ∷ (codes "b", text (codes "q")) ∷ []) (codes "a" ∷ codes "b" ∷ codes "a" ∷ codes "b" ∷ []) 12
+cell_106 : run One (codes "a = b = 'q'\na + b") empty ≡ ran Done (shown (codes "'qq'") ∷ []) ((codes "a", text (codes "q")) ∷ (codes "b", text (codes "q")) ∷ []) (codes "a" ∷ codes "b" ∷ []) 12
 unfolding reserved_marks delimiter operator numeral Q.escape Q.item Q.closes Q.body Q.quoted token_piece lexeme cut indented begin bracket step layout encode_utf8 code_of E.keyword_begins E.another E.argument E.attribute E.call E.slice_after E.item_or_slice E.trailer E.parenthesised E.list E.pair E.dict E.atom E.primary_parts E.primary E.power E.unary_level E.term E.sum E.compared E.negated_level E.conjunction E.disjunction E.expr_level E.exprs_level E.phrase S.primary_at S.another_simple S.raise S.return S.assertion S.delete S.global S.import S.update_of S.assignment_of S.update_or_assignment S.simple S.simples S.line S.block S.block_after S.arm S.choice S.while S.for S.caught S.handler S.handled S.finished S.try S.parameter S.definition S.define S.compound S.chunk S.program R.piece read_chars chars digits power builtin_names class_names run
 cell_106 = refl
 
-cell_107 : run One (codes "x = 5; x -= 2; x *= 4; x //= 5; x **= 3; x %= 5\nx") empty ≡ ran Done (shown (codes "3") ∷ []) ((codes "x", integer (pos 3)) ∷ []) (codes "x" ∷ codes "x" ∷ codes "x" ∷ codes "x" ∷ codes "x" ∷ codes "x" ∷ codes "x" ∷ codes "x" ∷ codes "x" ∷ codes "x" ∷ codes "x" ∷ codes "x" ∷ []) 25
+cell_107 : run One (codes "x = 5; x -= 2; x *= 4; x //= 5; x **= 3; x %= 5\nx") empty ≡ ran Done (shown (codes "3") ∷ []) ((codes "x", integer (pos 3)) ∷ []) (codes "x" ∷ []) 25
 unfolding reserved_marks delimiter operator numeral Q.escape Q.item Q.closes Q.body Q.quoted token_piece lexeme cut indented begin bracket step layout encode_utf8 code_of E.keyword_begins E.another E.argument E.attribute E.call E.slice_after E.item_or_slice E.trailer E.parenthesised E.list E.pair E.dict E.atom E.primary_parts E.primary E.power E.unary_level E.term E.sum E.compared E.negated_level E.conjunction E.disjunction E.expr_level E.exprs_level E.phrase S.primary_at S.another_simple S.raise S.return S.assertion S.delete S.global S.import S.update_of S.assignment_of S.update_or_assignment S.simple S.simples S.line S.block S.block_after S.arm S.choice S.while S.for S.caught S.handler S.handled S.finished S.try S.parameter S.definition S.define S.compound S.chunk S.program R.piece read_chars chars digits power builtin_names class_names run
 cell_107 = refl
 
-cell_108 : run One (codes "x = 'a'\nx += 'b'\nx *= 2\nx") empty ≡ ran Done (shown (codes "'abab'") ∷ []) ((codes "x", text (codes "abab")) ∷ []) (codes "x" ∷ codes "x" ∷ codes "x" ∷ codes "x" ∷ codes "x" ∷ codes "x" ∷ []) 24
+cell_108 : run One (codes "x = 'a'\nx += 'b'\nx *= 2\nx") empty ≡ ran Done (shown (codes "'abab'") ∷ []) ((codes "x", text (codes "abab")) ∷ []) (codes "x" ∷ []) 24
 unfolding reserved_marks delimiter operator numeral Q.escape Q.item Q.closes Q.body Q.quoted token_piece lexeme cut indented begin bracket step layout encode_utf8 code_of E.keyword_begins E.another E.argument E.attribute E.call E.slice_after E.item_or_slice E.trailer E.parenthesised E.list E.pair E.dict E.atom E.primary_parts E.primary E.power E.unary_level E.term E.sum E.compared E.negated_level E.conjunction E.disjunction E.expr_level E.exprs_level E.phrase S.primary_at S.another_simple S.raise S.return S.assertion S.delete S.global S.import S.update_of S.assignment_of S.update_or_assignment S.simple S.simples S.line S.block S.block_after S.arm S.choice S.while S.for S.caught S.handler S.handled S.finished S.try S.parameter S.definition S.define S.compound S.chunk S.program R.piece read_chars chars digits power builtin_names class_names run
 cell_108 = refl
 
-cell_109 : run One (codes "x = 1\nx += 'a'") empty ≡ ran Raised (fault (codes "TypeError") (codes "bad operand types for +: 'int' and 'str'") ∷ []) ((codes "x", integer (pos 1)) ∷ []) (codes "x" ∷ codes "x" ∷ []) 47
+cell_109 : run One (codes "x = 1\nx += 'a'") empty ≡ ran Raised (fault (codes "TypeError") (codes "bad operand types for +: 'int' and 'str'") ∷ []) ((codes "x", integer (pos 1)) ∷ []) (codes "x" ∷ []) 47
 unfolding reserved_marks delimiter operator numeral Q.escape Q.item Q.closes Q.body Q.quoted token_piece lexeme cut indented begin bracket step layout encode_utf8 code_of E.keyword_begins E.another E.argument E.attribute E.call E.slice_after E.item_or_slice E.trailer E.parenthesised E.list E.pair E.dict E.atom E.primary_parts E.primary E.power E.unary_level E.term E.sum E.compared E.negated_level E.conjunction E.disjunction E.expr_level E.exprs_level E.phrase S.primary_at S.another_simple S.raise S.return S.assertion S.delete S.global S.import S.update_of S.assignment_of S.update_or_assignment S.simple S.simples S.line S.block S.block_after S.arm S.choice S.while S.for S.caught S.handler S.handled S.finished S.try S.parameter S.definition S.define S.compound S.chunk S.program R.piece read_chars chars digits power builtin_names class_names run
 cell_109 = refl
 
@@ -142,7 +142,7 @@ cell_110 : run One (codes "y += 1 // 0") empty ≡ ran Raised (fault (codes "Nam
 unfolding reserved_marks delimiter operator numeral Q.escape Q.item Q.closes Q.body Q.quoted token_piece lexeme cut indented begin bracket step layout encode_utf8 code_of E.keyword_begins E.another E.argument E.attribute E.call E.slice_after E.item_or_slice E.trailer E.parenthesised E.list E.pair E.dict E.atom E.primary_parts E.primary E.power E.unary_level E.term E.sum E.compared E.negated_level E.conjunction E.disjunction E.expr_level E.exprs_level E.phrase S.primary_at S.another_simple S.raise S.return S.assertion S.delete S.global S.import S.update_of S.assignment_of S.update_or_assignment S.simple S.simples S.line S.block S.block_after S.arm S.choice S.while S.for S.caught S.handler S.handled S.finished S.try S.parameter S.definition S.define S.compound S.chunk S.program R.piece read_chars chars digits power builtin_names class_names run
 cell_110 = refl
 
-cell_111 : run One (codes "x = 1\nx += y") empty ≡ ran Raised (fault (codes "NameError") (codes "name 'y' is not defined") ∷ []) ((codes "x", integer (pos 1)) ∷ []) (codes "x" ∷ codes "x" ∷ codes "y" ∷ []) 29
+cell_111 : run One (codes "x = 1\nx += y") empty ≡ ran Raised (fault (codes "NameError") (codes "name 'y' is not defined") ∷ []) ((codes "x", integer (pos 1)) ∷ []) (codes "x" ∷ codes "y" ∷ []) 29
 unfolding reserved_marks delimiter operator numeral Q.escape Q.item Q.closes Q.body Q.quoted token_piece lexeme cut indented begin bracket step layout encode_utf8 code_of E.keyword_begins E.another E.argument E.attribute E.call E.slice_after E.item_or_slice E.trailer E.parenthesised E.list E.pair E.dict E.atom E.primary_parts E.primary E.power E.unary_level E.term E.sum E.compared E.negated_level E.conjunction E.disjunction E.expr_level E.exprs_level E.phrase S.primary_at S.another_simple S.raise S.return S.assertion S.delete S.global S.import S.update_of S.assignment_of S.update_or_assignment S.simple S.simples S.line S.block S.block_after S.arm S.choice S.while S.for S.caught S.handler S.handled S.finished S.try S.parameter S.definition S.define S.compound S.chunk S.program R.piece read_chars chars digits power builtin_names class_names run
 cell_111 = refl
 
@@ -158,31 +158,31 @@ cell_114 : run One (codes "n = 1; m = 1 // 0; n = 2") empty ≡ ran Raised (faul
 unfolding reserved_marks delimiter operator numeral Q.escape Q.item Q.closes Q.body Q.quoted token_piece lexeme cut indented begin bracket step layout encode_utf8 code_of E.keyword_begins E.another E.argument E.attribute E.call E.slice_after E.item_or_slice E.trailer E.parenthesised E.list E.pair E.dict E.atom E.primary_parts E.primary E.power E.unary_level E.term E.sum E.compared E.negated_level E.conjunction E.disjunction E.expr_level E.exprs_level E.phrase S.primary_at S.another_simple S.raise S.return S.assertion S.delete S.global S.import S.update_of S.assignment_of S.update_or_assignment S.simple S.simples S.line S.block S.block_after S.arm S.choice S.while S.for S.caught S.handler S.handled S.finished S.try S.parameter S.definition S.define S.compound S.chunk S.program R.piece read_chars chars digits power builtin_names class_names run
 cell_114 = refl
 
-cell_115 : run One (codes "x = 1; x // 0") empty ≡ ran Raised (fault (codes "ZeroDivisionError") (codes "division by zero") ∷ []) ((codes "x", integer (pos 1)) ∷ []) (codes "x" ∷ codes "x" ∷ []) 23
+cell_115 : run One (codes "x = 1; x // 0") empty ≡ ran Raised (fault (codes "ZeroDivisionError") (codes "division by zero") ∷ []) ((codes "x", integer (pos 1)) ∷ []) (codes "x" ∷ []) 23
 unfolding reserved_marks delimiter operator numeral Q.escape Q.item Q.closes Q.body Q.quoted token_piece lexeme cut indented begin bracket step layout encode_utf8 code_of E.keyword_begins E.another E.argument E.attribute E.call E.slice_after E.item_or_slice E.trailer E.parenthesised E.list E.pair E.dict E.atom E.primary_parts E.primary E.power E.unary_level E.term E.sum E.compared E.negated_level E.conjunction E.disjunction E.expr_level E.exprs_level E.phrase S.primary_at S.another_simple S.raise S.return S.assertion S.delete S.global S.import S.update_of S.assignment_of S.update_or_assignment S.simple S.simples S.line S.block S.block_after S.arm S.choice S.while S.for S.caught S.handler S.handled S.finished S.try S.parameter S.definition S.define S.compound S.chunk S.program R.piece read_chars chars digits power builtin_names class_names run
 cell_115 = refl
 
-cell_116 : run One (codes "_a1 = Zz = 0; _a1") empty ≡ ran Done (shown (codes "0") ∷ []) ((codes "Zz", integer (pos 0)) ∷ (codes "_a1", integer (pos 0)) ∷ []) (codes "_a1" ∷ codes "Zz" ∷ codes "_a1" ∷ []) 5
+cell_116 : run One (codes "_a1 = Zz = 0; _a1") empty ≡ ran Done (shown (codes "0") ∷ []) ((codes "Zz", integer (pos 0)) ∷ (codes "_a1", integer (pos 0)) ∷ []) (codes "Zz" ∷ codes "_a1" ∷ []) 5
 unfolding reserved_marks delimiter operator numeral Q.escape Q.item Q.closes Q.body Q.quoted token_piece lexeme cut indented begin bracket step layout encode_utf8 code_of E.keyword_begins E.another E.argument E.attribute E.call E.slice_after E.item_or_slice E.trailer E.parenthesised E.list E.pair E.dict E.atom E.primary_parts E.primary E.power E.unary_level E.term E.sum E.compared E.negated_level E.conjunction E.disjunction E.expr_level E.exprs_level E.phrase S.primary_at S.another_simple S.raise S.return S.assertion S.delete S.global S.import S.update_of S.assignment_of S.update_or_assignment S.simple S.simples S.line S.block S.block_after S.arm S.choice S.while S.for S.caught S.handler S.handled S.finished S.try S.parameter S.definition S.define S.compound S.chunk S.program R.piece read_chars chars digits power builtin_names class_names run
 cell_116 = refl
 
-cell_117 : run One (120 ∷ 32 ∷ 61 ∷ 32 ∷ 78 ∷ 111 ∷ 110 ∷ 101 ∷ 59 ∷ 32 ∷ 121 ∷ 32 ∷ 61 ∷ 32 ∷ 110 ∷ 111 ∷ 116 ∷ 32 ∷ 120 ∷ 59 ∷ 32 ∷ 122 ∷ 32 ∷ 61 ∷ 32 ∷ 39 ∷ 195 ∷ 169 ∷ 39 ∷ 59 ∷ 32 ∷ 121 ∷ []) empty ≡ ran Done (shown (codes "True") ∷ []) ((codes "x", none) ∷ (codes "y", bool true) ∷ (codes "z", text (233 ∷ [])) ∷ []) (codes "x" ∷ codes "x" ∷ codes "y" ∷ codes "z" ∷ codes "y" ∷ []) 13
+cell_117 : run One (120 ∷ 32 ∷ 61 ∷ 32 ∷ 78 ∷ 111 ∷ 110 ∷ 101 ∷ 59 ∷ 32 ∷ 121 ∷ 32 ∷ 61 ∷ 32 ∷ 110 ∷ 111 ∷ 116 ∷ 32 ∷ 120 ∷ 59 ∷ 32 ∷ 122 ∷ 32 ∷ 61 ∷ 32 ∷ 39 ∷ 195 ∷ 169 ∷ 39 ∷ 59 ∷ 32 ∷ 121 ∷ []) empty ≡ ran Done (shown (codes "True") ∷ []) ((codes "x", none) ∷ (codes "y", bool true) ∷ (codes "z", text (233 ∷ [])) ∷ []) (codes "x" ∷ codes "y" ∷ codes "z" ∷ []) 13
 unfolding reserved_marks delimiter operator numeral Q.escape Q.item Q.closes Q.body Q.quoted token_piece lexeme cut indented begin bracket step layout encode_utf8 code_of E.keyword_begins E.another E.argument E.attribute E.call E.slice_after E.item_or_slice E.trailer E.parenthesised E.list E.pair E.dict E.atom E.primary_parts E.primary E.power E.unary_level E.term E.sum E.compared E.negated_level E.conjunction E.disjunction E.expr_level E.exprs_level E.phrase S.primary_at S.another_simple S.raise S.return S.assertion S.delete S.global S.import S.update_of S.assignment_of S.update_or_assignment S.simple S.simples S.line S.block S.block_after S.arm S.choice S.while S.for S.caught S.handler S.handled S.finished S.try S.parameter S.definition S.define S.compound S.chunk S.program R.piece read_chars chars digits power builtin_names class_names run
 cell_117 = refl
 
-cell_118 : run One (codes "b = a = 0; B = a; a_ = B") empty ≡ ran Done [] ((codes "B", integer (pos 0)) ∷ (codes "a", integer (pos 0)) ∷ (codes "a_", integer (pos 0)) ∷ (codes "b", integer (pos 0)) ∷ []) (codes "b" ∷ codes "a" ∷ codes "a" ∷ codes "B" ∷ codes "B" ∷ codes "a_" ∷ []) 6
+cell_118 : run One (codes "b = a = 0; B = a; a_ = B") empty ≡ ran Done [] ((codes "B", integer (pos 0)) ∷ (codes "a", integer (pos 0)) ∷ (codes "a_", integer (pos 0)) ∷ (codes "b", integer (pos 0)) ∷ []) (codes "B" ∷ codes "a" ∷ codes "a_" ∷ codes "b" ∷ []) 6
 unfolding reserved_marks delimiter operator numeral Q.escape Q.item Q.closes Q.body Q.quoted token_piece lexeme cut indented begin bracket step layout encode_utf8 code_of E.keyword_begins E.another E.argument E.attribute E.call E.slice_after E.item_or_slice E.trailer E.parenthesised E.list E.pair E.dict E.atom E.primary_parts E.primary E.power E.unary_level E.term E.sum E.compared E.negated_level E.conjunction E.disjunction E.expr_level E.exprs_level E.phrase S.primary_at S.another_simple S.raise S.return S.assertion S.delete S.global S.import S.update_of S.assignment_of S.update_or_assignment S.simple S.simples S.line S.block S.block_after S.arm S.choice S.while S.for S.caught S.handler S.handled S.finished S.try S.parameter S.definition S.define S.compound S.chunk S.program R.piece read_chars chars digits power builtin_names class_names run
 cell_118 = refl
 
-cell_119 : run One (codes "(a) = 1; a") empty ≡ ran Done (shown (codes "1") ∷ []) ((codes "a", integer (pos 1)) ∷ []) (codes "a" ∷ codes "a" ∷ []) 5
+cell_119 : run One (codes "(a) = 1; a") empty ≡ ran Done (shown (codes "1") ∷ []) ((codes "a", integer (pos 1)) ∷ []) (codes "a" ∷ []) 5
 unfolding reserved_marks delimiter operator numeral Q.escape Q.item Q.closes Q.body Q.quoted token_piece lexeme cut indented begin bracket step layout encode_utf8 code_of E.keyword_begins E.another E.argument E.attribute E.call E.slice_after E.item_or_slice E.trailer E.parenthesised E.list E.pair E.dict E.atom E.primary_parts E.primary E.power E.unary_level E.term E.sum E.compared E.negated_level E.conjunction E.disjunction E.expr_level E.exprs_level E.phrase S.primary_at S.another_simple S.raise S.return S.assertion S.delete S.global S.import S.update_of S.assignment_of S.update_or_assignment S.simple S.simples S.line S.block S.block_after S.arm S.choice S.while S.for S.caught S.handler S.handled S.finished S.try S.parameter S.definition S.define S.compound S.chunk S.program R.piece read_chars chars digits power builtin_names class_names run
 cell_119 = refl
 
-cell_120 : run One (codes "(a) = (b) = c = 3; print(a, b, c)") empty ≡ ran Done (stream (codes "3 3 3\n") ∷ []) ((codes "a", integer (pos 3)) ∷ (codes "b", integer (pos 3)) ∷ (codes "c", integer (pos 3)) ∷ []) (codes "a" ∷ codes "b" ∷ codes "c" ∷ codes "print" ∷ codes "a" ∷ codes "b" ∷ codes "c" ∷ []) 14
+cell_120 : run One (codes "(a) = (b) = c = 3; print(a, b, c)") empty ≡ ran Done (stream (codes "3 3 3\n") ∷ []) ((codes "a", integer (pos 3)) ∷ (codes "b", integer (pos 3)) ∷ (codes "c", integer (pos 3)) ∷ []) (codes "a" ∷ codes "b" ∷ codes "c" ∷ codes "print" ∷ []) 14
 unfolding reserved_marks delimiter operator numeral Q.escape Q.item Q.closes Q.body Q.quoted token_piece lexeme cut indented begin bracket step layout encode_utf8 code_of E.keyword_begins E.another E.argument E.attribute E.call E.slice_after E.item_or_slice E.trailer E.parenthesised E.list E.pair E.dict E.atom E.primary_parts E.primary E.power E.unary_level E.term E.sum E.compared E.negated_level E.conjunction E.disjunction E.expr_level E.exprs_level E.phrase S.primary_at S.another_simple S.raise S.return S.assertion S.delete S.global S.import S.update_of S.assignment_of S.update_or_assignment S.simple S.simples S.line S.block S.block_after S.arm S.choice S.while S.for S.caught S.handler S.handled S.finished S.try S.parameter S.definition S.define S.compound S.chunk S.program R.piece read_chars chars digits power builtin_names class_names run
 cell_120 = refl
 
-cell_121 : run One (codes "((a)) = 1\n(a) = a + 1\na") empty ≡ ran Done (shown (codes "2") ∷ []) ((codes "a", integer (pos 2)) ∷ []) (codes "a" ∷ codes "a" ∷ codes "a" ∷ codes "a" ∷ []) 9
+cell_121 : run One (codes "((a)) = 1\n(a) = a + 1\na") empty ≡ ran Done (shown (codes "2") ∷ []) ((codes "a", integer (pos 2)) ∷ []) (codes "a" ∷ []) 9
 unfolding reserved_marks delimiter operator numeral Q.escape Q.item Q.closes Q.body Q.quoted token_piece lexeme cut indented begin bracket step layout encode_utf8 code_of E.keyword_begins E.another E.argument E.attribute E.call E.slice_after E.item_or_slice E.trailer E.parenthesised E.list E.pair E.dict E.atom E.primary_parts E.primary E.power E.unary_level E.term E.sum E.compared E.negated_level E.conjunction E.disjunction E.expr_level E.exprs_level E.phrase S.primary_at S.another_simple S.raise S.return S.assertion S.delete S.global S.import S.update_of S.assignment_of S.update_or_assignment S.simple S.simples S.line S.block S.block_after S.arm S.choice S.while S.for S.caught S.handler S.handled S.finished S.try S.parameter S.definition S.define S.compound S.chunk S.program R.piece read_chars chars digits power builtin_names class_names run
 cell_121 = refl
 
@@ -198,7 +198,7 @@ cell_124 : run One (codes "((x)) = (y)") empty ≡ ran Raised (fault (codes "Nam
 unfolding reserved_marks delimiter operator numeral Q.escape Q.item Q.closes Q.body Q.quoted token_piece lexeme cut indented begin bracket step layout encode_utf8 code_of E.keyword_begins E.another E.argument E.attribute E.call E.slice_after E.item_or_slice E.trailer E.parenthesised E.list E.pair E.dict E.atom E.primary_parts E.primary E.power E.unary_level E.term E.sum E.compared E.negated_level E.conjunction E.disjunction E.expr_level E.exprs_level E.phrase S.primary_at S.another_simple S.raise S.return S.assertion S.delete S.global S.import S.update_of S.assignment_of S.update_or_assignment S.simple S.simples S.line S.block S.block_after S.arm S.choice S.while S.for S.caught S.handler S.handled S.finished S.try S.parameter S.definition S.define S.compound S.chunk S.program R.piece read_chars chars digits power builtin_names class_names run
 cell_124 = refl
 
-cell_125 : run One (codes "x = 3\nif x > 2: 'big'") empty ≡ ran Done [] ((codes "x", integer (pos 3)) ∷ []) (codes "x" ∷ codes "x" ∷ []) 8
+cell_125 : run One (codes "x = 3\nif x > 2: 'big'") empty ≡ ran Done [] ((codes "x", integer (pos 3)) ∷ []) (codes "x" ∷ []) 8
 unfolding reserved_marks delimiter operator numeral Q.escape Q.item Q.closes Q.body Q.quoted token_piece lexeme cut indented begin bracket step layout encode_utf8 code_of E.keyword_begins E.another E.argument E.attribute E.call E.slice_after E.item_or_slice E.trailer E.parenthesised E.list E.pair E.dict E.atom E.primary_parts E.primary E.power E.unary_level E.term E.sum E.compared E.negated_level E.conjunction E.disjunction E.expr_level E.exprs_level E.phrase S.primary_at S.another_simple S.raise S.return S.assertion S.delete S.global S.import S.update_of S.assignment_of S.update_or_assignment S.simple S.simples S.line S.block S.block_after S.arm S.choice S.while S.for S.caught S.handler S.handled S.finished S.try S.parameter S.definition S.define S.compound S.chunk S.program R.piece read_chars chars digits power builtin_names class_names run
 cell_125 = refl
 
@@ -214,7 +214,7 @@ cell_128 : run One (codes "if 0: x = 1\nelif None: x = 2") empty ≡ ran Done []
 unfolding reserved_marks delimiter operator numeral Q.escape Q.item Q.closes Q.body Q.quoted token_piece lexeme cut indented begin bracket step layout encode_utf8 code_of E.keyword_begins E.another E.argument E.attribute E.call E.slice_after E.item_or_slice E.trailer E.parenthesised E.list E.pair E.dict E.atom E.primary_parts E.primary E.power E.unary_level E.term E.sum E.compared E.negated_level E.conjunction E.disjunction E.expr_level E.exprs_level E.phrase S.primary_at S.another_simple S.raise S.return S.assertion S.delete S.global S.import S.update_of S.assignment_of S.update_or_assignment S.simple S.simples S.line S.block S.block_after S.arm S.choice S.while S.for S.caught S.handler S.handled S.finished S.try S.parameter S.definition S.define S.compound S.chunk S.program R.piece read_chars chars digits power builtin_names class_names run
 cell_128 = refl
 
-cell_129 : run One (codes "if 1:\n  if '':\n    print(1)\n  else:\n    print(2)\n  x = 5\nx") empty ≡ ran Done (stream (codes "2\n") ∷ shown (codes "5") ∷ []) ((codes "x", integer (pos 5)) ∷ []) (codes "print" ∷ codes "x" ∷ codes "x" ∷ []) 15
+cell_129 : run One (codes "if 1:\n  if '':\n    print(1)\n  else:\n    print(2)\n  x = 5\nx") empty ≡ ran Done (stream (codes "2\n") ∷ shown (codes "5") ∷ []) ((codes "x", integer (pos 5)) ∷ []) (codes "print" ∷ codes "x" ∷ []) 15
 unfolding reserved_marks delimiter operator numeral Q.escape Q.item Q.closes Q.body Q.quoted token_piece lexeme cut indented begin bracket step layout encode_utf8 code_of E.keyword_begins E.another E.argument E.attribute E.call E.slice_after E.item_or_slice E.trailer E.parenthesised E.list E.pair E.dict E.atom E.primary_parts E.primary E.power E.unary_level E.term E.sum E.compared E.negated_level E.conjunction E.disjunction E.expr_level E.exprs_level E.phrase S.primary_at S.another_simple S.raise S.return S.assertion S.delete S.global S.import S.update_of S.assignment_of S.update_or_assignment S.simple S.simples S.line S.block S.block_after S.arm S.choice S.while S.for S.caught S.handler S.handled S.finished S.try S.parameter S.definition S.define S.compound S.chunk S.program R.piece read_chars chars digits power builtin_names class_names run
 cell_129 = refl
 
@@ -222,11 +222,11 @@ cell_130 : run One (codes "if y: pass") empty ≡ ran Raised (fault (codes "Name
 unfolding reserved_marks delimiter operator numeral Q.escape Q.item Q.closes Q.body Q.quoted token_piece lexeme cut indented begin bracket step layout encode_utf8 code_of E.keyword_begins E.another E.argument E.attribute E.call E.slice_after E.item_or_slice E.trailer E.parenthesised E.list E.pair E.dict E.atom E.primary_parts E.primary E.power E.unary_level E.term E.sum E.compared E.negated_level E.conjunction E.disjunction E.expr_level E.exprs_level E.phrase S.primary_at S.another_simple S.raise S.return S.assertion S.delete S.global S.import S.update_of S.assignment_of S.update_or_assignment S.simple S.simples S.line S.block S.block_after S.arm S.choice S.while S.for S.caught S.handler S.handled S.finished S.try S.parameter S.definition S.define S.compound S.chunk S.program R.piece read_chars chars digits power builtin_names class_names run
 cell_130 = refl
 
-cell_131 : run One (codes "if 0 or 1: x = not 1\nx") empty ≡ ran Done (shown (codes "False") ∷ []) ((codes "x", bool false) ∷ []) (codes "x" ∷ codes "x" ∷ []) 14
+cell_131 : run One (codes "if 0 or 1: x = not 1\nx") empty ≡ ran Done (shown (codes "False") ∷ []) ((codes "x", bool false) ∷ []) (codes "x" ∷ []) 14
 unfolding reserved_marks delimiter operator numeral Q.escape Q.item Q.closes Q.body Q.quoted token_piece lexeme cut indented begin bracket step layout encode_utf8 code_of E.keyword_begins E.another E.argument E.attribute E.call E.slice_after E.item_or_slice E.trailer E.parenthesised E.list E.pair E.dict E.atom E.primary_parts E.primary E.power E.unary_level E.term E.sum E.compared E.negated_level E.conjunction E.disjunction E.expr_level E.exprs_level E.phrase S.primary_at S.another_simple S.raise S.return S.assertion S.delete S.global S.import S.update_of S.assignment_of S.update_or_assignment S.simple S.simples S.line S.block S.block_after S.arm S.choice S.while S.for S.caught S.handler S.handled S.finished S.try S.parameter S.definition S.define S.compound S.chunk S.program R.piece read_chars chars digits power builtin_names class_names run
 cell_131 = refl
 
-cell_132 : run One (codes "n = 3\nwhile n: print(n); n -= 1") empty ≡ ran Done (stream (codes "3\n2\n1\n") ∷ []) ((codes "n", integer (pos 0)) ∷ []) (codes "n" ∷ codes "n" ∷ codes "print" ∷ codes "n" ∷ codes "n" ∷ codes "n" ∷ codes "n" ∷ codes "print" ∷ codes "n" ∷ codes "n" ∷ codes "n" ∷ codes "n" ∷ codes "print" ∷ codes "n" ∷ codes "n" ∷ codes "n" ∷ codes "n" ∷ []) 40
+cell_132 : run One (codes "n = 3\nwhile n: print(n); n -= 1") empty ≡ ran Done (stream (codes "3\n2\n1\n") ∷ []) ((codes "n", integer (pos 0)) ∷ []) (codes "n" ∷ codes "print" ∷ []) 40
 unfolding reserved_marks delimiter operator numeral Q.escape Q.item Q.closes Q.body Q.quoted token_piece lexeme cut indented begin bracket step layout encode_utf8 code_of E.keyword_begins E.another E.argument E.attribute E.call E.slice_after E.item_or_slice E.trailer E.parenthesised E.list E.pair E.dict E.atom E.primary_parts E.primary E.power E.unary_level E.term E.sum E.compared E.negated_level E.conjunction E.disjunction E.expr_level E.exprs_level E.phrase S.primary_at S.another_simple S.raise S.return S.assertion S.delete S.global S.import S.update_of S.assignment_of S.update_or_assignment S.simple S.simples S.line S.block S.block_after S.arm S.choice S.while S.for S.caught S.handler S.handled S.finished S.try S.parameter S.definition S.define S.compound S.chunk S.program R.piece read_chars chars digits power builtin_names class_names run
 cell_132 = refl
 
@@ -238,15 +238,15 @@ cell_134 : run One (codes "while x: pass") empty ≡ ran Raised (fault (codes "N
 unfolding reserved_marks delimiter operator numeral Q.escape Q.item Q.closes Q.body Q.quoted token_piece lexeme cut indented begin bracket step layout encode_utf8 code_of E.keyword_begins E.another E.argument E.attribute E.call E.slice_after E.item_or_slice E.trailer E.parenthesised E.list E.pair E.dict E.atom E.primary_parts E.primary E.power E.unary_level E.term E.sum E.compared E.negated_level E.conjunction E.disjunction E.expr_level E.exprs_level E.phrase S.primary_at S.another_simple S.raise S.return S.assertion S.delete S.global S.import S.update_of S.assignment_of S.update_or_assignment S.simple S.simples S.line S.block S.block_after S.arm S.choice S.while S.for S.caught S.handler S.handled S.finished S.try S.parameter S.definition S.define S.compound S.chunk S.program R.piece read_chars chars digits power builtin_names class_names run
 cell_134 = refl
 
-cell_135 : run One (codes "n = 0\nwhile True:\n  n += 1\n  if n == 2: continue\n  if n == 4: break\n  print(n)\nn") empty ≡ ran Done (stream (codes "1\n3\n") ∷ shown (codes "4") ∷ []) ((codes "n", integer (pos 4)) ∷ []) (codes "n" ∷ codes "n" ∷ codes "n" ∷ codes "n" ∷ codes "n" ∷ codes "print" ∷ codes "n" ∷ codes "n" ∷ codes "n" ∷ codes "n" ∷ codes "n" ∷ codes "n" ∷ codes "n" ∷ codes "n" ∷ codes "print" ∷ codes "n" ∷ codes "n" ∷ codes "n" ∷ codes "n" ∷ codes "n" ∷ codes "n" ∷ []) 72
+cell_135 : run One (codes "n = 0\nwhile True:\n  n += 1\n  if n == 2: continue\n  if n == 4: break\n  print(n)\nn") empty ≡ ran Done (stream (codes "1\n3\n") ∷ shown (codes "4") ∷ []) ((codes "n", integer (pos 4)) ∷ []) (codes "n" ∷ codes "print" ∷ []) 72
 unfolding reserved_marks delimiter operator numeral Q.escape Q.item Q.closes Q.body Q.quoted token_piece lexeme cut indented begin bracket step layout encode_utf8 code_of E.keyword_begins E.another E.argument E.attribute E.call E.slice_after E.item_or_slice E.trailer E.parenthesised E.list E.pair E.dict E.atom E.primary_parts E.primary E.power E.unary_level E.term E.sum E.compared E.negated_level E.conjunction E.disjunction E.expr_level E.exprs_level E.phrase S.primary_at S.another_simple S.raise S.return S.assertion S.delete S.global S.import S.update_of S.assignment_of S.update_or_assignment S.simple S.simples S.line S.block S.block_after S.arm S.choice S.while S.for S.caught S.handler S.handled S.finished S.try S.parameter S.definition S.define S.compound S.chunk S.program R.piece read_chars chars digits power builtin_names class_names run
 cell_135 = refl
 
-cell_136 : run One (codes "i = 0\nwhile i < 2:\n  j = 0\n  while True:\n    j += 1\n    if j > i: break\n  print(i, j)\n  i += 1") empty ≡ ran Done (stream (codes "0 1\n1 2\n") ∷ []) ((codes "i", integer (pos 2)) ∷ (codes "j", integer (pos 2)) ∷ []) (codes "i" ∷ codes "i" ∷ codes "j" ∷ codes "j" ∷ codes "j" ∷ codes "j" ∷ codes "i" ∷ codes "print" ∷ codes "i" ∷ codes "j" ∷ codes "i" ∷ codes "i" ∷ codes "i" ∷ codes "j" ∷ codes "j" ∷ codes "j" ∷ codes "j" ∷ codes "i" ∷ codes "j" ∷ codes "j" ∷ codes "j" ∷ codes "i" ∷ codes "print" ∷ codes "i" ∷ codes "j" ∷ codes "i" ∷ codes "i" ∷ codes "i" ∷ []) 78
+cell_136 : run One (codes "i = 0\nwhile i < 2:\n  j = 0\n  while True:\n    j += 1\n    if j > i: break\n  print(i, j)\n  i += 1") empty ≡ ran Done (stream (codes "0 1\n1 2\n") ∷ []) ((codes "i", integer (pos 2)) ∷ (codes "j", integer (pos 2)) ∷ []) (codes "i" ∷ codes "j" ∷ codes "print" ∷ []) 78
 unfolding reserved_marks delimiter operator numeral Q.escape Q.item Q.closes Q.body Q.quoted token_piece lexeme cut indented begin bracket step layout encode_utf8 code_of E.keyword_begins E.another E.argument E.attribute E.call E.slice_after E.item_or_slice E.trailer E.parenthesised E.list E.pair E.dict E.atom E.primary_parts E.primary E.power E.unary_level E.term E.sum E.compared E.negated_level E.conjunction E.disjunction E.expr_level E.exprs_level E.phrase S.primary_at S.another_simple S.raise S.return S.assertion S.delete S.global S.import S.update_of S.assignment_of S.update_or_assignment S.simple S.simples S.line S.block S.block_after S.arm S.choice S.while S.for S.caught S.handler S.handled S.finished S.try S.parameter S.definition S.define S.compound S.chunk S.program R.piece read_chars chars digits power builtin_names class_names run
 cell_136 = refl
 
-cell_137 : run One (codes "n = 3\nwhile n:\n  n -= 1\n  n // (n - 1)") empty ≡ ran Raised (fault (codes "ZeroDivisionError") (codes "division by zero") ∷ []) ((codes "n", integer (pos 1)) ∷ []) (codes "n" ∷ codes "n" ∷ codes "n" ∷ codes "n" ∷ codes "n" ∷ codes "n" ∷ codes "n" ∷ codes "n" ∷ codes "n" ∷ codes "n" ∷ codes "n" ∷ []) 44
+cell_137 : run One (codes "n = 3\nwhile n:\n  n -= 1\n  n // (n - 1)") empty ≡ ran Raised (fault (codes "ZeroDivisionError") (codes "division by zero") ∷ []) ((codes "n", integer (pos 1)) ∷ []) (codes "n" ∷ []) 44
 unfolding reserved_marks delimiter operator numeral Q.escape Q.item Q.closes Q.body Q.quoted token_piece lexeme cut indented begin bracket step layout encode_utf8 code_of E.keyword_begins E.another E.argument E.attribute E.call E.slice_after E.item_or_slice E.trailer E.parenthesised E.list E.pair E.dict E.atom E.primary_parts E.primary E.power E.unary_level E.term E.sum E.compared E.negated_level E.conjunction E.disjunction E.expr_level E.exprs_level E.phrase S.primary_at S.another_simple S.raise S.return S.assertion S.delete S.global S.import S.update_of S.assignment_of S.update_or_assignment S.simple S.simples S.line S.block S.block_after S.arm S.choice S.while S.for S.caught S.handler S.handled S.finished S.try S.parameter S.definition S.define S.compound S.chunk S.program R.piece read_chars chars digits power builtin_names class_names run
 cell_137 = refl
 
@@ -262,11 +262,11 @@ cell_140 : run One (codes "-170141183460469231731687303715884105727 - 2") empty 
 unfolding reserved_marks delimiter operator numeral Q.escape Q.item Q.closes Q.body Q.quoted token_piece lexeme cut indented begin bracket step layout encode_utf8 code_of E.keyword_begins E.another E.argument E.attribute E.call E.slice_after E.item_or_slice E.trailer E.parenthesised E.list E.pair E.dict E.atom E.primary_parts E.primary E.power E.unary_level E.term E.sum E.compared E.negated_level E.conjunction E.disjunction E.expr_level E.exprs_level E.phrase S.primary_at S.another_simple S.raise S.return S.assertion S.delete S.global S.import S.update_of S.assignment_of S.update_or_assignment S.simple S.simples S.line S.block S.block_after S.arm S.choice S.while S.for S.caught S.handler S.handled S.finished S.try S.parameter S.definition S.define S.compound S.chunk S.program R.piece read_chars chars digits power builtin_names class_names run
 cell_140 = refl
 
-cell_141 : run One (codes "x = -2 ** 126 * 2; x // -1") empty ≡ ran Raised (fault (codes "OverflowError") (codes "whole number too large") ∷ []) ((codes "x", integer (negsuc 170141183460469231731687303715884105727)) ∷ []) (codes "x" ∷ codes "x" ∷ []) 35
+cell_141 : run One (codes "x = -2 ** 126 * 2; x // -1") empty ≡ ran Raised (fault (codes "OverflowError") (codes "whole number too large") ∷ []) ((codes "x", integer (negsuc 170141183460469231731687303715884105727)) ∷ []) (codes "x" ∷ []) 35
 unfolding reserved_marks delimiter operator numeral Q.escape Q.item Q.closes Q.body Q.quoted token_piece lexeme cut indented begin bracket step layout encode_utf8 code_of E.keyword_begins E.another E.argument E.attribute E.call E.slice_after E.item_or_slice E.trailer E.parenthesised E.list E.pair E.dict E.atom E.primary_parts E.primary E.power E.unary_level E.term E.sum E.compared E.negated_level E.conjunction E.disjunction E.expr_level E.exprs_level E.phrase S.primary_at S.another_simple S.raise S.return S.assertion S.delete S.global S.import S.update_of S.assignment_of S.update_or_assignment S.simple S.simples S.line S.block S.block_after S.arm S.choice S.while S.for S.caught S.handler S.handled S.finished S.try S.parameter S.definition S.define S.compound S.chunk S.program R.piece read_chars chars digits power builtin_names class_names run
 cell_141 = refl
 
-cell_142 : run One (codes "x = -2 ** 126 * 2; -x") empty ≡ ran Raised (fault (codes "OverflowError") (codes "whole number too large") ∷ []) ((codes "x", integer (negsuc 170141183460469231731687303715884105727)) ∷ []) (codes "x" ∷ codes "x" ∷ []) 33
+cell_142 : run One (codes "x = -2 ** 126 * 2; -x") empty ≡ ran Raised (fault (codes "OverflowError") (codes "whole number too large") ∷ []) ((codes "x", integer (negsuc 170141183460469231731687303715884105727)) ∷ []) (codes "x" ∷ []) 33
 unfolding reserved_marks delimiter operator numeral Q.escape Q.item Q.closes Q.body Q.quoted token_piece lexeme cut indented begin bracket step layout encode_utf8 code_of E.keyword_begins E.another E.argument E.attribute E.call E.slice_after E.item_or_slice E.trailer E.parenthesised E.list E.pair E.dict E.atom E.primary_parts E.primary E.power E.unary_level E.term E.sum E.compared E.negated_level E.conjunction E.disjunction E.expr_level E.exprs_level E.phrase S.primary_at S.another_simple S.raise S.return S.assertion S.delete S.global S.import S.update_of S.assignment_of S.update_or_assignment S.simple S.simples S.line S.block S.block_after S.arm S.choice S.while S.for S.caught S.handler S.handled S.finished S.try S.parameter S.definition S.define S.compound S.chunk S.program R.piece read_chars chars digits power builtin_names class_names run
 cell_142 = refl
 
@@ -278,7 +278,7 @@ cell_144 : run One (codes "0 ** -1") empty ≡ ran Raised (fault (codes "ValueEr
 unfolding reserved_marks delimiter operator numeral Q.escape Q.item Q.closes Q.body Q.quoted token_piece lexeme cut indented begin bracket step layout encode_utf8 code_of E.keyword_begins E.another E.argument E.attribute E.call E.slice_after E.item_or_slice E.trailer E.parenthesised E.list E.pair E.dict E.atom E.primary_parts E.primary E.power E.unary_level E.term E.sum E.compared E.negated_level E.conjunction E.disjunction E.expr_level E.exprs_level E.phrase S.primary_at S.another_simple S.raise S.return S.assertion S.delete S.global S.import S.update_of S.assignment_of S.update_or_assignment S.simple S.simples S.line S.block S.block_after S.arm S.choice S.while S.for S.caught S.handler S.handled S.finished S.try S.parameter S.definition S.define S.compound S.chunk S.program R.piece read_chars chars digits power builtin_names class_names run
 cell_144 = refl
 
-cell_145 : run One (codes "x = 'ab'; x is 'a' 'b'") empty ≡ ran Done (shown (codes "True") ∷ []) ((codes "x", text (codes "ab")) ∷ []) (codes "x" ∷ codes "x" ∷ []) 12
+cell_145 : run One (codes "x = 'ab'; x is 'a' 'b'") empty ≡ ran Done (shown (codes "True") ∷ []) ((codes "x", text (codes "ab")) ∷ []) (codes "x" ∷ []) 12
 unfolding reserved_marks delimiter operator numeral Q.escape Q.item Q.closes Q.body Q.quoted token_piece lexeme cut indented begin bracket step layout encode_utf8 code_of E.keyword_begins E.another E.argument E.attribute E.call E.slice_after E.item_or_slice E.trailer E.parenthesised E.list E.pair E.dict E.atom E.primary_parts E.primary E.power E.unary_level E.term E.sum E.compared E.negated_level E.conjunction E.disjunction E.expr_level E.exprs_level E.phrase S.primary_at S.another_simple S.raise S.return S.assertion S.delete S.global S.import S.update_of S.assignment_of S.update_or_assignment S.simple S.simples S.line S.block S.block_after S.arm S.choice S.while S.for S.caught S.handler S.handled S.finished S.try S.parameter S.definition S.define S.compound S.chunk S.program R.piece read_chars chars digits power builtin_names class_names run
 cell_145 = refl
 
@@ -286,7 +286,7 @@ cell_146 : run One (codes "'a' is not 'b'") empty ≡ ran Done (shown (codes "Tr
 unfolding reserved_marks delimiter operator numeral Q.escape Q.item Q.closes Q.body Q.quoted token_piece lexeme cut indented begin bracket step layout encode_utf8 code_of E.keyword_begins E.another E.argument E.attribute E.call E.slice_after E.item_or_slice E.trailer E.parenthesised E.list E.pair E.dict E.atom E.primary_parts E.primary E.power E.unary_level E.term E.sum E.compared E.negated_level E.conjunction E.disjunction E.expr_level E.exprs_level E.phrase S.primary_at S.another_simple S.raise S.return S.assertion S.delete S.global S.import S.update_of S.assignment_of S.update_or_assignment S.simple S.simples S.line S.block S.block_after S.arm S.choice S.while S.for S.caught S.handler S.handled S.finished S.try S.parameter S.definition S.define S.compound S.chunk S.program R.piece read_chars chars digits power builtin_names class_names run
 cell_146 = refl
 
-cell_147 : run One (112 ∷ 114 ∷ 105 ∷ 110 ∷ 116 ∷ 40 ∷ 49 ∷ 41 ∷ 13 ∷ 10 ∷ 112 ∷ 114 ∷ 105 ∷ 110 ∷ 116 ∷ 40 ∷ 50 ∷ 41 ∷ 13 ∷ []) empty ≡ ran Done (stream (codes "1\n2\n") ∷ []) [] (codes "print" ∷ codes "print" ∷ []) 12
+cell_147 : run One (112 ∷ 114 ∷ 105 ∷ 110 ∷ 116 ∷ 40 ∷ 49 ∷ 41 ∷ 13 ∷ 10 ∷ 112 ∷ 114 ∷ 105 ∷ 110 ∷ 116 ∷ 40 ∷ 50 ∷ 41 ∷ 13 ∷ []) empty ≡ ran Done (stream (codes "1\n2\n") ∷ []) [] (codes "print" ∷ []) 12
 unfolding reserved_marks delimiter operator numeral Q.escape Q.item Q.closes Q.body Q.quoted token_piece lexeme cut indented begin bracket step layout encode_utf8 code_of E.keyword_begins E.another E.argument E.attribute E.call E.slice_after E.item_or_slice E.trailer E.parenthesised E.list E.pair E.dict E.atom E.primary_parts E.primary E.power E.unary_level E.term E.sum E.compared E.negated_level E.conjunction E.disjunction E.expr_level E.exprs_level E.phrase S.primary_at S.another_simple S.raise S.return S.assertion S.delete S.global S.import S.update_of S.assignment_of S.update_or_assignment S.simple S.simples S.line S.block S.block_after S.arm S.choice S.while S.for S.caught S.handler S.handled S.finished S.try S.parameter S.definition S.define S.compound S.chunk S.program R.piece read_chars chars digits power builtin_names class_names run
 cell_147 = refl
 

@@ -1,5 +1,5 @@
 -- Keys of a dict, which it keeps by content (Python Language Reference 3, "Dictionaries").
-use Rattle.std.specs.Prelude.{ℕ, ℤ, pos, ◌==◌, Bool, true, false, List, [], ◌∷◌, map}
+use Rattle.std.specs.Prelude.{ℕ, ℤ, pos, ◌==◌, Bool, true, false, List, [], map}
 use Rattle.std.specs.Cmp.Lexicographic.{pointwise}
 use Rattle.std.specs.Ordering.{int_eq, on, eq_of_both}
 use Rattle.std.specs.Rc.{rc_str_bytes}

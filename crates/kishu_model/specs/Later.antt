@@ -1,5 +1,5 @@
 -- Which forms no cell has yet, and the line of the first piece that has one.
-use Rattle.std.specs.Prelude.{ℕ, zero, suc, Bool, true, false, not, ◌&&◌, if◌then◌else◌, List, [], ◌∷◌, length, Option, Some, None, Result, Ok, Err, codes}
+use Rattle.std.specs.Prelude.{ℕ, zero, suc, Bool, true, false, not, ◌&&◌, ◌||◌, if◌then◌else◌, List, [], ◌∷◌, length, Option, Some, None, Result, Ok, Err, codes}
 use Rattle.std.specs.List.{list_all}
 use Rattle.std.specs.Str.{chars, bytes_eq, is_utf8, encode_utf8_all}
 use Rattle.kishu_model.specs.declared.profile.Profile.TheVariants.{One}
@@ -7,7 +7,8 @@ use Rattle.kishu_model.specs.Names.{is_builtin_name}
 use Rattle.kishu_model.specs.PlainLines.{plain_lines}
 use Rattle.kishu_model.specs.Layout.{Token}
 use Rattle.kishu_model.specs.Tokens.{tokens_of_chars}
-use Rattle.kishu_model.specs.Tree.{Text, Expression, Expressions, Operands, Links, Trailers, Arguments, Statement, Statements, Arms, no_expressions, more_expressions, no_operands, more_operands, no_links, more_links, no_trailers, more_trailers, no_arguments, more_arguments, no_statements, more_statements, no_arms, more_arms}
+use Rattle.kishu_model.specs.Tree.{Text, Expression, Expressions, Operands, Links, Pairs, Trailers, Trailer, Bound, Arguments, Statement, Statements, Arms, simple_namespace}
+use Rattle.kishu_model.specs.Tree.{no_expressions, more_expressions, no_operands, more_operands, no_links, more_links, no_pairs, more_pairs, no_trailers, more_trailers, absent, bound, no_arguments, more_arguments, no_statements, more_statements, no_arms, more_arms}
 use Rattle.kishu_model.specs.Tree as t
 use Rattle.kishu_model.specs.Language.{Tokens}
 use Rattle.kishu_model.specs.Pieces.{next_piece}
@@ -17,10 +18,15 @@ use Rattle.kishu_model.specs.ReadText.{piece, read_chars}
 abbrev pub is_free : Text → Bool
 is_free x = not (is_builtin_name x)
 
-abbrev pub is_print : Expression → Bool
-is_print (t.name x) = bytes_eq x (codes "print")
-is_print (t.paren e) = is_print e
-is_print _ = false
+-- `print` and `SimpleNamespace`, which may be called
+abbrev pub is_called_name : Expression → Bool
+is_called_name (t.name x) = bytes_eq x (codes "print") || bytes_eq x simple_namespace
+is_called_name (t.paren e) = is_called_name e
+is_called_name _ = false
+
+abbrev pub begins_with_call : Trailers → Bool
+begins_with_call (more_trailers (t.call es) ts) = true
+begins_with_call _ = false
 
 abbrev mutual
   -- An expression has only the forms that cells have so far.
@@ -41,10 +47,10 @@ abbrev mutual
   known_expression (t.sum e os) = known_expression e && known_operands os
   known_expression (t.product e os) = known_expression e && known_operands os
   known_expression (t.compared e ls) = known_expression e && known_links ls
-  known_expression (t.primary e ts) = is_print e && known_call ts
-  known_expression (t.tuple es) = false
-  known_expression (t.list es) = false
-  known_expression (t.dict ps) = false
+  known_expression (t.primary e ts) = (known_expression e || (is_called_name e && begins_with_call ts)) && known_trailers ts
+  known_expression (t.tuple es) = known_expressions es
+  known_expression (t.list es) = known_expressions es
+  known_expression (t.dict ps) = known_pairs ps
 
   pub known_expressions : Expressions → Bool
   known_expressions no_expressions = true
@@ -58,37 +64,45 @@ abbrev mutual
   known_links no_links = true
   known_links (more_links comparison e ls) = known_expression e && known_links ls
 
-  -- one call
-  pub known_call : Trailers → Bool
-  known_call (more_trailers (t.call es) no_trailers) = known_arguments es
-  known_call _ = false
+  pub known_pairs : Pairs → Bool
+  known_pairs no_pairs = true
+  known_pairs (more_pairs key e ps) = known_expression key && known_expression e && known_pairs ps
+
+  pub known_trailers : Trailers → Bool
+  known_trailers no_trailers = true
+  known_trailers (more_trailers first ts) = known_trailer first && known_trailers ts
+
+  pub known_trailer : Trailer → Bool
+  known_trailer (t.attribute x) = true
+  known_trailer (t.call es) = known_arguments es
+  known_trailer (t.index e) = known_expression e
+  known_trailer (t.slice start stop step) = known_bound start && known_bound stop && known_bound step
+
+  pub known_bound : Bound → Bool
+  known_bound absent = true
+  known_bound (bound e) = known_expression e
 
   pub known_arguments : Arguments → Bool
   known_arguments no_arguments = true
   known_arguments (more_arguments (t.plain e) es) = known_expression e && known_arguments es
-  known_arguments (more_arguments (t.keyword x e) es) = false
-
-abbrev pub known_place : Expression → Bool
-known_place (t.name x) = is_free x
-known_place (t.paren e) = known_place e
-known_place _ = false
+  known_arguments (more_arguments (t.keyword x e) es) = known_expression e && known_arguments es
 
 abbrev mutual
   pub known_statement : Statement → Bool
   known_statement t.pass = true
   known_statement t.break = true
   known_statement t.continue = true
-  known_statement (t.assign es e) = list_all known_place es && known_expression e
-  known_statement (t.update e operator f) = known_place e && known_expression f
+  known_statement (t.assign es e) = list_all known_expression es && known_expression e
+  known_statement (t.update e operator f) = known_expression e && known_expression f
   known_statement (t.choose as' other) = known_arms as' && known_statements other
   known_statement (t.while e body) = known_expression e && known_statements body
   known_statement (t.return e) = false
   known_statement (t.raise e) = false
   known_statement (t.assert e message) = false
-  known_statement (t.delete es) = false
+  known_statement (t.delete es) = list_all known_expression es
   known_statement (t.global xs) = false
-  known_statement (t.import x) = false
-  known_statement (t.for e walked body) = false
+  known_statement (t.import x) = true
+  known_statement (t.for e walked body) = known_expression e && known_expression walked && known_statements body
   known_statement (t.try body hs other last) = false
   known_statement (t.finally body last) = false
   known_statement (t.define x ps body code) = false

@@ -1,8 +1,11 @@
 -- What a cell's run holds at a moment, and what it can do: the few steps from which the meaning of each form is put together (Python Language Reference 3, "Execution model").
-use Rattle.std.specs.Prelude.{ℕ, zero, suc, ◌+◌, ◌-◌, nat_le, nat_lt, Bool, if◌then◌else◌, List, [], ◌∷◌, ◌++◌, length, codes, Option, Some, None}
+use Rattle.std.specs.Prelude.{ℕ, suc, ◌-◌, nat_le, nat_lt, if◌then◌else◌, List, [], ◌∷◌, ◌++◌, length, codes, Option, Some, None, is_some, slice_get}
 use Rattle.std.specs.Str.{chars}
+use Rattle.kishu_model.specs.declared.profile.Profile.{Profile}
 use Rattle.kishu_model.specs.Names.{is_among, builtin_names, class_names, place_among}
-use Rattle.kishu_model.specs.Values.{Value, text, builtin, class, Node, Names, find, bind}
+use Rattle.kishu_model.specs.Values.{Value, text, builtin, class, node, Node, Names, find, bind}
+use Rattle.kishu_model.specs.Nodes.{changed}
+use Rattle.kishu_model.specs.Accesses.{unbind, with_access}
 
 -- the names that are local to a function's body, and those of them that have a value
 pub record Locals : Type 0 where
@@ -10,14 +13,16 @@ pub record Locals : Type 0 where
   pub values : Names
 
 pub record Moment : Type 0 where
+  -- of the cell's text
+  pub profile : Profile
   pub names : Names
   pub nodes : List Node
-  -- each access to the names, in order, whether the name was there or not
+  -- the names that were accessed, whether they were there or not: in byte order, each once
   pub accessed : List (List ℕ)
   -- those of the function in progress
   pub locals : Option Locals
-  -- the exceptions that handlers in progress caught, the innermost first
-  pub handled : List Value
+  -- the exception that the innermost handler in progress caught
+  pub handled : Option Value
   -- how many steps may still be taken
   pub left : ℕ
   -- how deep the points under evaluation, the calls and the nodes in progress lie
@@ -28,6 +33,8 @@ pub record Moment : Type 0 where
 -- An exception on its way: one that a rule raises becomes an object where it is caught. Its class by number, and its arguments.
 pub data Thrown : Type 0 where
   fresh : (kind : ℕ) → (arguments : List Value) → Thrown
+  -- one that is an object, by the number of its node
+  thrown_object : (number : ℕ) → Thrown
 
 -- how something ends, and the moment then
 pub data Ends (A : Type 0) : Type 0 where
@@ -56,9 +63,21 @@ m >> n = m >>= (λ _. n)
 abbrev pub give : {A : Type 0} → A → M A
 give a s = fine a s
 
+abbrev pub throw : {A : Type 0} → Thrown → M A
+throw x s = raised x s
+
+-- an exception of this class with a value
+abbrev pub raise_with : {A : Type 0} → ℕ → Value → M A
+raise_with kind v = throw (fresh kind (v ∷ []))
+
 -- an exception of this class with a text
 abbrev pub raise : {A : Type 0} → ℕ → List ℕ → M A
 raise kind message s = raised (fresh kind (text message ∷ [])) s
+
+-- what is there, or else
+abbrev pub or_else : {A : Type 0} → M A → Option A → M A
+or_else other (Some a) = give a
+or_else other None = other
 
 -- What no cell has yet.
 abbrev pub later : {A : Type 0} → M A
@@ -95,7 +114,7 @@ deeper m s = if nat_lt s.depth most_depth then back_at s.depth (m (record s { de
 -- ---- names
 
 abbrev pub access : List ℕ → M (Unit {0})
-access x s = fine tt (record s { accessed = s.accessed ++ x ∷ [] })
+access x s = fine tt (record s { accessed = with_access x s.accessed })
 
 abbrev pub name_error : {A : Type 0} → List ℕ → M A
 name_error x = raise 17 (codes "name '" ++ chars x ++ codes "' is not defined")
@@ -142,6 +161,43 @@ bind_in x v (Some here) = if is_among x here.own then bind_local x v here else b
 
 abbrev pub assign : List ℕ → Value → M (Unit {0})
 assign x v s = bind_in x v s.locals s
+
+-- a name without its value: one that has none raises as a read does
+abbrev pub delete_global : List ℕ → M (Unit {0})
+delete_global x = access x >> (λ s. if is_some (find x s.names) then fine tt (record s { names = unbind x s.names }) else name_error x s)
+
+abbrev pub delete_local : List ℕ → Locals → M (Unit {0})
+delete_local x here s = if is_some (find x here.values) then fine tt (record s { locals = Some (record here { values = unbind x here.values }) }) else unbound_local x s
+
+abbrev pub delete_in : List ℕ → Option Locals → M (Unit {0})
+delete_in x None = delete_global x
+delete_in x (Some here) = if is_among x here.own then delete_local x here else delete_global x
+
+abbrev pub delete : List ℕ → M (Unit {0})
+delete x s = delete_in x s.locals s
+
+-- ---- nodes
+
+-- what can be told from the nodes
+abbrev pub look : {A : Type 0} → (List Node → A) → M A
+look f s = fine (f s.nodes) s
+
+-- a new node
+abbrev pub make : Node → M Value
+make n s = fine (node (length s.nodes)) (record s { nodes = s.nodes ++ n ∷ [] })
+
+-- the node of this number, changed so
+abbrev pub change : ℕ → (Node → Node) → M (Unit {0})
+change i f s = fine tt (record s { nodes = changed f i s.nodes })
+
+-- the node of a value that has one
+abbrev pub node_at : List Node → Value → Option Node
+node_at ns (node i) = slice_get ns i
+node_at ns _ = None
+
+-- as it is now
+abbrev pub node_now : Value → M (Option Node)
+node_now v = look (λ ns. node_at ns v)
 
 -- ---- what is printed
 

@@ -1,5 +1,5 @@
 -- The nodes of a heap, and how each is changed (Python Language Reference 3, "Objects, values and types" and "Mappings").
-use Rattle.std.specs.Prelude.{ℕ, zero, suc, Bool, if◌then◌else◌, List, [], ◌∷◌, ◌++◌, length, slice_get, slice_set, Option, Some, None, option_and_then}
+use Rattle.std.specs.Prelude.{ℕ, zero, suc, Bool, if◌then◌else◌, List, [], ◌∷◌, ◌++◌, slice_get, slice_set, Option, Some, None, option_and_then}
 use Rattle.std.specs.Str.{bytes_eq}
 use Rattle.kishu_model.specs.Keys.{Key, is_one}
 use Rattle.kishu_model.specs.Values.{Value, Node, list, tuple, dict, object, function, exception}

@@ -1,64 +1,34 @@
--- What operators and comparisons do (Python Language Reference 3, "Binary arithmetic operations", "Unary arithmetic operations", "Comparisons" and "Boolean operations").
-use Rattle.std.specs.Prelude.{ℕ, zero, suc, ◌+◌, ◌*◌, ◌==◌, min, max, ℤ, pos, negsuc, ◌+ℤ◌, ◌-ℤ◌, ◌*ℤ◌, neg_ℤ, Bool, true, false, not, if◌then◌else◌, List, [], ◌∷◌, ◌++◌, length, replicate, codes, Option, Some, None, is_some, slice_get}
-use Rattle.std.specs.declared.cmp.Ordering.{Ordering}
-use Rattle.std.specs.Bool.{beq}
-use Rattle.std.specs.Ordering.{is_lt, is_le, is_gt, is_ge, nat_cmp, int_cmp, int_eq}
-use Rattle.std.specs.Cmp.Lexicographic.{slice_cmp}
+-- What operators do, and the truth and the kinds of values (Python Language Reference 3, "Binary arithmetic operations", "Unary arithmetic operations" and "Boolean operations").
+use Rattle.std.specs.Prelude.{ℕ, ◌+◌, ◌*◌, ◌==◌, ℤ, pos, negsuc, ◌+ℤ◌, ◌-ℤ◌, ◌*ℤ◌, neg_ℤ, Bool, true, false, not, if◌then◌else◌, List, ◌++◌, length, replicate, codes, Option, Some, None, option_and_then}
+use Rattle.std.specs.Ordering.{int_eq}
 use Rattle.std.specs.List.{flat_map}
-use Rattle.std.specs.Str.{bytes_eq}
 use Rattle.kishu_model.specs.declared.tree.Operator.{Operator}
 use Rattle.kishu_model.specs.declared.tree.Operator.TheVariants as operators
 use Rattle.kishu_model.specs.declared.tree.Sign.{Sign}
 use Rattle.kishu_model.specs.declared.tree.Sign.TheVariants as signs
-use Rattle.kishu_model.specs.declared.tree.Comparison.{Comparison}
-use Rattle.kishu_model.specs.declared.tree.Comparison.TheVariants as comparisons
 use Rattle.kishu_model.specs.Numbers.{is_whole, floor_quotient, floor_remainder, power}
-use Rattle.kishu_model.specs.Texts.{first_place}
 use Rattle.kishu_model.specs.Values.{Value, none, bool, integer, text, range, builtin, class, node, Node, list, tuple, dict, object, function, exception}
 pub use Rattle.kishu_model.specs.Keys.{number_of_bool}
 pub use Rattle.kishu_model.specs.Equal.{number_in, is_same, pair_steps, by_numbers, is_equal}
-use Rattle.kishu_model.specs.Equal.{range_length, equal, less}
-use Rattle.kishu_model.specs.Show.{class_name}
-use Rattle.kishu_model.specs.Moment.{M, ◌>>=◌, ◌>>◌, give, raise, spend}
-
--- An exception's kind is its class.
-abbrev pub node_kind : Node → List ℕ
-node_kind (list vs) = codes "list"
-node_kind (tuple vs) = codes "tuple"
-node_kind (dict es) = codes "dict"
-node_kind (object as') = codes "SimpleNamespace"
-node_kind (function profile code vs) = codes "function"
-node_kind (exception kind vs) = class_name kind
-
-abbrev pub kind_at : Option Node → List ℕ
-kind_at (Some n) = node_kind n
-kind_at None = []
-
--- of a value among these nodes
-abbrev pub kind_in : List Node → Value → List ℕ
-kind_in ns none = codes "NoneType"
-kind_in ns (bool b) = codes "bool"
-kind_in ns (integer z) = codes "int"
-kind_in ns (text cs) = codes "str"
-kind_in ns (range a b c) = codes "range"
-kind_in ns (builtin n) = codes "builtin"
-kind_in ns (class n) = codes "class"
-kind_in ns (node i) = kind_at (slice_get ns i)
-
-abbrev pub quoted_kind : List Node → Value → List ℕ
-quoted_kind ns v = codes "'" ++ kind_in ns v ++ codes "'"
-
-abbrev pub type_error : {A : Type 0} → List ℕ → M A
-type_error message = raise 23 message
+use Rattle.kishu_model.specs.Equal.{range_length, by_both}
+use Rattle.kishu_model.specs.Nodes.{list_in, tuple_in}
+pub use Rattle.kishu_model.specs.Kinds.{node_kind, kind_at, kind_in, in_quotes, quoted_kind, kind_of, type_error, value_error, bad_arguments}
+use Rattle.kishu_model.specs.Moment.{M, ◌>>=◌, ◌>>◌, give, raise, spend, make, node_now}
 
 abbrev pub bad_operands : {A : Type 0} → List ℕ → Value → Value → M A
-bad_operands sign a b = λ s. type_error (codes "bad operand types for " ++ sign ++ codes ": " ++ quoted_kind s.nodes a ++ codes " and " ++ quoted_kind s.nodes b) s
+bad_operands sign a b = kind_of a >>= λ k. kind_of b >>= λ l. type_error (codes "bad operand types for " ++ sign ++ codes ": " ++ in_quotes k ++ codes " and " ++ in_quotes l)
 
 abbrev pub bad_operand : {A : Type 0} → List ℕ → Value → M A
-bad_operand sign v = λ s. type_error (codes "bad operand type for " ++ sign ++ codes ": " ++ quoted_kind s.nodes v) s
+bad_operand sign v = kind_of v >>= λ k. type_error (codes "bad operand type for " ++ sign ++ codes ": " ++ in_quotes k)
 
-abbrev pub value_error : {A : Type 0} → List ℕ → M A
-value_error message = raise 24 message
+-- ---- what a value holds
+
+-- the items of a list, and those of a tuple
+abbrev pub list_from : Option Node → Option (List Value)
+list_from = option_and_then list_in
+
+abbrev pub tuple_from : Option Node → Option (List Value)
+tuple_from = option_and_then tuple_in
 
 -- ---- truth
 
@@ -83,7 +53,7 @@ truth (text cs) = give (not (length cs == 0))
 truth (range a b c) = give (not (range_length a b c == 0))
 truth (builtin n) = give true
 truth (class n) = give true
-truth (node i) = λ s. give (is_full_at (slice_get s.nodes i)) s
+truth (node i) = node_now (node i) >>= λ found. give (is_full_at found)
 
 -- ---- whole numbers
 
@@ -105,12 +75,24 @@ arithmetic operators.FloorDivide a b = divided b (floor_quotient a b)
 arithmetic operators.Modulo a b = divided b (floor_remainder a b)
 arithmetic operators.Power a b = raised_to a b
 
--- ---- texts
+-- ---- texts, lists and tuples: what is made takes its length in steps
 
 abbrev pub joined : List ℕ → List ℕ → M Value
 joined a b = do
   spend (length a + length b)
   give (text (a ++ b))
+
+abbrev pub new_list : List Value → M Value
+new_list vs = make (list vs)
+
+abbrev pub new_tuple : List Value → M Value
+new_tuple vs = make (tuple vs)
+
+-- a list or a tuple of both
+abbrev pub both : (List Value → M Value) → List Value → List Value → M Value
+both new vs ws = do
+  spend (length vs + length ws)
+  new (vs ++ ws)
 
 -- n times; below 1 there is nothing
 abbrev pub times : ℤ → ℕ
@@ -121,6 +103,12 @@ abbrev pub repeated : List ℕ → ℤ → M Value
 repeated cs z = do
   spend (length cs * times z)
   give (text (flat_map (λ part. part) (replicate (times z) cs)))
+
+-- a list or a tuple, so often
+abbrev pub often : (List Value → M Value) → List Value → ℤ → M Value
+often new vs z = do
+  spend (length vs * times z)
+  new (flat_map (λ part. part) (replicate (times z) vs))
 
 -- ---- operators
 
@@ -137,21 +125,33 @@ abbrev pub on_numbers : Operator → Option ℤ → Option ℤ → M Value → M
 on_numbers operator (Some a) (Some b) other = arithmetic operator a b
 on_numbers operator _ _ other = other
 
--- a text with a number, on either side
-abbrev pub text_times : Value → Value → M Value
-text_times (text cs) (integer z) = repeated cs z
-text_times (text cs) (bool b) = repeated cs (number_of_bool b)
-text_times (integer z) (text cs) = repeated cs z
-text_times (bool b) (text cs) = repeated cs (number_of_bool b)
-text_times a b = bad_operands (operator_sign operators.Multiply) a b
+-- two lists or two tuples
+abbrev pub sum_of_nodes : Option Node → Option Node → M Value → M Value
+sum_of_nodes m n other = by_both (list_from m) (list_from n) (both new_list) (by_both (tuple_from m) (tuple_from n) (both new_tuple) other)
 
-abbrev pub text_joined : Value → Value → M Value
-text_joined (text a) (text b) = joined a b
-text_joined a b = bad_operands (operator_sign operators.Add) a b
+-- two texts, two lists or two tuples
+abbrev pub sum_of : Value → Value → M Value
+sum_of (text cs) (text ds) = joined cs ds
+sum_of a b = node_now a >>= λ m. node_now b >>= λ n. sum_of_nodes m n (bad_operands (operator_sign operators.Add) a b)
+
+abbrev pub node_times : Option Node → ℤ → M Value → M Value
+node_times (Some (list vs)) z other = often new_list vs z
+node_times (Some (tuple vs)) z other = often new_tuple vs z
+node_times _ z other = other
+
+-- a text, a list or a tuple with a number
+abbrev pub value_times : Value → Option ℤ → M Value → M Value
+value_times (text cs) (Some z) other = repeated cs z
+value_times (node i) (Some z) other = node_now (node i) >>= λ found. node_times found z other
+value_times _ _ other = other
+
+-- on either side
+abbrev pub product_of : Value → Value → M Value
+product_of a b = value_times a (number_in b) (value_times b (number_in a) (bad_operands (operator_sign operators.Multiply) a b))
 
 abbrev pub on_sequences : Operator → Value → Value → M Value
-on_sequences operators.Add a b = text_joined a b
-on_sequences operators.Multiply a b = text_times a b
+on_sequences operators.Add a b = sum_of a b
+on_sequences operators.Multiply a b = product_of a b
 on_sequences operator a b = bad_operands (operator_sign operator) a b
 
 abbrev pub operate : Operator → Value → Value → M Value
@@ -171,58 +171,3 @@ signed_in sign v None = bad_operand (sign_text sign) v
 
 abbrev pub signed_value : Sign → Value → M Value
 signed_value sign v = signed_in sign v (number_in v)
-
--- ---- comparisons
-
-abbrev pub comparison_sign : Comparison → List ℕ
-comparison_sign comparisons.Less = codes "<"
-comparison_sign comparisons.LessEqual = codes "<="
-comparison_sign comparisons.Greater = codes ">"
-comparison_sign comparisons.GreaterEqual = codes ">="
-comparison_sign comparisons.Equal = codes "=="
-comparison_sign comparisons.NotEqual = codes "!="
-comparison_sign comparisons.In = codes "in"
-comparison_sign comparisons.NotIn = codes "not in"
-comparison_sign comparisons.Is = codes "is"
-comparison_sign comparisons.IsNot = codes "is not"
-
--- The left one is less, where the two have an order.
-abbrev pub or_unordered : Comparison → Value → Value → Option Bool → M Bool
-or_unordered comparison a b (Some found) = give found
-or_unordered comparison a b None = bad_operands (comparison_sign comparison) a b
-
-abbrev pub identical : Value → Value → M Bool
-identical a b = do
-  spend (pair_steps a b)
-  give (is_same a b)
-
--- A search for a text takes the product of the lengths, the part's taken as at least 1.
-abbrev pub part_in : List ℕ → List ℕ → M Bool
-part_in part cs = do
-  spend (length cs * max 1 (length part))
-  give (is_some (first_place part cs))
-
-abbrev pub not_iterable : {A : Type 0} → Value → M A
-not_iterable v = λ s. type_error (quoted_kind s.nodes v ++ codes " object is not iterable") s
-
-abbrev pub member : Comparison → Value → Value → M Bool
-member comparison (text part) (text cs) = part_in part cs
-member comparison a (text cs) = bad_operands (comparison_sign comparison) a (text cs)
-member comparison a b = not_iterable b
-
-abbrev pub negated : M Bool → M Bool
-negated m = do
-  found ← m
-  give (not found)
-
-abbrev pub compare : Comparison → Value → Value → M Bool
-compare comparisons.Less a b = less a b >>= or_unordered comparisons.Less a b
-compare comparisons.LessEqual a b = negated (less b a >>= or_unordered comparisons.LessEqual a b)
-compare comparisons.Greater a b = less b a >>= or_unordered comparisons.Greater a b
-compare comparisons.GreaterEqual a b = negated (less a b >>= or_unordered comparisons.GreaterEqual a b)
-compare comparisons.Equal a b = equal a b
-compare comparisons.NotEqual a b = negated (equal a b)
-compare comparisons.In a b = member comparisons.In a b
-compare comparisons.NotIn a b = negated (member comparisons.NotIn a b)
-compare comparisons.Is a b = identical a b
-compare comparisons.IsNot a b = negated (identical a b)

@@ -4,7 +4,7 @@ use Rattle.std.specs.Int.{w32, to_be_bytes}
 use Rattle.std.specs.Str.{is_utf8}
 use Rattle.kishu_model.specs.declared.profile.Profile.{Profile}
 use Rattle.kishu_model.specs.declared.profile.Profile.TheVariants.{One}
-use Rattle.kishu_model.specs.Later.{later_line}
+use Rattle.kishu_model.specs.PlainLater.{later_line}
 use Rattle.kishu_model.specs.Graph.{Graph, with_commit}
 use Rattle.kishu_model.specs.Step.{most_records, newest_profile}
 

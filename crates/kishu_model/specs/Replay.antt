@@ -2,7 +2,7 @@
 use Rattle.std.specs.Prelude.{ℕ, List, [], ◌∷◌}
 use Rattle.kishu_model.specs.declared.profile.Profile.{Profile}
 use Rattle.kishu_model.specs.Values.{State, empty}
-use Rattle.kishu_model.specs.Meaning.{run}
+use Rattle.kishu_model.specs.PlainMeaning.{run}
 use Rattle.kishu_model.specs.Graph.{Commit, Graph, path}
 
 -- the state after these cells

@@ -1,5 +1,5 @@
 -- What holds of every state: its builtin functions and classes exist, no range has step 0, names are names, and each node number is that of a node.
-use Rattle.std.specs.Prelude.{ℕ, ◌+◌, nat_le, nat_lt, pos, Bool, true, false, not, ◌&&◌, if◌then◌else◌, List, [], ◌∷◌, length, is_some}
+use Rattle.std.specs.Prelude.{ℕ, ◌+◌, nat_le, nat_lt, pos, Bool, true, not, ◌&&◌, if◌then◌else◌, List, [], ◌∷◌, length, is_some}
 use Rattle.std.specs.List.{list_all}
 use Rattle.std.specs.Ordering.{int_eq}
 use Rattle.kishu_model.specs.Names.{is_name}

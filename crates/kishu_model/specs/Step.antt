@@ -2,7 +2,7 @@
 use Rattle.std.specs.Prelude.{ℕ, suc, nat_le, if◌then◌else◌, List, [], ◌∷◌}
 use Rattle.kishu_model.specs.declared.profile.Profile.{Profile}
 use Rattle.kishu_model.specs.declared.profile.Profile.TheVariants.{One}
-use Rattle.kishu_model.specs.Meaning.{run}
+use Rattle.kishu_model.specs.PlainMeaning.{run}
 use Rattle.kishu_model.specs.Graph.{Graph, newest, with_commit, count_of}
 use Rattle.kishu_model.specs.Replay.{replay}
 use Rattle.kishu_model.specs.Answers.{Refusal, Answer, ran_cell, refused, bad_request, store_full}

@@ -1,4 +1,4 @@
-use Rattle.std.proofs.Common.{◌≡◌, ◌+◌, length, map, drop, option_map}
+use Rattle.std.proofs.Common.{◌≡◌, ◌+◌, map, drop, option_map}
 use Rattle.kishu_model.specs.Names.{place_among}
 use Rattle.kishu_model.proofs.names.place_in.Given as goal
 

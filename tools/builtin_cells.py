@@ -1,0 +1,27 @@
+"""The cells with builtin functions and classes by which the meaning of cells is tested."""
+
+# CPython prints, shows, binds and raises the same.
+SAME = [
+    "abs(-3), abs(3), abs(True), abs(0)", "abs('a')", "abs()", "abs(1, 2)", "abs(x=1)", "all([]), all([1, 'a']), all([1, 0, 2]), all(''), all({0: 1}), all((1,))", "any([]), any([0, ''])", "any([0, 3, 0]), any({0: 1, 1: 2})", "all(5)", "any(None)", "all([1], [2])",
+    "chr(97), chr(0x1F600), chr(0) == '\\0'", "chr(-1)", "chr(0x110000)", "chr('a')", "ord('a'), ord('é'), ord(chr(128512))", "ord('')", "ord('ab')", "ord(1)", "divmod(7, 2), divmod(-7, 2), divmod(7, -2), divmod(True, 1)", "divmod(1, 0)", "divmod(1, 'a')", "divmod(1)",
+    "isinstance(1, int), isinstance(True, int), isinstance(True, bool), isinstance(1, bool), isinstance('a', str), isinstance([], list), isinstance((), tuple), isinstance({}, dict)", "isinstance([], (int, list)), isinstance([], (int, str)), isinstance([], ())", "isinstance(None, int), isinstance(len, int), isinstance(int, int), isinstance(range(1), range)",
+    "isinstance(KeyError('a'), LookupError), isinstance(KeyError('a'), Exception), isinstance(KeyError('a'), IndexError), isinstance(ZeroDivisionError(), ArithmeticError)", "isinstance(SimpleNamespace(), SimpleNamespace)", "isinstance(1, 1)", "isinstance(1)", "isinstance(1, [int])", "def f(): pass\nisinstance(f, dict)",
+    "len('abc'), len([1]), len(()), len({1: 2}), len(range(0, 10, 3)), len('é😀')", "len(5)", "len(None)", "len()", "max(1, 2), min(1, 2), max([3, 1, 2]), min('bca'), max({1: 2, 5: 0})", "max([True, 1]), max(1, True), min([True, 1])", "max([])", "min('')", "max()", "max(5)", "max(1, 'a')", "min([1, None])", "max([1, 2], [1, 3]), min((), (1,))", "max([[], [1]])",
+    "repr('a'), repr(1), repr([1, 'b']), repr(None)", "repr()", "repr(len), repr(int), repr(ValueError)", "sorted([3, 1, 2]), sorted('bca'), sorted([]), sorted((2, 1)), sorted({3: 0, 1: 0})", "sorted([3, True, 2])", "sorted([1, True, 0, False])", "sorted([1, 'a'])", "sorted(5)", "sorted(range(5, 0, -2))", "a = [2, 1]; sorted(a) is a, a", "sum([1, 2, 3]), sum([]), sum((True, True)), sum(range(5)), sum({1: 2})", "sum(['a'])", "sum(5)", "sum([[]])",
+    "bool(), bool(0), bool([0]), bool('')", "bool(1, 2)", "dict(), dict({1: 2})", "d = {1: []}; e = dict(d); e is d, e[1] is d[1], e == d", "dict(1)", "int(), int(5), int(True), int(' 42 '), int('-7'), int('+0'), int('007')", "int('a')", "int('')", "int('1 2')", "int([])", "int(None)", "list(), list('ab'), list((1, 2)), list({1: 2}), list(range(3))", "a = [1]; list(a) is a, list(a) == a", "list(5)", "list(1, 2)", "print(tuple(range(3)), list('ab'), int(' 42 '), str([1, 'x']))",
+    "range(3), range(1, 5), range(0, 10, 3), range(5, 0, -1), range(True)", "range(1, 2, 0)", "range('a')", "range()", "for i in range(3): print(i)", "range(3) == range(0, 3, 1), range(0) == range(5, 0), range(1, 10, 5) == range(1, 7, 5)", "str(), str(1), str('a'), str([1, 'a']), str(None)", "str(KeyError('k')), str(ValueError('v')), str(len), str(int)", "tuple(), tuple([1]), tuple('ab')", "t = (1,); tuple(t) is t", "tuple(5)", "tuple(x=1)", "list({(1, 2): 3})[0]", "all({(): 1}), any({(0,): 1})", "max({(1, 2): 0, (1, 3): 0})",
+    "print(2 ** 10, divmod(-7, 2), sorted([3, True, 2]))", "len = 5; len", "print(len, int, print)", "len is len, int is int, len == abs, int == bool", "len < abs", "len.a", "int.b", "len[0]", "x = len; x('ab')", "def f(a=len): return a('abc')\nf()", "del len", "[len][0]('ab')", "not len, not int", "len in [abs, len], int in (bool, int)", "raise len", "def f(len): return len\nf(1)", "def f():\n    len = 1\n    return len\nf(), len('a')", "len + 1", "-len", "for x in len: pass", "a, b = int", "sorted(['b', 'a', 'ab', ''])",
+    "try: int('x')\nexcept ValueError as e: e.args[0] is e.args[0]", "isinstance(isinstance, int)", "sum([170141183460469231731687303715884105727]) - 1",
+]
+
+# What CPython does otherwise.
+OWN = [
+    "chr(0xD800)", "int('1_0')", "int('٣')", "{len: 1}", "{int: 1}", "isinstance(1, (int, 5))", "sum([170141183460469231731687303715884105727, 1])", "sum([170141183460469231731687303715884105727, 1, -1])", "abs(-170141183460469231731687303715884105727 - 1)", "int('170141183460469231731687303715884105728')",
+    "len(range(-170141183460469231731687303715884105727, 170141183460469231731687303715884105727))", "sorted([[1], [0]])", "print('x' is 'x', [] is [])", "sum([1], 2)", "max([1], key=len)", "list(range(10 ** 30))", "sorted(range(10 ** 30))", "max(range(10 ** 30))", "all(range(1, 10 ** 30))", "divmod(-170141183460469231731687303715884105727 - 1, -1)", "dict([(1, 2)])", "dict(a=1)", "int('12', 3)", "str(b=1)",
+]
+
+# How many steps are left, and the cell.
+FEW = [
+    (6, "x = all([1])"), (7, "x = all([1])"), (5, "x = all([1])"), (7, "x = any([0, 1])"), (8, "x = any([0, 1])"), (10, "x = max([1, 2])"), (8, "x = max([1, 2])"), (7, "x = max([1, 2])"), (8, "x = max('a', 'b')"), (7, "x = max('a', 'b')"), (9, "x = sorted([2])"), (7, "x = sorted([2])"), (6, "x = sorted([2])"), (12, "x = sorted([2, 1])"), (11, "x = sorted([2, 1])"),
+    (8, "x = sum([1, 2])"), (7, "x = sum([1, 2])"), (6, "x = list('ab')"), (5, "x = list('ab')"), (6, "x = int('12')"), (5, "x = int('12')"), (7, "x = repr('a')"), (6, "x = repr('a')"), (5, "x = str('ab')"), (6, "x = str('ab')"), (7, "x = dict({1: 2})"), (6, "x = dict({1: 2})"), (9, "x = list({(1,): 2})"), (8, "x = list({(1,): 2})"), (7, "x = tuple((1,))"), (6, "x = tuple((1,))"),
+]
