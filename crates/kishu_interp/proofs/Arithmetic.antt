@@ -8,9 +8,9 @@ use Rattle.kishu_model.specs.declared.tree.Operator.{Operator}
 use Rattle.kishu_model.specs.declared.tree.Operator.TheVariants as operators
 use Rattle.kishu_model.specs.Numbers.{is_whole, floor_quotient, floor_remainder, power}
 use Rattle.kishu_model.specs.Values.{integer}
-use Rattle.kishu_model.specs.Moment.{Moment, give, raise}
-use Rattle.kishu_model.specs.Operators.{whole, divided, arithmetic}
-use Rattle.kishu_model.specs.Operators as op
+use Rattle.kishu_model.specs.PlainMoment.{Moment, give, raise}
+use Rattle.kishu_model.specs.PlainOperators.{whole, divided, arithmetic}
+use Rattle.kishu_model.specs.PlainOperators as op
 use Rattle.kishu_interp.specs.Answers.{answered, answer_of}
 
 in_range_by : (b : Bool) (z : ℤ) (s : Moment) → answered (if b then Ok z else Err Overflow) s ≡ (if b then give (integer z) else raise 10 (codes "whole number too large")) s

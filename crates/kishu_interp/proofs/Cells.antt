@@ -3,8 +3,8 @@ use Rattle.std.proofs.Common.{◌≡◌, ◌∙◌, ap, refl, arith, true, false
 use Rattle.kishu_model.specs.declared.tree.Expr.{Expr}
 use Rattle.kishu_model.specs.declared.tree.Stmt.{Stmt}
 use Rattle.kishu_model.specs.Tree.{Expression, Statement, assign, expression_of, statement_of}
-use Rattle.kishu_model.specs.Moment.{Moment, Ends, fine, raised, stopped, and_then, ◌>>◌, tick}
-use Rattle.kishu_model.specs.Meaning.{Flow}
+use Rattle.kishu_model.specs.PlainMoment.{Moment, Ends, fine, raised, stopped, and_then, ◌>>◌, tick}
+use Rattle.kishu_model.specs.PlainMeaning.{Flow}
 use Rattle.kishu_interp.specs.Unrecorded.{act, silent_act, last_act, each, cell}
 
 cell_step : (r : Statement) (rest : List Statement) (s : Statement) → cell (r ∷ (rest ++ s ∷ [])) ≡ (tick >> act r >> cell (rest ++ s ∷ []))

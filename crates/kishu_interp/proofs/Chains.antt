@@ -5,8 +5,8 @@ use Rattle.kishu_model.specs.declared.tree.Link.{Link}
 use Rattle.kishu_model.specs.declared.tree.Operand.{Operand}
 use Rattle.kishu_model.specs.Tree.{expression_of}
 use Rattle.kishu_model.specs.Values.{Value, bool}
-use Rattle.kishu_model.specs.Moment.{◌>>=◌, ◌>>◌, tick, give}
-use Rattle.kishu_model.specs.Operators.{operate, compare}
+use Rattle.kishu_model.specs.PlainMoment.{◌>>=◌, ◌>>◌, tick, give}
+use Rattle.kishu_model.specs.PlainOperators.{operate, compare}
 use Rattle.kishu_interp.specs.Trees.{links_of, operands_of}
 use Rattle.kishu_interp.specs.Heights.{height, height_of_operands, height_of_links}
 use Rattle.kishu_interp.specs.Unrecorded.{expr, compared, linked, operands}

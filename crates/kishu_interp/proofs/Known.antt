@@ -7,7 +7,7 @@ use Rattle.kishu_model.specs.declared.tree.Operand.{Operand}
 use Rattle.kishu_model.specs.declared.tree.Stmt.{Stmt}
 use Rattle.kishu_model.specs.declared.tree.Trailer as rust_trailer
 use Rattle.kishu_model.specs.Tree.{Trailer, Trailers, attribute, call, index, slice, more_trailers, expression_of}
-use Rattle.kishu_model.specs.Later.{known_expression, known_operands, known_links, known_call, known_statements, known_arms}
+use Rattle.kishu_model.specs.PlainLater.{known_expression, known_operands, known_links, known_call, known_statements, known_arms}
 use Rattle.kishu_interp.specs.Trees.{links_of, operands_of, trailers_of, trailer_of, statements_of, arms_of}
 use Rattle.kishu_interp.proofs.Rows.{link_at, operand_at}
 use Rattle.kishu_interp.proofs.StatementRows.{arm_at}

@@ -13,7 +13,7 @@ use Rattle.kishu_model.specs.Parse.{plain_text, Line}
 use Rattle.kishu_model.specs.ReadText.{read_chars}
 use Rattle.kishu_model.specs.ExactPieces.{piece_shorter, piece_only}
 use Rattle.kishu_model.specs.ExactText.{read_only, line_only, one_parse, no_line}
-use Rattle.kishu_model.specs.Later.{known_statement, known_statements, or_line, later_piece, later_token, later_in, later_line}
+use Rattle.kishu_model.specs.PlainLater.{known_statement, known_statements, or_line, later_piece, later_token, later_in, later_line}
 use Rattle.kishu_parser.specs.declared.pieces.Piece.{Piece}
 use Rattle.kishu_parser.specs.TopLevel.{Lined, piece_of, AllPieces, none, then, HasPieces}
 use Rattle.kishu_parser.specs.TopLaws.{statements_of, pieces_tree}

@@ -2,8 +2,8 @@
 use Rattle.std.proofs.Common.{◌≡◌, ◌<◌, ap, refl, arith, ℕ, suc, Bool, true, false, List, [], ◌∷◌, length, ◌==◌, Result, Ok, Err, lt-ltb}
 use Rattle.std.specs.Prelude.{if◌then◌else◌, nat_lt}
 use Rattle.kishu_model.specs.declared.tree.Stmt.{Stmt}
-use Rattle.kishu_model.specs.Moment.{Moment, Ends, M, give, back_at, deeper, most_depth, recursion_error}
-use Rattle.kishu_model.specs.Meaning.{Flow, onward, in_block}
+use Rattle.kishu_model.specs.PlainMoment.{Moment, Ends, M, give, back_at, deeper, most_depth, recursion_error}
+use Rattle.kishu_model.specs.PlainMeaning.{Flow, onward, in_block}
 use Rattle.kishu_interp.specs.declared.fault.Fault.{Fault}
 use Rattle.kishu_interp.specs.declared.fault.Fault.TheVariants as faults
 use Rattle.kishu_interp.specs.Machine.{Gives}

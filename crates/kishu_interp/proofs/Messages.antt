@@ -11,7 +11,7 @@ use Rattle.std.proofs.lemmas.Fmt.{IsAscii-decimal_wide}
 use Rattle.std.specs.Fmt.{signed_decimal}
 use Rattle.std.specs.List.{flat_map}
 use Rattle.kishu_model.specs.Names.{builtin_names, class_names}
-use Rattle.kishu_model.specs.Show.{or_empty, builtin_name, class_name}
+use Rattle.kishu_model.specs.PlainShow.{or_empty, builtin_name, class_name}
 use Rattle.std.proofs.lemmas.Str.{chars-append, chars-IsAscii, IsAscii-append, IsUtf8-from_ascii, encodes-chars, length-le-encodes}
 use Rattle.std.proofs.Math.Utf8.{encodes}
 use Rattle.kishu_model.specs.declared.tree.Operator.{Operator}
@@ -19,7 +19,7 @@ use Rattle.kishu_model.specs.declared.tree.Operator.TheVariants as operators
 use Rattle.kishu_model.specs.Values.{Value, none, bool, integer, text, range, builtin, class, node}
 use Rattle.kishu_model.specs.declared.tree.Sign.{Sign}
 use Rattle.kishu_model.specs.declared.tree.Sign.TheVariants as signs
-use Rattle.kishu_model.specs.Operators.{kind_in, quoted_kind, operator_sign, sign_text}
+use Rattle.kishu_model.specs.PlainOperators.{kind_in, quoted_kind, operator_sign, sign_text}
 use Rattle.kishu_interp.specs.Answers.{operands_text}
 use borrow.Author.Tests.{ltb-true}
 

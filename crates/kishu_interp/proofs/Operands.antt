@@ -5,8 +5,8 @@ use Rattle.std.specs.List.{flat_map}
 use Rattle.kishu_model.specs.declared.tree.Operator.{Operator}
 use Rattle.kishu_model.specs.declared.tree.Sign.{Sign}
 use Rattle.kishu_model.specs.Values.{Value, bool, integer, text}
-use Rattle.kishu_model.specs.Moment.{Moment, fine, spend, give, and_then}
-use Rattle.kishu_model.specs.Operators.{number_in, number_of_bool, operate, arithmetic, text_times, repeated, times, signed_value, signed_number, whole}
+use Rattle.kishu_model.specs.PlainMoment.{Moment, fine, spend, give, and_then}
+use Rattle.kishu_model.specs.PlainOperators.{number_in, number_of_bool, operate, arithmetic, text_times, repeated, times, signed_value, signed_number, whole}
 
 pub times_text : (a : Value) (z : ℤ) (cs : List ℕ) → (a ≡ integer z) ⊎ ((h : Bool) × (a ≡ bool h) × (z ≡ number_of_bool h)) → text_times a (text cs) ≡ repeated cs z
 times_text a z cs (inl e) = rw e refl

@@ -7,7 +7,7 @@ use Rattle.std.specs.Str.{chars, IsUtf8, encode_utf8_all}
 use Rattle.std.proofs.lemmas.Str.{encodes-chars}
 use Rattle.kishu_model.specs.Texts.{code_points, joined}
 use Rattle.kishu_model.specs.Values.{stream}
-use Rattle.kishu_model.specs.Meaning.{printed}
+use Rattle.kishu_model.specs.PlainMeaning.{printed}
 use Rattle.kishu_interp.proofs.Messages.{is_nothing}
 
 pub same_bytes : (bs : List ℕ) → IsUtf8 bs → encode_utf8_all (chars bs) ≡ bs

@@ -13,10 +13,11 @@ use Rattle.kishu_model.specs.declared.tree.Comparison.TheVariants as comparisons
 use Rattle.kishu_model.specs.Numbers.{is_whole, floor_quotient, floor_remainder, power}
 use Rattle.kishu_model.specs.Names.{builtin_names, class_names, place_among}
 use Rattle.kishu_model.specs.Values.{Value, none, bool, integer, text, range, builtin, class, node, find}
-use Rattle.kishu_model.specs.Moment.{Moment, Ends, fine, raised, stopped, M, and_then, ◌>>=◌, give, raise, later, spend, deeper, most_depth, back_at, recursion_error, read, read_in, assign, bind_in, or_other, or_builtin, or_class, put_out}
-use Rattle.kishu_model.specs.Counting.{Counted, answer, too_deep, spent, ended_in}
-use Rattle.kishu_model.specs.Equal.{range_length, equal, equal_in, less, less_in}
-use Rattle.kishu_model.specs.Operators as o
+use Rattle.kishu_model.specs.PlainMoment.{Moment, Ends, fine, raised, stopped, M, and_then, ◌>>=◌, give, raise, later, spend, deeper, most_depth, back_at, recursion_error, read, read_in, assign, bind_in, or_other, or_builtin, or_class, put_out}
+use Rattle.kishu_model.specs.Counting.{Counted, answer, too_deep, spent}
+use Rattle.kishu_model.specs.Equal.{range_length, equal_in, less_in}
+use Rattle.kishu_model.specs.PlainEqual.{ended_in, equal, less}
+use Rattle.kishu_model.specs.PlainOperators as o
 use Rattle.kishu_interp.specs.Unrecorded as u
 
 -- a moment, without what was accessed

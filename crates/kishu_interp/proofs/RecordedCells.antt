@@ -11,10 +11,10 @@ use Rattle.kishu_model.specs.Texts.{joined}
 use Rattle.kishu_model.specs.Tree.{Expression, Expressions, Operands, Links, Trailer, Trailers, Argument, Arguments, Statement, Statements, Arms, no_expressions, more_expressions, no_operands, more_operands, no_links, more_links, no_trailers, more_trailers, no_arguments, more_arguments, no_statements, more_statements, no_arms, more_arms}
 use Rattle.kishu_model.specs.Tree as t
 use Rattle.kishu_model.specs.Values.{Value, none, bool, integer, text, range, builtin, class, node}
-use Rattle.kishu_model.specs.Moment.{Moment, Thrown, fresh, Ends, fine, raised, stopped, M, and_then, ◌>>◌, give, tick}
-use Rattle.kishu_model.specs.Operators as o
-use Rattle.kishu_model.specs.Show as w
-use Rattle.kishu_model.specs.Meaning as m
+use Rattle.kishu_model.specs.PlainMoment.{Moment, Thrown, fresh, Ends, fine, raised, stopped, M, and_then, ◌>>◌, give, tick}
+use Rattle.kishu_model.specs.PlainOperators as o
+use Rattle.kishu_model.specs.PlainShow as w
+use Rattle.kishu_model.specs.PlainMeaning as m
 use Rattle.kishu_interp.specs.Unrecorded as u
 use Rattle.kishu_interp.proofs.Recorded.{Hushes, Quiet, hush, quiet_bind, quiet_give, quiet_later, quiet_put, quiet_spend, quiet_if, quiet_deeper, quiet_read, quiet_assign, quiet_truth, quiet_operate, quiet_signed, quiet_compare}
 

@@ -2,9 +2,9 @@
 use Rattle.std.proofs.Common.{◌≡◌, refl, subst, ℕ, List, [], Option, None, Ok}
 use Rattle.kishu_model.specs.Tree.{Statement}
 use Rattle.kishu_model.specs.Values.{State, Ran}
-use Rattle.kishu_model.specs.Moment.{Moment, most_steps, Thrown, fresh, Ends, fine, raised, stopped}
-use Rattle.kishu_model.specs.Show.{show_thrown}
-use Rattle.kishu_model.specs.Meaning.{begun, uncaught, finished, cell, run_tree}
+use Rattle.kishu_model.specs.PlainMoment.{Moment, most_steps, Thrown, fresh, Ends, fine, raised, stopped}
+use Rattle.kishu_model.specs.PlainShow.{show_thrown}
+use Rattle.kishu_model.specs.PlainMeaning.{begun, uncaught, finished, cell, run_tree}
 use Rattle.kishu_interp.specs.Unrecorded as u
 use Rattle.kishu_interp.proofs.Recorded.{hush, hushed, Kept}
 use Rattle.kishu_interp.proofs.RecordedCells.{quiet_thrown, quiet_cell}

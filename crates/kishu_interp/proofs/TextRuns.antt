@@ -6,7 +6,7 @@ use Rattle.kishu_model.specs.Tree.{Text, Statement}
 use Rattle.kishu_model.specs.Parse.{Parse, Line}
 use Rattle.kishu_model.specs.ExactText.{read_only, line_only}
 use Rattle.kishu_model.specs.Values.{State, empty}
-use Rattle.kishu_model.specs.Meaning.{unread, run_tree, run}
+use Rattle.kishu_model.specs.PlainMeaning.{unread, run_tree, run}
 
 pub run_of_tree : (text : Text) (tree : List Statement) (s : State) → Parse One text tree → run One text s ≡ run_tree (Ok tree) s
 unfolding run

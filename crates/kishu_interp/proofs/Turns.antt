@@ -4,9 +4,9 @@ use Rattle.std.specs.Prelude.{if◌then◌else◌, nat_le}
 use Rattle.kishu_model.specs.declared.tree.Arm.{Arm as Arm'}
 use Rattle.kishu_model.specs.Tree.{expression_of}
 use Rattle.kishu_model.specs.Values.{Value}
-use Rattle.kishu_model.specs.Moment.{Moment, Ends, fine, raised, stopped, M, and_then, give, ◌>>=◌, ◌>>◌, tick}
-use Rattle.kishu_model.specs.Operators.{truth}
-use Rattle.kishu_model.specs.Meaning.{Flow, onward, in_block, turn_on, turns}
+use Rattle.kishu_model.specs.PlainMoment.{Moment, Ends, fine, raised, stopped, M, and_then, give, ◌>>=◌, ◌>>◌, tick}
+use Rattle.kishu_model.specs.PlainOperators.{truth}
+use Rattle.kishu_model.specs.PlainMeaning.{Flow, onward, in_block, turn_on, turns}
 use Rattle.kishu_interp.specs.declared.statements.Flow as rust_flow
 use Rattle.kishu_interp.specs.declared.statements.Flow.TheVariants as flows
 use Rattle.kishu_interp.specs.Machine.{flow_of}

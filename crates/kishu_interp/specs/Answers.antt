@@ -8,9 +8,9 @@ use Rattle.kishu_model.specs.declared.tree.Operator.TheVariants as operators
 use Rattle.kishu_model.specs.declared.tree.Comparison.{Comparison}
 use Rattle.kishu_model.specs.Numbers.{floor_quotient, floor_remainder}
 use Rattle.kishu_model.specs.Values.{Value, integer, text}
-use Rattle.kishu_model.specs.Moment.{M, ◌>>=◌, Thrown, fresh, raised, give}
-use Rattle.kishu_model.specs.Equal.{less}
-use Rattle.kishu_model.specs.Operators.{quoted_kind, or_unordered}
+use Rattle.kishu_model.specs.PlainMoment.{M, ◌>>=◌, Thrown, fresh, raised, give}
+use Rattle.kishu_model.specs.PlainEqual.{less}
+use Rattle.kishu_model.specs.PlainOperators.{quoted_kind, or_unordered}
 
 -- the exception for a number that isn't there
 abbrev pub thrown_for : NumFault → Thrown

@@ -5,7 +5,7 @@ use Rattle.std.specs.Str.{IsUtf8}
 use Rattle.kishu_model.specs.declared.profile.Profile.TheVariants.{One}
 use Rattle.kishu_model.specs.Tree.{Text, Statement}
 use Rattle.kishu_model.specs.Parse.{Parse}
-use Rattle.kishu_model.specs.Later.{known_statement, or_line}
+use Rattle.kishu_model.specs.PlainLater.{known_statement, or_line}
 use Rattle.kishu_parser.specs.TopLevel.{Lined}
 
 -- the line of the first piece with a later form

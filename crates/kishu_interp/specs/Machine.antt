@@ -8,8 +8,8 @@ use Rattle.std.specs.declared.rc.RcStr.{RcStr}
 use Rattle.std.specs.declared.string.String.{String}
 use Rattle.kishu_model.specs.declared.result.Output as rust_output
 use Rattle.kishu_model.specs.Values.{Value, none, bool, integer, text, builtin, class, Names, State, Output, output_of}
-use Rattle.kishu_model.specs.Moment.{Moment, Thrown, fresh, Ends, fine, raised, stopped}
-use Rattle.kishu_model.specs.Meaning.{Flow, onward, broke, continued}
+use Rattle.kishu_model.specs.PlainMoment.{Moment, Thrown, fresh, Ends, fine, raised, stopped}
+use Rattle.kishu_model.specs.PlainMeaning.{Flow, onward, broke, continued}
 use Rattle.kishu_interp.specs.declared.fault.ExceptionClass.{ExceptionClass}
 use Rattle.kishu_interp.specs.declared.fault.ExceptionClass.TheVariants as classes
 use Rattle.kishu_interp.specs.declared.fault.Exception.{Exception}

@@ -7,9 +7,9 @@ use Rattle.kishu_model.specs.declared.tree.Operator.TheVariants as operators
 use Rattle.kishu_model.specs.Tree.{Expression, Expressions, Operands, Links, Trailer, Trailers, Argument, Arguments, Statement, Statements, Arms, no_expressions, more_expressions, no_operands, more_operands, no_links, more_links, no_trailers, more_trailers, no_arguments, more_arguments, no_statements, more_statements, no_arms, more_arms}
 use Rattle.kishu_model.specs.Tree as t
 use Rattle.kishu_model.specs.Values.{Value, none, bool, integer, text, find, bind}
-use Rattle.kishu_model.specs.Moment.{M, fine, ◌>>=◌, ◌>>◌, give, later, tick, deeper, or_other}
-use Rattle.kishu_model.specs.Operators.{truth, operate, signed_value, compare}
-use Rattle.kishu_model.specs.Meaning.{apply, nodes, Flow, onward, broke, continued, go_on, repeat, in_block, shown_text}
+use Rattle.kishu_model.specs.PlainMoment.{M, fine, ◌>>=◌, ◌>>◌, give, later, tick, deeper, or_other}
+use Rattle.kishu_model.specs.PlainOperators.{truth, operate, signed_value, compare}
+use Rattle.kishu_model.specs.PlainMeaning.{apply, nodes, Flow, onward, broke, continued, go_on, repeat, in_block, shown_text}
 
 -- ---- names
 

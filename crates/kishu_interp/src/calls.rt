@@ -2,8 +2,8 @@
 ghost use Rattle.std.specs.Prelude.{◌≡◌, ◌≤◌, ◌++◌, [], IfOk, codes, map};
 ghost use Rattle.std.specs.Str.{chars};
 ghost use Rattle.std.specs.String.{string_bytes};
-ghost use Rattle.kishu_model.specs.Operators.{quoted_kind};
-ghost use Rattle.kishu_model.specs.Meaning.{call_builtin, apply, not_callable};
+ghost use Rattle.kishu_model.specs.PlainOperators.{quoted_kind};
+ghost use Rattle.kishu_model.specs.PlainMeaning.{call_builtin, apply, not_callable};
 ghost use Rattle.kishu_interp.specs.Machine.{value_of, moment_of, Gives};
 
 use crate::fault::{Exception, ExceptionClass, Fault};

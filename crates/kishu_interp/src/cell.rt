@@ -4,9 +4,9 @@ ghost use Rattle.std.specs.Str.{chars};
 ghost use Rattle.std.specs.String.{string_bytes};
 ghost use Rattle.kishu_model.specs.Values.{output_of, report_of, shown, fault, empty};
 ghost use Rattle.kishu_model.specs.Tree.{assign, expression_of, statement_of, program_of};
-ghost use Rattle.kishu_model.specs.Moment.{Ends};
-ghost use Rattle.kishu_model.specs.Show.{show_thrown};
-ghost use Rattle.kishu_model.specs.Meaning.{shown_text, printed, spent, uncaught, finished, run_tree, unread};
+ghost use Rattle.kishu_model.specs.PlainMoment.{Ends};
+ghost use Rattle.kishu_model.specs.PlainShow.{show_thrown};
+ghost use Rattle.kishu_model.specs.PlainMeaning.{shown_text, printed, spent, uncaught, finished, run_tree, unread};
 ghost use Rattle.kishu_interp.specs.Machine.{value_of, moment_of, state_of, thrown_of, shown_of, outputs_in, Gives};
 ghost use Rattle.kishu_interp.specs.Unrecorded.{silent_act, last_act, each, cell};
 

@@ -3,9 +3,10 @@ ghost use Rattle.std.specs.Prelude.{◌≡◌, ◌≤◌, ◌++◌, ◌∷◌, [
 ghost use Rattle.std.specs.Str.{chars};
 ghost use Rattle.std.specs.String.{string_bytes};
 ghost use Rattle.kishu_model.specs.Values.{bool, integer, text, builtin, class};
-ghost use Rattle.kishu_model.specs.Moment.{fresh, spend};
-ghost use Rattle.kishu_model.specs.Equal.{is_same, is_equal, pair_steps, less_texts, less_plain, equal, less};
-ghost use Rattle.kishu_model.specs.Operators.{compare, comparison_sign, or_unordered, identical, member, quoted_kind};
+ghost use Rattle.kishu_model.specs.PlainMoment.{fresh, spend};
+ghost use Rattle.kishu_model.specs.Equal.{is_same, is_equal, pair_steps, less_texts, less_plain};
+ghost use Rattle.kishu_model.specs.PlainEqual.{equal, less};
+ghost use Rattle.kishu_model.specs.PlainOperators.{compare, comparison_sign, or_unordered, identical, member, quoted_kind};
 ghost use Rattle.kishu_interp.specs.Machine.{value_of, moment_of, thrown_of, Gives};
 ghost use Rattle.kishu_interp.specs.Answers.{operands_text, ordered};
 

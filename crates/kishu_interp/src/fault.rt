@@ -1,6 +1,6 @@
 // Why a run doesn't go on.
 ghost use Rattle.std.specs.Prelude.{◌≡◌};
-ghost use Rattle.kishu_model.specs.Show.{class_name};
+ghost use Rattle.kishu_model.specs.PlainShow.{class_name};
 ghost use Rattle.kishu_interp.specs.Machine.{class_number};
 
 use std::alloc::{AllocError, AllocFailed};

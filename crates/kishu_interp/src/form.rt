@@ -1,7 +1,7 @@
 // Which cells can be run.
 ghost use Rattle.std.specs.Prelude.{◌≡◌, ◌≤◌, length, map, IfOk, IsNone, ◌↔◌};
 ghost use Rattle.std.specs.Str.{IsUtf8};
-ghost use Rattle.kishu_model.specs.Later.{later_line};
+ghost use Rattle.kishu_model.specs.PlainLater.{later_line};
 ghost use Rattle.kishu_parser.specs.TopLevel.{piece_of};
 ghost use Rattle.kishu_interp.specs.Form.{first_later, HasForm};
 

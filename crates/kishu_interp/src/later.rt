@@ -3,7 +3,7 @@ ghost use Rattle.std.specs.Prelude.{◌≡◌, not, map};
 ghost use Rattle.std.specs.List.{list_all};
 ghost use Rattle.kishu_model.specs.Tree as t;
 ghost use Rattle.kishu_model.specs.Tree.{expression_of, statement_of};
-ghost use Rattle.kishu_model.specs.Later.{is_free, is_print, known_expression, known_expressions, known_operands, known_links, known_call, known_arguments, known_place, known_statement, known_statements, known_arms};
+ghost use Rattle.kishu_model.specs.PlainLater.{is_free, is_print, known_expression, known_expressions, known_operands, known_links, known_call, known_arguments, known_place, known_statement, known_statements, known_arms};
 ghost use Rattle.kishu_interp.specs.Trees.{expressions_of, operands_of, links_of, trailers_of, trailer_of, arguments_of, argument_of, statements_of, arms_of};
 
 use kishu_model::{Argument, Arm, Expr, Link, Operand, Stmt, Trailer, is_builtin};

@@ -1,7 +1,7 @@
 // What a run holds, and the steps that it takes.
 ghost use Rattle.std.specs.Prelude.{◌≡◌, ◌≤◌, ◌<◌, ◌^◌, ◌∷◌, [], IfOk, OnOk, codes};
 ghost use Rattle.kishu_model.specs.Values.{text};
-ghost use Rattle.kishu_model.specs.Moment.{tick, spend, fresh};
+ghost use Rattle.kishu_model.specs.PlainMoment.{tick, spend, fresh};
 ghost use Rattle.kishu_interp.specs.Machine.{moment_of, thrown_of, Gives};
 
 use crate::fault::{Exception, ExceptionClass, Fault};

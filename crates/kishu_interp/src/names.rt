@@ -5,7 +5,7 @@ ghost use Rattle.std.specs.Str.{chars};
 ghost use Rattle.std.specs.String.{string_bytes};
 ghost use Rattle.kishu_model.specs.Names.{builtin_names, class_names, place_among};
 ghost use Rattle.kishu_model.specs.Values.{find, bind};
-ghost use Rattle.kishu_model.specs.Moment.{Moment, or_builtin, or_class};
+ghost use Rattle.kishu_model.specs.PlainMoment.{Moment, or_builtin, or_class};
 ghost use Rattle.kishu_interp.specs.Machine.{value_of, moment_of, names_of, Gives};
 ghost use Rattle.kishu_interp.specs.Unrecorded.{read, assign};
 

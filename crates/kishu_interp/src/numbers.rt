@@ -1,7 +1,7 @@
 // Arithmetic.
 ghost use Rattle.std.specs.Prelude.{◌≡◌, IfOk};
-ghost use Rattle.kishu_model.specs.Moment.{Moment};
-ghost use Rattle.kishu_model.specs.Operators.{arithmetic, signed_number, whole};
+ghost use Rattle.kishu_model.specs.PlainMoment.{Moment};
+ghost use Rattle.kishu_model.specs.PlainOperators.{arithmetic, signed_number, whole};
 ghost use Rattle.kishu_interp.specs.Machine.{value_of, thrown_of, Gives};
 ghost use Rattle.kishu_interp.specs.Answers.{answer_of, answered, thrown_for};
 

@@ -5,8 +5,8 @@ ghost use Rattle.std.specs.Rc.{rc_str_bytes};
 ghost use Rattle.std.specs.Str.{chars};
 ghost use Rattle.std.specs.String.{string_bytes};
 ghost use Rattle.kishu_model.specs.Values.{bool, integer, text};
-ghost use Rattle.kishu_model.specs.Moment.{fresh};
-ghost use Rattle.kishu_model.specs.Operators.{operate, on_sequences, text_joined, text_times, signed_value, bad_operands, number_of_bool, quoted_kind, operator_sign, sign_text};
+ghost use Rattle.kishu_model.specs.PlainMoment.{fresh};
+ghost use Rattle.kishu_model.specs.PlainOperators.{operate, on_sequences, text_joined, text_times, signed_value, bad_operands, number_of_bool, quoted_kind, operator_sign, sign_text};
 ghost use Rattle.kishu_interp.specs.Machine.{value_of, moment_of, thrown_of, Gives};
 ghost use Rattle.kishu_interp.specs.Answers.{operands_text};
 

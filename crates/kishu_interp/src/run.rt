@@ -2,7 +2,7 @@
 ghost use Rattle.std.specs.Prelude.{◌≡◌, ◌≤◌, length, IfOk, OnOk};
 ghost use Rattle.kishu_model.specs.declared.profile.Profile.TheVariants.{One};
 ghost use Rattle.kishu_model.specs.Values.{report_of};
-ghost use Rattle.kishu_model.specs.Meaning.{run};
+ghost use Rattle.kishu_model.specs.PlainMeaning.{run};
 
 use crate::cell::{run_program, syntax_fault};
 use crate::state::PlainState;

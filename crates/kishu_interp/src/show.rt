@@ -5,9 +5,9 @@ ghost use Rattle.std.specs.List.{flat_map};
 ghost use Rattle.std.specs.Str.{chars};
 ghost use Rattle.std.specs.String.{string_bytes};
 ghost use Rattle.kishu_model.specs.Lines.{line_feed};
-ghost use Rattle.kishu_model.specs.Show.{builtin_name, class_name, repr_text, repr_of, made, show, show_all};
+ghost use Rattle.kishu_model.specs.PlainShow.{builtin_name, class_name, repr_text, repr_of, made, show, show_all};
 ghost use Rattle.kishu_model.specs.Texts.{code_points, joined};
-ghost use Rattle.kishu_model.specs.Meaning.{print};
+ghost use Rattle.kishu_model.specs.PlainMeaning.{print};
 ghost use Rattle.kishu_interp.specs.Machine.{value_of, moment_of, Gives};
 
 use crate::fault::Fault;

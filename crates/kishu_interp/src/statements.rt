@@ -3,7 +3,7 @@ ghost use Rattle.std.specs.Prelude.{◌≡◌, ◌≤◌, map};
 ghost use Rattle.std.specs.Rc.{rc_str_bytes};
 ghost use Rattle.kishu_model.specs.Tree as t;
 ghost use Rattle.kishu_model.specs.Tree.{expression_of, statement_of};
-ghost use Rattle.kishu_model.specs.Meaning.{repeat, in_block};
+ghost use Rattle.kishu_model.specs.PlainMeaning.{repeat, in_block};
 ghost use Rattle.kishu_interp.specs.Machine.{value_of, moment_of, flow_of, Gives};
 ghost use Rattle.kishu_interp.specs.Trees.{statements_of, arms_of};
 ghost use Rattle.kishu_interp.specs.Unrecorded.{expr, store, store_all, update_name, act, choice, acts};

@@ -6,8 +6,8 @@ ghost use Rattle.std.specs.Ordering.{nat_cmp};
 ghost use Rattle.std.specs.Str.{bytes_eq, chars};
 ghost use Rattle.std.specs.String.{string_bytes};
 ghost use Rattle.kishu_model.specs.Values.{text};
-ghost use Rattle.kishu_model.specs.Moment.{spend};
-ghost use Rattle.kishu_model.specs.Operators.{joined, repeated, times, part_in};
+ghost use Rattle.kishu_model.specs.PlainMoment.{spend};
+ghost use Rattle.kishu_model.specs.PlainOperators.{joined, repeated, times, part_in};
 ghost use Rattle.kishu_interp.specs.Machine.{value_of, moment_of, Gives};
 
 use crate::fault::Fault;

@@ -1,7 +1,7 @@
 // Values.
 ghost use Rattle.std.specs.Prelude.{◌≡◌, [], IfOk};
-ghost use Rattle.kishu_model.specs.Moment.{Moment, fine};
-ghost use Rattle.kishu_model.specs.Operators.{truth, kind_in, number_in};
+ghost use Rattle.kishu_model.specs.PlainMoment.{Moment, fine};
+ghost use Rattle.kishu_model.specs.PlainOperators.{truth, kind_in, number_in};
 ghost use Rattle.kishu_interp.specs.Machine.{value_of};
 
 use kishu_model::{Builtin, ClassId};

@@ -15,7 +15,7 @@ use Rattle.kishu_model.specs.Code.{code_of}
 use Rattle.kishu_model.specs.ReadExpressions as E
 use Rattle.kishu_model.specs.ReadStatements as S
 use Rattle.kishu_model.specs.ReadText as R
-use Rattle.kishu_model.specs.Later.{later_line}
+use Rattle.kishu_model.specs.PlainLater.{later_line}
 use Rattle.kishu_model.specs.Graph.{new_graph}
 use Rattle.kishu_model.specs.Record.{Entry, commit, head_of, body_of, IsCell, Fits}
 

@@ -6,12 +6,12 @@ use Rattle.kishu_host.specs.Host.{State, Only, DuringPut, Elapses}
 use Rattle.kishu_host.specs.Going.{weaker, goes_on}
 use Rattle.kishu_model.specs.declared.profile.Profile.TheVariants.{One}
 use Rattle.kishu_model.specs.Values as values
-use Rattle.kishu_model.specs.Meaning.{run}
+use Rattle.kishu_model.specs.PlainMeaning.{run}
 use Rattle.kishu_model.specs.Graph.{Graph, newest, with_commit, count_of}
 use Rattle.kishu_model.specs.Answers.{Refusal, answer_line, ran_cell}
 use Rattle.kishu_model.specs.Step.{Request, Stepped, cell, step, committed, refused_with}
 use Rattle.kishu_model.specs.Record.{Entry, commit, changed, longest_cell, IsCell, Fits, body_of}
-use Rattle.kishu_model.specs.Later.{later_line}
+use Rattle.kishu_model.specs.PlainLater.{later_line}
 use Rattle.kishu_model.specs.Holds.{Holds, graph_of}
 use Rattle.kishu_model.specs.Serve.{after, answer_of}
 use Rattle.kishu_model.specs.Growth.{step-cell, replay-with_commit, count-with_commit}

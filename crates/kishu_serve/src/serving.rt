@@ -1,6 +1,6 @@
 ghost use Rattle.std.specs.Prelude.{◌≡◌, ◌≤◌, ◌<◌, ◌⊎◌, ◌+◌, ◌^◌, ◌++◌, ◌∷◌, [], ℕ, List, length, false, None, IfOk, OnOk, IsErrOf};
 ghost use Rattle.kishu_host.specs.Host.{State, Told, Now, Only, Elapses, Rises, DuringPut};
-ghost use Rattle.kishu_model.specs.Later.{later_line};
+ghost use Rattle.kishu_model.specs.PlainLater.{later_line};
 ghost use Rattle.kishu_model.specs.Graph.{Graph};
 ghost use Rattle.kishu_model.specs.Record.{longest_cell};
 ghost use Rattle.kishu_model.specs.Step as spec;

@@ -1,7 +1,7 @@
 ghost use Rattle.std.specs.Prelude.{◌≡◌, ◌≤◌, ◌<◌, ◌⊎◌, ◌+◌, ◌*◌, ◌^◌, ◌++◌, ◌∷◌, [], ℕ, List, length, false, None, IfOk, OnOk, IfErr, IsErr, IsErrOf};
 ghost use Rattle.kishu_model.specs.declared.profile.Profile.TheVariants.{One};
-ghost use Rattle.kishu_model.specs.Later.{later_line};
-ghost use Rattle.kishu_model.specs.Meaning.{run};
+ghost use Rattle.kishu_model.specs.PlainLater.{later_line};
+ghost use Rattle.kishu_model.specs.PlainMeaning.{run};
 ghost use Rattle.kishu_model.specs.Graph.{new_graph, count_of};
 ghost use Rattle.kishu_model.specs.Replay.{replay, after_cells};
 ghost use Rattle.kishu_model.specs.Answers.{answer_line, ran_cell};

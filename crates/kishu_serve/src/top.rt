@@ -1,7 +1,7 @@
 ghost use Rattle.std.specs.Prelude.{◌≡◌, ◌≤◌, ◌<◌, ◌⊎◌, ◌↔◌, ◌+◌, ◌^◌, ◌++◌, ◌∷◌, [], ℕ, List, length, true, false, Some, None, is_some, IfOk, OnOk, IsOk, IsSome, Err};
 ghost use Rattle.kishu_host.specs.Host.{State, Told, Now, Only, Elapses, Rises};
 ghost use Rattle.kishu_host.specs.Source.{SourceState};
-ghost use Rattle.kishu_model.specs.Later.{later_line};
+ghost use Rattle.kishu_model.specs.PlainLater.{later_line};
 ghost use Rattle.kishu_model.specs.Graph.{Graph};
 ghost use Rattle.kishu_model.specs.Record.{longest_cell};
 ghost use Rattle.kishu_model.specs.Task.{task, one_cell};

@@ -5,8 +5,8 @@ use Rattle.std.proofs.lemmas.Result.{IfOk-weaker}
 use Rattle.std.proofs.lemmas.Str.{IsUtf8-string_bytes}
 use Rattle.kishu_model.specs.declared.result.Outcome.TheVariants.{Done}
 use Rattle.kishu_model.specs.Values.{output_of, shown}
-use Rattle.kishu_model.specs.Moment.{fine}
-use Rattle.kishu_model.specs.Meaning.{printed, finished}
+use Rattle.kishu_model.specs.PlainMoment.{fine}
+use Rattle.kishu_model.specs.PlainMeaning.{printed, finished}
 use Rattle.kishu_interp.specs.Machine.{moment_of}
 use Rattle.kishu_interp.proofs.Printed.{same_bytes}
 use Rattle.kishu_interp.proofs.cell.finish.Goals as goal

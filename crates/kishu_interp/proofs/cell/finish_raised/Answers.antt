@@ -5,8 +5,8 @@ use Rattle.std.proofs.lemmas.Result.{IfOk-weaker}
 use Rattle.std.proofs.lemmas.Str.{IsUtf8-string_bytes}
 use Rattle.kishu_model.specs.declared.result.Outcome.TheVariants.{Raised}
 use Rattle.kishu_model.specs.Values.{output_of, fault}
-use Rattle.kishu_model.specs.Show.{class_name}
-use Rattle.kishu_model.specs.Meaning.{printed, uncaught}
+use Rattle.kishu_model.specs.PlainShow.{class_name}
+use Rattle.kishu_model.specs.PlainMeaning.{printed, uncaught}
 use Rattle.kishu_interp.specs.Machine.{thrown_of, class_number}
 use Rattle.kishu_interp.proofs.Printed.{same_bytes}
 use Rattle.kishu_interp.proofs.cell.finish_raised.Goals as goal

@@ -5,8 +5,8 @@ use Rattle.std.proofs.lemmas.Str.{chars-nil}
 use Rattle.kishu_model.specs.Tree.{statement_of, program_of}
 use Rattle.kishu_model.specs.declared.result.CellResult.{CellResult}
 use Rattle.kishu_model.specs.Values.{report_of}
-use Rattle.kishu_model.specs.Moment.{Ends}
-use Rattle.kishu_model.specs.Meaning.{begun, finished, run_tree}
+use Rattle.kishu_model.specs.PlainMoment.{Ends}
+use Rattle.kishu_model.specs.PlainMeaning.{begun, finished, run_tree}
 use Rattle.kishu_interp.specs.Machine.{moment_of, state_of, names_of, shown_of, Gives}
 use Rattle.kishu_interp.specs.Unrecorded.{cell}
 use Rattle.kishu_interp.proofs.Recorded.{hush}

@@ -5,7 +5,7 @@ use Rattle.std.proofs.lemmas.Result.{IfOk-weaker}
 use Rattle.std.proofs.lemmas.Str.{chars-nil}
 use Rattle.kishu_model.specs.declared.result.Outcome.TheVariants.{Raised}
 use Rattle.kishu_model.specs.Values.{output_of, fault}
-use Rattle.kishu_model.specs.Meaning.{printed}
+use Rattle.kishu_model.specs.PlainMeaning.{printed}
 use Rattle.kishu_interp.proofs.cell.syntax_fault.Goals as goal
 
 pub returns : goal.returns

@@ -1,7 +1,7 @@
 use Rattle.std.proofs.Common.{◌≡◌, [], ◌++◌, IfOk, rules, append_assoc, refl}
 use Rattle.std.specs.Prelude.{codes}
 use Rattle.std.specs.String.{string_bytes}
-use Rattle.kishu_model.specs.Operators.{quoted_kind}
+use Rattle.kishu_model.specs.PlainOperators.{quoted_kind}
 use Rattle.kishu_interp.specs.Machine.{value_of}
 use Rattle.kishu_interp.proofs.Messages.{ok_ascii, behind-IsAscii}
 use Rattle.kishu_interp.proofs.compare.iterable_message.Goals as goal

@@ -1,5 +1,5 @@
 use Rattle.std.proofs.Common.{◌∙◌, ap, sym, subst, rules, arith}
-use Rattle.kishu_model.specs.Moment.{and_then}
+use Rattle.kishu_model.specs.PlainMoment.{and_then}
 use Rattle.kishu_interp.specs.Trees.{links_of, operands_of}
 use Rattle.kishu_interp.specs.Machine.{value_of, moment_of, Gives}
 use Rattle.kishu_interp.specs.Unrecorded.{compared, operands}

@@ -1,5 +1,5 @@
 use Rattle.std.proofs.Common.{◌≡◌, ◌≤◌, drop}
-use Rattle.kishu_model.specs.Meaning.{nodes}
+use Rattle.kishu_model.specs.PlainMeaning.{nodes}
 use Rattle.kishu_interp.specs.Trees.{trailers_of}
 use Rattle.kishu_interp.specs.Machine.{moment_of}
 use Rattle.kishu_interp.proofs.expressions.take_nodes.Given as goal

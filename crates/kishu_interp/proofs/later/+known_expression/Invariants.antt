@@ -1,6 +1,6 @@
 use Rattle.std.proofs.Common.{◌≡◌, ◌+◌, ◌*◌, ◌≤◌, drop}
 use Rattle.kishu_model.specs.Tree.{expression_of}
-use Rattle.kishu_model.specs.Later.{known_expressions, known_operands, known_links, known_arguments}
+use Rattle.kishu_model.specs.PlainLater.{known_expressions, known_operands, known_links, known_arguments}
 use Rattle.kishu_interp.specs.Trees.{expressions_of, operands_of, links_of, trailers_of, trailer_of, arguments_of, argument_of}
 use Rattle.kishu_interp.specs.Heights.{height, height_of_expressions, height_of_operands, height_of_links, height_of_trailers, height_of_trailer, height_of_arguments, height_of_argument}
 use Rattle.kishu_interp.proofs.later.+known_expression.Given as goal

@@ -1,6 +1,6 @@
 use Rattle.std.proofs.Common.{◌≡◌, ◌+◌, ◌*◌, ◌≤◌, drop}
 use Rattle.kishu_model.specs.Tree.{statement_of}
-use Rattle.kishu_model.specs.Later.{known_statements, known_arms}
+use Rattle.kishu_model.specs.PlainLater.{known_statements, known_arms}
 use Rattle.kishu_interp.specs.Trees.{statements_of, arms_of}
 use Rattle.kishu_interp.specs.Heights.{height_of_statement, height_of_statements, height_of_arms}
 use Rattle.kishu_interp.proofs.later.+known_statement.Given as goal

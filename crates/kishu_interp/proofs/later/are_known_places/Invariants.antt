@@ -1,7 +1,7 @@
 use Rattle.std.proofs.Common.{◌≡◌, drop, map}
 use Rattle.std.specs.List.{list_all}
 use Rattle.kishu_model.specs.Tree.{expression_of}
-use Rattle.kishu_model.specs.Later.{known_place}
+use Rattle.kishu_model.specs.PlainLater.{known_place}
 use Rattle.kishu_interp.proofs.later.are_known_places.Given as goal
 
 abbrev pub invariant-loop-place : goal.invariant-loop-place

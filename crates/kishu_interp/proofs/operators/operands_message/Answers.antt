@@ -1,7 +1,7 @@
 use Rattle.std.proofs.Common.{◌≡◌, [], ◌++◌, IfOk, rules}
 use Rattle.std.specs.Prelude.{codes}
 use Rattle.std.specs.String.{string_bytes}
-use Rattle.kishu_model.specs.Operators.{kind_in}
+use Rattle.kishu_model.specs.PlainOperators.{kind_in}
 use Rattle.kishu_interp.specs.Machine.{value_of}
 use Rattle.kishu_interp.proofs.Messages.{ok_pieces, all-IsAscii, operands-IsAscii, operands_pieces}
 use Rattle.kishu_interp.proofs.operators.operands_message.Goals as goal

@@ -1,7 +1,7 @@
 use Rattle.std.proofs.Common.{◌≡◌, ◌++◌, IfOk, rules, append_assoc}
 use Rattle.std.specs.Prelude.{codes}
 use Rattle.std.specs.String.{string_bytes}
-use Rattle.kishu_model.specs.Show.{builtin_name}
+use Rattle.kishu_model.specs.PlainShow.{builtin_name}
 use Rattle.kishu_interp.proofs.Messages.{ok_ascii, builtin-IsAscii}
 use Rattle.kishu_interp.proofs.show.builtin_text.Goals as goal
 

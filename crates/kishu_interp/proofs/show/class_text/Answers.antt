@@ -1,7 +1,7 @@
 use Rattle.std.proofs.Common.{◌≡◌, ◌++◌, IfOk, rules, append_assoc}
 use Rattle.std.specs.Prelude.{codes}
 use Rattle.std.specs.String.{string_bytes}
-use Rattle.kishu_model.specs.Show.{class_name}
+use Rattle.kishu_model.specs.PlainShow.{class_name}
 use Rattle.kishu_interp.proofs.Messages.{ok_ascii, class-IsAscii}
 use Rattle.kishu_interp.proofs.show.class_text.Goals as goal
 

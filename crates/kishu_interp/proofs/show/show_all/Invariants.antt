@@ -1,6 +1,6 @@
 use Rattle.std.proofs.Common.{◌≡◌, ◌≤◌, ◌++◌, map, drop}
-use Rattle.kishu_model.specs.Moment.{and_then, fine}
-use Rattle.kishu_model.specs.Show.{show_all}
+use Rattle.kishu_model.specs.PlainMoment.{and_then, fine}
+use Rattle.kishu_model.specs.PlainShow.{show_all}
 use Rattle.kishu_model.specs.Texts.{code_points}
 use Rattle.kishu_interp.specs.Machine.{value_of, moment_of}
 use Rattle.kishu_interp.proofs.show.show_all.Given as goal

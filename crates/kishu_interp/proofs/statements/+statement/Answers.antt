@@ -1,7 +1,7 @@
 use Rattle.std.proofs.Common.{◌≡◌, ◌∙◌, ◌-◌, ◌<◌, ◌≤◌, true, ap, sym, subst, rules, arith}
 use Rattle.kishu_model.specs.Tree.{expression_of}
-use Rattle.kishu_model.specs.Meaning.{in_block, turns}
-use Rattle.kishu_model.specs.Moment.{fine}
+use Rattle.kishu_model.specs.PlainMeaning.{in_block, turns}
+use Rattle.kishu_model.specs.PlainMoment.{fine}
 use Rattle.kishu_interp.specs.Trees.{statements_of}
 use Rattle.kishu_interp.specs.Machine.{value_of, moment_of, flow_of, Gives}
 use Rattle.kishu_interp.specs.Unrecorded.{expr, acts}

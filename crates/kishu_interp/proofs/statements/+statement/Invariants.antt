@@ -1,6 +1,6 @@
 use Rattle.std.proofs.Common.{◌≡◌, ◌+◌, ◌*◌, ◌≤◌, ◌<◌, ℕ, drop, max}
 use Rattle.kishu_model.specs.Tree.{expression_of, statement_of}
-use Rattle.kishu_model.specs.Meaning.{repeat, turns, in_block}
+use Rattle.kishu_model.specs.PlainMeaning.{repeat, turns, in_block}
 use Rattle.kishu_interp.specs.Trees.{statements_of, arms_of}
 use Rattle.kishu_interp.specs.Heights.{height_of_statement, height_of_statements, height_of_arms}
 use Rattle.kishu_interp.specs.Machine.{moment_of}

@@ -1,6 +1,6 @@
 use Rattle.std.proofs.Common.{◌∙◌, sym, ap, ◌==◌, length, not}
 use Rattle.std.specs.Str.{chars}
-use Rattle.kishu_model.specs.Moment.{fine}
+use Rattle.kishu_model.specs.PlainMoment.{fine}
 use Rattle.kishu_interp.proofs.Messages.{is_nothing}
 use Rattle.kishu_interp.proofs.values.is_true.Goals as goal
 

@@ -1,9 +1,9 @@
 use Rattle.std.proofs.Common.{◌+◌, ℕ, List, length, drop, sym, ◌∙◌, ap, subst, arith}
 use Rattle.std.specs.Rc.{rc_str_bytes}
 use Rattle.kishu_model.specs.declared.profile.Profile.TheVariants.{One}
-use Rattle.kishu_model.specs.Later.{later_line}
+use Rattle.kishu_model.specs.PlainLater.{later_line}
 use Rattle.kishu_model.specs.Values.{State}
-use Rattle.kishu_model.specs.Meaning.{run}
+use Rattle.kishu_model.specs.PlainMeaning.{run}
 use Rattle.kishu_model.specs.Replay.{after_cells}
 use Rattle.kishu_model.specs.Record.{AreCells}
 use Rattle.kishu_serve.specs.Texts.{texts_of}
