@@ -5,3 +5,4 @@ pub mod Counts
 pub mod Held
 pub mod Walks
 pub mod OrderWalks
+pub mod Told

@@ -8,7 +8,7 @@ use Rattle.std.proofs.lemmas.Bool.Decides.{nat_tests}
 use Rattle.kishu_model.specs.Keys.{Key, is_one}
 use Rattle.kishu_model.specs.Names.{is_name}
 use Rattle.kishu_model.specs.Values.{Value, none, bool, integer, text, range, builtin, class, node, Node, list, tuple, dict, object, function, exception}
-use Rattle.kishu_model.specs.Nodes.{with_entry, without_entry, changed, set_item, push, pop, replace_list, insert, remove, set_attr, remove_attr, without_last}
+use Rattle.kishu_model.specs.Nodes.{on_dict, with_entry, without_entry, changed, set_item, push, pop, replace_list, insert, remove, set_attr, remove_attr, without_last}
 use Rattle.kishu_model.specs.Sound.{is_sound, are_sound, is_sound_node, are_sound_nodes, is_exception_class}
 
 pub both : (a b : Bool) → IsTrue a → IsTrue b → IsTrue (a && b)
@@ -105,6 +105,14 @@ module _ (n : ℕ) where
   keeps_replace_list items h (object as') a = a
   keeps_replace_list items h (function profile code vs) a = a
   keeps_replace_list items h (exception kind vs) a = a
+
+  pub keeps_clear : Keeps n (on_dict (λ entries. []))
+  keeps_clear (list vs) a = a
+  keeps_clear (tuple vs) a = a
+  keeps_clear (dict es) a = refl
+  keeps_clear (object as') a = a
+  keeps_clear (function profile code vs) a = a
+  keeps_clear (exception kind vs) a = a
 
   pub keeps_insert : (k : Key) (v : Value) → IsTrue (is_sound n v) → Keeps n (insert k v)
   keeps_insert k v h (list vs) a = a

@@ -1,9 +1,9 @@
 // What changes one node. A node of another kind stays.
-ghost use Rattle.std.specs.Prelude.{◌≡◌, ◌<◌, IfSome, OnOk, OnErr, length, map, option_map};
+ghost use Rattle.std.specs.Prelude.{◌≡◌, ◌<◌, [], IfSome, OnOk, OnErr, length, map, option_map};
 ghost use Rattle.std.specs.Rc.{rc_str_bytes};
 ghost use Rattle.kishu_model.specs.Keys.{key_of};
 ghost use Rattle.kishu_model.specs.Values.{value_of};
-ghost use Rattle.kishu_model.specs.Nodes.{list_in, last_item, value_under, attribute, set_item, push, pop, replace_list, insert, remove, set_attr, remove_attr};
+ghost use Rattle.kishu_model.specs.Nodes.{on_dict, list_in, last_item, value_under, attribute, set_item, push, pop, replace_list, insert, remove, set_attr, remove_attr};
 ghost use Rattle.kishu_heap.specs.Cells.{node_of};
 
 use crate::node::Node;
@@ -46,6 +46,14 @@ pub(crate) fn replace_list(node: &mut Node, new: Vec<Value>)
 {
     if let Node::List(items) = node {
         *items = new;
+    }
+}
+
+pub(crate) fn clear(node: &mut Node)
+    ensures { node_of node.new ≡ on_dict (λ entries. []) (node_of node.old) }
+{
+    if let Node::Dict(entries) = node {
+        entries.clear();
     }
 }
 

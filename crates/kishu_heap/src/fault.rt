@@ -1,5 +1,6 @@
 // Faults.
 use kishu_model::{ClassId, Value};
+use std::alloc::{AllocError, AllocFailed};
 use std::rc::RcStr;
 
 /// Why a comparison has no answer.
@@ -23,4 +24,26 @@ pub enum CallFault {
     /// The budget of steps is spent.
     Spent,
     NoMemory,
+}
+
+impl From<AllocError> for CallFault {
+    ghost use Rattle.std.specs.Prelude.{◌≡◌};
+    ghost use Rattle.kishu_heap.specs.declared.fault.CallFault.TheVariants.{NoMemory};
+
+    ghost from_gives = { λ _ fault. fault ≡ NoMemory };
+
+    fn from(_error: AllocError) -> CallFault {
+        CallFault::NoMemory
+    }
+}
+
+impl<T: Drop> From<AllocFailed<T>> for CallFault {
+    ghost use Rattle.std.specs.Prelude.{◌≡◌};
+    ghost use Rattle.kishu_heap.specs.declared.fault.CallFault.TheVariants.{NoMemory};
+
+    ghost from_gives = { λ _ fault. fault ≡ NoMemory };
+
+    fn from(_error: AllocFailed<T>) -> CallFault {
+        CallFault::NoMemory
+    }
 }

@@ -5,13 +5,15 @@ ghost use Rattle.std.specs.Vec.{vec_len};
 ghost use Rattle.kishu_model.specs.Keys.{key_of};
 ghost use Rattle.kishu_model.specs.Names.{is_name};
 ghost use Rattle.kishu_model.specs.Values.{value_of};
-ghost use Rattle.kishu_model.specs.Nodes.{changed, found, list_in, last_item, value_under, attribute, set_item, push, pop, replace_list, insert, remove, set_attr, remove_attr};
+ghost use Rattle.kishu_model.specs.Nodes.{on_dict, changed, found, list_in, last_item, value_under, attribute, set_item, push, pop, replace_list, insert, remove, set_attr, remove_attr};
 ghost use Rattle.kishu_model.specs.Sound.{is_sound, are_sound, is_sound_node, are_sound_nodes, is_sound_heap};
-ghost use Rattle.kishu_model.specs.Equal.{equal_in, less_in, room_at};
+ghost use Rattle.kishu_model.specs.Equal.{pair_equal, equal_nodes, equal_in, less_in, room_at};
+ghost use Rattle.kishu_model.specs.EqualLaws.{value_under_equal, insert_by_values};
 ghost use Rattle.kishu_heap.specs.Cells.{node_of};
 ghost use Rattle.kishu_heap.specs.Compared.{Gives, Orders};
+ghost use Rattle.kishu_heap.specs.Tells.{TellsOfRanges, TellsOfKeys};
 
-use crate::compare::equal_values;
+use crate::compare::{equal_pair, equal_values};
 use crate::edit;
 use crate::fault::CompareFault;
 use crate::less::less_values;
@@ -153,6 +155,7 @@ impl Heap {
         requires id { id.0 < length self.old }
         requires sound { IsTrue (is_sound (length self.old) (value_of value)) }
         ensures ok { OnOk result (self.new ≡ changed (insert (key_of key) (value_of value)) id.0 self.old) }
+        ensures keys { OnOk result (self.new ≡ changed (insert_by_values (key_of key) (value_of value)) id.0 self.old) }
         ensures err { OnErr result (self.new ≡ self.old) }
     {
         edit::insert(&mut self.nodes[id.0 as usize], key, value)
@@ -163,9 +166,18 @@ impl Heap {
     pub fn remove(&mut self, id: NodeId, key: &Key) -> Option<Value>
         requires { id.0 < length self.old }
         ensures value { option_map value_of result ≡ found (value_under (key_of key.now)) id.0 self.old }
+        ensures keys { option_map value_of result ≡ found (value_under_equal (key_of key.now)) id.0 self.old }
         ensures nodes { self.new ≡ changed (remove (key_of key.now)) id.0 self.old }
     {
         edit::remove(&mut self.nodes[id.0 as usize], key)
+    }
+
+    /// Takes all entries of a dict out.
+    pub fn clear(&mut self, id: NodeId)
+        requires { id.0 < length self.old }
+        ensures { self.new ≡ changed (on_dict (λ entries. [])) id.0 self.old }
+    {
+        edit::clear(&mut self.nodes[id.0 as usize]);
     }
 
     /// Sets an attribute of an object. Without memory nothing changes.
@@ -201,12 +213,33 @@ impl Heap {
         steps: &mut Steps<L>,
     ) -> Result<bool, CompareFault>
         ensures gives { Gives result budget.new.left (equal_in self.now budget.old.depth (value_of a.now) (value_of b.now) budget.old.left) }
+        ensures ranges { IfOk result (TellsOfRanges (value_of a.now) (value_of b.now)) }
+        ensures keys { IfOk result (TellsOfKeys self.now (value_of a.now) (value_of b.now)) }
         ensures depth { budget.new.depth ≡ budget.old.depth }
         ensures least { budget.old.left + steps.old ≤ budget.new.left + steps.new }
         ensures most { 8 * budget.new.left + steps.new ≤ 8 * budget.old.left + steps.old + 8 }
     {
         let room = room_at(budget.depth);
         equal_values(self, a, b, room, &mut budget.left, steps)
+    }
+
+    /// Whether an item is a value: the same, or equal (Python Language Reference 3, "Membership test
+    /// operations"). The pair takes a step of the budget, and then those of `equal`; faults are as
+    /// there.
+    pub fn is_item<L: Ledger>(
+        &self,
+        item: &Value,
+        value: &Value,
+        budget: &mut Budget,
+        steps: &mut Steps<L>,
+    ) -> Result<bool, CompareFault>
+        ensures gives { Gives result budget.new.left (pair_equal (equal_nodes self.now (room_at budget.old.depth)) (value_of item.now) (value_of value.now) budget.old.left) }
+        ensures depth { budget.new.depth ≡ budget.old.depth }
+        ensures least { budget.old.left + steps.old ≤ budget.new.left + steps.new }
+        ensures most { 8 * budget.new.left + steps.new ≤ 8 * budget.old.left + steps.old }
+    {
+        let room = room_at(budget.depth);
+        equal_pair(self, item, value, room, &mut budget.left, steps)
     }
 
     /// Whether a value is less than another (Python Language Reference 3, "Value comparisons").
@@ -230,7 +263,7 @@ impl Heap {
 }
 
 /// How many nodes may lie in one another at a depth, the outermost among them.
-fn room_at(depth: u32) -> u32
+pub fn room_at(depth: u32) -> u32
     ensures { result ≡ room_at depth }
 {
     MOST_DEPTH.saturating_sub(depth) + 1

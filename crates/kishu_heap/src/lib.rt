@@ -18,5 +18,7 @@ mod taken;
 
 pub use fault::{CallFault, CompareFault};
 pub use function::FunctionNode;
-pub use heap::Heap;
+pub use heap::{Heap, room_at};
 pub use node::Node;
+pub use plain::{is_same, pair_steps, range_length};
+pub use taken::take_steps;

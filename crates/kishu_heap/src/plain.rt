@@ -30,7 +30,7 @@ fn is_same_text(a: &str, b: &str) -> bool
 }
 
 /// Whether two values have the same kind and are the same.
-pub(crate) fn is_same(a: &Value, b: &Value) -> bool
+pub fn is_same(a: &Value, b: &Value) -> bool
     ensures { result ≡ is_same (value_of a.now) (value_of b.now) }
 {
     match a {
@@ -128,7 +128,7 @@ fn steps_between(step: u128, from: i128, to: i128) -> u128
 }
 
 /// How many numbers a range has (Library Reference, "Ranges").
-fn range_length(start: i128, stop: i128, step: i128) -> u128
+pub fn range_length(start: i128, stop: i128, step: i128) -> u128
     ensures { result ≡ range_length start stop step }
 {
     if step > 0 {
@@ -204,7 +204,7 @@ pub(crate) fn is_less(a: &Value, b: &Value) -> Option<bool>
 }
 
 /// How many steps a comparison of two values takes by itself.
-pub(crate) fn pair_steps(a: &Value, b: &Value) -> usize
+pub fn pair_steps(a: &Value, b: &Value) -> usize
     ensures { result ≡ pair_steps (value_of a.now) (value_of b.now) }
 {
     if let (Value::Text(a), Value::Text(b)) = (a, b) {

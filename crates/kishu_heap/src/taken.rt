@@ -7,8 +7,9 @@ use crate::fault::CompareFault;
 use kishu_model::Steps;
 use std::sync::ledger::Ledger;
 
-/// Takes so many steps, and where there are fewer, all.
-pub(crate) fn take_steps<L: Ledger>(
+/// Takes so many steps of `left`, each counted. Where there are fewer it takes all, and answers
+/// `Spent`.
+pub fn take_steps<L: Ledger>(
     count: usize,
     left: &mut u64,
     steps: &mut Steps<L>,
