@@ -1,0 +1,20 @@
+use Rattle.std.proofs.Common.{◌≡◌, ◌+◌, ◌≤◌, IsTrue, length, map, drop}
+use Rattle.kishu_model.specs.Keys.{key_of}
+use Rattle.kishu_model.specs.KeyOf.{values_of_keys}
+use Rattle.kishu_model.specs.Moment.{and_then}
+use Rattle.kishu_model.specs.Sound.{are_sound}
+use Rattle.kishu_model.specs.Values.{value_of}
+use Rattle.kishu_items.specs.Called.{moment_of}
+use Rattle.kishu_items.specs.Contents.{IsGrown}
+use Rattle.kishu_items.specs.Gathering.{behind}
+use Rattle.kishu_items.proofs.keys.values_of_keys.Given as goal
+
+abbrev pub invariant-loop-i : goal.invariant-loop-i
+invariant-loop-i g l = record {
+  told : values_of_keys (map key_of l.keys) (moment_of l.fn.heap l.fn.budget) ≡ and_then (values_of_keys (map key_of (drop l.i l.keys)) (moment_of l.heap l.budget)) (behind (map value_of l.values.items));
+  sound : IsTrue (are_sound (length l.heap) (map value_of l.values.items));
+  more : IsGrown l.i l.fn.heap l.heap;
+  left : l.budget.left ≤ l.fn.budget.left;
+  depth : l.budget.depth ≡ l.fn.budget.depth;
+  least : l.fn.budget.left + l.fn.steps ≤ l.budget.left + l.steps;
+}

@@ -1,0 +1,8 @@
+use Rattle.std.proofs.Common.{◌≡◌, map, take}
+use Rattle.kishu_model.specs.Keys.{part_of}
+use Rattle.kishu_model.specs.KeyOf.{value_of_part}
+use Rattle.kishu_model.specs.Values.{value_of}
+use Rattle.kishu_items.proofs.keys.values_of_parts.Given as goal
+
+abbrev pub invariant-loop-part : goal.invariant-loop-part
+invariant-loop-part l = map value_of l.values.items ≡ map value_of_part (map part_of (take l.part-index l.parts))
