@@ -1,0 +1,4 @@
+pub mod Stack
+pub mod Shown
+pub mod Turns
+pub mod Plainly

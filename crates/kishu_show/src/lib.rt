@@ -1,0 +1,22 @@
+//! Texts of values: `repr` and `str` (Library Reference, "Built-in Functions": repr, and "Text
+//! Sequence Type": str).
+//!
+//! A text is made from the left, and each of its code points takes a step of the budget when it is
+//! made. A node that lies deeper in others than is allowed gives `Depth`, and a budget that is spent
+//! gives `Spent`, where the definition does (`specs/Show` of `kishu_model`). The calls recurse no
+//! deeper than nodes may lie in one another.
+#![tactic(auto)]
+
+mod around;
+mod draft;
+mod fault;
+mod functions;
+mod keys;
+mod plain;
+mod pushes;
+mod reprs;
+mod shows;
+
+pub use fault::ShowFault;
+pub use reprs::repr_of;
+pub use shows::show;
