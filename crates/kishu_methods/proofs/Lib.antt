@@ -1,0 +1,15 @@
+pub mod Messages
+pub mod Changes
+pub mod Rows
+pub mod Finds
+pub mod Passing
+pub mod Pops
+pub mod PopsAt
+pub mod SortsSound
+pub mod Edits
+mod Joins
+mod PieceLengths
+mod TextEnds
+mod TextRows
+mod TextSteps
+mod DictNodes

@@ -1,0 +1,8 @@
+use Rattle.kishu_model.specs.Keys.{key_of}
+use Rattle.kishu_methods.specs.Contents.{entries_at}
+use Rattle.kishu_methods.proofs.DictNodes.{misses}
+use Rattle.kishu_methods.proofs.dicts.take_out.Goals as goal
+
+pub returns-clause-none : goal.returns-clause-none
+returns-clause-none c =
+    misses c.remove.result (key_of c.args.key.now) (entries_at c.args.heap.now c.args.id.0) c.args.id.0 c.args.heap.now c.remove.new.self c.requires.dict c.remove.ensures.value c.remove.ensures.nodes

@@ -1,0 +1,17 @@
+use Rattle.std.proofs.Common.{◌∙◌, length}
+use Rattle.std.specs.List.{remove}
+use Rattle.kishu_model.specs.Sound.{is_sound}
+use Rattle.kishu_methods.specs.Contents.{items_at}
+use Rattle.kishu_methods.proofs.Changes.{replaced, all_remove}
+use Rattle.kishu_methods.proofs.Edits.{seen_removed}
+use Rattle.kishu_methods.proofs.items.without_place.Goals as goal
+
+pub replace_list-requires-clause-sound : goal.replace_list-requires-clause-sound
+replace_list-requires-clause-sound g c =
+    let old = items_at c.args.heap.now c.args.id.0 in
+    rw (seen_removed c.in_ok-items.items.items c.remove-taken.new.self.items old c.args.place c.remove-taken.ensures.items c.in_ok-items.ensures.items) (all_remove (is_sound (length c.args.heap.now)) old c.args.place c.in_ok-items.ensures.sound)
+
+pub returns-clause-nodes : goal.returns-clause-nodes
+returns-clause-nodes g c =
+    let old = items_at c.args.heap.now c.args.id.0 in
+    c.replace_list.ensures ∙ rw (seen_removed c.in_ok-items.items.items c.remove-taken.new.self.items old c.args.place c.remove-taken.ensures.items c.in_ok-items.ensures.items) (replaced (λ vs. remove vs c.args.place) c.args.id.0 c.args.heap.now old c.requires.list)

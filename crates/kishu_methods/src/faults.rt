@@ -1,0 +1,18 @@
+// The exception for arguments that a method doesn't take.
+ghost use Rattle.kishu_model.specs.Kinds.{bad_arguments};
+ghost use Rattle.kishu_model.specs.Methods.{method_name};
+ghost use Rattle.kishu_model.specs.Moment.{Moment};
+ghost use Rattle.kishu_model.specs.Values.{value_of};
+ghost use Rattle.kishu_methods.specs.Called.{method_of, Gives};
+
+use crate::method::Method;
+use kishu_heap::CallFault;
+use kishu_model::Value;
+use std::alloc::Global;
+
+/// The TypeError for arguments that a method doesn't take.
+pub(crate) fn bad_arguments(alloc: Global, method: Method) -> Result<Value, CallFault>
+    ensures { (s : Moment) → Gives value_of result s (bad_arguments (method_name (method_of method)) s) }
+{
+    kishu_items::bad_arguments(alloc, method.name())
+}
