@@ -1,5 +1,5 @@
 // A value as a key of a dict, and a key as a value.
-ghost use Rattle.std.specs.Prelude.{◌≡◌, ℕ, ◌+◌, ◌<◌, ◌≤◌, ◌^◌, ◌++◌, List, IsTrue, IfOk, OnOk, Some, map, option_map, length};
+ghost use Rattle.std.specs.Prelude.{◌≡◌, ℕ, ◌+◌, ◌<◌, ◌≤◌, ◌^◌, ◌++◌, List, IsTrue, IfOk, Some, map, option_map, length};
 ghost use Rattle.kishu_model.specs.declared.budget.Budget.{Budget};
 ghost use Rattle.kishu_model.specs.Keys as keys;
 ghost use Rattle.kishu_model.specs.Keys.{key_of, part_of};
@@ -80,6 +80,7 @@ fn tuple_key<L: Ledger>(
 ) -> Result<Key, CallFault>
     requires sound { IsTrue (are_sound (length heap.now) (map value_of values.now)) }
     ensures gives { (v : model.Value) → Gives key_of result (moment_of heap.now budget.new) (tuple_key v (Some (map value_of values.now)) (moment_of heap.now budget.old)) }
+    ensures left { budget.new.left ≤ budget.old.left }
     ensures depth { budget.new.depth ≡ budget.old.depth }
     ensures least { budget.old.left + steps.old ≤ budget.new.left + steps.new }
 {
@@ -110,6 +111,7 @@ fn node_key<L: Ledger>(
 ) -> Result<Key, CallFault>
     requires id { id.0 < length heap.now }
     ensures gives { Gives key_of result (moment_of heap.now budget.new) (key_of_value (node id.0) (moment_of heap.now budget.old)) }
+    ensures left { budget.new.left ≤ budget.old.left }
     ensures depth { budget.new.depth ≡ budget.old.depth }
     ensures least { budget.old.left + steps.old ≤ budget.new.left + steps.new }
 {
@@ -130,6 +132,7 @@ pub fn key_of<L: Ledger>(
 ) -> Result<Key, CallFault>
     requires sound { IsTrue (is_sound (length heap.now) (value_of value.now)) }
     ensures gives { Gives key_of result (moment_of heap.now budget.new) (key_of_value (value_of value.now) (moment_of heap.now budget.old)) }
+    ensures left { budget.new.left ≤ budget.old.left }
     ensures depth { budget.new.depth ≡ budget.old.depth }
     ensures least { budget.old.left + steps.old ≤ budget.new.left + steps.new }
 {
@@ -225,7 +228,7 @@ pub fn value_of_key<L: Ledger>(
     requires room { length heap.old + 1 < 2 ^ 32 }
     ensures gives { Gives value_of result (moment_of heap.new budget.new) (value_of_key (key_of key.now) (moment_of heap.old budget.old)) }
     ensures sound { IfOk result (λ v. IsTrue (is_sound (length heap.new) (value_of v))) }
-    ensures more { OnOk result (IsGrown 1 heap.old heap.new) }
+    ensures more { IsGrown 1 heap.old heap.new }
     ensures left { budget.new.left ≤ budget.old.left }
     ensures depth { budget.new.depth ≡ budget.old.depth }
     ensures least { budget.old.left + steps.old ≤ budget.new.left + steps.new }
@@ -250,7 +253,7 @@ fn new_tuple<L: Ledger>(
     requires room { length heap.old + 1 < 2 ^ 32 }
     ensures gives { Gives value_of result (moment_of heap.new budget.new) (value_of_key (keys.tuple (map part_of parts.now)) (moment_of heap.old budget.old)) }
     ensures sound { IfOk result (λ v. IsTrue (is_sound (length heap.new) (value_of v))) }
-    ensures more { OnOk result (IsGrown 1 heap.old heap.new) }
+    ensures more { IsGrown 1 heap.old heap.new }
     ensures left { budget.new.left ≤ budget.old.left }
     ensures depth { budget.new.depth ≡ budget.old.depth }
     ensures least { budget.old.left + steps.old ≤ budget.new.left + steps.new }
@@ -271,7 +274,7 @@ pub fn values_of_keys<L: Ledger>(
     requires room { length heap.old + length keys.now < 2 ^ 32 }
     ensures gives { Gives (λ v. map value_of v.items) result (moment_of heap.new budget.new) (values_of_keys (map key_of keys.now) (moment_of heap.old budget.old)) }
     ensures sound { IfOk result (λ v. IsTrue (are_sound (length heap.new) (map value_of v.items))) }
-    ensures more { OnOk result (IsGrown (length keys.now) heap.old heap.new) }
+    ensures more { IsGrown (length keys.now) heap.old heap.new }
     ensures left { budget.new.left ≤ budget.old.left }
     ensures depth { budget.new.depth ≡ budget.old.depth }
     ensures least { budget.old.left + steps.old ≤ budget.new.left + steps.new }

@@ -136,7 +136,7 @@ fn node_items<L: Ledger>(
     requires room { length heap.old + unwrap_or (count_in heap.old (node id.0)) 0 < 2 ^ 32 }
     ensures gives { Gives (λ v. map value_of v.items) result (moment_of heap.new budget.new) (items_of (node id.0) (moment_of heap.old budget.old)) }
     ensures sound { IfOk result (λ v. IsTrue (are_sound (length heap.new) (map value_of v.items))) }
-    ensures more { OnOk result (IsGrown (unwrap_or (count_in heap.old (node id.0)) 0) heap.old heap.new) }
+    ensures more { IsGrown (unwrap_or (count_in heap.old (node id.0)) 0) heap.old heap.new }
     ensures left { budget.new.left ≤ budget.old.left }
     ensures depth { budget.new.depth ≡ budget.old.depth }
     ensures least { budget.old.left + steps.old ≤ budget.new.left + steps.new }
@@ -181,7 +181,7 @@ pub fn items_of<L: Ledger>(
     requires room { length heap.old + unwrap_or (count_in heap.old (value_of value.now)) 0 < 2 ^ 32 }
     ensures gives { Gives (λ v. map value_of v.items) result (moment_of heap.new budget.new) (items_of (value_of value.now) (moment_of heap.old budget.old)) }
     ensures sound { IfOk result (λ v. IsTrue (are_sound (length heap.new) (map value_of v.items))) }
-    ensures more { OnOk result (IsGrown (unwrap_or (count_in heap.old (value_of value.now)) 0) heap.old heap.new) }
+    ensures more { IsGrown (unwrap_or (count_in heap.old (value_of value.now)) 0) heap.old heap.new }
     ensures left { budget.new.left ≤ budget.old.left }
     ensures depth { budget.new.depth ≡ budget.old.depth }
     ensures least { budget.old.left + steps.old ≤ budget.new.left + steps.new }
@@ -210,7 +210,7 @@ pub fn walked<L: Ledger>(
     requires room { length heap.old + budget.old.left < 2 ^ 32 - 16 }
     ensures gives { Gives (λ v. map value_of v.items) result (moment_of heap.new budget.new) (walked (value_of value.now) (moment_of heap.old budget.old)) }
     ensures sound { IfOk result (λ v. IsTrue (are_sound (length heap.new) (map value_of v.items))) }
-    ensures more { OnOk result (IsGrown (budget.old.left - budget.new.left) heap.old heap.new) }
+    ensures more { IsGrown (budget.old.left - budget.new.left) heap.old heap.new }
     ensures left { budget.new.left ≤ budget.old.left }
     ensures depth { budget.new.depth ≡ budget.old.depth }
     ensures least { budget.old.left + steps.old ≤ budget.new.left + steps.new }

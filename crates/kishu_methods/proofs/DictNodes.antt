@@ -1,5 +1,5 @@
 -- A dict and its entries, and entries that come to a dict one after the other.
-use Rattle.std.proofs.Common.{◌≡◌, ◌∙◌, ap, sym, refl, arith, ℕ, zero, suc, ◌+◌, ◌≤◌, Bool, true, false, cond, IsTrue, List, [], ◌∷◌, length, map, drop, add-one, Option, Some, None}
+use Rattle.std.proofs.Common.{◌≡◌, ◌∙◌, ap, sym, refl, arith, ℕ, zero, suc, ◌+◌, ◌≤◌, Bool, true, false, cond, IsTrue, List, [], ◌∷◌, length, drop, add-one, Option, Some, None}
 use Rattle.std.specs.Prelude.{slice_get, option_map, option_and_then, IfNone}
 use Rattle.std.specs.List.{list_all}
 use Rattle.std.specs.Map.{lookup}

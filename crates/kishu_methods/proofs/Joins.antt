@@ -1,5 +1,5 @@
 -- Texts that are joined.
-use Rattle.std.proofs.Common.{◌≡◌, ◌∙◌, ◌-◌, ◌+◌, ap, sym, refl, arith, ℕ, List, [], ◌∷◌, ◌++◌, length, Option, Some, None, option_map, flat_map, append_assoc, length-append, Result, Ok, Err, OnOk, is_ok, if◌then◌else◌, map, subst}
+use Rattle.std.proofs.Common.{◌≡◌, ◌∙◌, ◌-◌, ap, sym, refl, arith, ℕ, List, [], ◌∷◌, ◌++◌, length, Option, Some, None, option_map, flat_map, append_assoc, length-append, Result, Ok, Err, OnOk, is_ok, if◌then◌else◌, map, subst}
 use Rattle.std.specs.Prelude.{IsTrue}
 use Rattle.std.specs.Str.{chars, IsUtf8}
 use Rattle.std.specs.String.{string_bytes}
@@ -8,7 +8,7 @@ use Rattle.std.specs.declared.string.String.{String}
 use Rattle.std.proofs.lemmas.List.{map_push}
 use Rattle.std.proofs.lemmas.Str.{chars-append}
 use Rattle.kishu_model.specs.declared.value.Value as rust_value
-use Rattle.kishu_model.specs.Values.{Value, none, bool, integer, text, range, builtin, class, node, value_of}
+use Rattle.kishu_model.specs.Values.{Value, text, value_of}
 use Rattle.kishu_model.specs.Sound.{are_sound}
 use Rattle.kishu_model.specs.Methods.{texts_in}
 use Rattle.kishu_model.specs.Texts.{joined, code_points}

@@ -1,8 +1,8 @@
 -- The rows of texts, where the arguments are no texts or are too many.
-use Rattle.std.proofs.Common.{◌≡◌, refl, ℕ, List, [], ◌∷◌, Option, None, subst, sym, Result, length, map, ◌≤◌, arith}
+use Rattle.std.proofs.Common.{◌≡◌, refl, ℕ, List, [], ◌∷◌, None, subst, sym, Result, length, map, ◌≤◌, arith}
 use Rattle.kishu_model.specs.declared.value.Value as rust_value
-use Rattle.kishu_model.specs.Values.{Value, none, bool, integer, text, range, builtin, class, node, value_of}
-use Rattle.kishu_model.specs.Moment.{M, Moment, Ends}
+use Rattle.kishu_model.specs.Values.{Value, text, value_of}
+use Rattle.kishu_model.specs.Moment.{M, Moment}
 use Rattle.kishu_model.specs.Kinds.{bad_arguments}
 use Rattle.kishu_model.specs.Methods as m
 use Rattle.kishu_model.specs.Methods.{Method, method_name, text_row}

@@ -1,11 +1,10 @@
 -- Steps that are taken first, and what stands behind them.
-use Rattle.std.proofs.Common.{◌≡◌, ◌∙◌, ap, sym, refl, ℕ, List, [], ◌∷◌, ◌++◌, length, map, Option, Some, None, Bool, true, false, if◌then◌else◌, subst, Result, Ok, Err}
+use Rattle.std.proofs.Common.{◌≡◌, ◌∙◌, ap, sym, ℕ, List, [], ◌∷◌, length, Some, Bool, true, false, if◌then◌else◌, subst, Result, Err}
 use Rattle.std.specs.Prelude.{codes, ℤ}
 use Rattle.std.specs.List.{sum_by}
 use Rattle.kishu_model.specs.Values.{Value, none, bool, integer, text, range, builtin, class, node, value_of}
-use Rattle.kishu_model.specs.Moment.{M, Moment, Ends, fine, raised, stopped, and_then, ◌>>◌, give, spend, fresh}
-use Rattle.kishu_model.specs.Bare.{bare}
-use Rattle.kishu_model.specs.Texts.{pieces, replaced, is_nonempty, first_place, occurrences}
+use Rattle.kishu_model.specs.Moment.{M, Moment, Ends, fine, raised, and_then, ◌>>◌, give, spend, fresh}
+use Rattle.kishu_model.specs.Texts.{pieces, is_nonempty, first_place, occurrences}
 use Rattle.kishu_model.specs.Kinds.{value_error}
 use Rattle.kishu_model.specs.Methods as m
 use Rattle.kishu_model.specs.Methods.{text_row, is_cutting, search, made, made_all, new_texts, number, place_or_minus_one}

@@ -44,6 +44,9 @@ fn node_method<L: Ledger>(
     requires sound { IsTrue (are_sound (length heap.old) (map value_of args.now)) }
     requires room { length heap.old + budget.old.left < 2 ^ 32 - 16 }
     ensures gives { Gives value_of result (moment_of heap.new budget.new) (node_row (method_of method) id.0 (map value_of args.now) (slice_get heap.old id.0) (moment_of heap.old budget.old)) }
+    ensures heap { length heap.old ≤ length heap.new }
+    ensures most { length heap.new + budget.new.left ≤ length heap.old + budget.old.left + 1 }
+    ensures left { budget.new.left ≤ budget.old.left }
     ensures depth { budget.new.depth ≡ budget.old.depth }
     ensures least { budget.old.left + steps.old ≤ budget.new.left + steps.new }
 {
@@ -74,6 +77,9 @@ pub fn call_method<L: Ledger>(
     requires room { length heap.old + budget.old.left < 2 ^ 32 - 16 }
     requires has { IsTrue (has_method heap.old (value_of receiver.now) name.now) }
     ensures gives { Gives value_of result (moment_of heap.new budget.new) (call_method (value_of receiver.now) name.now (map value_of args.now) (moment_of heap.old budget.old)) }
+    ensures heap { length heap.old ≤ length heap.new }
+    ensures most { length heap.new + budget.new.left ≤ length heap.old + budget.old.left + 1 }
+    ensures left { budget.new.left ≤ budget.old.left }
     ensures depth { budget.new.depth ≡ budget.old.depth }
     ensures least { budget.old.left + steps.old ≤ budget.new.left + steps.new }
 {

@@ -33,6 +33,7 @@ fn get<L: Ledger>(
     requires dict { IsDict heap.now id.0 }
     requires sound { IsTrue (is_sound (length heap.now) (value_of key.now)) }
     ensures gives { Gives value_of result (moment_of heap.now budget.new) (m.look_up (entries_at heap.now id.0) (value_of key.now) (give (value_of other.now)) (moment_of heap.now budget.old)) }
+    ensures left { budget.new.left ≤ budget.old.left }
     ensures depth { budget.new.depth ≡ budget.old.depth }
     ensures least { budget.old.left + steps.old ≤ budget.new.left + steps.new }
 {
@@ -49,6 +50,7 @@ fn set_new(id: NodeId, key: Key, value: &Value, heap: &mut Heap) -> Result<Value
     requires sound { IsTrue (is_sound (length heap.old) (value_of value.now)) }
     ensures nodes { OnOk result (heap.new ≡ changed (insert (key_of key) (value_of value.now)) id.0 heap.old) }
     ensures value { IfOk result (λ v. value_of v ≡ value_of value.now) }
+    ensures long { length heap.new ≡ length heap.old }
 {
     heap.insert(id, key, value.copied()?)?;
     value.copied()
@@ -68,6 +70,9 @@ fn set_default<L: Ledger>(
     requires key { IsTrue (is_sound (length heap.old) (value_of key.now)) }
     requires sound { IsTrue (is_sound (length heap.old) (value_of value.now)) }
     ensures gives { Gives value_of result (moment_of heap.new budget.new) (m.set_default id.0 (entries_at heap.old id.0) (value_of key.now) (value_of value.now) (moment_of heap.old budget.old)) }
+    ensures heap { length heap.old ≤ length heap.new }
+    ensures most { length heap.new + budget.new.left ≤ length heap.old + budget.old.left + 1 }
+    ensures left { budget.new.left ≤ budget.old.left }
     ensures depth { budget.new.depth ≡ budget.old.depth }
     ensures least { budget.old.left + steps.old ≤ budget.new.left + steps.new }
 {
@@ -85,6 +90,7 @@ fn take_out(id: NodeId, key: &Key, heap: &mut Heap) -> Option<Value>
     ensures value { option_map value_of result ≡ value_at is_one (key_of key.now) (entries_at heap.old id.0) }
     ensures nodes { heap.new ≡ changed (on_dict (without_entry is_one (key_of key.now))) id.0 heap.old }
     ensures none { IfNone result (heap.new ≡ heap.old) }
+    ensures long { length heap.new ≡ length heap.old }
 {
     heap.remove(id, key)
 }
@@ -102,6 +108,9 @@ fn pop_or<L: Ledger>(
     requires dict { IsDict heap.old id.0 }
     requires sound { IsTrue (is_sound (length heap.old) (value_of key.now)) }
     ensures gives { Gives value_of result (moment_of heap.new budget.new) (m.pop_key id.0 (entries_at heap.old id.0) (value_of key.now) (give (value_of other.now)) (moment_of heap.old budget.old)) }
+    ensures heap { length heap.old ≤ length heap.new }
+    ensures most { length heap.new + budget.new.left ≤ length heap.old + budget.old.left + 1 }
+    ensures left { budget.new.left ≤ budget.old.left }
     ensures depth { budget.new.depth ≡ budget.old.depth }
     ensures least { budget.old.left + steps.old ≤ budget.new.left + steps.new }
 {
@@ -124,6 +133,9 @@ fn pop<L: Ledger>(
     requires dict { IsDict heap.old id.0 }
     requires sound { IsTrue (is_sound (length heap.old) (value_of key.now)) }
     ensures gives { Gives value_of result (moment_of heap.new budget.new) (m.pop_key id.0 (entries_at heap.old id.0) (value_of key.now) (no_key (value_of key.now)) (moment_of heap.old budget.old)) }
+    ensures heap { length heap.old ≤ length heap.new }
+    ensures most { length heap.new + budget.new.left ≤ length heap.old + budget.old.left + 1 }
+    ensures left { budget.new.left ≤ budget.old.left }
     ensures depth { budget.new.depth ≡ budget.old.depth }
     ensures least { budget.old.left + steps.old ≤ budget.new.left + steps.new }
 {
@@ -142,7 +154,8 @@ fn pop<L: Ledger>(
 
 fn clear(id: NodeId, heap: &mut Heap) -> Result<Value, CallFault>
     requires id { id.0 < length heap.old }
-    ensures { (b : Budget) → Gives value_of result (moment_of heap.new b) (m.changing id.0 (on_dict (λ entries. [])) (moment_of heap.old b)) }
+    ensures gives { (b : Budget) → Gives value_of result (moment_of heap.new b) (m.changing id.0 (on_dict (λ entries. [])) (moment_of heap.old b)) }
+    ensures long { length heap.new ≡ length heap.old }
 {
     heap.clear(id);
     Ok(Value::None)
@@ -159,6 +172,9 @@ fn update<L: Ledger>(
     requires id { id.0 < length heap.old }
     requires sound { IsTrue (is_sound (length heap.old) (value_of other.now)) }
     ensures gives { Gives value_of result (moment_of heap.new budget.new) (m.dict_row m.update id.0 (entries_at heap.old id.0) (value_of other.now ∷ []) (moment_of heap.old budget.old)) }
+    ensures heap { length heap.old ≤ length heap.new }
+    ensures most { length heap.new + budget.new.left ≤ length heap.old + budget.old.left + 1 }
+    ensures left { budget.new.left ≤ budget.old.left }
     ensures depth { budget.new.depth ≡ budget.old.depth }
     ensures least { budget.old.left + steps.old ≤ budget.new.left + steps.new }
 {
@@ -182,6 +198,9 @@ fn copy<L: Ledger>(
     requires dict { IsDict heap.old id.0 }
     requires room { length heap.old + budget.old.left < 2 ^ 32 - 16 }
     ensures gives { Gives value_of result (moment_of heap.new budget.new) (m.dict_row m.copy id.0 (entries_at heap.old id.0) [] (moment_of heap.old budget.old)) }
+    ensures heap { length heap.old ≤ length heap.new }
+    ensures most { length heap.new + budget.new.left ≤ length heap.old + budget.old.left + 1 }
+    ensures left { budget.new.left ≤ budget.old.left }
     ensures depth { budget.new.depth ≡ budget.old.depth }
     ensures least { budget.old.left + steps.old ≤ budget.new.left + steps.new }
 {
@@ -202,6 +221,9 @@ fn without_argument<L: Ledger>(
     requires dict { IsDict heap.old id.0 }
     requires room { length heap.old + budget.old.left < 2 ^ 32 - 16 }
     ensures gives { Gives value_of result (moment_of heap.new budget.new) (m.dict_row (method_of method) id.0 (entries_at heap.old id.0) [] (moment_of heap.old budget.old)) }
+    ensures heap { length heap.old ≤ length heap.new }
+    ensures most { length heap.new + budget.new.left ≤ length heap.old + budget.old.left + 1 }
+    ensures left { budget.new.left ≤ budget.old.left }
     ensures depth { budget.new.depth ≡ budget.old.depth }
     ensures least { budget.old.left + steps.old ≤ budget.new.left + steps.new }
 {
@@ -245,6 +267,9 @@ fn with_argument<L: Ledger>(
     requires room { length heap.old + budget.old.left < 2 ^ 32 - 16 }
     requires sound { IsTrue (is_sound (length heap.old) (value_of x.now)) }
     ensures gives { Gives value_of result (moment_of heap.new budget.new) (m.dict_row (method_of method) id.0 (entries_at heap.old id.0) (value_of x.now ∷ []) (moment_of heap.old budget.old)) }
+    ensures heap { length heap.old ≤ length heap.new }
+    ensures most { length heap.new + budget.new.left ≤ length heap.old + budget.old.left + 1 }
+    ensures left { budget.new.left ≤ budget.old.left }
     ensures depth { budget.new.depth ≡ budget.old.depth }
     ensures least { budget.old.left + steps.old ≤ budget.new.left + steps.new }
 {
@@ -290,6 +315,9 @@ fn with_arguments<L: Ledger>(
     requires sound { IsTrue (is_sound (length heap.old) (value_of x.now)) }
     requires other { IsTrue (is_sound (length heap.old) (value_of y.now)) }
     ensures gives { Gives value_of result (moment_of heap.new budget.new) (m.dict_row (method_of method) id.0 (entries_at heap.old id.0) (value_of x.now ∷ value_of y.now ∷ []) (moment_of heap.old budget.old)) }
+    ensures heap { length heap.old ≤ length heap.new }
+    ensures most { length heap.new + budget.new.left ≤ length heap.old + budget.old.left + 1 }
+    ensures left { budget.new.left ≤ budget.old.left }
     ensures depth { budget.new.depth ≡ budget.old.depth }
     ensures least { budget.old.left + steps.old ≤ budget.new.left + steps.new }
 {
@@ -334,6 +362,9 @@ pub(crate) fn dict_method<L: Ledger>(
     requires room { length heap.old + budget.old.left < 2 ^ 32 - 16 }
     requires sound { IsTrue (are_sound (length heap.old) (map value_of args.now)) }
     ensures gives { Gives value_of result (moment_of heap.new budget.new) (m.dict_row (method_of method) id.0 (entries_at heap.old id.0) (map value_of args.now) (moment_of heap.old budget.old)) }
+    ensures heap { length heap.old ≤ length heap.new }
+    ensures most { length heap.new + budget.new.left ≤ length heap.old + budget.old.left + 1 }
+    ensures left { budget.new.left ≤ budget.old.left }
     ensures depth { budget.new.depth ≡ budget.old.depth }
     ensures least { budget.old.left + steps.old ≤ budget.new.left + steps.new }
 {

@@ -101,6 +101,7 @@ pub(crate) fn insert_all(
     requires id { id.0 < length heap.old }
     requires sound { IsTrue (list_all (λ e. is_sound (length heap.old) e.1) (entries_of entries.now.entries)) }
     ensures nodes { OnOk result (heap.new ≡ changed (on_dict (with_entries (entries_of entries.now.entries))) id.0 heap.old) }
+    ensures long { length heap.new ≡ length heap.old }
 {
     for i in 0..entries.len() {
         let Some((key, value)) = entries.get_index(i) else {

@@ -22,6 +22,7 @@ fn first_equal<L: Ledger>(
 ) -> Result<Option<usize>, CompareFault>
     ensures gives { compared.Gives result budget.new.left (place_from heap.now budget.old.depth (value_of value.now) 0 (map value_of items.now) budget.old.left) }
     ensures within { IfOk result (λ o. IfSome o (λ place. place < length items.now)) }
+    ensures left { budget.new.left ≤ budget.old.left }
     ensures depth { budget.new.depth ≡ budget.old.depth }
     ensures least { budget.old.left + steps.old ≤ budget.new.left + steps.new }
 {
@@ -49,6 +50,7 @@ fn all_equal<L: Ledger>(
     steps: &mut Steps<L>,
 ) -> Result<usize, CompareFault>
     ensures gives { compared.Gives result budget.new.left (count_from heap.now budget.old.depth (value_of value.now) 0 (map value_of items.now) budget.old.left) }
+    ensures left { budget.new.left ≤ budget.old.left }
     ensures depth { budget.new.depth ≡ budget.old.depth }
     ensures least { budget.old.left + steps.old ≤ budget.new.left + steps.new }
 {
@@ -70,6 +72,7 @@ fn place_among<L: Ledger>(
 ) -> Result<Option<usize>, CallFault>
     ensures gives { Gives (λ o. o) result (moment_of heap.now budget.new) (place_among (value_of value.now) (map value_of items.now) (moment_of heap.now budget.old)) }
     ensures within { IfOk result (λ o. IfSome o (λ place. place < length items.now)) }
+    ensures left { budget.new.left ≤ budget.old.left }
     ensures depth { budget.new.depth ≡ budget.old.depth }
     ensures least { budget.old.left + steps.old ≤ budget.new.left + steps.new }
 {
@@ -87,6 +90,7 @@ pub(crate) fn place_of_equal<L: Ledger>(
 ) -> Result<usize, CallFault>
     ensures gives { Gives (λ n. n) result (moment_of heap.now budget.new) (place_of_equal (value_of value.now) (map value_of items.now) (moment_of heap.now budget.old)) }
     ensures within { IfOk result (λ place. place < length items.now) }
+    ensures left { budget.new.left ≤ budget.old.left }
     ensures depth { budget.new.depth ≡ budget.old.depth }
     ensures least { budget.old.left + steps.old ≤ budget.new.left + steps.new }
 {
@@ -106,6 +110,7 @@ pub(crate) fn count_among<L: Ledger>(
     steps: &mut Steps<L>,
 ) -> Result<usize, CallFault>
     ensures gives { Gives (λ n. n) result (moment_of heap.now budget.new) (count_among (value_of value.now) (map value_of items.now) (moment_of heap.now budget.old)) }
+    ensures left { budget.new.left ≤ budget.old.left }
     ensures depth { budget.new.depth ≡ budget.old.depth }
     ensures least { budget.old.left + steps.old ≤ budget.new.left + steps.new }
 {
@@ -122,6 +127,7 @@ pub(crate) fn place_number<L: Ledger>(
     steps: &mut Steps<L>,
 ) -> Result<Value, CallFault>
     ensures gives { Gives value_of result (moment_of heap.now budget.new) (place_number (value_of value.now) (map value_of items.now) (moment_of heap.now budget.old)) }
+    ensures left { budget.new.left ≤ budget.old.left }
     ensures depth { budget.new.depth ≡ budget.old.depth }
     ensures least { budget.old.left + steps.old ≤ budget.new.left + steps.new }
 {
@@ -139,6 +145,7 @@ pub(crate) fn count_number<L: Ledger>(
     steps: &mut Steps<L>,
 ) -> Result<Value, CallFault>
     ensures gives { Gives value_of result (moment_of heap.now budget.new) (count_number (value_of value.now) (map value_of items.now) (moment_of heap.now budget.old)) }
+    ensures left { budget.new.left ≤ budget.old.left }
     ensures depth { budget.new.depth ≡ budget.old.depth }
     ensures least { budget.old.left + steps.old ≤ budget.new.left + steps.new }
 {

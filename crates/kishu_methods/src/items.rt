@@ -72,6 +72,7 @@ pub(crate) fn without_place<L: Ledger>(
     ensures value { IfOk result (λ v. value_of v ≡ slice_index_or (items_at heap.old id.0) place none) }
     ensures nodes { OnOk result (heap.new ≡ changed (without_place place) id.0 heap.old) }
     ensures counted { steps.old ≤ steps.new }
+    ensures long { length heap.new ≡ length heap.old }
 {
     let mut items = copied_list(alloc, heap, id, steps)?;
     let taken = items.remove(place);
@@ -94,6 +95,7 @@ pub(crate) fn with_place<L: Ledger>(
     requires sound { IsTrue (is_sound (length heap.old) (value_of value.now)) }
     ensures nodes { OnOk result (heap.new ≡ changed (on_list (λ items. insert items place (value_of value.now))) id.0 heap.old) }
     ensures counted { steps.old ≤ steps.new }
+    ensures long { length heap.new ≡ length heap.old }
 {
     let mut items = copied_list(alloc, heap, id, steps)?;
     items.insert(place, value.copied()?)?;
@@ -112,6 +114,7 @@ pub(crate) fn reverse<L: Ledger>(
     requires list { IsList heap.old id.0 }
     ensures nodes { OnOk result (heap.new ≡ changed (on_list reverse) id.0 heap.old) }
     ensures counted { steps.old ≤ steps.new }
+    ensures long { length heap.new ≡ length heap.old }
 {
     let mut items = copied_list(alloc, heap, id, steps)?;
     items.reverse();
@@ -124,6 +127,7 @@ pub(crate) fn push_all(id: NodeId, values: &[Value], heap: &mut Heap) -> Result<
     requires id { id.0 < length heap.old }
     requires sound { IsTrue (are_sound (length heap.old) (map value_of values.now)) }
     ensures nodes { OnOk result (heap.new ≡ changed (on_list (λ items. items ++ map value_of values.now)) id.0 heap.old) }
+    ensures long { length heap.new ≡ length heap.old }
 {
     for i in 0..values.len() {
         heap.push(id, values[i].copied()?)?;

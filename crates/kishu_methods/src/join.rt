@@ -95,6 +95,7 @@ fn joined_by<L: Ledger>(
     steps: &mut Steps<L>,
 ) -> Result<Value, CallFault>
     ensures gives { (ns : List Node) → Gives value_of result (moment_of ns budget.new) (joined_by (chars by.now) (map value_of values.now) (moment_of ns budget.old)) }
+    ensures left { budget.new.left ≤ budget.old.left }
     ensures depth { budget.new.depth ≡ budget.old.depth }
     ensures least { budget.old.left + steps.old ≤ budget.new.left + steps.new }
 {
@@ -119,6 +120,9 @@ pub(crate) fn join<L: Ledger>(
     requires sound { IsTrue (is_sound (length heap.old) (value_of argument.now)) }
     requires room { length heap.old + budget.old.left < 2 ^ 32 - 16 }
     ensures gives { Gives value_of result (moment_of heap.new budget.new) (text_row m.join (chars text.now) (value_of argument.now ∷ []) (moment_of heap.old budget.old)) }
+    ensures heap { length heap.old ≤ length heap.new }
+    ensures most { length heap.new + budget.new.left ≤ length heap.old + budget.old.left + 1 }
+    ensures left { budget.new.left ≤ budget.old.left }
     ensures depth { budget.new.depth ≡ budget.old.depth }
     ensures least { budget.old.left + steps.old ≤ budget.new.left + steps.new }
 {

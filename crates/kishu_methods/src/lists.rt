@@ -26,7 +26,8 @@ use std::sync::ledger::Ledger;
 fn append(id: NodeId, x: &Value, heap: &mut Heap) -> Result<Value, CallFault>
     requires id { id.0 < length heap.old }
     requires sound { IsTrue (is_sound (length heap.old) (value_of x.now)) }
-    ensures { (b : Budget) → Gives value_of result (moment_of heap.new b) (m.changing id.0 (push (value_of x.now)) (moment_of heap.old b)) }
+    ensures gives { (b : Budget) → Gives value_of result (moment_of heap.new b) (m.changing id.0 (push (value_of x.now)) (moment_of heap.old b)) }
+    ensures long { length heap.new ≡ length heap.old }
 {
     heap.push(id, x.copied()?)?;
     Ok(Value::None)
@@ -35,7 +36,8 @@ fn append(id: NodeId, x: &Value, heap: &mut Heap) -> Result<Value, CallFault>
 fn pop_last(alloc: Global, id: NodeId, heap: &mut Heap) -> Result<Value, CallFault>
     requires id { id.0 < length heap.old }
     requires list { IsList heap.old id.0 }
-    ensures { (b : Budget) → Gives value_of result (moment_of heap.new b) (m.pop_last id.0 (items_at heap.old id.0) (moment_of heap.old b)) }
+    ensures gives { (b : Budget) → Gives value_of result (moment_of heap.new b) (m.pop_last id.0 (items_at heap.old id.0) (moment_of heap.old b)) }
+    ensures long { length heap.new ≡ length heap.old }
 {
     match heap.pop(id) {
         Some(value) => Ok(value),
@@ -45,7 +47,8 @@ fn pop_last(alloc: Global, id: NodeId, heap: &mut Heap) -> Result<Value, CallFau
 
 fn clear(alloc: Global, id: NodeId, heap: &mut Heap) -> Result<Value, CallFault>
     requires id { id.0 < length heap.old }
-    ensures { (b : Budget) → Gives value_of result (moment_of heap.new b) (m.changing id.0 (replace_list []) (moment_of heap.old b)) }
+    ensures gives { (b : Budget) → Gives value_of result (moment_of heap.new b) (m.changing id.0 (replace_list []) (moment_of heap.old b)) }
+    ensures long { length heap.new ≡ length heap.old }
 {
     heap.replace_list(id, Vec::new(alloc));
     Ok(Value::None)
@@ -63,6 +66,9 @@ fn take_out<L: Ledger>(
     requires list { IsList heap.old id.0 }
     requires place { place < length (items_at heap.old id.0) }
     ensures gives { Gives value_of result (moment_of heap.new budget.new) (m.take_out id.0 (items_at heap.old id.0) place (moment_of heap.old budget.old)) }
+    ensures heap { length heap.old ≤ length heap.new }
+    ensures most { length heap.new + budget.new.left ≤ length heap.old + budget.old.left + 1 }
+    ensures left { budget.new.left ≤ budget.old.left }
     ensures depth { budget.new.depth ≡ budget.old.depth }
     ensures least { budget.old.left + steps.old ≤ budget.new.left + steps.new }
 {
@@ -82,6 +88,9 @@ fn pop_at<L: Ledger>(
     requires list { IsList heap.old id.0 }
     requires sound { IsTrue (is_sound (length heap.old) (value_of at.now)) }
     ensures gives { Gives value_of result (moment_of heap.new budget.new) (m.list_row m.pop id.0 (items_at heap.old id.0) (value_of at.now ∷ []) (moment_of heap.old budget.old)) }
+    ensures heap { length heap.old ≤ length heap.new }
+    ensures most { length heap.new + budget.new.left ≤ length heap.old + budget.old.left + 1 }
+    ensures left { budget.new.left ≤ budget.old.left }
     ensures depth { budget.new.depth ≡ budget.old.depth }
     ensures least { budget.old.left + steps.old ≤ budget.new.left + steps.new }
 {
@@ -107,6 +116,9 @@ fn put_in<L: Ledger>(
     requires list { IsList heap.old id.0 }
     requires sound { IsTrue (is_sound (length heap.old) (value_of x.now)) }
     ensures gives { Gives value_of result (moment_of heap.new budget.new) (m.insert_at id.0 (items_at heap.old id.0) (value_of x.now) index (moment_of heap.old budget.old)) }
+    ensures heap { length heap.old ≤ length heap.new }
+    ensures most { length heap.new + budget.new.left ≤ length heap.old + budget.old.left + 1 }
+    ensures left { budget.new.left ≤ budget.old.left }
     ensures depth { budget.new.depth ≡ budget.old.depth }
     ensures least { budget.old.left + steps.old ≤ budget.new.left + steps.new }
 {
@@ -130,6 +142,9 @@ fn insert_at<L: Ledger>(
     requires at { IsTrue (is_sound (length heap.old) (value_of at.now)) }
     requires sound { IsTrue (is_sound (length heap.old) (value_of x.now)) }
     ensures gives { Gives value_of result (moment_of heap.new budget.new) (m.list_row m.insert id.0 (items_at heap.old id.0) (value_of at.now ∷ value_of x.now ∷ []) (moment_of heap.old budget.old)) }
+    ensures heap { length heap.old ≤ length heap.new }
+    ensures most { length heap.new + budget.new.left ≤ length heap.old + budget.old.left + 1 }
+    ensures left { budget.new.left ≤ budget.old.left }
     ensures depth { budget.new.depth ≡ budget.old.depth }
     ensures least { budget.old.left + steps.old ≤ budget.new.left + steps.new }
 {
@@ -150,6 +165,9 @@ fn extend<L: Ledger>(
     requires sound { IsTrue (is_sound (length heap.old) (value_of sequence.now)) }
     requires room { length heap.old + budget.old.left < 2 ^ 32 - 16 }
     ensures gives { Gives value_of result (moment_of heap.new budget.new) (m.list_row m.extend id.0 (items_at heap.old id.0) (value_of sequence.now ∷ []) (moment_of heap.old budget.old)) }
+    ensures heap { length heap.old ≤ length heap.new }
+    ensures most { length heap.new + budget.new.left ≤ length heap.old + budget.old.left + 1 }
+    ensures left { budget.new.left ≤ budget.old.left }
     ensures depth { budget.new.depth ≡ budget.old.depth }
     ensures least { budget.old.left + steps.old ≤ budget.new.left + steps.new }
 {
@@ -169,6 +187,9 @@ fn remove<L: Ledger>(
     requires id { id.0 < length heap.old }
     requires list { IsList heap.old id.0 }
     ensures gives { Gives value_of result (moment_of heap.new budget.new) (m.list_row m.remove id.0 (items_at heap.old id.0) (value_of x.now ∷ []) (moment_of heap.old budget.old)) }
+    ensures heap { length heap.old ≤ length heap.new }
+    ensures most { length heap.new + budget.new.left ≤ length heap.old + budget.old.left + 1 }
+    ensures left { budget.new.left ≤ budget.old.left }
     ensures depth { budget.new.depth ≡ budget.old.depth }
     ensures least { budget.old.left + steps.old ≤ budget.new.left + steps.new }
 {
@@ -188,6 +209,9 @@ fn turn_round<L: Ledger>(
     requires id { id.0 < length heap.old }
     requires list { IsList heap.old id.0 }
     ensures gives { Gives value_of result (moment_of heap.new budget.new) (m.list_row m.reverse id.0 (items_at heap.old id.0) [] (moment_of heap.old budget.old)) }
+    ensures heap { length heap.old ≤ length heap.new }
+    ensures most { length heap.new + budget.new.left ≤ length heap.old + budget.old.left + 1 }
+    ensures left { budget.new.left ≤ budget.old.left }
     ensures depth { budget.new.depth ≡ budget.old.depth }
     ensures least { budget.old.left + steps.old ≤ budget.new.left + steps.new }
 {
@@ -207,6 +231,9 @@ fn copy<L: Ledger>(
     requires list { IsList heap.old id.0 }
     requires room { length heap.old + 1 < 2 ^ 32 }
     ensures gives { Gives value_of result (moment_of heap.new budget.new) (m.list_row m.copy id.0 (items_at heap.old id.0) [] (moment_of heap.old budget.old)) }
+    ensures heap { length heap.old ≤ length heap.new }
+    ensures most { length heap.new + budget.new.left ≤ length heap.old + budget.old.left + 1 }
+    ensures left { budget.new.left ≤ budget.old.left }
     ensures depth { budget.new.depth ≡ budget.old.depth }
     ensures least { budget.old.left + steps.old ≤ budget.new.left + steps.new }
 {
@@ -225,6 +252,9 @@ fn sort<L: Ledger>(
     requires id { id.0 < length heap.old }
     requires list { IsList heap.old id.0 }
     ensures gives { Gives value_of result (moment_of heap.new budget.new) (m.sort_in_place id.0 (items_at heap.old id.0) (moment_of heap.old budget.old)) }
+    ensures heap { length heap.old ≤ length heap.new }
+    ensures most { length heap.new + budget.new.left ≤ length heap.old + budget.old.left + 1 }
+    ensures left { budget.new.left ≤ budget.old.left }
     ensures depth { budget.new.depth ≡ budget.old.depth }
     ensures least { budget.old.left + steps.old ≤ budget.new.left + steps.new }
 {
@@ -251,6 +281,9 @@ fn without_argument<L: Ledger>(
     requires list { IsList heap.old id.0 }
     requires room { length heap.old + budget.old.left < 2 ^ 32 - 16 }
     ensures gives { Gives value_of result (moment_of heap.new budget.new) (m.list_row (method_of method) id.0 (items_at heap.old id.0) [] (moment_of heap.old budget.old)) }
+    ensures heap { length heap.old ≤ length heap.new }
+    ensures most { length heap.new + budget.new.left ≤ length heap.old + budget.old.left + 1 }
+    ensures left { budget.new.left ≤ budget.old.left }
     ensures depth { budget.new.depth ≡ budget.old.depth }
     ensures least { budget.old.left + steps.old ≤ budget.new.left + steps.new }
 {
@@ -294,6 +327,9 @@ fn with_argument<L: Ledger>(
     requires room { length heap.old + budget.old.left < 2 ^ 32 - 16 }
     requires sound { IsTrue (is_sound (length heap.old) (value_of x.now)) }
     ensures gives { Gives value_of result (moment_of heap.new budget.new) (m.list_row (method_of method) id.0 (items_at heap.old id.0) (value_of x.now ∷ []) (moment_of heap.old budget.old)) }
+    ensures heap { length heap.old ≤ length heap.new }
+    ensures most { length heap.new + budget.new.left ≤ length heap.old + budget.old.left + 1 }
+    ensures left { budget.new.left ≤ budget.old.left }
     ensures depth { budget.new.depth ≡ budget.old.depth }
     ensures least { budget.old.left + steps.old ≤ budget.new.left + steps.new }
 {
@@ -339,6 +375,9 @@ fn with_arguments<L: Ledger>(
     requires at { IsTrue (is_sound (length heap.old) (value_of at.now)) }
     requires sound { IsTrue (is_sound (length heap.old) (value_of x.now)) }
     ensures gives { Gives value_of result (moment_of heap.new budget.new) (m.list_row (method_of method) id.0 (items_at heap.old id.0) (value_of at.now ∷ value_of x.now ∷ []) (moment_of heap.old budget.old)) }
+    ensures heap { length heap.old ≤ length heap.new }
+    ensures most { length heap.new + budget.new.left ≤ length heap.old + budget.old.left + 1 }
+    ensures left { budget.new.left ≤ budget.old.left }
     ensures depth { budget.new.depth ≡ budget.old.depth }
     ensures least { budget.old.left + steps.old ≤ budget.new.left + steps.new }
 {
@@ -383,6 +422,9 @@ pub(crate) fn list_method<L: Ledger>(
     requires room { length heap.old + budget.old.left < 2 ^ 32 - 16 }
     requires sound { IsTrue (are_sound (length heap.old) (map value_of args.now)) }
     ensures gives { Gives value_of result (moment_of heap.new budget.new) (m.list_row (method_of method) id.0 (items_at heap.old id.0) (map value_of args.now) (moment_of heap.old budget.old)) }
+    ensures heap { length heap.old ≤ length heap.new }
+    ensures most { length heap.new + budget.new.left ≤ length heap.old + budget.old.left + 1 }
+    ensures left { budget.new.left ≤ budget.old.left }
     ensures depth { budget.new.depth ≡ budget.old.depth }
     ensures least { budget.old.left + steps.old ≤ budget.new.left + steps.new }
 {

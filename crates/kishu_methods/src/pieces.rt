@@ -34,7 +34,9 @@ fn text_values(alloc: Global, texts: Vec<String>) -> Result<Vec<Value>, AllocErr
 /// A new list of texts.
 fn new_texts(alloc: Global, texts: Vec<String>, heap: &mut Heap) -> Result<Value, CallFault>
     requires { length heap.old + 1 < 2 ^ 32 }
-    ensures { (left depth : ℕ) → Gives value_of result (bare heap.new left depth) (new_texts (code_points texts.items) (bare heap.old left depth)) }
+    ensures gives { (left depth : ℕ) → Gives value_of result (bare heap.new left depth) (new_texts (code_points texts.items) (bare heap.old left depth)) }
+    ensures heap { length heap.old ≤ length heap.new }
+    ensures most { length heap.new ≤ length heap.old + 1 }
 {
     let items = text_values(alloc, texts)?;
     Ok(Value::Node(heap.make(Node::List(items))?))
@@ -51,6 +53,9 @@ pub(crate) fn split_space<L: Ledger>(
 ) -> Result<Value, CallFault>
     requires room { length heap.old + budget.old.left < 2 ^ 32 - 16 }
     ensures gives { Gives value_of result (moment_of heap.new budget.new) (text_row m.split (chars text.now) [] (moment_of heap.old budget.old)) }
+    ensures heap { length heap.old ≤ length heap.new }
+    ensures most { length heap.new + budget.new.left ≤ length heap.old + budget.old.left + 1 }
+    ensures left { budget.new.left ≤ budget.old.left }
     ensures depth { budget.new.depth ≡ budget.old.depth }
     ensures least { budget.old.left + steps.old ≤ budget.new.left + steps.new }
 {
@@ -71,6 +76,9 @@ pub(crate) fn split<L: Ledger>(
 ) -> Result<Value, CallFault>
     requires room { length heap.old + budget.old.left < 2 ^ 32 - 16 }
     ensures gives { Gives value_of result (moment_of heap.new budget.new) (text_row m.split (chars text.now) (value_of argument.now ∷ []) (moment_of heap.old budget.old)) }
+    ensures heap { length heap.old ≤ length heap.new }
+    ensures most { length heap.new + budget.new.left ≤ length heap.old + budget.old.left + 1 }
+    ensures left { budget.new.left ≤ budget.old.left }
     ensures depth { budget.new.depth ≡ budget.old.depth }
     ensures least { budget.old.left + steps.old ≤ budget.new.left + steps.new }
 {

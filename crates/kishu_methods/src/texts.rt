@@ -74,6 +74,7 @@ fn starts_with<L: Ledger>(
     steps: &mut Steps<L>,
 ) -> Result<Value, CallFault>
     ensures gives { (ns : List Node) → Gives value_of result (moment_of ns budget.new) (text_row m.startswith (chars text.now) (value_of argument.now ∷ []) (moment_of ns budget.old)) }
+    ensures left { budget.new.left ≤ budget.old.left }
     ensures depth { budget.new.depth ≡ budget.old.depth }
     ensures least { budget.old.left + steps.old ≤ budget.new.left + steps.new }
 {
@@ -93,6 +94,7 @@ fn ends_with<L: Ledger>(
     steps: &mut Steps<L>,
 ) -> Result<Value, CallFault>
     ensures gives { (ns : List Node) → Gives value_of result (moment_of ns budget.new) (text_row m.endswith (chars text.now) (value_of argument.now ∷ []) (moment_of ns budget.old)) }
+    ensures left { budget.new.left ≤ budget.old.left }
     ensures depth { budget.new.depth ≡ budget.old.depth }
     ensures least { budget.old.left + steps.old ≤ budget.new.left + steps.new }
 {
@@ -111,6 +113,7 @@ fn strip<L: Ledger>(
     steps: &mut Steps<L>,
 ) -> Result<Value, CallFault>
     ensures gives { (ns : List Node) → Gives value_of result (moment_of ns budget.new) (text_row m.strip (chars text.now) [] (moment_of ns budget.old)) }
+    ensures left { budget.new.left ≤ budget.old.left }
     ensures depth { budget.new.depth ≡ budget.old.depth }
     ensures least { budget.old.left + steps.old ≤ budget.new.left + steps.new }
 {
@@ -126,6 +129,7 @@ fn is_digit<L: Ledger>(
     steps: &mut Steps<L>,
 ) -> Result<Value, CallFault>
     ensures gives { (ns : List Node) → Gives value_of result (moment_of ns budget.new) (text_row m.isdigit (chars text.now) [] (moment_of ns budget.old)) }
+    ensures left { budget.new.left ≤ budget.old.left }
     ensures depth { budget.new.depth ≡ budget.old.depth }
     ensures least { budget.old.left + steps.old ≤ budget.new.left + steps.new }
 {
@@ -159,6 +163,7 @@ fn find<L: Ledger>(
     steps: &mut Steps<L>,
 ) -> Result<Value, CallFault>
     ensures gives { (ns : List Node) → Gives value_of result (moment_of ns budget.new) (text_row m.find (chars text.now) (value_of argument.now ∷ []) (moment_of ns budget.old)) }
+    ensures left { budget.new.left ≤ budget.old.left }
     ensures depth { budget.new.depth ≡ budget.old.depth }
     ensures least { budget.old.left + steps.old ≤ budget.new.left + steps.new }
 {
@@ -179,6 +184,7 @@ fn occurrences<L: Ledger>(
     steps: &mut Steps<L>,
 ) -> Result<Value, CallFault>
     ensures gives { (ns : List Node) → Gives value_of result (moment_of ns budget.new) (text_row m.count (chars text.now) (value_of argument.now ∷ []) (moment_of ns budget.old)) }
+    ensures left { budget.new.left ≤ budget.old.left }
     ensures depth { budget.new.depth ≡ budget.old.depth }
     ensures least { budget.old.left + steps.old ≤ budget.new.left + steps.new }
 {
@@ -201,6 +207,7 @@ fn replace<L: Ledger>(
     steps: &mut Steps<L>,
 ) -> Result<Value, CallFault>
     ensures gives { (ns : List Node) → Gives value_of result (moment_of ns budget.new) (text_row m.replace (chars text.now) (value_of first.now ∷ value_of second.now ∷ []) (moment_of ns budget.old)) }
+    ensures left { budget.new.left ≤ budget.old.left }
     ensures depth { budget.new.depth ≡ budget.old.depth }
     ensures least { budget.old.left + steps.old ≤ budget.new.left + steps.new }
 {
@@ -225,6 +232,9 @@ fn without_arguments<L: Ledger>(
 ) -> Result<Value, CallFault>
     requires room { length heap.old + budget.old.left < 2 ^ 32 - 16 }
     ensures gives { Gives value_of result (moment_of heap.new budget.new) (text_row (method_of method) (chars text.now) [] (moment_of heap.old budget.old)) }
+    ensures heap { length heap.old ≤ length heap.new }
+    ensures most { length heap.new + budget.new.left ≤ length heap.old + budget.old.left + 1 }
+    ensures left { budget.new.left ≤ budget.old.left }
     ensures depth { budget.new.depth ≡ budget.old.depth }
     ensures least { budget.old.left + steps.old ≤ budget.new.left + steps.new }
 {
@@ -249,6 +259,9 @@ fn with_argument<L: Ledger>(
     requires sound { IsTrue (is_sound (length heap.old) (value_of argument.now)) }
     requires room { length heap.old + budget.old.left < 2 ^ 32 - 16 }
     ensures gives { Gives value_of result (moment_of heap.new budget.new) (text_row (method_of method) (chars text.now) (value_of argument.now ∷ []) (moment_of heap.old budget.old)) }
+    ensures heap { length heap.old ≤ length heap.new }
+    ensures most { length heap.new + budget.new.left ≤ length heap.old + budget.old.left + 1 }
+    ensures left { budget.new.left ≤ budget.old.left }
     ensures depth { budget.new.depth ≡ budget.old.depth }
     ensures least { budget.old.left + steps.old ≤ budget.new.left + steps.new }
 {
@@ -274,6 +287,7 @@ fn with_two<L: Ledger>(
     steps: &mut Steps<L>,
 ) -> Result<Value, CallFault>
     ensures gives { (ns : List Node) → Gives value_of result (moment_of ns budget.new) (text_row (method_of method) (chars text.now) (value_of first.now ∷ value_of second.now ∷ []) (moment_of ns budget.old)) }
+    ensures left { budget.new.left ≤ budget.old.left }
     ensures depth { budget.new.depth ≡ budget.old.depth }
     ensures least { budget.old.left + steps.old ≤ budget.new.left + steps.new }
 {
@@ -296,6 +310,9 @@ pub(crate) fn text_method<L: Ledger>(
     requires sound { IsTrue (are_sound (length heap.old) (map value_of args.now)) }
     requires room { length heap.old + budget.old.left < 2 ^ 32 - 16 }
     ensures gives { Gives value_of result (moment_of heap.new budget.new) (text_row (method_of method) (chars text.now) (map value_of args.now) (moment_of heap.old budget.old)) }
+    ensures heap { length heap.old ≤ length heap.new }
+    ensures most { length heap.new + budget.new.left ≤ length heap.old + budget.old.left + 1 }
+    ensures left { budget.new.left ≤ budget.old.left }
     ensures depth { budget.new.depth ≡ budget.old.depth }
     ensures least { budget.old.left + steps.old ≤ budget.new.left + steps.new }
 {

@@ -22,6 +22,7 @@ fn with_argument<L: Ledger>(
     steps: &mut Steps<L>,
 ) -> Result<Value, CallFault>
     ensures gives { Gives value_of result (moment_of heap.now budget.new) (tuple_row (method_of method) (map value_of items.now) (value_of value.now ∷ []) (moment_of heap.now budget.old)) }
+    ensures left { budget.new.left ≤ budget.old.left }
     ensures depth { budget.new.depth ≡ budget.old.depth }
     ensures least { budget.old.left + steps.old ≤ budget.new.left + steps.new }
 {
@@ -62,6 +63,7 @@ pub(crate) fn tuple_method<L: Ledger>(
     steps: &mut Steps<L>,
 ) -> Result<Value, CallFault>
     ensures gives { Gives value_of result (moment_of heap.now budget.new) (tuple_row (method_of method) (map value_of items.now) (map value_of args.now) (moment_of heap.now budget.old)) }
+    ensures left { budget.new.left ≤ budget.old.left }
     ensures depth { budget.new.depth ≡ budget.old.depth }
     ensures least { budget.old.left + steps.old ≤ budget.new.left + steps.new }
 {

@@ -4,15 +4,17 @@ ghost use Rattle.std.specs.Rc.{rc_str_bytes};
 ghost use Rattle.kishu_model.specs.Names.{is_name};
 ghost use Rattle.kishu_model.specs.Values.{value_of, find, bind};
 ghost use Rattle.kishu_model.specs.Sound.{is_valid};
-ghost use Rattle.kishu_model.specs.Accesses.{unbind, with_access};
+ghost use Rattle.kishu_model.specs.Accesses.{unbind, with_access, with_accesses};
+ghost use Rattle.kishu_names.specs.Record.{Rises, texts_of};
 ghost use Rattle.kishu_names.specs.Namespace.{IsKept, names_of};
 ghost use Rattle.kishu_names.specs.Record.{Rises};
 
-use crate::record::{note, note_in_room};
+use crate::record::{note, note_all, note_in_room};
 use kishu_model::Value;
 use std::alloc::{AllocError, Global};
 use std::collections::BTreeMap;
 use std::marker::Model;
+use std::mem;
 use std::rc::RcStr;
 
 /// Names with their values, and the names that were accessed.
@@ -167,6 +169,27 @@ impl Names {
         ensures kept { IsKept self.now.bound self.now.accessed }
     {
         self.accessed.as_slice()
+    }
+
+    /// Takes the record out: no name counts as accessed then.
+    pub fn take_record(&mut self) -> Vec<RcStr>
+        ensures record { texts_of result.items ≡ self.old.accessed }
+        ensures order { Rises (texts_of result.items) }
+        ensures bound { self.new.bound ≡ self.old.bound }
+        ensures accessed { self.new.accessed ≡ [] }
+    {
+        mem::replace(&mut self.accessed, Vec::new(self.alloc))
+    }
+
+    /// Puts a record that was taken out in the place of the present one, whose names are added to it.
+    /// Where there is no memory for them, some aren't.
+    pub fn join_record(&mut self, earlier: Vec<RcStr>) -> Result<(), AllocError>
+        requires order { Rises (texts_of earlier.items) }
+        ensures bound { self.new.bound ≡ self.old.bound }
+        ensures accessed { OnOk result (self.new.accessed ≡ with_accesses self.old.accessed (texts_of earlier.items)) }
+    {
+        let later = mem::replace(&mut self.accessed, earlier);
+        note_all(&mut self.accessed, later)
     }
 
     /// Forgets which names were accessed.

@@ -2,7 +2,7 @@
 ghost use Rattle.std.specs.Prelude.{◌≡◌, ◌<◌, OnOk, OnErr};
 ghost use Rattle.std.specs.Rc.{rc_str_bytes};
 ghost use Rattle.std.specs.Vec.{vec_len, vec_capacity};
-ghost use Rattle.kishu_model.specs.Accesses.{with_access};
+ghost use Rattle.kishu_model.specs.Accesses.{with_access, with_accesses};
 ghost use Rattle.kishu_names.specs.Record.{Rises, texts_of};
 
 use std::alloc::AllocError;
@@ -28,4 +28,16 @@ pub(crate) fn note_in_room(accessed: &mut Vec<RcStr>, name: RcStr)
     if let Err(place) = accessed.as_slice().binary_search(&name) {
         accessed.insert(place, name).unwrap();
     }
+}
+
+/// Records names. Where there is no memory for them, some aren't.
+pub(crate) fn note_all(accessed: &mut Vec<RcStr>, names: Vec<RcStr>) -> Result<(), AllocError>
+    requires { Rises (texts_of accessed.old.items) }
+    ensures order { Rises (texts_of accessed.new.items) }
+    ensures ok { OnOk result (texts_of accessed.new.items ≡ with_accesses (texts_of names.items) (texts_of accessed.old.items)) }
+{
+    for name in names {
+        note(accessed, name)?;
+    }
+    Ok(())
 }

@@ -47,6 +47,7 @@ pub(crate) fn spend<L: Ledger>(
     steps: &mut Steps<L>,
 ) -> Result<(), ShowFault>
     ensures gives { Gives (λ u. u) result left.new (spend count left.old) }
+    ensures left { left.new ≤ left.old }
     ensures counted { steps.new + left.new ≡ steps.old + left.old }
     ensures taken { OnOk result (left.new + count ≤ left.old) }
 {
@@ -65,6 +66,7 @@ pub(crate) fn push_made<L: Ledger>(
     steps: &mut Steps<L>,
 ) -> Result<(), ShowFault>
     ensures gives { Makes result draft.new (onto draft.old (made (chars text.now))) }
+    ensures left { draft.new.left ≤ draft.old.left }
     ensures counted { steps.new + draft.new.left ≡ steps.old + draft.old.left }
     ensures taken { OnOk result (draft.new.left + length (chars text.now) ≤ draft.old.left) }
 {
@@ -81,6 +83,7 @@ pub(crate) fn push_mark<L: Ledger>(
 ) -> Result<(), ShowFault>
     requires { IsTrue (list_all (λ c. nat_lt c 128) mark.now) }
     ensures gives { Makes result draft.new (onto draft.old (made mark.now)) }
+    ensures left { draft.new.left ≤ draft.old.left }
     ensures counted { steps.new + draft.new.left ≡ steps.old + draft.old.left }
     ensures taken { OnOk result (draft.new.left + length mark.now ≤ draft.old.left) }
 {

@@ -50,6 +50,7 @@ pub(crate) fn push_plain<L: Ledger>(
     steps: &mut Steps<L>,
 ) -> Result<(), ShowFault>
     ensures gives { Makes result draft.new (onto draft.old (made (repr_text (value_of value.now)))) }
+    ensures left { draft.new.left ≤ draft.old.left }
     ensures least { draft.old.left + steps.old ≤ draft.new.left + steps.new }
 {
     let text = plain_text(draft.alloc, value)?;
@@ -63,6 +64,7 @@ fn push_class<L: Ledger>(
     steps: &mut Steps<L>,
 ) -> Result<(), ShowFault>
     ensures gives { Makes result draft.new (onto draft.old (made (class_name class.0))) }
+    ensures left { draft.new.left ≤ draft.old.left }
     ensures least { draft.old.left + steps.old ≤ draft.new.left + steps.new }
 {
     push_mark(class_name(class), draft, steps)
@@ -75,6 +77,7 @@ fn push_again<L: Ledger>(
     steps: &mut Steps<L>,
 ) -> Result<(), ShowFault>
     ensures gives { Makes result draft.new (onto draft.old (made (again (node_of node.now)))) }
+    ensures left { draft.new.left ≤ draft.old.left }
     ensures least { draft.old.left + steps.old ≤ draft.new.left + steps.new }
 {
     let text = again_text(draft.alloc, node)?;
@@ -88,6 +91,7 @@ fn push_function<L: Ledger>(
     steps: &mut Steps<L>,
 ) -> Result<(), ShowFault>
     ensures gives { Makes result draft.new (onto draft.old (made (function_text function.now.profile (rc_str_bytes function.now.code)))) }
+    ensures left { draft.new.left ≤ draft.old.left }
     ensures least { draft.old.left + steps.old ≤ draft.new.left + steps.new }
 {
     let text = function_text(draft.alloc, function)?;
@@ -97,6 +101,7 @@ fn push_function<L: Ledger>(
 // Puts a key and a colon behind what is there.
 fn push_key<L: Ledger>(key: &Key, draft: &mut Draft, steps: &mut Steps<L>) -> Result<(), ShowFault>
     ensures gives { Makes result draft.new (onto draft.old (made (key_text (key_of key.now)))) }
+    ensures left { draft.new.left ≤ draft.old.left }
     ensures least { draft.old.left + steps.old ≤ draft.new.left + steps.new }
 {
     let text = key_text(draft.alloc, key)?;
@@ -110,6 +115,7 @@ fn push_comma<L: Ledger>(
     steps: &mut Steps<L>,
 ) -> Result<(), ShowFault>
     ensures gives { Makes result draft.new (onto draft.old (comma place)) }
+    ensures left { draft.new.left ≤ draft.old.left }
     ensures least { draft.old.left + steps.old ≤ draft.new.left + steps.new }
 {
     if place == 0 {
@@ -125,6 +131,7 @@ fn push_tuple_end<L: Ledger>(
     steps: &mut Steps<L>,
 ) -> Result<(), ShowFault>
     ensures gives { Makes result draft.new (onto draft.old (made (tuple_end (map value_of items.now)))) }
+    ensures left { draft.new.left ≤ draft.old.left }
     ensures least { draft.old.left + steps.old ≤ draft.new.left + steps.new }
 {
     push_mark(tuple_end(items.len()), draft, steps)
@@ -142,6 +149,7 @@ pub(crate) fn push_value<L: Ledger>(
     steps: &mut Steps<L>,
 ) -> Result<(), ShowFault>
     ensures gives { Makes result draft.new (onto draft.old (repr_by (repr_nodes heap.now room (around_of around.now)) (value_of value.now))) }
+    ensures left { draft.new.left ≤ draft.old.left }
     ensures least { draft.old.left + steps.old ≤ draft.new.left + steps.new }
 {
     let Some(id) = node_in(value) else {
@@ -164,6 +172,7 @@ pub(crate) fn push_node<L: Ledger>(
     steps: &mut Steps<L>,
 ) -> Result<(), ShowFault>
     ensures gives { Makes result draft.new (onto draft.old (repr_at (repr_nodes heap.now room (id.0 ∷ around_of around.now)) (list_any (λ j. id.0 == j) (around_of around.now)) (slice_get heap.now id.0))) }
+    ensures left { draft.new.left ≤ draft.old.left }
     ensures least { draft.old.left + steps.old ≤ draft.new.left + steps.new }
 {
     let Some(node) = node_at(heap, id, steps) else {
@@ -187,6 +196,7 @@ fn push_inside<L: Ledger>(
     steps: &mut Steps<L>,
 ) -> Result<(), ShowFault>
     ensures gives { Makes result draft.new (onto draft.old (contents_repr (repr_nodes heap.now room (id.0 ∷ around_of around.now)) (node_of node.now))) }
+    ensures left { draft.new.left ≤ draft.old.left }
     ensures least { draft.old.left + steps.old ≤ draft.new.left + steps.new }
 {
     let inner = Around::Inside(id.0, &*around);
@@ -204,6 +214,7 @@ fn push_contents<L: Ledger>(
     steps: &mut Steps<L>,
 ) -> Result<(), ShowFault>
     ensures gives { Makes result draft.new (onto draft.old (contents_repr (repr_nodes heap.now room (around_of around.now)) (node_of node.now))) }
+    ensures left { draft.new.left ≤ draft.old.left }
     ensures least { draft.old.left + steps.old ≤ draft.new.left + steps.new }
 {
     match node {
@@ -236,6 +247,7 @@ fn push_list<L: Ledger>(
     steps: &mut Steps<L>,
 ) -> Result<(), ShowFault>
     ensures gives { Makes result draft.new (onto draft.old (contents_repr (repr_nodes heap.now room (around_of around.now)) (list (map value_of items.now)))) }
+    ensures left { draft.new.left ≤ draft.old.left }
     ensures least { draft.old.left + steps.old ≤ draft.new.left + steps.new }
 {
     push_mark("[", draft, steps)?;
@@ -254,6 +266,7 @@ pub(crate) fn push_tuple<L: Ledger>(
     steps: &mut Steps<L>,
 ) -> Result<(), ShowFault>
     ensures gives { Makes result draft.new (onto draft.old (tuple_repr (repr_nodes heap.now room (around_of around.now)) (map value_of items.now))) }
+    ensures left { draft.new.left ≤ draft.old.left }
     ensures least { draft.old.left + steps.old ≤ draft.new.left + steps.new }
 {
     push_mark("(", draft, steps)?;
@@ -271,6 +284,7 @@ fn push_dict<L: Ledger>(
     steps: &mut Steps<L>,
 ) -> Result<(), ShowFault>
     ensures gives { Makes result draft.new (onto draft.old (contents_repr (repr_nodes heap.now room (around_of around.now)) (dict (entries_of entries.now.entries)))) }
+    ensures left { draft.new.left ≤ draft.old.left }
     ensures least { draft.old.left + steps.old ≤ draft.new.left + steps.new }
 {
     push_mark("{", draft, steps)?;
@@ -288,6 +302,7 @@ fn push_object<L: Ledger>(
     steps: &mut Steps<L>,
 ) -> Result<(), ShowFault>
     ensures gives { Makes result draft.new (onto draft.old (contents_repr (repr_nodes heap.now room (around_of around.now)) (object (attributes_of attributes.now.entries)))) }
+    ensures left { draft.new.left ≤ draft.old.left }
     ensures least { draft.old.left + steps.old ≤ draft.new.left + steps.new }
 {
     push_mark("namespace(", draft, steps)?;
@@ -306,6 +321,7 @@ fn push_exception<L: Ledger>(
     steps: &mut Steps<L>,
 ) -> Result<(), ShowFault>
     ensures gives { Makes result draft.new (onto draft.old (contents_repr (repr_nodes heap.now room (around_of around.now)) (exception class.0 (map value_of arguments.now)))) }
+    ensures left { draft.new.left ≤ draft.old.left }
     ensures least { draft.old.left + steps.old ≤ draft.new.left + steps.new }
 {
     push_class(class, draft, steps)?;
@@ -325,6 +341,7 @@ fn push_values<L: Ledger>(
     steps: &mut Steps<L>,
 ) -> Result<(), ShowFault>
     ensures gives { Makes result draft.new (onto draft.old (listed (repr_by (repr_nodes heap.now room (around_of around.now))) (map value_of values.now))) }
+    ensures left { draft.new.left ≤ draft.old.left }
     ensures least { draft.old.left + steps.old ≤ draft.new.left + steps.new }
 {
     for i in 0..values.len() {
@@ -345,6 +362,7 @@ fn push_entries<L: Ledger>(
     steps: &mut Steps<L>,
 ) -> Result<(), ShowFault>
     ensures gives { Makes result draft.new (onto draft.old (listed (entry_repr (repr_nodes heap.now room (around_of around.now))) (entries_of entries.now.entries))) }
+    ensures left { draft.new.left ≤ draft.old.left }
     ensures least { draft.old.left + steps.old ≤ draft.new.left + steps.new }
 {
     for i in 0..entries.len() {
@@ -368,6 +386,7 @@ fn push_entry<L: Ledger>(
     steps: &mut Steps<L>,
 ) -> Result<(), ShowFault>
     ensures gives { Makes result draft.new (onto draft.old (entry_repr (repr_nodes heap.now room (around_of around.now)) (key_of key.now, value_of value.now))) }
+    ensures left { draft.new.left ≤ draft.old.left }
     ensures least { draft.old.left + steps.old ≤ draft.new.left + steps.new }
 {
     push_key(key, draft, steps)?;
@@ -386,6 +405,7 @@ fn push_attributes<L: Ledger>(
     steps: &mut Steps<L>,
 ) -> Result<(), ShowFault>
     ensures gives { Makes result draft.new (onto draft.old (listed (attribute_repr (repr_nodes heap.now room (around_of around.now))) (attributes_of attributes.now.entries))) }
+    ensures left { draft.new.left ≤ draft.old.left }
     ensures least { draft.old.left + steps.old ≤ draft.new.left + steps.new }
 {
     for i in 0..attributes.len() {
@@ -409,6 +429,7 @@ fn push_attribute<L: Ledger>(
     steps: &mut Steps<L>,
 ) -> Result<(), ShowFault>
     ensures gives { Makes result draft.new (onto draft.old (attribute_repr (repr_nodes heap.now room (around_of around.now)) (name.now, value_of value.now))) }
+    ensures left { draft.new.left ≤ draft.old.left }
     ensures least { draft.old.left + steps.old ≤ draft.new.left + steps.new }
 {
     push_made(name, draft, steps)?;
@@ -430,6 +451,7 @@ pub fn repr_of<L: Ledger>(
 ) -> Result<String, ShowFault>
     ensures gives { Gives (λ s. chars (string_bytes s)) result budget.new.left (repr_in heap.now budget.old.depth (value_of value.now) budget.old.left) }
     ensures depth { budget.new.depth ≡ budget.old.depth }
+    ensures left { budget.new.left ≤ budget.old.left }
     ensures least { budget.old.left + steps.old ≤ budget.new.left + steps.new }
 {
     let mut draft = Draft::new(alloc, budget.left);

@@ -43,6 +43,7 @@ fn push_plain_shown<L: Ledger>(
     steps: &mut Steps<L>,
 ) -> Result<(), ShowFault>
     ensures gives { Makes result draft.new (onto draft.old (made (plain_shown (value_of value.now)))) }
+    ensures left { draft.new.left ≤ draft.old.left }
     ensures least { draft.old.left + steps.old ≤ draft.new.left + steps.new }
 {
     let text = shown_text(draft.alloc, value)?;
@@ -59,6 +60,7 @@ fn push_shown<L: Ledger>(
     steps: &mut Steps<L>,
 ) -> Result<(), ShowFault>
     ensures gives { Makes result draft.new (onto draft.old (show_by (show_nodes heap.now room) (value_of value.now))) }
+    ensures left { draft.new.left ≤ draft.old.left }
     ensures least { draft.old.left + steps.old ≤ draft.new.left + steps.new }
 {
     let Some(id) = node_in(value) else {
@@ -80,6 +82,7 @@ fn push_shown_node<L: Ledger>(
     steps: &mut Steps<L>,
 ) -> Result<(), ShowFault>
     ensures gives { Makes result draft.new (onto draft.old (show_at (exception_text (repr_nodes heap.now room []) (show_nodes heap.now room)) (repr_at (repr_nodes heap.now room (id.0 ∷ [])) false (slice_get heap.now id.0)) (slice_get heap.now id.0))) }
+    ensures left { draft.new.left ≤ draft.old.left }
     ensures least { draft.old.left + steps.old ≤ draft.new.left + steps.new }
 {
     let Some(node) = node_at(heap, id, steps) else {
@@ -107,6 +110,7 @@ fn push_exception_shown<L: Ledger>(
     steps: &mut Steps<L>,
 ) -> Result<(), ShowFault>
     ensures gives { Makes result draft.new (onto draft.old (exception_text (repr_nodes heap.now room []) (show_nodes heap.now room) class.0 (map value_of arguments.now))) }
+    ensures left { draft.new.left ≤ draft.old.left }
     ensures least { draft.old.left + steps.old ≤ draft.new.left + steps.new }
 {
     let Some((argument, others)) = arguments.split_first() else {
@@ -130,6 +134,7 @@ fn push_argument<L: Ledger>(
     steps: &mut Steps<L>,
 ) -> Result<(), ShowFault>
     ensures gives { Makes result draft.new (onto draft.old (argument_text (repr_nodes heap.now room []) (show_nodes heap.now room) class.0 (value_of argument.now))) }
+    ensures left { draft.new.left ≤ draft.old.left }
     ensures least { draft.old.left + steps.old ≤ draft.new.left + steps.new }
 {
     if class.0 == KEY_ERROR {
@@ -151,6 +156,7 @@ pub fn show<L: Ledger>(
 ) -> Result<String, ShowFault>
     ensures gives { Gives (λ s. chars (string_bytes s)) result budget.new.left (show_in heap.now budget.old.depth (value_of value.now) budget.old.left) }
     ensures depth { budget.new.depth ≡ budget.old.depth }
+    ensures left { budget.new.left ≤ budget.old.left }
     ensures least { budget.old.left + steps.old ≤ budget.new.left + steps.new }
 {
     let mut draft = Draft::new(alloc, budget.left);

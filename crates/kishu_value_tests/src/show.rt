@@ -1,15 +1,17 @@
-// Texts of values and nodes, and the steps that they take. The texts are CPython's, but for an
-// exception that is being shown already, where the class and three dots are this language's own.
-ghost use Rattle.std.specs.Prelude.{◌≡◌, ◌<◌, ◌^◌, IsTrue, length};
+// Texts of values and nodes, and the steps that they take. The texts are CPython's, but for a
+// function, whose text has no address here, and for an exception that is being shown already, where
+// the class and three dots are this language's own.
+ghost use Rattle.std.specs.Prelude.{◌≡◌, ◌<◌, ◌≤◌, ◌^◌, [], IsTrue, IfOk, IfSome, length};
 ghost use Rattle.kishu_model.specs.Names.{is_name};
 
 use indexmap::IndexMap;
-use kishu_heap::{Heap, Node};
-use kishu_model::{Budget, Builtin, ClassId, Key, KeyPart, NodeId, Steps, Value};
+use kishu_heap::{FunctionNode, Heap, Node};
+use kishu_model::{Budget, Builtin, ClassId, Key, KeyPart, NodeId, Profile, Steps, Value};
+use kishu_parser::parse_def;
 use kishu_show::{ShowFault, repr_of, show};
 use std::alloc::{AllocError, Global};
 use std::marker::Brand;
-use std::rc::RcStr;
+use std::rc::{Rc, RcStr};
 use std::sync::ledger::{Blank, Ledger};
 use std::test::Fail;
 
@@ -221,6 +223,58 @@ fn exceptions_that_hold_themselves(rt: HostRuntime) -> Result<(), Fail> {
             repr
         );
         assert_eq!(rt; told(alloc, Call::Str, &value, &heap, FULL)?.as_str(), str);
+    }
+    Ok(())
+}
+
+// The function that this code is, where it has no parameters.
+#[tactic(auto, using(crate::proofs::Parameters::no_defaults, crate::proofs::Parameters::read_as))]
+fn function_of(alloc: Global, code: &str) -> Result<Option<FunctionNode>, AllocError>
+    requires { length code.now ≤ 1048576 }
+    ensures { IfOk result (λ found. IfSome found (λ f. f.defaults.items ≡ [])) }
+{
+    let Ok(definition) = parse_def(alloc, Profile::One, code) else {
+        return Ok(None);
+    };
+    if !definition.params.is_empty() {
+        return Ok(None);
+    }
+    Ok(Some(FunctionNode {
+        profile: Profile::One,
+        code: RcStr::from_str(alloc, code)?,
+        def: Rc::new(alloc, definition)?,
+        defaults: Vec::new(alloc),
+    }))
+}
+
+// A function, a list that holds it, and a list that holds it and itself.
+fn lists_of(alloc: Global, heap: &mut Heap, function: FunctionNode) -> Result<(), AllocError>
+    requires empty { length heap.old ≡ 0 }
+    requires plain { function.defaults.items ≡ [] }
+{
+    let one = Node::List(vec![in alloc; Value::Node(NodeId(0))]?);
+    let both = Node::List(vec![in alloc; Value::Node(NodeId(0)), Value::Node(NodeId(2))]?);
+    heap.make_all(vec![in alloc; Node::Function(function), one, both]?)
+}
+
+#[test]
+fn functions(rt: HostRuntime) -> Result<(), Fail> {
+    let alloc = rt.alloc();
+    let mut heap = Heap::new(alloc);
+    if let Some(function) = function_of(alloc, "def f(): pass")? {
+        lists_of(alloc, &mut heap, function)?;
+    }
+    for (id, want) in [
+        (0, "<function f> 12"),
+        (1, "[<function f>] 14"),
+        (2, "[<function f>, [...]] 21"),
+    ] {
+        let value = Value::Node(NodeId(id));
+        assert_eq!(rt;
+            told(alloc, Call::Repr, &value, &heap, FULL)?.as_str(),
+            want
+        );
+        assert_eq!(rt; told(alloc, Call::Str, &value, &heap, FULL)?.as_str(), want);
     }
     Ok(())
 }

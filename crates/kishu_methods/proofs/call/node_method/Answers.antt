@@ -1,4 +1,4 @@
-use Rattle.std.proofs.Common.{◌≡◌, ◌∙◌, ap, sym, subst, map, slice_get, Option, Some}
+use Rattle.std.proofs.Common.{◌∙◌, ap, sym, subst, map, Option, Some}
 use Rattle.kishu_model.specs.Methods.{node_row}
 use Rattle.kishu_model.specs.Values.{Node, value_of}
 use Rattle.kishu_heap.specs.Cells.{entries_of, node_of}

@@ -1,5 +1,4 @@
-use Rattle.std.proofs.Common.{◌≡◌, ◌∙◌, ap, slice_get, Some}
-use Rattle.kishu_model.specs.Values.{dict}
+use Rattle.std.proofs.Common.{◌∙◌, ap, Some}
 use Rattle.kishu_heap.specs.Cells.{entries_of, node_of}
 use Rattle.kishu_methods.proofs.DictNodes.{dict_seen, is_dict}
 use Rattle.kishu_methods.proofs.entries.dict_in.Goals as goal

@@ -8,5 +8,6 @@ invariant-loop-i g l = record {
   told : count_from l.heap l.fn.budget.depth (value_of l.value) 0 (map value_of l.items) l.fn.budget.left ≡ count_from l.heap l.fn.budget.depth (value_of l.value) l.found (map value_of (drop l.i l.items)) l.budget.left;
   few : l.found ≤ l.i;
   depth : l.budget.depth ≡ l.fn.budget.depth;
+  left : l.budget.left ≤ l.fn.budget.left;
   least : l.fn.budget.left + l.fn.steps ≤ l.budget.left + l.steps;
 }

@@ -18,5 +18,6 @@ pub loop-i-preserved : goal.loop-i-preserved
 loop-i-preserved g c = record {
   told = c.loop-i.invariant.told ∙ place_further c.args.heap.now c.args.budget.now.depth (value_of c.args.value.now) c.args.items.now c.loop-i.i c.index-items-i.result (omega arith) c.index-items-i.is c.loop-i.budget.left c.is_item.new.budget.left c.loop-i.i (rw (c.loop-i.invariant.depth, c.if-branch.false) at c.in_ok-is_item.ensures.gives);
   depth = c.is_item.ensures.depth ∙ c.loop-i.invariant.depth;
+  left = omega arith;
   least = omega arith;
 }

@@ -14,7 +14,6 @@ loop-i-preserved c = record {
   long = ap length c.in_ok-push.ensures.ok ∙ length_changed _ _ _ ∙ c.loop-i.invariant.long;
 }
 
-pub returns : goal.returns
-returns c = record {
-  nodes = sym (c.loop-i.invariant.told ∙ push_end c.args.values.now c.loop-i.i c.args.id.0 c.loop-i.heap (omega arith));
-}
+pub returns-clause-nodes : goal.returns-clause-nodes
+returns-clause-nodes c =
+    sym (c.loop-i.invariant.told ∙ push_end c.args.values.now c.loop-i.i c.args.id.0 c.loop-i.heap (omega arith))

@@ -1,8 +1,8 @@
-use Rattle.std.proofs.Common.{◌∙◌, length}
+use Rattle.std.proofs.Common.{◌∙◌, ap, length}
 use Rattle.std.specs.List.{remove}
 use Rattle.kishu_model.specs.Sound.{is_sound}
 use Rattle.kishu_methods.specs.Contents.{items_at}
-use Rattle.kishu_methods.proofs.Changes.{replaced, all_remove}
+use Rattle.kishu_methods.proofs.Changes.{length_changed, replaced, all_remove}
 use Rattle.kishu_methods.proofs.Edits.{seen_removed}
 use Rattle.kishu_methods.proofs.items.without_place.Goals as goal
 
@@ -15,3 +15,6 @@ pub returns-clause-nodes : goal.returns-clause-nodes
 returns-clause-nodes g c =
     let old = items_at c.args.heap.now c.args.id.0 in
     c.replace_list.ensures ∙ rw (seen_removed c.in_ok-items.items.items c.remove-taken.new.self.items old c.args.place c.remove-taken.ensures.items c.in_ok-items.ensures.items) (replaced (λ vs. remove vs c.args.place) c.args.id.0 c.args.heap.now old c.requires.list)
+
+pub returns-clause-long : goal.returns-clause-long
+returns-clause-long g c = ap length c.replace_list.ensures ∙ length_changed _ _ _

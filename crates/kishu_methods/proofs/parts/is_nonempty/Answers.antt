@@ -1,4 +1,4 @@
-use Rattle.std.proofs.Common.{◌≡◌, ◌∙◌, ap}
+use Rattle.std.proofs.Common.{◌∙◌, ap}
 use Rattle.std.specs.Prelude.{not}
 use Rattle.kishu_methods.proofs.PieceLengths.{empty_both}
 use Rattle.kishu_methods.proofs.parts.is_nonempty.Goals as goal

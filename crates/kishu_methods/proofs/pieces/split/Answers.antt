@@ -51,4 +51,4 @@ returns-clause-gives g c =
     let taken = split_taken v part cs c.replaced_length.result c.in_ok-check_separator.field-0 c.in_ok-spend_search.field-0 c.in_ok-spend.field-0 s t made (is_text v part c.in-Some.ensures)
     (c.in_ok-check_separator.ensures.gives s) (c.in_ok-spend_search.ensures.gives c.args.heap.now) size (c.in_ok-spend.ensures.gives c.args.heap.now) in
     subst (λ (e : Ends Value). Gives value_of c.new_texts.result last e) (sym taken)
-    (subst (λ (ps : List (List ℕ)). Gives value_of c.new_texts.result last (new_texts ps made)) c.in_ok-pieces.ensures.pieces (c.new_texts.ensures c.spend.new.budget.left c.spend.new.budget.depth))
+    (subst (λ (ps : List (List ℕ)). Gives value_of c.new_texts.result last (new_texts ps made)) c.in_ok-pieces.ensures.pieces (c.new_texts.ensures.gives c.spend.new.budget.left c.spend.new.budget.depth))

@@ -14,4 +14,4 @@ returns-clause-gives g c =
     let t = moment_of c.args.heap.now c.spend.new.budget in
     let last = moment_of c.new_texts.new.heap c.spend.new.budget in
     listed c.new_texts.result (new_texts (words cs)) c.count.result (length cs) c.in_ok-spend.field-0 s t last c.count.ensures (c.in_ok-spend.ensures.gives c.args.heap.now)
-    (subst (λ (ps : List (List ℕ)). Gives value_of c.new_texts.result last (new_texts ps t)) c.in_ok-words.ensures (c.new_texts.ensures c.spend.new.budget.left c.spend.new.budget.depth))
+    (subst (λ (ps : List (List ℕ)). Gives value_of c.new_texts.result last (new_texts ps t)) c.in_ok-words.ensures (c.new_texts.ensures.gives c.spend.new.budget.left c.spend.new.budget.depth))

@@ -1,4 +1,4 @@
-use Rattle.std.proofs.Common.{◌≡◌, ◌∙◌, ap, sym, subst, ◌∷◌, []}
+use Rattle.std.proofs.Common.{◌∙◌, ap, sym, subst, ◌∷◌, []}
 use Rattle.std.specs.Str.{chars}
 use Rattle.kishu_model.specs.Values.{text}
 use Rattle.kishu_model.specs.Methods.{is_cutting}

@@ -201,6 +201,7 @@ push_values-returns-in_err-push_value-clause-gives g t c =
 pub push_values-loop-i-preserved : goal.push_values-loop-i-preserved
 push_values-loop-i-preserved g t c = record {
   told = c.loop-i.invariant.told ∙ goes_on value_of (repr_by (repr_nodes c.args.heap.now c.args.room (around_of c.args.around.now))) c.args.values.now c.loop-i.i c.index-values-i.result (omega arith) c.index-values-i.is c.loop-i.draft c.push_comma.new.draft c.push_value.new.draft c.in_ok-push_comma.ensures.gives c.in_ok-push_value.ensures.gives;
+  left = omega arith;
   least = omega arith;
 }
 
@@ -222,6 +223,7 @@ push_entries-returns-in_err-push_entry-clause-gives g t c =
 pub push_entries-loop-i-preserved : goal.push_entries-loop-i-preserved
 push_entries-loop-i-preserved g t c = record {
   told = c.loop-i.invariant.told ∙ goes_on (entry_of key_of) (entry_repr (repr_nodes c.args.heap.now c.args.room (around_of c.args.around.now))) c.args.entries.now.entries c.loop-i.i (c.in-Some.key.now, c.in-Some.value.now) (slice_get_within c.args.entries.now.entries c.loop-i.i (c.in-Some.key.now, c.in-Some.value.now) (sym c.in-Some.ensures.entry)) (sym (get_or_from_slice_get c.args.entries.now.entries c.loop-i.i (c.in-Some.key.now, c.in-Some.value.now) (c.in-Some.key.now, c.in-Some.value.now) (sym c.in-Some.ensures.entry))) c.loop-i.draft c.push_comma.new.draft c.push_entry.new.draft c.in_ok-push_comma.ensures.gives c.in_ok-push_entry.ensures.gives;
+  left = omega arith;
   least = omega arith;
 }
 
@@ -244,6 +246,7 @@ push_attributes-returns-in_err-push_attribute-clause-gives g t c =
 pub push_attributes-loop-i-preserved : goal.push_attributes-loop-i-preserved
 push_attributes-loop-i-preserved g t c = record {
   told = c.loop-i.invariant.told ∙ goes_on (entry_of rc_str_bytes) (attribute_repr (repr_nodes c.args.heap.now c.args.room (around_of c.args.around.now))) c.args.attributes.now.entries c.loop-i.i (c.in-Some.name.now, c.in-Some.value.now) (slice_get_within c.args.attributes.now.entries c.loop-i.i (c.in-Some.name.now, c.in-Some.value.now) (sym c.in-Some.ensures.entry)) (sym (get_or_from_slice_get c.args.attributes.now.entries c.loop-i.i (c.in-Some.name.now, c.in-Some.value.now) (c.in-Some.name.now, c.in-Some.value.now) (sym c.in-Some.ensures.entry))) c.loop-i.draft c.push_comma.new.draft c.push_attribute.new.draft c.in_ok-push_comma.ensures.gives (subst (λ n. onto c.push_comma.new.draft (attribute_repr (repr_nodes c.args.heap.now c.args.room (around_of c.args.around.now)) (n, value_of c.in-Some.value.now)) ≡ answer (text_of c.push_attribute.new.draft) c.push_attribute.new.draft.left) c.as_str.ensures.value c.in_ok-push_attribute.ensures.gives);
+  left = omega arith;
   least = omega arith;
 }
 

@@ -55,17 +55,20 @@ decreases-push_node g l = 7 * l.room + 6
 abbrev pub invariant-push_values-loop-i : goal.invariant-push_values-loop-i
 invariant-push_values-loop-i g l = record {
   told : onto l.fn.draft (listed (repr_by (repr_nodes l.heap l.room (around_of l.around))) (map value_of l.values)) ≡ onto l.draft (rest value_of (repr_by (repr_nodes l.heap l.room (around_of l.around))) l.values l.i);
+  left : l.draft.left ≤ l.fn.draft.left;
   least : l.fn.draft.left + l.fn.steps ≤ l.draft.left + l.steps;
 }
 
 abbrev pub invariant-push_entries-loop-i : goal.invariant-push_entries-loop-i
 invariant-push_entries-loop-i g l = record {
   told : onto l.fn.draft (listed (entry_repr (repr_nodes l.heap l.room (around_of l.around))) (entries_of l.entries.entries)) ≡ onto l.draft (rest (entry_of key_of) (entry_repr (repr_nodes l.heap l.room (around_of l.around))) l.entries.entries l.i);
+  left : l.draft.left ≤ l.fn.draft.left;
   least : l.fn.draft.left + l.fn.steps ≤ l.draft.left + l.steps;
 }
 
 abbrev pub invariant-push_attributes-loop-i : goal.invariant-push_attributes-loop-i
 invariant-push_attributes-loop-i g l = record {
   told : onto l.fn.draft (listed (attribute_repr (repr_nodes l.heap l.room (around_of l.around))) (attributes_of l.attributes.entries)) ≡ onto l.draft (rest (entry_of rc_str_bytes) (attribute_repr (repr_nodes l.heap l.room (around_of l.around))) l.attributes.entries l.i);
+  left : l.draft.left ≤ l.fn.draft.left;
   least : l.fn.draft.left + l.fn.steps ≤ l.draft.left + l.steps;
 }

@@ -1,0 +1,13 @@
+pub mod Ranges
+pub mod Items
+pub mod Written
+pub mod OfClasses
+pub mod Copies
+pub mod InOrder
+pub mod Ending
+pub mod Visits
+pub mod Stays
+pub mod Given
+pub mod Wholes
+pub mod CodePoints
+pub mod Compares

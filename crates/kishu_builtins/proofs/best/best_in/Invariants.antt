@@ -1,0 +1,22 @@
+use Rattle.std.proofs.Common.{◌≡◌, suc, ◌+◌, ◌-◌, ◌≤◌, IsTrue, length, None}
+use Rattle.std.specs.Prelude.{IfSome, option_map}
+use Rattle.kishu_model.specs.Builtins.{folded, better}
+use Rattle.kishu_model.specs.Sound.{is_sound}
+use Rattle.kishu_model.specs.Values.{value_of}
+use Rattle.kishu_builtins.specs.Called.{moment_of}
+use Rattle.kishu_builtins.specs.Extremes.{comparison_of}
+use Rattle.kishu_builtins.specs.Walking.{walk_in, is_there}
+use Rattle.kishu_builtins.proofs.best.best_in.Given as goal
+
+abbrev pub invariant-loop-at : goal.invariant-loop-at
+invariant-loop-at g l = record {
+  told : folded (better (comparison_of l.which)) (suc l.fn.budget.left) (walk_in l.fn.heap l.walk) 0 None (moment_of l.fn.heap l.fn.budget) ≡ folded (better (comparison_of l.which)) (suc l.fn.budget.left - l.at) (walk_in l.fn.heap l.walk) l.at (option_map value_of l.best) (moment_of l.heap l.budget);
+  best : IfSome l.best (λ v. IsTrue (is_sound (length l.heap) (value_of v)));
+  walk : walk_in l.heap l.walk ≡ walk_in l.fn.heap l.walk;
+  there : IsTrue (is_there (length l.heap) l.walk);
+  room : length l.heap + l.budget.left ≤ length l.fn.heap + l.fn.budget.left;
+  heap : length l.fn.heap ≤ length l.heap;
+  depth : l.budget.depth ≡ l.fn.budget.depth;
+  left : l.budget.left ≤ l.fn.budget.left;
+  least : l.fn.budget.left + l.fn.steps ≤ l.budget.left + l.steps;
+}

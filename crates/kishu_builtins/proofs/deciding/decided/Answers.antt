@@ -1,0 +1,75 @@
+use Rattle.std.proofs.Common.{◌∙◌, ap, refl, sym, subst, arith, suc, ◌-◌, ◌+◌}
+use Rattle.std.proofs.lemmas.Result.{err_from_is_err_and}
+use Rattle.kishu_model.specs.Builtins.{decided}
+use Rattle.kishu_model.specs.Values.{value_of}
+use Rattle.kishu_builtins.specs.Called.{moment_of, Fails}
+use Rattle.kishu_builtins.specs.Walking.{walk_in}
+use Rattle.kishu_builtins.proofs.Visits.{fuel, next, start, decided_fault, decided_none, decided_here, decided_further}
+use Rattle.kishu_builtins.proofs.deciding.decided.Goals as goal
+
+pub loop-at-init : goal.loop-at-init
+loop-at-init g c = record {
+  told = ap (λ n. decided c.args.which n (walk_in c.args.heap.now c.args.walk.now) 0 (moment_of c.args.heap.now c.args.budget.now)) (start c.args.budget.now.left);
+  walk = refl;
+  there = c.requires.there;
+  room = omega arith;
+  heap = omega arith;
+  depth = refl;
+  left = omega arith;
+  least = omega arith;
+}
+
+pub returns-in_err-item-clause-gives : goal.returns-in_err-item-clause-gives
+returns-in_err-item-clause-gives g c =
+    let i = c.loop-at.invariant in
+    let at = c.loop-at.at in
+    let n = suc c.args.budget.now.left in
+    let s = moment_of c.loop-at.heap c.loop-at.budget in
+    let t = moment_of c.visited.new.heap c.visited.new.budget in
+    let p = err_from_is_err_and c.from_residual.result c.from_residual.ensures.1 in
+    let h = rw i.walk at c.in_err-item.ensures.gives in
+    rw (p.1, p.2) (subst (λ e. Fails c.in_err-item.field-0.0 t e) (sym i.told)
+    (decided_fault c.args.which (walk_in c.args.heap.now c.args.walk.now) (n - at) (n - (at + 1)) at (at + 1) (fuel c.args.budget.now.left at c.loop-at-test.true) (next at) s t c.in_err-item.field-0.0 h))
+
+pub returns-in_default-clause-gives : goal.returns-in_default-clause-gives
+returns-in_default-clause-gives g c =
+    let i = c.loop-at.invariant in
+    let at = c.loop-at.at in
+    let n = suc c.args.budget.now.left in
+    let s = moment_of c.loop-at.heap c.loop-at.budget in
+    let t = moment_of c.visited.new.heap c.visited.new.budget in
+    let h = rw (i.walk, c.in_default.is) at c.in_ok-item.ensures.gives in
+    i.told ∙ decided_none c.args.which (walk_in c.args.heap.now c.args.walk.now) (n - at) (n - (at + 1)) at (at + 1) (fuel c.args.budget.now.left at c.loop-at-test.true) (next at) s t h
+
+pub returns-then-is_true-which-clause-gives : goal.returns-then-is_true-which-clause-gives
+returns-then-is_true-which-clause-gives g c =
+    let i = c.loop-at.invariant in
+    let at = c.loop-at.at in
+    let n = suc c.args.budget.now.left in
+    let s = moment_of c.loop-at.heap c.loop-at.budget in
+    let t = moment_of c.visited.new.heap c.visited.new.budget in
+    let h = rw (i.walk, c.in-Some.is) at c.in_ok-item.ensures.gives in
+    i.told ∙ decided_here c.args.which (walk_in c.args.heap.now c.args.walk.now) (n - at) (n - (at + 1)) at (at + 1) (fuel c.args.budget.now.left at c.loop-at-test.true) (next at) s t
+    (value_of c.in-Some.item) c.is_true.result h (c.is_true.ensures.is c.visited.new.budget) c.if-is_true-which.true
+
+pub loop-at-preserved : goal.loop-at-preserved
+loop-at-preserved g c =
+    let i = c.loop-at.invariant in
+    let at = c.loop-at.at in
+    let n = suc c.args.budget.now.left in
+    let s = moment_of c.loop-at.heap c.loop-at.budget in
+    let t = moment_of c.visited.new.heap c.visited.new.budget in
+    let h = rw (i.walk, c.in-Some.is) at c.in_ok-item.ensures.gives in
+    let same = rw c.in-Some.is at c.in_ok-item.ensures.same in
+    let room = rw c.in-Some.is at c.in_ok-item.ensures.room in
+    record {
+      told = i.told ∙ decided_further c.args.which (walk_in c.args.heap.now c.args.walk.now) (n - at) (n - (at + 1)) at (at + 1) (fuel c.args.budget.now.left at c.loop-at-test.true) (next at) s t
+          (value_of c.in-Some.item) c.is_true.result h (c.is_true.ensures.is c.visited.new.budget) c.if-is_true-which.false;
+      walk = same ∙ i.walk;
+      there = rw c.in-Some.is at c.in_ok-item.ensures.there;
+      room = omega (arith, room, i.room);
+      heap = omega (arith, c.in_ok-item.ensures.heap, i.heap);
+      depth = c.in_ok-item.ensures.depth ∙ i.depth;
+      left = omega (arith, c.in_ok-item.ensures.left, i.left);
+      least = omega (arith, c.in_ok-item.ensures.least, i.least, c.is_true.ensures.counted);
+    }

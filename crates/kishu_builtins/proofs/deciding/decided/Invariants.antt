@@ -1,0 +1,17 @@
+use Rattle.std.proofs.Common.{◌≡◌, suc, ◌+◌, ◌-◌, ◌≤◌, IsTrue, length}
+use Rattle.kishu_model.specs.Builtins.{decided}
+use Rattle.kishu_builtins.specs.Called.{moment_of}
+use Rattle.kishu_builtins.specs.Walking.{walk_in, is_there}
+use Rattle.kishu_builtins.proofs.deciding.decided.Given as goal
+
+abbrev pub invariant-loop-at : goal.invariant-loop-at
+invariant-loop-at g l = record {
+  told : decided l.which (suc l.fn.budget.left) (walk_in l.fn.heap l.walk) 0 (moment_of l.fn.heap l.fn.budget) ≡ decided l.which (suc l.fn.budget.left - l.at) (walk_in l.fn.heap l.walk) l.at (moment_of l.heap l.budget);
+  walk : walk_in l.heap l.walk ≡ walk_in l.fn.heap l.walk;
+  there : IsTrue (is_there (length l.heap) l.walk);
+  room : length l.heap + l.budget.left ≤ length l.fn.heap + l.fn.budget.left;
+  heap : length l.fn.heap ≤ length l.heap;
+  depth : l.budget.depth ≡ l.fn.budget.depth;
+  left : l.budget.left ≤ l.fn.budget.left;
+  least : l.fn.budget.left + l.fn.steps ≤ l.budget.left + l.steps;
+}

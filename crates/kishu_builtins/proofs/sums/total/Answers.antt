@@ -1,0 +1,87 @@
+use Rattle.std.proofs.Common.{◌∙◌, ap, refl, sym, subst, arith, suc, ◌-◌, ◌+◌, SFits, to_z, rules}
+use Rattle.std.specs.Prelude.{pos}
+use Rattle.std.specs.Int.{w128}
+use Rattle.std.proofs.lemmas.Int.{to_z-of_z}
+use Rattle.std.proofs.lemmas.Result.{err_from_is_err_and}
+use Rattle.kishu_model.specs.Builtins.{folded, added}
+use Rattle.kishu_model.specs.Values.{Value, value_of, integer}
+use Rattle.kishu_builtins.specs.Called.{moment_of, Fails}
+use Rattle.kishu_builtins.specs.Walking.{walk_in}
+use Rattle.kishu_builtins.proofs.Visits.{fuel, next, start, folded_fault, folded_none, folded_item_fault, folded_further}
+use Rattle.kishu_builtins.proofs.sums.total.Goals as goal
+
+pub loop-at-init : goal.loop-at-init
+loop-at-init g c = record {
+  told = ap (λ n. folded added n (walk_in c.args.heap.now c.args.walk.now) 0 (integer (pos 0)) (moment_of c.args.heap.now c.args.budget.now)) (start c.args.budget.now.left);
+  walk = refl;
+  there = c.requires.there;
+  room = omega arith;
+  heap = omega arith;
+  depth = refl;
+  left = omega arith;
+  least = omega arith;
+}
+
+pub returns-in_err-item-clause-gives : goal.returns-in_err-item-clause-gives
+returns-in_err-item-clause-gives g c =
+    let i = c.loop-at.invariant in
+    let at = c.loop-at.at in
+    let n = suc c.args.budget.now.left in
+    let sum = to_z w128 c.loop-at.sum-bits in
+    let s = moment_of c.loop-at.heap c.loop-at.budget in
+    let t = moment_of c.visited.new.heap c.visited.new.budget in
+    let p = err_from_is_err_and c.from_residual.result c.from_residual.ensures.1 in
+    let h = rw i.walk at c.in_err-item.ensures.gives in
+    rw (p.1, p.2) (subst (λ e. Fails {A = Value} c.in_err-item.field-0.0 t e) (sym i.told)
+    (folded_fault added (walk_in c.args.heap.now c.args.walk.now) (n - at) (n - (at + 1)) at (at + 1) (fuel c.args.budget.now.left at c.loop-at-test.true) (next at) (integer sum) s t c.in_err-item.field-0.0 h))
+
+pub returns-in_default-clause-gives : goal.returns-in_default-clause-gives
+returns-in_default-clause-gives g c =
+    let i = c.loop-at.invariant in
+    let at = c.loop-at.at in
+    let n = suc c.args.budget.now.left in
+    let sum = to_z w128 c.loop-at.sum-bits in
+    let s = moment_of c.loop-at.heap c.loop-at.budget in
+    let t = moment_of c.visited.new.heap c.visited.new.budget in
+    let h = rw (i.walk, c.in_default.is) at c.in_ok-item.ensures.gives in
+    i.told ∙ folded_none added (walk_in c.args.heap.now c.args.walk.now) (n - at) (n - (at + 1)) at (at + 1) (fuel c.args.budget.now.left at c.loop-at-test.true) (next at) (integer sum) s t h
+
+pub returns-in_err-sum-clause-gives : goal.returns-in_err-sum-clause-gives
+returns-in_err-sum-clause-gives g c =
+    let i = c.loop-at.invariant in
+    let at = c.loop-at.at in
+    let n = suc c.args.budget.now.left in
+    let sum = to_z w128 c.loop-at.sum-bits in
+    let s = moment_of c.loop-at.heap c.loop-at.budget in
+    let t = moment_of c.visited.new.heap c.visited.new.budget in
+    let p = err_from_is_err_and c.from_residual-in_err-sum.result c.from_residual-in_err-sum.ensures.1 in
+    let h = rw (i.walk, c.in-Some.is) at c.in_ok-item.ensures.gives in
+    rw (p.1, p.2) (subst (λ e. Fails {A = Value} c.in_err-sum.field-0.0 t e) (sym i.told)
+    (folded_item_fault added (walk_in c.args.heap.now c.args.walk.now) (n - at) (n - (at + 1)) at (at + 1) (fuel c.args.budget.now.left at c.loop-at-test.true) (next at) (integer sum) s t
+    (value_of c.in-Some.item) t c.in_err-sum.field-0.0 h (c.in_err-sum.ensures t)))
+
+pub loop-at-preserved : goal.loop-at-preserved
+loop-at-preserved g c =
+    let i = c.loop-at.invariant in
+    let at = c.loop-at.at in
+    let n = suc c.args.budget.now.left in
+    let sum = to_z w128 c.loop-at.sum-bits in
+    let walk = walk_in c.args.heap.now c.args.walk.now in
+    let s = moment_of c.loop-at.heap c.loop-at.budget in
+    let t = moment_of c.visited.new.heap c.visited.new.budget in
+    let h = rw (i.walk, c.in-Some.is) at c.in_ok-item.ensures.gives in
+    let same = rw c.in-Some.is at c.in_ok-item.ensures.same in
+    let room = rw c.in-Some.is at c.in_ok-item.ensures.room in
+    let whole : SFits w128 c.in_ok-sum.sum = search rules in
+    let bits = ap (λ z. folded added (n - (at + 1)) walk (at + 1) (integer z) t) (sym (to_z-of_z w128 c.in_ok-sum.sum whole)) in
+    record {
+      told = i.told ∙ (folded_further added walk (n - at) (n - (at + 1)) at (at + 1) (fuel c.args.budget.now.left at c.loop-at-test.true) (next at) (integer sum) s t
+          (value_of c.in-Some.item) (integer c.in_ok-sum.sum) t h (c.in_ok-sum.ensures t) ∙ bits);
+      walk = same ∙ i.walk;
+      there = rw c.in-Some.is at c.in_ok-item.ensures.there;
+      room = omega (arith, room, i.room);
+      heap = omega (arith, c.in_ok-item.ensures.heap, i.heap);
+      depth = c.in_ok-item.ensures.depth ∙ i.depth;
+      left = omega (arith, c.in_ok-item.ensures.left, i.left);
+      least = omega (arith, c.in_ok-item.ensures.least, i.least);
+    }

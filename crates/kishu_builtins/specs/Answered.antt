@@ -1,0 +1,13 @@
+-- What an operation on numbers answers, as the end of a call.
+use Rattle.std.specs.Prelude.{ℤ, codes, Result, Ok, Err}
+use Rattle.kishu_model.specs.Kinds.{value_error}
+use Rattle.kishu_model.specs.Moment.{M, give, raise}
+use Rattle.kishu_model.specs.Values.{Value, integer}
+use Rattle.kishu_num.specs.declared.fault.NumFault.{NumFault}
+use Rattle.kishu_num.specs.declared.fault.NumFault.TheVariants as faults
+
+abbrev pub answered : Result ℤ NumFault → M Value
+answered (Ok z) = give (integer z)
+answered (Err faults.Overflow) = raise 10 (codes "whole number too large")
+answered (Err faults.ZeroDivisor) = raise 11 (codes "division by zero")
+answered (Err faults.NegativePower) = value_error (codes "negative power")

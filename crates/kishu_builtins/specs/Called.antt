@@ -1,0 +1,28 @@
+-- When a call of a builtin function or a class gives what the definition says.
+use Rattle.std.specs.Prelude.{ℕ, List, [], IsTrue, Result, Ok, Err}
+use Rattle.kishu_model.specs.Sound.{is_sound}
+use Rattle.kishu_model.specs.Values.{Value, value_of}
+use Rattle.kishu_model.specs.Callees.{Given}
+use Rattle.kishu_heap.specs.declared.fault.CallFault.{CallFault}
+use Rattle.kishu_heap.specs.declared.fault.CallFault.TheVariants as faults
+pub use Rattle.kishu_items.specs.Called.{moment_of, Fails, Gives}
+
+-- arguments without keywords
+abbrev pub plainly : List Value → Given
+plainly vs = record { plain = vs; named = [] }
+
+-- unless memory ran out
+abbrev pub Unlimited : {X : Type 0} → Result X CallFault → Type 0 → Type 0
+Unlimited (Ok x) P = P
+Unlimited (Err (faults.Raise kind t)) P = P
+Unlimited (Err (faults.RaiseWith kind v)) P = P
+Unlimited (Err faults.Spent) P = P
+Unlimited (Err faults.NoMemory) P = Unit {0}
+
+-- The value of an exception lies among so many nodes.
+abbrev pub ThrowsSound : {X : Type 0} → ℕ → Result X CallFault → Type 0
+ThrowsSound n (Err (faults.RaiseWith kind v)) = IsTrue (is_sound n (value_of v))
+ThrowsSound n (Ok x) = Unit {0}
+ThrowsSound n (Err (faults.Raise kind t)) = Unit {0}
+ThrowsSound n (Err faults.Spent) = Unit {0}
+ThrowsSound n (Err faults.NoMemory) = Unit {0}

@@ -1,0 +1,7 @@
+pub mod Called
+pub mod Answered
+pub mod Walking
+pub mod Extremes
+pub mod CallLaws
+pub mod SoundCalls
+pub mod GrowingCalls

@@ -1,0 +1,248 @@
+// `max` and `min`.
+ghost use Rattle.std.specs.Prelude.{◌-◌, ◌≡◌, suc, Some, None, ◌∷◌, [], ◌+◌, ◌<◌, ◌≤◌, ◌^◌, List, IsTrue, IfOk, IfSome, OnOk, length, map, option_map};
+ghost use Rattle.kishu_model.specs.Builtins.{folded, better, best_of, or_empty_argument};
+ghost use Rattle.kishu_model.specs.Comparing.{compare, comparison_sign};
+ghost use Rattle.kishu_model.specs.Counting.{Counted, ended_in};
+ghost use Rattle.kishu_model.specs.Equal.{less_in};
+ghost use Rattle.kishu_model.specs.Moment.{Moment, and_then};
+ghost use Rattle.kishu_model.specs.Operators.{bad_operands};
+ghost use Rattle.kishu_model.specs.Sound.{is_sound, are_sound};
+ghost use Rattle.kishu_model.specs.Values.{Node, value_of};
+ghost use Rattle.kishu_model.specs.Values as model;
+ghost use Rattle.kishu_model.specs.Walks.{walk_of, along_tuple};
+ghost use Rattle.kishu_heap.specs.Compared.{Orders};
+ghost use Rattle.kishu_builtins.specs.Called.{moment_of, Gives};
+ghost use Rattle.kishu_builtins.specs.Extremes.{comparison_of, before_in, best_name};
+ghost use Rattle.kishu_builtins.specs.Walking.{walk_in, is_there};
+ghost use Rattle.kishu_model.specs.declared.budget.Budget.{Budget};
+
+use crate::walk::{Walk, visited, walk_of};
+use kishu_heap::{CallFault, CompareFault, Heap};
+use kishu_items::{
+    RECURSION_ERROR, TYPE_ERROR, VALUE_ERROR, bad_operands_text, copied_all, plain_text, raise,
+};
+use kishu_model::{Budget, Steps, Value};
+use std::alloc::Global;
+use std::sync::ledger::Ledger;
+
+/// Which item is looked for.
+#[derive(Clone, Copy, Debug, PartialEq, Eq)]
+pub(crate) enum Extreme {
+    Greatest,
+    Least,
+}
+
+impl Extreme {
+    /// The builtin function's name.
+    pub(crate) fn name(self) -> &'static str
+        ensures { result.now ≡ best_name self }
+    {
+        match self {
+            Extreme::Greatest => "max",
+            Extreme::Least => "min",
+        }
+    }
+
+    fn sign(self) -> &'static str
+        ensures { result.now ≡ comparison_sign (comparison_of self) }
+    {
+        match self {
+            Extreme::Greatest => ">",
+            Extreme::Least => "<",
+        }
+    }
+}
+
+// The TypeError of two values that have no order.
+fn bad_operands<L: Ledger>(
+    alloc: Global,
+    which: Extreme,
+    value: &Value,
+    best: &Value,
+    heap: &Heap,
+    steps: &mut Steps<L>,
+) -> Result<bool, CallFault>
+    requires value { IsTrue (is_sound (length heap.now) (value_of value.now)) }
+    requires best { IsTrue (is_sound (length heap.now) (value_of best.now)) }
+    ensures gives { (b : Budget) → Gives (λ x. x) result (moment_of heap.now b) (bad_operands (comparison_sign (comparison_of which)) (value_of value.now) (value_of best.now) (moment_of heap.now b)) }
+    ensures counted { steps.old ≤ steps.new }
+{
+    raise(
+        TYPE_ERROR,
+        bad_operands_text(alloc, which.sign(), value, best, heap, steps)?,
+    )
+}
+
+// Whether a value is less than another, as a comparison of the two asks.
+fn less<L: Ledger>(
+    which: Extreme,
+    value: &Value,
+    best: &Value,
+    heap: &Heap,
+    budget: &mut Budget,
+    steps: &mut Steps<L>,
+) -> Result<bool, CompareFault>
+    ensures gives { Orders result budget.new.left (before_in which heap.now budget.old.depth (value_of value.now) (value_of best.now) budget.old.left) }
+    ensures depth { budget.new.depth ≡ budget.old.depth }
+    ensures left { budget.new.left ≤ budget.old.left }
+    ensures least { budget.old.left + steps.old ≤ budget.new.left + steps.new }
+{
+    match which {
+        Extreme::Greatest => heap.less(best, value, budget, steps),
+        Extreme::Least => heap.less(value, best, budget, steps),
+    }
+}
+
+// Whether a value goes before the best one.
+fn goes_before<L: Ledger>(
+    alloc: Global,
+    which: Extreme,
+    value: &Value,
+    best: &Value,
+    heap: &Heap,
+    budget: &mut Budget,
+    steps: &mut Steps<L>,
+) -> Result<bool, CallFault>
+    requires value { IsTrue (is_sound (length heap.now) (value_of value.now)) }
+    requires best { IsTrue (is_sound (length heap.now) (value_of best.now)) }
+    ensures gives { Gives (λ x. x) result (moment_of heap.now budget.new) (compare (comparison_of which) (value_of value.now) (value_of best.now) (moment_of heap.now budget.old)) }
+    ensures depth { budget.new.depth ≡ budget.old.depth }
+    ensures left { budget.new.left ≤ budget.old.left }
+    ensures least { budget.old.left + steps.old ≤ budget.new.left + steps.new }
+{
+    match less(which, value, best, heap, budget, steps) {
+        Ok(before) => Ok(before),
+        Err(CompareFault::Unordered) => bad_operands(alloc, which, value, best, heap, steps),
+        Err(CompareFault::Depth) => {
+            raise(RECURSION_ERROR, plain_text(alloc, "depth limit reached")?)
+        }
+        Err(CompareFault::Spent) => Err(CallFault::Spent),
+    }
+}
+
+// The better one of the best so far and a value: the first of two that tie.
+fn better<L: Ledger>(
+    alloc: Global,
+    which: Extreme,
+    best: Option<Value>,
+    value: Value,
+    heap: &Heap,
+    budget: &mut Budget,
+    steps: &mut Steps<L>,
+) -> Result<Value, CallFault>
+    requires best { IfSome best (λ v. IsTrue (is_sound (length heap.now) (value_of v))) }
+    requires value { IsTrue (is_sound (length heap.now) (value_of value)) }
+    ensures gives { Gives (λ v. Some (value_of v)) result (moment_of heap.now budget.new) (better (comparison_of which) (option_map value_of best) (value_of value) (moment_of heap.now budget.old)) }
+    ensures sound { IfOk result (λ v. IsTrue (is_sound (length heap.now) (value_of v))) }
+    ensures depth { budget.new.depth ≡ budget.old.depth }
+    ensures left { budget.new.left ≤ budget.old.left }
+    ensures least { budget.old.left + steps.old ≤ budget.new.left + steps.new }
+{
+    let Some(best) = best else {
+        return Ok(value);
+    };
+    if goes_before(alloc, which, &value, &best, heap, budget, steps)? {
+        Ok(value)
+    } else {
+        Ok(best)
+    }
+}
+
+// The best of all items, where there is one.
+fn best_in<L: Ledger>(
+    alloc: Global,
+    which: Extreme,
+    walk: &Walk,
+    heap: &mut Heap,
+    budget: &mut Budget,
+    steps: &mut Steps<L>,
+) -> Result<Option<Value>, CallFault>
+    requires there { IsTrue (is_there (length heap.old) walk.now) }
+    requires room { length heap.old + budget.old.left < 2 ^ 32 - 16 }
+    ensures gives { Gives (option_map value_of) result (moment_of heap.new budget.new) (folded (better (comparison_of which)) (suc budget.old.left) (walk_in heap.old walk.now) 0 None (moment_of heap.old budget.old)) }
+    ensures sound { IfOk result (λ o. IfSome o (λ v. IsTrue (is_sound (length heap.new) (value_of v)))) }
+    ensures heap { length heap.old ≤ length heap.new }
+    ensures most { length heap.new + budget.new.left ≤ length heap.old + budget.old.left + 1 }
+    ensures depth { budget.new.depth ≡ budget.old.depth }
+    ensures left { budget.new.left ≤ budget.old.left }
+    ensures least { budget.old.left + steps.old ≤ budget.new.left + steps.new }
+{
+    let mut best = None;
+    for at in 0..budget.left + 1 {
+        let Some(item) = visited(alloc, walk, at, heap, budget, steps)? else {
+            return Ok(best);
+        };
+        best = Some(better(alloc, which, best, item, heap, budget, steps)?);
+    }
+    Err(CallFault::Spent)
+}
+
+fn best_of<L: Ledger>(
+    alloc: Global,
+    which: Extreme,
+    walk: &Walk,
+    heap: &mut Heap,
+    budget: &mut Budget,
+    steps: &mut Steps<L>,
+) -> Result<Value, CallFault>
+    requires there { IsTrue (is_there (length heap.old) walk.now) }
+    requires room { length heap.old + budget.old.left < 2 ^ 32 - 16 }
+    ensures gives { Gives value_of result (moment_of heap.new budget.new) (best_of (comparison_of which) (walk_in heap.old walk.now) (moment_of heap.old budget.old)) }
+    ensures sound { IfOk result (λ v. IsTrue (is_sound (length heap.new) (value_of v))) }
+    ensures heap { length heap.old ≤ length heap.new }
+    ensures most { length heap.new + budget.new.left ≤ length heap.old + budget.old.left + 1 }
+    ensures depth { budget.new.depth ≡ budget.old.depth }
+    ensures left { budget.new.left ≤ budget.old.left }
+    ensures least { budget.old.left + steps.old ≤ budget.new.left + steps.new }
+{
+    match best_in(alloc, which, walk, heap, budget, steps)? {
+        Some(best) => Ok(best),
+        None => raise(VALUE_ERROR, plain_text(alloc, "empty argument")?),
+    }
+}
+
+/// The greatest or the least of the items of a sequence: the first of those that tie.
+pub(crate) fn best_of_items<L: Ledger>(
+    alloc: Global,
+    which: Extreme,
+    value: &Value,
+    heap: &mut Heap,
+    budget: &mut Budget,
+    steps: &mut Steps<L>,
+) -> Result<Value, CallFault>
+    requires sound { IsTrue (is_sound (length heap.old) (value_of value.now)) }
+    requires room { length heap.old + budget.old.left < 2 ^ 32 - 16 }
+    ensures gives { Gives value_of result (moment_of heap.new budget.new) (and_then (walk_of (value_of value.now) (moment_of heap.old budget.old)) (best_of (comparison_of which))) }
+    ensures sound { IfOk result (λ v. IsTrue (is_sound (length heap.new) (value_of v))) }
+    ensures heap { length heap.old ≤ length heap.new }
+    ensures most { length heap.new + budget.new.left ≤ length heap.old + budget.old.left + 1 }
+    ensures depth { budget.new.depth ≡ budget.old.depth }
+    ensures left { budget.new.left ≤ budget.old.left }
+    ensures least { budget.old.left + steps.old ≤ budget.new.left + steps.new }
+{
+    let walk = walk_of(alloc, value, heap, steps)?;
+    best_of(alloc, which, &walk, heap, budget, steps)
+}
+
+/// The greatest or the least of these values: the first of those that tie.
+pub(crate) fn best_of_values<L: Ledger>(
+    alloc: Global,
+    which: Extreme,
+    values: &[Value],
+    heap: &mut Heap,
+    budget: &mut Budget,
+    steps: &mut Steps<L>,
+) -> Result<Value, CallFault>
+    requires sound { IsTrue (are_sound (length heap.old) (map value_of values.now)) }
+    requires room { length heap.old + budget.old.left < 2 ^ 32 - 16 }
+    ensures gives { Gives value_of result (moment_of heap.new budget.new) (best_of (comparison_of which) (along_tuple (map value_of values.now)) (moment_of heap.old budget.old)) }
+    ensures sound { IfOk result (λ v. IsTrue (is_sound (length heap.new) (value_of v))) }
+    ensures heap { length heap.old ≤ length heap.new }
+    ensures most { length heap.new + budget.new.left ≤ length heap.old + budget.old.left + 1 }
+    ensures depth { budget.new.depth ≡ budget.old.depth }
+    ensures left { budget.new.left ≤ budget.old.left }
+    ensures least { budget.old.left + steps.old ≤ budget.new.left + steps.new }
+{
+    let walk = Walk::Values(copied_all(alloc, values)?);
+    best_of(alloc, which, &walk, heap, budget, steps)
+}

@@ -1,0 +1,208 @@
+// `isinstance`.
+ghost use Rattle.std.specs.Prelude.{◌≡◌, ◌<◌, ◌≤◌, Some, IsTrue, is_some, length, map};
+ghost use Rattle.std.specs.List.{list_all, list_any};
+ghost use Rattle.kishu_model.specs.declared.budget.Budget.{Budget};
+ghost use Rattle.kishu_model.specs.Builtins.{is_instance, is_of, is_of_class, is_of_one, node_is_of, class_in};
+ghost use Rattle.kishu_model.specs.Classes.{class_above, is_within};
+ghost use Rattle.kishu_model.specs.Moment.{node_at};
+ghost use Rattle.kishu_model.specs.Sound.{is_sound};
+ghost use Rattle.kishu_model.specs.Values as model;
+ghost use Rattle.kishu_model.specs.Values.{value_of, node};
+ghost use Rattle.kishu_heap.specs.Cells.{node_of};
+ghost use Rattle.kishu_builtins.specs.Called.{moment_of, Gives};
+
+use kishu_heap::{CallFault, Heap, Node};
+use kishu_items::bad_arguments;
+use kishu_model::{ClassId, NodeId, Steps, Value};
+use std::alloc::Global;
+use std::sync::ledger::Ledger;
+
+// The class above a class of exceptions; that of all of them is its own.
+fn class_above(class: u8) -> u8
+    ensures { result ≡ class_above class }
+{
+    if class == 10 || class == 11 {
+        9
+    } else if class == 15 || class == 16 {
+        14
+    } else if class == 18 {
+        17
+    } else if class == 20 || class == 21 {
+        19
+    } else {
+        8
+    }
+}
+
+/// Whether a class of exceptions is another or lies below it.
+fn is_within(kind: u8, class: u8) -> bool
+    ensures { result ≡ is_within kind class }
+{
+    let above = class_above(kind);
+    let top = class_above(above);
+    kind == class || (above == class || top == class)
+}
+
+fn node_is_of(node: &Node, class: u8) -> bool
+    ensures { result ≡ node_is_of class (Some (node_of node.now)) }
+{
+    match node {
+        Node::Dict(_) => class == 1,
+        Node::List(_) => class == 3,
+        Node::Object(_) => class == 5,
+        Node::Tuple(_) => class == 7,
+        Node::Exception(kind, _) => is_within(kind.0, class),
+        Node::Function(_) => false,
+    }
+}
+
+// Whether a value is of a class.
+fn is_of<L: Ledger>(value: &Value, class: u8, heap: &Heap, steps: &mut Steps<L>) -> bool
+    requires sound { IsTrue (is_sound (length heap.now) (value_of value.now)) }
+    ensures is { result ≡ is_of (value_of value.now) (node_at heap.now (value_of value.now)) class }
+    ensures counted { steps.old ≤ steps.new }
+{
+    match value {
+        Value::Bool(_) => class == 0 || class == 2,
+        Value::Int(_) => class == 2,
+        Value::Range(..) => class == 4,
+        Value::Text(_) => class == 6,
+        Value::Node(id) => node_is_of(heap.node(*id, steps), class),
+        Value::None => false,
+        Value::Builtin(_) => false,
+        Value::Class(_) => false,
+    }
+}
+
+fn is_class(value: &Value) -> bool
+    ensures { result ≡ is_some (class_in (value_of value.now)) }
+{
+    match value {
+        Value::Class(_) => true,
+        Value::None => false,
+        Value::Bool(_) => false,
+        Value::Int(_) => false,
+        Value::Text(_) => false,
+        Value::Range(..) => false,
+        Value::Builtin(_) => false,
+        Value::Node(_) => false,
+    }
+}
+
+fn are_classes(values: &[Value]) -> bool
+    ensures { result ≡ list_all (λ c. is_some (class_in (value_of c))) values.now }
+{
+    values.iter().all(|value| is_class(value))
+}
+
+// Whether a value is of a class that another value is.
+fn is_of_class<L: Ledger>(value: &Value, class: &Value, heap: &Heap, steps: &mut Steps<L>) -> bool
+    requires sound { IsTrue (is_sound (length heap.now) (value_of value.now)) }
+    ensures is { result ≡ is_of_class (value_of value.now) (node_at heap.now (value_of value.now)) (value_of class.now) }
+    ensures counted { steps.old ≤ steps.new }
+{
+    match class {
+        Value::Class(class) => is_of(value, class.0, heap, steps),
+        Value::None => false,
+        Value::Bool(_) => false,
+        Value::Int(_) => false,
+        Value::Text(_) => false,
+        Value::Range(..) => false,
+        Value::Builtin(_) => false,
+        Value::Node(_) => false,
+    }
+}
+
+// Whether a value is of any of these classes.
+fn is_of_any<L: Ledger>(value: &Value, classes: &[Value], heap: &Heap, steps: &mut Steps<L>) -> bool
+    requires sound { IsTrue (is_sound (length heap.now) (value_of value.now)) }
+    ensures is { result ≡ list_any (λ c. is_of_class (value_of value.now) (node_at heap.now (value_of value.now)) (value_of c)) classes.now }
+    ensures counted { steps.old ≤ steps.new }
+{
+    for class in classes {
+        if is_of_class(value, class, heap, steps) {
+            return true;
+        }
+    }
+    false
+}
+
+// All must be classes.
+fn is_of_one<L: Ledger>(
+    alloc: Global,
+    value: &Value,
+    classes: &[Value],
+    heap: &Heap,
+    steps: &mut Steps<L>,
+) -> Result<Value, CallFault>
+    requires sound { IsTrue (is_sound (length heap.now) (value_of value.now)) }
+    ensures gives { (b : Budget) → Gives value_of result (moment_of heap.now b) (is_of_one (value_of value.now) (map value_of classes.now) (moment_of heap.now b)) }
+    ensures counted { steps.old ≤ steps.new }
+{
+    if are_classes(classes) {
+        Ok(Value::Bool(is_of_any(value, classes, heap, steps)))
+    } else {
+        bad_arguments(alloc, "isinstance")
+    }
+}
+
+// A tuple of classes.
+fn is_of_tuple<L: Ledger>(
+    alloc: Global,
+    value: &Value,
+    id: NodeId,
+    heap: &Heap,
+    steps: &mut Steps<L>,
+) -> Result<Value, CallFault>
+    requires sound { IsTrue (is_sound (length heap.now) (value_of value.now)) }
+    requires id { id.0 < length heap.now }
+    ensures gives { (b : Budget) → Gives value_of result (moment_of heap.now b) (is_instance (value_of value.now) (node id.0) (moment_of heap.now b)) }
+    ensures counted { steps.old ≤ steps.new }
+{
+    match heap.node(id, steps) {
+        Node::Tuple(classes) => is_of_one(alloc, value, classes.as_slice(), heap, steps),
+        Node::List(_) => bad_arguments(alloc, "isinstance"),
+        Node::Dict(_) => bad_arguments(alloc, "isinstance"),
+        Node::Object(_) => bad_arguments(alloc, "isinstance"),
+        Node::Function(_) => bad_arguments(alloc, "isinstance"),
+        Node::Exception(..) => bad_arguments(alloc, "isinstance"),
+    }
+}
+
+fn is_of_single<L: Ledger>(
+    value: &Value,
+    class: ClassId,
+    heap: &Heap,
+    steps: &mut Steps<L>,
+) -> Result<Value, CallFault>
+    requires sound { IsTrue (is_sound (length heap.now) (value_of value.now)) }
+    ensures gives { (b : Budget) → Gives value_of result (moment_of heap.now b) (is_instance (value_of value.now) (model.class class.0) (moment_of heap.now b)) }
+    ensures counted { steps.old ≤ steps.new }
+{
+    Ok(Value::Bool(is_of(value, class.0, heap, steps)))
+}
+
+/// Whether a value is of a class, or of one of a tuple of classes.
+pub(crate) fn is_instance<L: Ledger>(
+    alloc: Global,
+    value: &Value,
+    class: &Value,
+    heap: &Heap,
+    steps: &mut Steps<L>,
+) -> Result<Value, CallFault>
+    requires sound { IsTrue (is_sound (length heap.now) (value_of value.now)) }
+    requires class { IsTrue (is_sound (length heap.now) (value_of class.now)) }
+    ensures gives { (b : Budget) → Gives value_of result (moment_of heap.now b) (is_instance (value_of value.now) (value_of class.now) (moment_of heap.now b)) }
+    ensures counted { steps.old ≤ steps.new }
+{
+    match class {
+        Value::Class(class) => is_of_single(value, *class, heap, steps),
+        Value::Node(id) => is_of_tuple(alloc, value, *id, heap, steps),
+        Value::None => bad_arguments(alloc, "isinstance"),
+        Value::Bool(_) => bad_arguments(alloc, "isinstance"),
+        Value::Int(_) => bad_arguments(alloc, "isinstance"),
+        Value::Text(_) => bad_arguments(alloc, "isinstance"),
+        Value::Range(..) => bad_arguments(alloc, "isinstance"),
+        Value::Builtin(_) => bad_arguments(alloc, "isinstance"),
+    }
+}

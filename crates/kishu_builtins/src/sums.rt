@@ -1,0 +1,75 @@
+// `sum`.
+ghost use Rattle.std.specs.Prelude.{◌-◌, ◌≡◌, pos, suc, ◌+◌, ◌<◌, ◌≤◌, ◌^◌, IsTrue, length};
+ghost use Rattle.kishu_model.specs.Builtins.{folded, fold, added};
+ghost use Rattle.kishu_model.specs.Moment.{Moment, and_then};
+ghost use Rattle.kishu_model.specs.Sound.{is_sound};
+ghost use Rattle.kishu_model.specs.Values.{value_of, integer};
+ghost use Rattle.kishu_model.specs.Walks.{walk_of};
+ghost use Rattle.kishu_builtins.specs.Called.{moment_of, Gives};
+ghost use Rattle.kishu_builtins.specs.Walking.{walk_in, is_there};
+
+use crate::numbers::number_or_raise;
+use crate::walk::{Walk, visited, walk_of};
+use kishu_heap::{CallFault, Heap};
+use kishu_items::{TYPE_ERROR, bad_arguments_text, number_in, raise};
+use kishu_model::{Budget, Steps, Value};
+use kishu_num::add;
+use std::alloc::Global;
+use std::sync::ledger::Ledger;
+
+// The sum with a further item.
+fn further(alloc: Global, sum: i128, item: &Value) -> Result<i128, CallFault>
+    ensures { (s : Moment) → Gives integer result s (added (integer sum) (value_of item.now) s) }
+{
+    match number_in(item) {
+        Some(number) => number_or_raise(alloc, add(sum, number)),
+        None => raise(TYPE_ERROR, bad_arguments_text(alloc, "sum")?),
+    }
+}
+
+fn total<L: Ledger>(
+    alloc: Global,
+    walk: &Walk,
+    heap: &mut Heap,
+    budget: &mut Budget,
+    steps: &mut Steps<L>,
+) -> Result<Value, CallFault>
+    requires there { IsTrue (is_there (length heap.old) walk.now) }
+    requires room { length heap.old + budget.old.left < 2 ^ 32 - 16 }
+    ensures gives { Gives value_of result (moment_of heap.new budget.new) (folded added (suc budget.old.left) (walk_in heap.old walk.now) 0 (integer (pos 0)) (moment_of heap.old budget.old)) }
+    ensures heap { length heap.old ≤ length heap.new }
+    ensures most { length heap.new + budget.new.left ≤ length heap.old + budget.old.left + 1 }
+    ensures depth { budget.new.depth ≡ budget.old.depth }
+    ensures left { budget.new.left ≤ budget.old.left }
+    ensures least { budget.old.left + steps.old ≤ budget.new.left + steps.new }
+{
+    let mut sum = 0;
+    for at in 0..budget.left + 1 {
+        let Some(item) = visited(alloc, walk, at, heap, budget, steps)? else {
+            return Ok(Value::Int(sum));
+        };
+        sum = further(alloc, sum, &item)?;
+    }
+    Err(CallFault::Spent)
+}
+
+/// The sum of the items, from 0.
+pub(crate) fn sum_of<L: Ledger>(
+    alloc: Global,
+    value: &Value,
+    heap: &mut Heap,
+    budget: &mut Budget,
+    steps: &mut Steps<L>,
+) -> Result<Value, CallFault>
+    requires sound { IsTrue (is_sound (length heap.old) (value_of value.now)) }
+    requires room { length heap.old + budget.old.left < 2 ^ 32 - 16 }
+    ensures gives { Gives value_of result (moment_of heap.new budget.new) (and_then (walk_of (value_of value.now) (moment_of heap.old budget.old)) (fold added (integer (pos 0)))) }
+    ensures heap { length heap.old ≤ length heap.new }
+    ensures most { length heap.new + budget.new.left ≤ length heap.old + budget.old.left + 1 }
+    ensures depth { budget.new.depth ≡ budget.old.depth }
+    ensures left { budget.new.left ≤ budget.old.left }
+    ensures least { budget.old.left + steps.old ≤ budget.new.left + steps.new }
+{
+    let walk = walk_of(alloc, value, heap, steps)?;
+    total(alloc, &walk, heap, budget, steps)
+}

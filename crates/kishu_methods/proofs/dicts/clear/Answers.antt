@@ -1,0 +1,6 @@
+use Rattle.std.proofs.Common.{◌∙◌, ap, length}
+use Rattle.kishu_methods.proofs.Changes.{length_changed}
+use Rattle.kishu_methods.proofs.dicts.clear.Goals as goal
+
+pub returns-clause-long : goal.returns-clause-long
+returns-clause-long c = ap length c.clear.ensures ∙ length_changed _ _ _
