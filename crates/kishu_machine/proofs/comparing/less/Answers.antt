@@ -1,0 +1,29 @@
+use Rattle.std.proofs.Common.{subst, arith, ℕ, ◌≤◌, Bool, Option}
+use Rattle.kishu_model.specs.Comparing.{or_unordered}
+use Rattle.kishu_model.specs.Equal.{less_in}
+use Rattle.kishu_model.specs.Moment.{Ends, and_then}
+use Rattle.kishu_model.specs.Values.{value_of}
+use Rattle.kishu_model.specs.CountingLaws.{less_in_falls}
+use Rattle.kishu_machine.specs.Machine.{Gives, moment_of}
+use Rattle.kishu_machine.proofs.Members.{ended_at, orders_left}
+use Rattle.kishu_machine.proofs.comparing.less.Goals as goal
+
+pub returns-clause-gives : goal.returns-clause-gives
+returns-clause-gives g c =
+    let s = moment_of c.args.machine.now in
+    let b = c.less-answer.new.budget in
+    let e = less_in s.nodes s.depth (value_of c.args.one.now) (value_of c.args.other.now) s.left in
+    let f = or_unordered c.args.comparison (value_of c.args.a.now) (value_of c.args.b.now) in
+    subst (λ (x : Ends (Option Bool)). Gives (λ b. b) c.ordered.result (record s { left = b.left; depth = b.depth }) (and_then x f)) (ended_at s b.left b.depth e c.less-answer.ensures.depth) (c.ordered.ensures.gives e c.less-answer.ensures.gives)
+
+pub returns-clause-sound : goal.returns-clause-sound
+returns-clause-sound g c = c.ordered.ensures.sound
+
+pub returns-clause-kept : goal.returns-clause-kept
+returns-clause-kept g c =
+    let s = moment_of c.args.machine.now in
+    let a = value_of c.args.one.now in
+    let b = value_of c.args.other.now in
+    let left = c.less-answer.new.budget.left in
+    let falls : left ≤ s.left = subst (λ (n : ℕ). n ≤ s.left) (orders_left c.less-answer.result left (less_in s.nodes s.depth a b s.left) c.less-answer.ensures.gives) ((less_in_falls s.nodes s.depth a b).falls s.left) in
+    (omega arith, omega (arith, falls), omega arith)

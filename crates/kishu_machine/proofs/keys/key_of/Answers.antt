@@ -1,0 +1,24 @@
+use Rattle.kishu_model.specs.BareLaws.{key_bare}
+use Rattle.kishu_model.specs.KeyOf.{key_of_value}
+use Rattle.kishu_model.specs.Keys.{key_of}
+use Rattle.kishu_model.specs.Values.{value_of}
+use Rattle.kishu_machine.specs.Lifted.{lifted}
+use Rattle.kishu_machine.specs.Machine.{moment_of}
+use Rattle.kishu_items.specs.Called as called
+use Rattle.kishu_machine.specs.Raising.{passed_raised, key_raises}
+use Rattle.kishu_machine.proofs.keys.key_of.Goals as goal
+
+pub returns-clause-gives : goal.returns-clause-gives
+returns-clause-gives g c =
+    let v = value_of c.args.value.now in
+    let s = moment_of c.args.machine.now in
+    let t = called.moment_of s.nodes c.key_of-key.new.budget in
+    rw (c.passed.ensures, c.key_of-key.ensures.depth) (lifted key_of (key_of_value v) (key_bare v) s t c.key_of-key.result c.key_of-key.ensures.gives)
+
+pub returns-clause-sound : goal.returns-clause-sound
+returns-clause-sound g c =
+    let v = value_of c.args.value.now in
+    let ns = c.args.machine.now.heap in
+    let s = called.moment_of ns c.args.machine.now.budget in
+    let t = called.moment_of ns c.key_of-key.new.budget in
+    rw c.passed.ensures (passed_raised _ key_of (key_of_value v) s t c.key_of-key.result (key_raises _ v) c.key_of-key.ensures.gives)

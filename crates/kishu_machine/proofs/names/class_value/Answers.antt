@@ -1,0 +1,9 @@
+use Rattle.std.proofs.Common.{◌≡◌, Some}
+use Rattle.kishu_model.specs.Names.{place_among, class_names}
+use Rattle.kishu_machine.proofs.SoundNames.{class_sound}
+use Rattle.kishu_machine.proofs.names.class_value.Goals as goal
+
+pub returns-in-Some-clause-sound : goal.returns-in-Some-clause-sound
+returns-in-Some-clause-sound c = λ n.
+    let place : place_among c.args.name.now class_names ≡ Some c.in-Some.class.0 = cc (c.in-Some.ensures, c.as_bytes.ensures.value) in
+    class_sound n c.args.name.now c.in-Some.class.0 place

@@ -1,0 +1,9 @@
+pub mod Frames
+pub mod Faults
+pub mod Machine
+pub mod Lists
+pub mod Forms
+pub mod Lifted
+pub mod SoundMore
+pub mod Composing
+pub mod Raising

@@ -1,0 +1,12 @@
+// The names of a function in progress.
+
+use kishu_model::Value;
+use std::collections::BTreeMap;
+use std::rc::RcStr;
+
+/// The names that are local to a function's body, and those of them that have a value.
+#[derive(Drop)]
+pub struct Frame {
+    pub own: Vec<RcStr>,
+    pub values: BTreeMap<RcStr, Value>,
+}

@@ -1,0 +1,100 @@
+// Keys of dicts, and the items of sequences.
+ghost use Rattle.std.specs.Prelude.{IsTrue, length, map, true, unwrap_or, ◌+◌, ◌<◌, ◌^◌, ◌≡◌};
+ghost use Rattle.kishu_model.specs.KeyOf.{key_of_value, value_of_key};
+ghost use Rattle.kishu_model.specs.Keys.{key_of};
+ghost use Rattle.kishu_model.specs.Sequences.{count_in, items_of, walked};
+ghost use Rattle.kishu_model.specs.Sound.{are_sound, is_sound};
+ghost use Rattle.kishu_model.specs.Values.{value_of};
+ghost use Rattle.kishu_machine.specs.Machine.{Gives, GrownBy, HasRoom, HasRoomBy, IsSound, moment_of};
+
+use crate::fault::{Fault, passed};
+use crate::machine::Machine;
+use kishu_model::{Key, Steps, Value};
+use std::sync::ledger::Ledger;
+
+/// The key that a value is (Python Language Reference 3, "Dictionary displays").
+pub fn key_of<L: Ledger>(
+    machine: &mut Machine,
+    value: &Value,
+    steps: &mut Steps<L>,
+) -> Result<Key, Fault>
+    requires sound_value { IsTrue (is_sound (length machine.old.heap) (value_of value.now)) }
+    ensures gives { Gives key_of result (moment_of machine.new) (key_of_value (value_of value.now) (moment_of machine.old)) }
+    ensures sound { IsSound (λ _. true) (length machine.new.heap) result }
+    ensures kept { GrownBy 0 machine.old steps.old machine.new steps.new }
+    ensures heap { machine.new.heap ≡ machine.old.heap }
+{
+    let key = kishu_items::key_of(
+        machine.alloc,
+        value,
+        &machine.heap,
+        &mut machine.budget,
+        steps,
+    );
+    passed(key)
+}
+
+/// The value that a key is. A tuple is a new node, and takes its length.
+pub fn value_of_key<L: Ledger>(
+    machine: &mut Machine,
+    key: &Key,
+    steps: &mut Steps<L>,
+) -> Result<Value, Fault>
+    requires room { HasRoomBy 1 machine.old }
+    ensures gives { Gives value_of result (moment_of machine.new) (value_of_key (key_of key.now) (moment_of machine.old)) }
+    ensures sound { IsSound (λ v. is_sound (length machine.new.heap) (value_of v)) (length machine.new.heap) result }
+    ensures kept { GrownBy 1 machine.old steps.old machine.new steps.new }
+{
+    let value = kishu_items::value_of_key(
+        machine.alloc,
+        key,
+        &mut machine.heap,
+        &mut machine.budget,
+        steps,
+    );
+    passed(value)
+}
+
+/// The items of a sequence.
+pub fn items_of<L: Ledger>(
+    machine: &mut Machine,
+    value: &Value,
+    steps: &mut Steps<L>,
+) -> Result<Vec<Value>, Fault>
+    requires sound_value { IsTrue (is_sound (length machine.old.heap) (value_of value.now)) }
+    requires room { length machine.old.heap + unwrap_or (count_in machine.old.heap (value_of value.now)) 0 < 2 ^ 32 }
+    ensures gives { Gives (λ v. map value_of v.items) result (moment_of machine.new) (items_of (value_of value.now) (moment_of machine.old)) }
+    ensures sound { IsSound (λ v. are_sound (length machine.new.heap) (map value_of v.items)) (length machine.new.heap) result }
+    ensures kept { GrownBy (unwrap_or (count_in machine.old.heap (value_of value.now)) 0) machine.old steps.old machine.new steps.new }
+{
+    let items = kishu_items::items_of(
+        machine.alloc,
+        value,
+        &mut machine.heap,
+        &mut machine.budget,
+        steps,
+    );
+    passed(items)
+}
+
+/// The items of a sequence, after a step for each of them.
+pub fn walked<L: Ledger>(
+    machine: &mut Machine,
+    value: &Value,
+    steps: &mut Steps<L>,
+) -> Result<Vec<Value>, Fault>
+    requires room { HasRoom machine.old }
+    requires sound_value { IsTrue (is_sound (length machine.old.heap) (value_of value.now)) }
+    ensures gives { Gives (λ v. map value_of v.items) result (moment_of machine.new) (walked (value_of value.now) (moment_of machine.old)) }
+    ensures sound { IsSound (λ v. are_sound (length machine.new.heap) (map value_of v.items)) (length machine.new.heap) result }
+    ensures kept { GrownBy 0 machine.old steps.old machine.new steps.new }
+{
+    let items = kishu_items::walked(
+        machine.alloc,
+        value,
+        &mut machine.heap,
+        &mut machine.budget,
+        steps,
+    );
+    passed(items)
+}
