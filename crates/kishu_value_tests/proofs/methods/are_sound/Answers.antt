@@ -5,4 +5,4 @@ use Rattle.kishu_model.specs.Values.{value_of}
 use Rattle.kishu_value_tests.proofs.methods.are_sound.Goals as goal
 
 pub returns : goal.returns
-returns g c = c.each_is_sound.ensures ∙ sym (list_all-map (is_sound (length c.args.heap.now)) value_of c.args.values.now)
+returns c = c.each_is_sound.ensures ∙ sym (list_all-map (is_sound (length c.args.heap.now)) value_of c.args.values.now)
