@@ -1,0 +1,14 @@
+pub mod Ends
+pub mod Raises
+pub mod Ranges
+pub mod Taking
+pub mod Changing
+pub mod Attributing
+pub mod Storing
+pub mod Placing
+pub mod Slicing
+pub mod Walking
+pub mod Updating
+pub mod Others
+pub mod Looking
+pub mod Holds

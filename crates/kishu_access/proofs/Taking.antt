@@ -1,0 +1,132 @@
+-- Items that are taken, as the rules say.
+use Rattle.std.proofs.Common.{◌≡◌, ◌∙◌, refl, ap, sym, arith, ℕ, zero, suc, ◌<◌, false, IsTrue, List, [], ◌∷◌, length, map, get_or, Option, Some, None}
+use Rattle.std.specs.Prelude.{slice_get, IfSome, option_map, option_and_then, ℤ, pos, ◌+ℤ◌, ◌*ℤ◌}
+use Rattle.std.proofs.lemmas.Bool.{false≢true}
+use Rattle.kishu_model.specs.declared.value.Value as rust
+use Rattle.kishu_model.specs.Equal.{range_length}
+use Rattle.kishu_model.specs.Indexes.{index_of, place_in, place_of, out_of_range}
+use Rattle.kishu_model.specs.Keys.{Key}
+use Rattle.kishu_model.specs.KeyOf.{key_of_value}
+use Rattle.kishu_model.specs.Kinds.{no_key}
+use Rattle.kishu_model.specs.Moment.{Moment, Ends, fine, M, and_then, or_else, give}
+use Rattle.kishu_model.specs.Nodes.{value_under}
+use Rattle.kishu_model.specs.Sound.{is_sound, are_sound}
+use Rattle.kishu_model.specs.Subscripts.{position, taken, item, node_item, not_subscriptable}
+use Rattle.kishu_model.specs.Values.{Value, integer, text, range, value_of, Node, list, tuple, dict, object, function, exception}
+use Rattle.kishu_items.specs.Holding.{first, second}
+use Rattle.kishu_machine.specs.declared.fault.Fault.{Fault}
+use Rattle.kishu_machine.specs.Composing.{fails_on}
+use Rattle.kishu_machine.specs.Machine.{Fails}
+use Rattle.kishu_access.specs.Forms.{items_from, is_dict}
+
+-- ---- items at places
+
+pub at_index : (xs : List rust.Value) (i : ℕ) (x : rust.Value) → i < length xs → x ≡ get_or xs i x → slice_get (map value_of xs) i ≡ Some (value_of x)
+at_index [] i x h p = absurd (omega arith)
+at_index (y ∷ ys) zero x h p = ap (λ (z : rust.Value). Some (value_of z)) (sym p)
+at_index (y ∷ ys) (suc i) x h p = at_index ys i x (omega arith) p
+
+pub sound_there : (n : ℕ) (vs : List Value) (i : ℕ) (v : Value) → slice_get vs i ≡ Some v → IsTrue (are_sound n vs) → IsTrue (is_sound n v)
+sound_there n [] i v e h = absurd cc
+sound_there n (u ∷ us) zero v e h =
+    let same : v ≡ u = cc in
+    rw same (first (is_sound n u) (are_sound n us) h)
+sound_there n (u ∷ us) (suc i) v e h = sound_there n us i v e (second (is_sound n u) (are_sound n us) h)
+
+pub sound_maybe : (n : ℕ) (o : Option rust.Value) (vs : List Value) (i : ℕ) → option_map value_of o ≡ slice_get vs i → IsTrue (are_sound n vs) → IfSome o (λ v. IsTrue (is_sound n (value_of v)))
+sound_maybe n (Some v) vs i e h = sound_there n vs i (value_of v) (sym e) h
+sound_maybe n None vs i e h = tt
+
+-- ---- `s[i]`
+
+module _ {A : Type 0} (as' : List A) (i : Value) (s t : Moment) (n : ℕ) (long : n ≡ length as') where
+  pub taken_at : (k : ℕ) (a : A) → position n i s ≡ fine k t → slice_get as' k ≡ Some a → taken as' i s ≡ fine a t
+  taken_at k a h e =
+      ap (λ (m : ℕ). and_then (position m i s) (λ k. or_else out_of_range (slice_get as' k))) (sym long)
+      ∙ (ap (λ (x : Ends ℕ). and_then x (λ k. or_else out_of_range (slice_get as' k))) h
+      ∙ ap (λ (o : Option A). or_else out_of_range o t) e)
+
+  pub taken_fails : (f : Fault) → Fails f t (position n i s) → Fails f t (taken as' i s)
+  taken_fails f h =
+      rw long at (fails_on (λ k. or_else out_of_range (slice_get as' k)) f t (position n i s) h)
+
+module _ (cs : List ℕ) (i : Value) (s t : Moment) (n : ℕ) (long : n ≡ length cs) where
+  text_value : (k : ℕ) (v : Value) (o : Option ℕ) → Some v ≡ option_map (λ c. text (c ∷ [])) o → position n i s ≡ fine k t → slice_get cs k ≡ o → item (text cs) i s ≡ fine v t
+  text_value k v (Some c) p h e =
+      let same : v ≡ text (c ∷ []) = cc in
+      ap (λ (x : Ends ℕ). and_then x (λ c. give (text (c ∷ [])))) (taken_at cs i s t n long k c h e) ∙ ap (λ (w : Value). fine w t) (sym same)
+  text_value k v None p h e = absurd cc
+
+  pub text_at : (k : ℕ) (v : Value) → position n i s ≡ fine k t → Some v ≡ option_map (λ c. text (c ∷ [])) (slice_get cs k) → item (text cs) i s ≡ fine v t
+  text_at k v h p = text_value k v (slice_get cs k) p h refl
+
+  pub text_fails : (f : Fault) → Fails f t (position n i s) → Fails f t (item (text cs) i s)
+  text_fails f h = fails_on (λ c. give (text (c ∷ []))) f t (taken cs i s) (taken_fails cs i s t n long f h)
+
+text_is_sound : (m : ℕ) (v : Value) (o : Option ℕ) → Some v ≡ option_map (λ c. text (c ∷ [])) o → IsTrue (is_sound m v)
+text_is_sound m v (Some c) p =
+    let same : v ≡ text (c ∷ []) = cc in
+    rw same refl
+text_is_sound m v None p = absurd cc
+
+pub character_sound : (m : ℕ) (v : Value) (cs : List ℕ) (k : ℕ) → Some v ≡ option_map (λ c. text (c ∷ [])) (slice_get cs k) → IsTrue (is_sound m v)
+character_sound m v cs k p = text_is_sound m v (slice_get cs k) p
+
+-- ---- of a range
+
+module _ (a b c : ℤ) (i : Value) (s t : Moment) where
+  abbrev number : ℕ → M Value
+  number k = give (integer (a +ℤ pos k *ℤ c))
+
+  pub range_at : (z : ℤ) (k : ℕ) → index_of i s ≡ fine z t → place_in (range_length a b c) z ≡ Some k → item (range a b c) i s ≡ fine (integer (a +ℤ pos k *ℤ c)) t
+  range_at z k h e =
+      ap (λ (x : Ends ℤ). and_then (and_then x (place_of (range_length a b c))) number) h
+      ∙ ap (λ (o : Option ℕ). and_then (or_else out_of_range o t) number) e
+
+  pub range_outside : (z : ℤ) → index_of i s ≡ fine z t → place_in (range_length a b c) z ≡ None → item (range a b c) i s ≡ out_of_range t
+  range_outside z h e =
+      ap (λ (x : Ends ℤ). and_then (and_then x (place_of (range_length a b c))) number) h
+      ∙ ap (λ (o : Option ℕ). and_then (or_else out_of_range o t) number) e
+
+  pub range_fails : (f : Fault) → Fails f t (index_of i s) → Fails f t (item (range a b c) i s)
+  range_fails f h = fails_on number f t (position (range_length a b c) i s) (fails_on (place_of (range_length a b c)) f t (index_of i s) h)
+
+-- ---- of a node
+
+pub items_taken : (o : Option Node) (vs : List Value) (v i : Value) (s : Moment) → Some vs ≡ items_from o → node_item v i o s ≡ taken vs i s
+items_taken (Some (list ws)) vs v i s h = ap (λ (xs : List Value). taken xs i s) (let e : ws ≡ vs = cc in e)
+items_taken (Some (tuple ws)) vs v i s h = ap (λ (xs : List Value). taken xs i s) (let e : ws ≡ vs = cc in e)
+items_taken (Some (dict es)) vs v i s h = absurd cc
+items_taken (Some (object as')) vs v i s h = absurd cc
+items_taken (Some (function profile code ws)) vs v i s h = absurd cc
+items_taken (Some (exception kind ws)) vs v i s h = absurd cc
+items_taken None vs v i s h = absurd cc
+
+pub no_items : (o : Option Node) (v i : Value) (s : Moment) → items_from o ≡ None → is_dict o ≡ false → node_item v i o s ≡ not_subscriptable v s
+no_items (Some (list ws)) v i s h d = absurd cc
+no_items (Some (tuple ws)) v i s h d = absurd cc
+no_items (Some (dict es)) v i s h d = absurd cc
+no_items (Some (object as')) v i s h d = refl
+no_items (Some (function profile code ws)) v i s h d = refl
+no_items (Some (exception kind ws)) v i s h d = refl
+no_items None v i s h d = refl
+
+module _ (v i : Value) (s t : Moment) where
+  pub entry_taken : (o : Option Node) (k : Key) (f : Option Value) → IsTrue (is_dict o) → key_of_value i s ≡ fine k t → f ≡ option_and_then (value_under k) o → node_item v i o s ≡ or_else (no_key i) f t
+  entry_taken (Some (dict es)) k f d h e =
+      ap (λ (x : Ends Key). and_then x (λ k. or_else (no_key i) (option_and_then (value_under k) (Some (dict es))))) h ∙ ap (λ (o : Option Value). or_else (no_key i) o t) (sym e)
+  entry_taken (Some (list ws)) k f d h e = absurd (false≢true d)
+  entry_taken (Some (tuple ws)) k f d h e = absurd (false≢true d)
+  entry_taken (Some (object as')) k f d h e = absurd (false≢true d)
+  entry_taken (Some (function profile code ws)) k f d h e = absurd (false≢true d)
+  entry_taken (Some (exception kind ws)) k f d h e = absurd (false≢true d)
+  entry_taken None k f d h e = absurd (false≢true d)
+
+  pub entry_fails : (o : Option Node) (f : Fault) → IsTrue (is_dict o) → Fails f t (key_of_value i s) → Fails f t (node_item v i o s)
+  entry_fails (Some (dict es)) f d h = fails_on (λ k. or_else (no_key i) (option_and_then (value_under k) (Some (dict es)))) f t (key_of_value i s) h
+  entry_fails (Some (list ws)) f d h = absurd (false≢true d)
+  entry_fails (Some (tuple ws)) f d h = absurd (false≢true d)
+  entry_fails (Some (object as')) f d h = absurd (false≢true d)
+  entry_fails (Some (function profile code ws)) f d h = absurd (false≢true d)
+  entry_fails (Some (exception kind ws)) f d h = absurd (false≢true d)
+  entry_fails None f d h = absurd (false≢true d)

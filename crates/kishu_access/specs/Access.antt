@@ -1,0 +1,74 @@
+-- What the code's views, walks, places and containers stand for, and when they are sound.
+use Rattle.std.specs.Prelude.{ℕ, ℤ, Bool, true, ◌&&◌, List, map, length, Option, Some, None}
+use Rattle.std.specs.Rc.{rc_str_bytes}
+use Rattle.std.specs.declared.alloc.Global.{Global}
+use Rattle.std.specs.declared.vec.Vec.{Vec}
+use Rattle.kishu_model.specs.declared.value.Value as rust
+use Rattle.kishu_model.specs.Texts.{places, LieWithin}
+use Rattle.kishu_model.specs.Names.{is_name}
+use Rattle.kishu_model.specs.Values.{node, Node, list, dict, value_of}
+use Rattle.kishu_model.specs.Sound.{is_sound, are_sound}
+use Rattle.kishu_model.specs.Walks.{View, keys, values, items, Walk, along_list, along_dict, along_tuple, along_text, along_range}
+use Rattle.kishu_model.specs.Meaning.{Place, named, attribute_of, item_of}
+use Rattle.kishu_access.specs.declared.places.Place as rust_place
+use Rattle.kishu_access.specs.declared.places.Place.TheVariants as rust_places
+use Rattle.kishu_access.specs.declared.slices.Places.{Places}
+use Rattle.kishu_access.specs.declared.subscripts.Container.{Container}
+use Rattle.kishu_access.specs.declared.subscripts.Container.TheVariants as containers
+use Rattle.kishu_access.specs.declared.walks.View as rust_view
+use Rattle.kishu_access.specs.declared.walks.View.TheVariants as views
+use Rattle.kishu_access.specs.declared.walks.Walk as rust_walk
+use Rattle.kishu_access.specs.declared.walks.Walk.TheVariants as walks
+
+abbrev pub view_of : rust_view.View → View
+view_of views.Keys = keys
+view_of views.Values = values
+view_of views.Items = items
+
+abbrev pub walk_of : rust_walk.Walk → Walk
+walk_of (walks.List id) = along_list id.0
+walk_of (walks.Dict id size view) = along_dict id.0 size (view_of view)
+walk_of (walks.Tuple vs) = along_tuple (map value_of vs.items)
+walk_of (walks.Text cs) = along_text cs.items
+walk_of (walks.Range start stop step) = along_range start stop step
+
+abbrev pub place_of : rust_place.Place → Place
+place_of (rust_places.Named x) = named (rc_str_bytes x)
+place_of (rust_places.Attribute v x) = attribute_of (value_of v) (rc_str_bytes x)
+place_of (rust_places.Item v i) = item_of (value_of v) (value_of i)
+
+-- the places of a slice
+abbrev pub places_of : Places → List ℤ
+places_of p = places p.first p.step p.len
+
+-- how a node is stored into
+abbrev pub container_of : Option Node → Container
+container_of (Some (list vs)) = containers.List (length vs)
+container_of (Some (dict es)) = containers.Dict
+container_of _ = containers.Other
+
+abbrev pub is_sound_walk : ℕ → Walk → Bool
+is_sound_walk n (along_list i) = is_sound n (node i)
+is_sound_walk n (along_dict i size found) = is_sound n (node i)
+is_sound_walk n (along_tuple vs) = are_sound n vs
+is_sound_walk n (along_text cs) = true
+is_sound_walk n (along_range start stop step) = true
+
+abbrev pub is_sound_place : ℕ → Place → Bool
+is_sound_place n (named x) = is_name x
+is_sound_place n (attribute_of v x) = is_name x && is_sound n v
+is_sound_place n (item_of v i) = is_sound n v && is_sound n i
+
+-- items, where there are any
+abbrev pub are_sound_maybe : ℕ → Option (Vec rust.Value Global) → Bool
+are_sound_maybe n None = true
+are_sound_maybe n (Some v) = are_sound n (map value_of v.items)
+
+-- a value, where there is one
+abbrev pub is_sound_maybe : ℕ → Option rust.Value → Bool
+is_sound_maybe n None = true
+is_sound_maybe n (Some v) = is_sound n (value_of v)
+
+-- The places of a slice lie among n.
+abbrev pub AreWithin : ℕ → Places → Type 0
+AreWithin n p = LieWithin n (places_of p)

@@ -1,0 +1,76 @@
+// Places: a name, an attribute, or an item (Python Language Reference 3, "Assignment statements").
+ghost use Rattle.std.specs.Prelude.{IsTrue, length, true};
+ghost use Rattle.kishu_model.specs.Meaning.{delete_place, read_place, store_in};
+ghost use Rattle.kishu_model.specs.Sound.{is_sound};
+ghost use Rattle.kishu_model.specs.Values.{value_of};
+ghost use Rattle.kishu_access.specs.Access.{is_sound_place, place_of};
+ghost use Rattle.kishu_machine.specs.Machine.{Gives, GrownBy, HasRoomBy, IsSound, moment_of};
+
+use crate::attributes::{attribute, delete_attribute, store_attribute};
+use crate::subscripts::{delete_item, item, store_item};
+use kishu_machine::{Fault, Machine, assign, delete, read};
+use kishu_model::{Steps, Value};
+use std::rc::RcStr;
+use std::sync::ledger::Ledger;
+
+/// A name, an attribute of a value, or an item of one.
+#[derive(Drop)]
+pub enum Place {
+    Named(RcStr),
+    Attribute(Value, RcStr),
+    Item(Value, Value),
+}
+
+pub fn read_place<L: Ledger>(
+    machine: &mut Machine,
+    place: &Place,
+    steps: &mut Steps<L>,
+) -> Result<Value, Fault>
+    requires room { HasRoomBy 1 machine.old }
+    requires sound_place { IsTrue (is_sound_place (length machine.old.heap) (place_of place.now)) }
+    ensures gives { Gives value_of result (moment_of machine.new) (read_place (place_of place.now) (moment_of machine.old)) }
+    ensures sound { IsSound (λ v. is_sound (length machine.new.heap) (value_of v)) (length machine.new.heap) result }
+    ensures kept { GrownBy 1 machine.old steps.old machine.new steps.new }
+{
+    match place {
+        Place::Named(name) => read(machine, name.as_str()),
+        Place::Attribute(value, name) => attribute(machine, value, name.as_str(), steps),
+        Place::Item(value, index) => item(machine, value, index, steps),
+    }
+}
+
+pub fn store_in<L: Ledger>(
+    machine: &mut Machine,
+    place: &Place,
+    value: Value,
+    steps: &mut Steps<L>,
+) -> Result<(), Fault>
+    requires sound_place { IsTrue (is_sound_place (length machine.old.heap) (place_of place.now)) }
+    requires sound_value { IsTrue (is_sound (length machine.old.heap) (value_of value)) }
+    ensures gives { Gives (λ u. u) result (moment_of machine.new) (store_in (place_of place.now) (value_of value) (moment_of machine.old)) }
+    ensures sound { IsSound (λ _. true) (length machine.new.heap) result }
+    ensures kept { GrownBy 0 machine.old steps.old machine.new steps.new }
+{
+    match place {
+        Place::Named(name) => assign(machine, name, value),
+        Place::Attribute(object, name) => store_attribute(machine, object, name, value, steps),
+        Place::Item(container, index) => store_item(machine, container, index, value, steps),
+    }
+}
+
+pub fn delete_place<L: Ledger>(
+    machine: &mut Machine,
+    place: &Place,
+    steps: &mut Steps<L>,
+) -> Result<(), Fault>
+    requires sound_place { IsTrue (is_sound_place (length machine.old.heap) (place_of place.now)) }
+    ensures gives { Gives (λ u. u) result (moment_of machine.new) (delete_place (place_of place.now) (moment_of machine.old)) }
+    ensures sound { IsSound (λ _. true) (length machine.new.heap) result }
+    ensures kept { GrownBy 0 machine.old steps.old machine.new steps.new }
+{
+    match place {
+        Place::Named(name) => delete(machine, name.as_str()),
+        Place::Attribute(object, name) => delete_attribute(machine, object, name.as_str(), steps),
+        Place::Item(container, index) => delete_item(machine, container, index, steps),
+    }
+}

@@ -1,0 +1,521 @@
+// Items: read, stored and deleted (Python Language Reference 3, "Subscriptions").
+ghost use Rattle.std.specs.Prelude.{IfOk, IfSome, IsTrue, OnOk, Some, [], is_some, length, map, negsuc, option_and_then, option_map, pos, slice_get, true, ℕ, ◌*ℤ◌, ◌+ℤ◌, ◌-ℤ◌, ◌-◌, ◌<ℤ◌, ◌<◌, ◌^◌, ◌∷◌, ◌≡◌, ◌≤ℤ◌, ◌≤◌};
+ghost use Rattle.std.specs.Str.{chars};
+ghost use Rattle.kishu_model.specs.Equal.{range_length};
+ghost use Rattle.kishu_model.specs.Indexes.{index_of, place_in, place_of};
+ghost use Rattle.kishu_model.specs.Keys.{is_one, key_of};
+ghost use Rattle.kishu_model.specs.Kinds.{no_key};
+ghost use Rattle.kishu_model.specs.Moment.{Moment, change, node_at, node_now, ◌>>=◌ as ◌⊳◌};
+ghost use Rattle.kishu_model.specs.Nodes.{changed, on_list, remove, value_at, value_under};
+ghost use Rattle.kishu_model.specs.Operators.{list_from};
+ghost use Rattle.kishu_model.specs.Sound.{are_sound, is_sound};
+ghost use Rattle.kishu_model.specs.Subscripts.{delete_in_node, delete_item, item, node_item, position, store_in_node, store_item, taken, where_found, without_place};
+ghost use Rattle.kishu_model.specs.Values.{node, value_of};
+ghost use Rattle.kishu_model.specs.Walks.{or_none_there};
+ghost use Rattle.kishu_access.specs.Access.{container_of};
+ghost use Rattle.kishu_access.specs.Forms.{is_dict, items_from};
+ghost use Rattle.kishu_heap.specs.Cells.{entries_of};
+ghost use Rattle.kishu_machine.specs.Machine.{Gives, GrownBy, IsSound, moment_of};
+ghost use Rattle.kishu_model.specs.Values as model;
+
+use indexmap::IndexMap;
+use kishu_heap::{Heap, Node, range_length};
+use kishu_items::character_text;
+use kishu_machine::{
+    Fault, Machine, key_of, list_at, no_key, node_at, not_subscriptable, out_of_range, passed,
+};
+use kishu_model::{Key, NodeId, Steps, Value};
+use std::alloc::{AllocError, Global};
+use std::sync::ledger::Ledger;
+
+// The whole number that an index is.
+pub(crate) fn index_of<L: Ledger>(
+    machine: &Machine,
+    index: &Value,
+    steps: &mut Steps<L>,
+) -> Result<i128, Fault>
+    requires sound { IsTrue (is_sound (length machine.now.heap) (value_of index.now)) }
+    ensures gives { Gives (λ z. z) result (moment_of machine.now) (index_of (value_of index.now) (moment_of machine.now)) }
+    ensures sound { IsSound (λ _. true) (length machine.now.heap) result }
+    ensures counted { steps.old ≤ steps.new }
+{
+    let number = kishu_items::index_of(machine.alloc, index, &machine.heap, steps);
+    passed(number)
+}
+
+// The place among so many that a number says.
+fn place_of(alloc: Global, len: usize, number: i128) -> Result<usize, Fault>
+    ensures gives { (s : Moment) → Gives (λ k. k) result s (place_of len number s) }
+    ensures sound { (n : ℕ) → IsSound (λ _. true) n result }
+    ensures within { IfOk result (λ k. k < len) }
+{
+    let place = kishu_items::place_of(alloc, len, number);
+    passed(place)
+}
+
+// The place among so many that an index says.
+fn position<L: Ledger>(
+    machine: &Machine,
+    len: usize,
+    index: &Value,
+    steps: &mut Steps<L>,
+) -> Result<usize, Fault>
+    requires sound { IsTrue (is_sound (length machine.now.heap) (value_of index.now)) }
+    ensures gives { Gives (λ k. k) result (moment_of machine.now) (position len (value_of index.now) (moment_of machine.now)) }
+    ensures sound { IsSound (λ _. true) (length machine.now.heap) result }
+    ensures within { IfOk result (λ k. k < len) }
+    ensures counted { steps.old ≤ steps.new }
+{
+    let number = index_of(machine, index, steps)?;
+    place_of(machine.alloc, len, number)
+}
+
+// The item at an index.
+fn taken<L: Ledger>(
+    machine: &Machine,
+    items: &[Value],
+    index: &Value,
+    steps: &mut Steps<L>,
+) -> Result<Value, Fault>
+    requires sound_items { IsTrue (are_sound (length machine.now.heap) (map value_of items.now)) }
+    requires sound_index { IsTrue (is_sound (length machine.now.heap) (value_of index.now)) }
+    ensures gives { Gives value_of result (moment_of machine.now) (taken (map value_of items.now) (value_of index.now) (moment_of machine.now)) }
+    ensures sound { IsSound (λ v. is_sound (length machine.now.heap) (value_of v)) (length machine.now.heap) result }
+    ensures counted { steps.old ≤ steps.new }
+{
+    let place = position(machine, items.len(), index, steps)?;
+    let item = items[place].copied()?;
+    Ok(item)
+}
+
+fn character(alloc: Global, text: &str, place: usize) -> Result<Value, AllocError>
+    requires { place < length (chars text.now) }
+    ensures { IfOk result (λ v. Some (value_of v) ≡ option_map (λ c. model.text (c ∷ [])) (slice_get (chars text.now) place)) }
+{
+    let Some(c) = kishu_text::at(text, place) else {
+        unreachable!()
+    };
+    character_text(alloc, c)
+}
+
+fn text_item<L: Ledger>(
+    machine: &Machine,
+    text: &str,
+    index: &Value,
+    steps: &mut Steps<L>,
+) -> Result<Value, Fault>
+    requires sound { IsTrue (is_sound (length machine.now.heap) (value_of index.now)) }
+    ensures gives { Gives value_of result (moment_of machine.now) (item (model.text (chars text.now)) (value_of index.now) (moment_of machine.now)) }
+    ensures sound { IsSound (λ v. is_sound (length machine.now.heap) (value_of v)) (length machine.now.heap) result }
+    ensures counted { steps.old ≤ steps.new }
+{
+    let place = position(machine, kishu_text::count(text), index, steps)?;
+    let item = character(machine.alloc, text, place)?;
+    Ok(item)
+}
+
+// The number so far above another, below 2 ^ 127.
+fn above(number: i128, distance: u128) -> i128
+    requires { (number +ℤ pos distance) <ℤ pos (2 ^ 127) }
+    ensures { result ≡ number +ℤ pos distance }
+{
+    match number.checked_add_unsigned(distance) {
+        Some(number) => number,
+        None => unreachable!(),
+    }
+}
+
+// The number so far below another, from -2 ^ 127 on.
+fn below(number: i128, distance: u128) -> i128
+    requires { negsuc (2 ^ 127 - 1) ≤ℤ (number -ℤ pos distance) }
+    ensures { result ≡ number -ℤ pos distance }
+{
+    match number.checked_sub_unsigned(distance) {
+        Some(number) => number,
+        None => unreachable!(),
+    }
+}
+
+/// The number of a range at a place (Library Reference, "Ranges").
+pub(crate) fn range_number(start: i128, stop: i128, step: i128, place: u128) -> i128
+    requires { place < range_length start stop step }
+    ensures { result ≡ start +ℤ pos place *ℤ step }
+{
+    let distance = place * step.unsigned_abs();
+    if step > 0 {
+        above(start, distance)
+    } else {
+        below(start, distance)
+    }
+}
+
+// The place among so many numbers that an index says.
+fn range_place(len: u128, index: i128) -> Option<u128>
+    ensures { result ≡ place_in len index }
+{
+    if index >= 0 {
+        let place = index.unsigned_abs();
+        if place < len { Some(place) } else { None }
+    } else {
+        let back = index.unsigned_abs();
+        if back <= len { Some(len - back) } else { None }
+    }
+}
+
+fn range_item<L: Ledger>(
+    machine: &Machine,
+    start: i128,
+    stop: i128,
+    step: i128,
+    index: &Value,
+    steps: &mut Steps<L>,
+) -> Result<Value, Fault>
+    requires sound { IsTrue (is_sound (length machine.now.heap) (value_of index.now)) }
+    ensures gives { Gives value_of result (moment_of machine.now) (item (model.range start stop step) (value_of index.now) (moment_of machine.now)) }
+    ensures sound { IsSound (λ v. is_sound (length machine.now.heap) (value_of v)) (length machine.now.heap) result }
+    ensures counted { steps.old ≤ steps.new }
+{
+    let number = index_of(machine, index, steps)?;
+    match range_place(range_length(start, stop, step), number) {
+        Some(place) => Ok(Value::Int(range_number(start, stop, step, place))),
+        None => out_of_range(machine.alloc),
+    }
+}
+
+// The items of a list or a tuple.
+pub(crate) fn items_at<'a, L: Ledger>(
+    heap: &'a Heap,
+    value: &Value,
+    steps: &mut Steps<L>,
+) -> Option<&'a [Value]>
+    ensures items { option_map (λ s. map value_of s.now) result ≡ items_from (node_at heap.now (value_of value.now)) }
+    ensures sound { IfSome result (λ s. IsTrue (are_sound (length heap.now) (map value_of s.now))) }
+    ensures counted { steps.old ≤ steps.new }
+{
+    match node_at(heap, value, steps)? {
+        Node::List(items) => Some(items.as_slice()),
+        Node::Tuple(items) => Some(items.as_slice()),
+        Node::Dict(_) => None,
+        Node::Object(_) => None,
+        Node::Function(_) => None,
+        Node::Exception(..) => None,
+    }
+}
+
+fn is_dict<L: Ledger>(heap: &Heap, value: &Value, steps: &mut Steps<L>) -> bool
+    ensures is { result ≡ is_dict (node_at heap.now (value_of value.now)) }
+    ensures counted { steps.old ≤ steps.new }
+{
+    match node_at(heap, value, steps) {
+        Some(Node::Dict(_)) => true,
+        Some(Node::List(_)) => false,
+        Some(Node::Tuple(_)) => false,
+        Some(Node::Object(_)) => false,
+        Some(Node::Function(_)) => false,
+        Some(Node::Exception(..)) => false,
+        None => false,
+    }
+}
+
+pub(crate) fn is_list<L: Ledger>(heap: &Heap, value: &Value, steps: &mut Steps<L>) -> bool
+    ensures is { result ≡ is_some (list_from (node_at heap.now (value_of value.now))) }
+    ensures counted { steps.old ≤ steps.new }
+{
+    list_at(heap, value, steps).is_some()
+}
+
+fn found<'a>(entries: &'a IndexMap<Key, Value>, key: &Key) -> Option<&'a Value>
+    ensures { option_map (λ v. value_of v.now) result ≡ value_at is_one (key_of key.now) (entries_of entries.now.entries) }
+{
+    entries.get(key)
+}
+
+fn value_in(entries: &IndexMap<Key, Value>, key: &Key) -> Result<Option<Value>, AllocError>
+    ensures { IfOk result (λ o. option_map value_of o ≡ value_at is_one (key_of key.now) (entries_of entries.now.entries)) }
+{
+    match found(entries, key) {
+        Some(value) => Ok(Some(value.copied()?)),
+        None => Ok(None),
+    }
+}
+
+// The value that a dict has under a key.
+fn value_under<L: Ledger>(
+    heap: &Heap,
+    dict: &Value,
+    key: &Key,
+    steps: &mut Steps<L>,
+) -> Result<Option<Value>, AllocError>
+    ensures value { IfOk result (λ o. option_map value_of o ≡ option_and_then (value_under (key_of key.now)) (node_at heap.now (value_of dict.now))) }
+    ensures sound { IfOk result (λ o. IfSome o (λ v. IsTrue (is_sound (length heap.now) (value_of v)))) }
+    ensures counted { steps.old ≤ steps.new }
+{
+    let Some(node) = node_at(heap, dict, steps) else {
+        return Ok(None);
+    };
+    match node.dict() {
+        Some(entries) => value_in(entries, key),
+        None => Ok(None),
+    }
+}
+
+fn dict_item<L: Ledger>(
+    machine: &mut Machine,
+    value: &Value,
+    index: &Value,
+    steps: &mut Steps<L>,
+) -> Result<Value, Fault>
+    requires dict { IsTrue (is_dict (node_at machine.old.heap (value_of value.now))) }
+    requires sound_index { IsTrue (is_sound (length machine.old.heap) (value_of index.now)) }
+    ensures gives { Gives value_of result (moment_of machine.new) ((node_now (value_of value.now) ⊳ node_item (value_of value.now) (value_of index.now)) (moment_of machine.old)) }
+    ensures sound { IsSound (λ v. is_sound (length machine.new.heap) (value_of v)) (length machine.new.heap) result }
+    ensures kept { GrownBy 0 machine.old steps.old machine.new steps.new }
+    ensures heap { machine.new.heap ≡ machine.old.heap }
+{
+    let key = key_of(machine, index, steps)?;
+    let found = value_under(&machine.heap, value, &key, steps)?;
+    match found {
+        Some(item) => Ok(item),
+        None => no_key(index),
+    }
+}
+
+fn node_item<L: Ledger>(
+    machine: &mut Machine,
+    value: &Value,
+    index: &Value,
+    steps: &mut Steps<L>,
+) -> Result<Value, Fault>
+    requires sound_value { IsTrue (is_sound (length machine.old.heap) (value_of value.now)) }
+    requires sound_index { IsTrue (is_sound (length machine.old.heap) (value_of index.now)) }
+    ensures gives { Gives value_of result (moment_of machine.new) ((node_now (value_of value.now) ⊳ node_item (value_of value.now) (value_of index.now)) (moment_of machine.old)) }
+    ensures sound { IsSound (λ v. is_sound (length machine.new.heap) (value_of v)) (length machine.new.heap) result }
+    ensures kept { GrownBy 0 machine.old steps.old machine.new steps.new }
+    ensures heap { machine.new.heap ≡ machine.old.heap }
+{
+    if let Some(items) = items_at(&machine.heap, value, steps) {
+        return taken(machine, items, index, steps);
+    }
+    if is_dict(&machine.heap, value, steps) {
+        return dict_item(machine, value, index, steps);
+    }
+    not_subscriptable(machine, value, steps)
+}
+
+/// `value[index]`.
+pub fn item<L: Ledger>(
+    machine: &mut Machine,
+    value: &Value,
+    index: &Value,
+    steps: &mut Steps<L>,
+) -> Result<Value, Fault>
+    requires sound_value { IsTrue (is_sound (length machine.old.heap) (value_of value.now)) }
+    requires sound_index { IsTrue (is_sound (length machine.old.heap) (value_of index.now)) }
+    ensures gives { Gives value_of result (moment_of machine.new) (item (value_of value.now) (value_of index.now) (moment_of machine.old)) }
+    ensures sound { IsSound (λ v. is_sound (length machine.new.heap) (value_of v)) (length machine.new.heap) result }
+    ensures kept { GrownBy 0 machine.old steps.old machine.new steps.new }
+    ensures heap { machine.new.heap ≡ machine.old.heap }
+{
+    match value {
+        Value::Text(text) => text_item(machine, text.as_str(), index, steps),
+        Value::Range(start, stop, step) => {
+            range_item(machine, *start, *stop, *step, index, steps)
+        }
+        Value::Node(_) => node_item(machine, value, index, steps),
+        _ => not_subscriptable(machine, value, steps),
+    }
+}
+
+// ---- what a container is
+
+/// How a container is stored into: a list of so many items, a dict, or neither.
+#[derive(Clone, Copy)]
+pub(crate) enum Container {
+    List(usize),
+    Dict,
+    Other,
+}
+
+fn container_at<L: Ledger>(heap: &Heap, id: NodeId, steps: &mut Steps<L>) -> Container
+    ensures container { result ≡ container_of (slice_get heap.now id.0) }
+    ensures counted { steps.old ≤ steps.new }
+{
+    match node_at(heap, &Value::Node(id), steps) {
+        Some(Node::List(items)) => Container::List(items.len()),
+        Some(Node::Dict(_)) => Container::Dict,
+        Some(Node::Tuple(_)) => Container::Other,
+        Some(Node::Object(_)) => Container::Other,
+        Some(Node::Function(_)) => Container::Other,
+        Some(Node::Exception(..)) => Container::Other,
+        None => Container::Other,
+    }
+}
+
+// ---- stores
+
+fn store_in_node<L: Ledger>(
+    machine: &mut Machine,
+    id: NodeId,
+    index: &Value,
+    value: Value,
+    steps: &mut Steps<L>,
+) -> Result<(), Fault>
+    requires id { id.0 < length machine.old.heap }
+    requires sound_index { IsTrue (is_sound (length machine.old.heap) (value_of index.now)) }
+    requires sound_value { IsTrue (is_sound (length machine.old.heap) (value_of value)) }
+    ensures gives { Gives (λ u. u) result (moment_of machine.new) ((node_now (node id.0) ⊳ store_in_node id.0 (value_of index.now) (value_of value)) (moment_of machine.old)) }
+    ensures sound { IsSound (λ _. true) (length machine.new.heap) result }
+    ensures kept { GrownBy 0 machine.old steps.old machine.new steps.new }
+{
+    match container_at(&machine.heap, id, steps) {
+        Container::List(len) => {
+            let place = position(machine, len, index, steps)?;
+            machine.heap.set_item(id, place, value);
+            Ok(())
+        }
+        Container::Dict => {
+            let key = key_of(machine, index, steps)?;
+            machine.heap.insert(id, key, value)?;
+            Ok(())
+        }
+        Container::Other => not_subscriptable(machine, &Value::Node(id), steps),
+    }
+}
+
+/// `container[index] = value`.
+pub(crate) fn store_item<L: Ledger>(
+    machine: &mut Machine,
+    container: &Value,
+    index: &Value,
+    value: Value,
+    steps: &mut Steps<L>,
+) -> Result<(), Fault>
+    requires sound_container { IsTrue (is_sound (length machine.old.heap) (value_of container.now)) }
+    requires sound_index { IsTrue (is_sound (length machine.old.heap) (value_of index.now)) }
+    requires sound_value { IsTrue (is_sound (length machine.old.heap) (value_of value)) }
+    ensures gives { Gives (λ u. u) result (moment_of machine.new) (store_item (value_of container.now) (value_of index.now) (value_of value) (moment_of machine.old)) }
+    ensures sound { IsSound (λ _. true) (length machine.new.heap) result }
+    ensures kept { GrownBy 0 machine.old steps.old machine.new steps.new }
+{
+    if let Value::Node(id) = container {
+        return store_in_node(machine, *id, index, value, steps);
+    }
+    not_subscriptable(machine, container, steps)
+}
+
+// ---- `del`
+
+// The items of a list once more.
+fn copied_list<L: Ledger>(
+    alloc: Global,
+    heap: &Heap,
+    id: NodeId,
+    steps: &mut Steps<L>,
+) -> Result<Vec<Value>, AllocError>
+    ensures items { IfOk result (λ v. map value_of v.items ≡ or_none_there (list_from (slice_get heap.now id.0))) }
+    ensures sound { IsTrue (are_sound (length heap.now) (or_none_there (list_from (slice_get heap.now id.0)))) }
+    ensures counted { steps.old ≤ steps.new }
+{
+    match list_at(heap, &Value::Node(id), steps) {
+        Some(items) => kishu_items::copied_all(alloc, items),
+        None => Ok(Vec::new(alloc)),
+    }
+}
+
+// A list without the item at a place.
+fn remove_place<L: Ledger>(
+    alloc: Global,
+    heap: &mut Heap,
+    id: NodeId,
+    place: usize,
+    steps: &mut Steps<L>,
+) -> Result<(), AllocError>
+    requires id { id.0 < length heap.old }
+    requires place { place < length (or_none_there (list_from (slice_get heap.old id.0))) }
+    ensures heap { OnOk result (heap.new ≡ changed (on_list (without_place place)) id.0 heap.old) }
+    ensures long { length heap.new ≡ length heap.old }
+    ensures counted { steps.old ≤ steps.new }
+{
+    let mut items = copied_list(alloc, heap, id, steps)?;
+    items.remove(place);
+    heap.replace_list(id, items);
+    Ok(())
+}
+
+fn has_key<L: Ledger>(heap: &Heap, dict: &Value, key: &Key, steps: &mut Steps<L>) -> bool
+    ensures is { result ≡ is_some (option_and_then (value_under (key_of key.now)) (node_at heap.now (value_of dict.now))) }
+    ensures counted { steps.old ≤ steps.new }
+{
+    let Some(node) = node_at(heap, dict, steps) else {
+        return false;
+    };
+    match node.dict() {
+        Some(entries) => found(entries, key).is_some(),
+        None => false,
+    }
+}
+
+// A dict without the entry of a key, which an index says.
+fn remove_entry<L: Ledger>(
+    machine: &mut Machine,
+    id: NodeId,
+    key: &Key,
+    index: &Value,
+    steps: &mut Steps<L>,
+) -> Result<(), Fault>
+    requires id { id.0 < length machine.old.heap }
+    requires sound_index { IsTrue (is_sound (length machine.old.heap) (value_of index.now)) }
+    ensures gives { Gives (λ u. u) result (moment_of machine.new) (where_found (no_key (value_of index.now)) (option_and_then (value_under (key_of key.now)) (slice_get machine.old.heap id.0)) (change id.0 (remove (key_of key.now))) (moment_of machine.old)) }
+    ensures sound { IsSound (λ _. true) (length machine.new.heap) result }
+    ensures kept { GrownBy 0 machine.old steps.old machine.new steps.new }
+{
+    if has_key(&machine.heap, &Value::Node(id), key, steps) {
+        let _gone = machine.heap.remove(id, key);
+        return Ok(());
+    }
+    no_key(index)
+}
+
+fn delete_in_node<L: Ledger>(
+    machine: &mut Machine,
+    id: NodeId,
+    index: &Value,
+    steps: &mut Steps<L>,
+) -> Result<(), Fault>
+    requires id { id.0 < length machine.old.heap }
+    requires sound_index { IsTrue (is_sound (length machine.old.heap) (value_of index.now)) }
+    ensures gives { Gives (λ u. u) result (moment_of machine.new) ((node_now (node id.0) ⊳ delete_in_node id.0 (value_of index.now)) (moment_of machine.old)) }
+    ensures sound { IsSound (λ _. true) (length machine.new.heap) result }
+    ensures kept { GrownBy 0 machine.old steps.old machine.new steps.new }
+{
+    match container_at(&machine.heap, id, steps) {
+        Container::List(len) => {
+            let place = position(machine, len, index, steps)?;
+            Ok(remove_place(machine.alloc, &mut machine.heap, id, place, steps)?)
+        }
+        Container::Dict => {
+            let key = key_of(machine, index, steps)?;
+            remove_entry(machine, id, &key, index, steps)
+        }
+        Container::Other => not_subscriptable(machine, &Value::Node(id), steps),
+    }
+}
+
+/// `del container[index]`.
+pub(crate) fn delete_item<L: Ledger>(
+    machine: &mut Machine,
+    container: &Value,
+    index: &Value,
+    steps: &mut Steps<L>,
+) -> Result<(), Fault>
+    requires sound_container { IsTrue (is_sound (length machine.old.heap) (value_of container.now)) }
+    requires sound_index { IsTrue (is_sound (length machine.old.heap) (value_of index.now)) }
+    ensures gives { Gives (λ u. u) result (moment_of machine.new) (delete_item (value_of container.now) (value_of index.now) (moment_of machine.old)) }
+    ensures sound { IsSound (λ _. true) (length machine.new.heap) result }
+    ensures kept { GrownBy 0 machine.old steps.old machine.new steps.new }
+{
+    if let Value::Node(id) = container {
+        return delete_in_node(machine, *id, index, steps);
+    }
+    not_subscriptable(machine, container, steps)
+}
