@@ -12,6 +12,7 @@ use kishu_model::{
 };
 use std::alloc::{AllocError, Global};
 use std::marker::Brand;
+use std::rc::RcStr;
 use std::sync::ledger::{Blank, Ledger};
 use std::test::Fail;
 
@@ -197,11 +198,12 @@ fn told_call<L: Ledger>(
 }
 
 // The same of a call as a row has it.
-fn answer<L: Ledger>(alloc: Global, row: &str, blank: Blank) -> Result<String, AllocError>
+fn answer<L: Ledger>(alloc: Global, row: &RcStr, blank: Blank) -> Result<String, AllocError>
     requires name { blank.name ≡ L.name }
     requires parts { blank.parts ≡ L.parts }
     requires some { 0 < L.parts }
 {
+    let row = row.as_str();
     let (name, rest) = row.split_once('|').unwrap_or((row, ""));
     let (args, left) = rest.split_once('|').unwrap_or((rest, ""));
     let mut heap = filled(alloc)?;
@@ -214,7 +216,8 @@ fn answer<L: Ledger>(alloc: Global, row: &str, blank: Blank) -> Result<String, A
 // Whether a call gives and takes what its row says.
 fn holds(alloc: Global, row: &str) -> Result<bool, AllocError> {
     let (call, want) = row.split_once('\x1d').unwrap_or((row, ""));
-    let told = answer::<Brand>(alloc, call, Blank::new(1))?;
+    let call = RcStr::from_str(alloc, call)?;
+    let told = answer::<Brand>(alloc, &call, Blank::new(1))?;
     Ok(told.as_str() == want)
 }
 

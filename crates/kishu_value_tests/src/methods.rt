@@ -385,11 +385,12 @@ fn called<L: Ledger>(
 }
 
 // The same of a call as a row has it.
-fn answer<L: Ledger>(alloc: Global, row: &str, blank: Blank) -> Result<String, AllocError>
+fn answer<L: Ledger>(alloc: Global, row: &RcStr, blank: Blank) -> Result<String, AllocError>
     requires name { blank.name ≡ L.name }
     requires parts { blank.parts ≡ L.parts }
     requires some { 0 < L.parts }
 {
+    let row = row.as_str();
     let (written, rest) = row.split_once('|').unwrap_or((row, ""));
     let (name, rest) = rest.split_once('|').unwrap_or((rest, ""));
     let (args, left) = rest.split_once('|').unwrap_or((rest, ""));
@@ -412,7 +413,8 @@ fn answer<L: Ledger>(alloc: Global, row: &str, blank: Blank) -> Result<String, A
 // Whether a call gives and leaves what its row says.
 fn holds(alloc: Global, row: &str) -> Result<bool, AllocError> {
     let (call, want) = row.split_once('\x1d').unwrap_or((row, ""));
-    let told = answer::<Brand>(alloc, call, Blank::new(1))?;
+    let call = RcStr::from_str(alloc, call)?;
+    let told = answer::<Brand>(alloc, &call, Blank::new(1))?;
     Ok(told.as_str() == want)
 }
 
@@ -441,7 +443,8 @@ fn methods_of_a_kind(rt: HostRuntime) -> Result<(), Fail> {
         "'a|upper||9",
         "1|count||9",
     ] {
-        let told = answer::<Brand>(alloc, call, Blank::new(1))?;
+        let row = RcStr::from_str(alloc, call)?;
+        let told = answer::<Brand>(alloc, &row, Blank::new(1))?;
         assert_eq!(rt; told.as_str(), "no method", "at {call}");
     }
     Ok(())
