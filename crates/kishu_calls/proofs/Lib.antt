@@ -1,0 +1,17 @@
+pub mod Keeping
+pub mod KeepsItems
+pub mod KeepsMethods
+pub mod Sums
+pub mod KeepsBuiltins
+pub mod Passing
+pub mod BuiltinCalls
+pub mod Called
+pub mod Binding
+pub mod Caught
+pub mod Locals
+pub mod Printed
+pub mod Attributes
+pub mod Marks
+pub mod Thrown
+pub mod Refused
+pub mod Prints

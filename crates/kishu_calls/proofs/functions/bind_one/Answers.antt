@@ -1,0 +1,11 @@
+use Rattle.std.proofs.Common.{◌∙◌, ap}
+use Rattle.kishu_model.specs.Values.{value_of, bind}
+use Rattle.kishu_machine.specs.Frames.{names_of}
+use Rattle.kishu_calls.proofs.Binding.{binds}
+use Rattle.kishu_calls.proofs.functions.bind_one.Goals as goal
+
+pub returns : goal.returns
+returns c =
+    ap names_of c.in_ok-insert.ensures.entries
+    ∙ binds c.in_ok-clone.field-0 c.args.value c.args.bound.now.entries
+    ∙ ap (λ x. bind x (value_of c.args.value) (names_of c.args.bound.now.entries)) c.in_ok-clone.ensures.cases

@@ -1,0 +1,5 @@
+pub mod Trees
+pub mod Rows
+pub mod StatementRows
+pub mod Calls
+pub mod Forms

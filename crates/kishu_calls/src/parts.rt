@@ -1,0 +1,87 @@
+// Parts of primaries (Python Language Reference 3, "Primaries").
+ghost use Rattle.std.specs.Prelude.{IsTrue, length, ◌+◌};
+ghost use Rattle.std.specs.Rc.{rc_str_bytes};
+ghost use Rattle.kishu_model.specs.Callees.{settled};
+ghost use Rattle.kishu_model.specs.Meaning.{Calls, walked_by};
+ghost use Rattle.kishu_model.specs.Moment.{give, ◌>>=◌ as ◌⊳◌, ◌>>◌};
+ghost use Rattle.kishu_model.specs.Sound.{is_sound};
+ghost use Rattle.kishu_model.specs.Values.{value_of};
+ghost use Rattle.kishu_access.specs.Access.{is_sound_walk, walk_of};
+ghost use Rattle.kishu_calls.specs.Calls.{Owing, is_sound_part, owed, part_of};
+ghost use Rattle.kishu_machine.specs.Machine.{Gives, GrownBy, HasRoomBy, IsSound, moment_of};
+ghost use Rattle.kishu_model.specs.Callees as c;
+
+use kishu_access::{View, Walk, attribute, walk_of, walk_view};
+use kishu_machine::{Fault, Machine, no_attribute};
+use kishu_model::{NodeId, Steps, Value};
+use std::rc::RcStr;
+use std::sync::ledger::Ledger;
+
+/// A part of a primary: its value, or a value with the name of an attribute or a view, which is an
+/// attribute where no call follows.
+#[derive(Drop)]
+pub enum Part {
+    Whole(Value),
+    Dotted(Value, RcStr),
+    /// Of a dict.
+    Viewed(NodeId, View),
+}
+
+/// A method is no value, and neither is a view of a dict.
+pub fn settled<L: Ledger>(
+    machine: &mut Machine,
+    part: Part,
+    steps: &mut Steps<L>,
+) -> Result<Value, Fault>
+    requires room { HasRoomBy (owed (part_of part)) machine.old }
+    requires sound_part { IsTrue (is_sound_part (length machine.old.heap) (part_of part)) }
+    ensures gives { Gives value_of result (moment_of machine.new) (settled (part_of part) (moment_of machine.old)) }
+    ensures sound { IsSound (λ v. is_sound (length machine.new.heap) (value_of v)) (length machine.new.heap) result }
+    ensures kept { GrownBy (owed (part_of part)) machine.old steps.old machine.new steps.new }
+{
+    match part {
+        Part::Whole(value) => Ok(value),
+        Part::Dotted(value, name) => attribute(machine, &value, name.as_str(), steps),
+        Part::Viewed(id, view) => no_attribute(machine, &Value::Node(id), view.name(), steps),
+    }
+}
+
+/// An attribute of what a part is.
+pub fn dotted_part<L: Ledger>(
+    machine: &mut Machine,
+    part: Part,
+    name: &RcStr,
+    steps: &mut Steps<L>,
+) -> Result<Part, Fault>
+    requires sound_part { IsTrue (is_sound_part (length machine.old.heap) (part_of part)) }
+    requires room { HasRoomBy (1 + owed (part_of part)) machine.old }
+    ensures gives { Gives part_of result (moment_of machine.new) ((settled (part_of part) ⊳ λ v. give (c.dotted v (rc_str_bytes name.now))) (moment_of machine.old)) }
+    ensures sound { IsSound (λ v. is_sound_part (length machine.new.heap) (part_of v)) (length machine.new.heap) result }
+    ensures kept { GrownBy (1 + owed (part_of part)) machine.old steps.old machine.new steps.new }
+    ensures owes { Owing (1 + owed (part_of part)) machine.old result machine.new }
+{
+    let value = settled(machine, part, steps)?;
+    Ok(Part::Dotted(value, name.clone()?))
+}
+
+/// What is walked: a sequence, or a view of a dict.
+pub fn walked_by<L: Ledger>(
+    machine: &mut Machine,
+    part: Part,
+    steps: &mut Steps<L>,
+) -> Result<Walk, Fault>
+    requires sound_part { IsTrue (is_sound_part (length machine.old.heap) (part_of part)) }
+    requires room { HasRoomBy (owed (part_of part)) machine.old }
+    ensures gives { (calls : Calls) → Gives walk_of result (moment_of machine.new) (walked_by calls (part_of part) (moment_of machine.old)) }
+    ensures sound { IsSound (λ w. is_sound_walk (length machine.new.heap) (walk_of w)) (length machine.new.heap) result }
+    ensures kept { GrownBy (owed (part_of part)) machine.old steps.old machine.new steps.new }
+{
+    match part {
+        Part::Viewed(id, view) => Ok(walk_view(machine, id, view, steps)),
+        Part::Whole(value) => walk_of(machine, &value, steps),
+        Part::Dotted(value, name) => {
+            let found = attribute(machine, &value, name.as_str(), steps)?;
+            walk_of(machine, &found, steps)
+        }
+    }
+}
