@@ -5,9 +5,7 @@ The rules are written here a second time, so that the definitions of `kishu_mode
 to be compared with. No cell here nests deeply, so the depth isn't counted.
 """
 import ast
-import io
 import re
-import tokenize
 
 BUDGET = 4_000_000
 LEAST, GREATEST = -(2**127), 2**127 - 1
@@ -333,46 +331,3 @@ class Ran:
                 return "error", [("fault", raised.kind, self.machine.exception_text(raised.kind, raised.given))]
         except Spent:
             return "stopped", [("fault", "Stopped", "step budget spent")]
-
-
-# ---- which forms there are
-
-
-LATER = (ast.FunctionDef, ast.Return, ast.Global, ast.Raise, ast.Assert, ast.Try)
-
-
-def is_plain(node):
-    """Whether a part of a tree has only the forms that the machine runs."""
-    if isinstance(node, LATER) or isinstance(node, ast.Name) and node.id in LISTED:
-        return False
-    parts = list(ast.iter_child_nodes(node))
-    if isinstance(node, ast.Call) and isinstance(node.func, ast.Name) and node.func.id in ("print", "SimpleNamespace"):
-        parts.remove(node.func)
-    return all(map(is_plain, parts))
-
-
-def line_starts(text):
-    """The first lines of the logical lines."""
-    starts, begins = [], True
-    for token in tokenize.generate_tokens(io.StringIO(text).readline):
-        if begins and token.type not in (tokenize.COMMENT, tokenize.NL, tokenize.INDENT, tokenize.DEDENT, tokenize.ENDMARKER):
-            starts.append(token.start[0])
-            begins = False
-        begins = begins or token.type == tokenize.NEWLINE
-    return starts
-
-
-def later_line(text):
-    return first_later(text, is_plain)
-
-
-def first_later(text, is_plain):
-    """The line of the first piece with another form, or None; None also where there is no tree."""
-    text = re.sub("\r\n?", "\n", text)
-    try:
-        compile(text, "cell", "exec")
-    except SyntaxError:
-        return None
-    body = ast.parse(text).body
-    later = next((s.lineno for s in body if not is_plain(s)), None)
-    return later and max(start for start in line_starts(text) if start <= later)

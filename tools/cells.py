@@ -2,12 +2,11 @@
 """Makes the tables of cells and of what they show by which the meaning of cells is tested.
 
 Usage: tools/cells.py antt FOLDER                 (crates/kishu_model/proofs, for MeaningExamples.antt,
-                                                   MoreExamples.antt, BudgetExamples.antt, LaterExamples.antt,
-                                                   DepthExamples.antt, those over nodes, Node..Cells.antt and the
+                                                   MoreExamples.antt, BudgetExamples.antt, DepthExamples.antt,
+                                                   those over nodes, Node..Cells.antt and the
                                                    like, and those of functions and builtin functions)
-       tools/cells.py rust CELLS                  (a table for the program, once it runs the whole language:
-                                                   answers in JSON, as in crates/kishu_tests/src/serve/cells.rt)
-       tools/cells.py told CELLS                  (the same for the interpreter alone)
+       tools/cells.py rust CELLS                  (crates/kishu_tests/src/serve/cells.rt: answers in JSON)
+       tools/cells.py told CELLS                  (crates/kishu_tests/src/interp/cells.rt: the same in plain words)
 
 A cell is read by CPython's `ast.parse` and run by the small machine of cell_machine.py and
 node_machine.py, which counts the steps. Each cell of SAME also runs in CPython, and prints, shows,
@@ -16,7 +15,6 @@ in node_cells.py.
 """
 import ast
 import builtins
-import collections
 import contextlib
 import io
 import json
@@ -28,7 +26,7 @@ from types import SimpleNamespace
 import builtin_cells
 import function_cells
 import node_cells
-from cell_machine import LISTED, PRINT, later_line
+from cell_machine import LISTED, PRINT
 from cell_machine import Ran as CellRan
 from builtin_machine import Whole
 from function_machine import CLASSES
@@ -146,11 +144,8 @@ def check_same(rows, names=()):
             sys.exit("CPython differs at %r: %r, and not %r" % (text, in_python(text, names), in_machine(ran)))
 
 
-def check(rows, later=None, line_of=later_line):
+def check(rows):
     check_same(rows)
-    for text, line in LATER if later is None else later:
-        if line_of(text) != line:
-            sys.exit("the line of %r is %r" % (text, line_of(text)))
     for text, _ in FAULTS[1:]:
         if not is_refused(text):
             sys.exit("CPython accepts %r" % text)
@@ -163,6 +158,10 @@ def rust_text(text):
     return escaped(text, str.isascii)
 
 
+def spent(rows):
+    return sum(ran.outcome == "stopped" for _, ran in rows)
+
+
 def output_json(output):
     if output[0] == "stream":
         return {"name": "stdout", "output_type": "stream", "text": output[1]}
@@ -171,9 +170,12 @@ def output_json(output):
     return {"ename": output[1], "evalue": output[2], "output_type": "error", "traceback": ["%s: %s" % output[1:]]}
 
 
-RUST_HEAD = """// Made by %s: the cell's outcome and outputs in its answer, and its text, with \\x1f between, and
+RUST_HEAD = """// Made by tools/cells.py: the cell's outcome and outputs in its answer, and its text, with \\x1f between, and
 // \\x1e behind each row. The answer is BEGIN, this, END.
 pub(crate) const COUNT: usize = %d;
+
+// Of these so many spend their steps.
+pub(crate) const SPENT: usize = %d;
 
 pub(crate) const BEGIN: &str = "{\\"answer\\":\\"cell\\",\\"commit\\":1,\\"count\\":1,\\"outcome\\":";
 
@@ -183,9 +185,9 @@ pub(crate) const ROWS: &str = "\\
 """
 
 
-def rust(path, rows, script):
+def rust(path, rows):
     with open(path, "w") as out:
-        out.write(RUST_HEAD % (script, len(rows)))
+        out.write(RUST_HEAD % (len(rows), spent(rows)))
         for text, ran in rows:
             outputs = json.dumps([output_json(o) for o in ran.outputs], ensure_ascii=False, separators=(",", ":"), sort_keys=True)
             out.write("    %s\\x1f%s\\x1e\\\n" % (rust_text('"%s","outputs":%s' % (ran.outcome, outputs)), rust_text(text)))
@@ -195,6 +197,9 @@ def rust(path, rows, script):
 TOLD_HEAD = """// Made by tools/cells.py: how a cell ended and what it shows, and its text, with \\x1f between, and \\x1e
 // behind each row. What was printed stands in `<` and `>`.
 pub(crate) const COUNT: usize = %d;
+
+// Of these so many spend their steps.
+pub(crate) const SPENT: usize = %d;
 
 pub(crate) const ROWS: &str = "\\
 """
@@ -206,7 +211,7 @@ def told_output(output):
 
 def told(path, rows):
     with open(path, "w") as out:
-        out.write(TOLD_HEAD % len(rows))
+        out.write(TOLD_HEAD % (len(rows), spent(rows)))
         for text, ran in rows:
             out.write("    %s\\x1f%s\\x1e\\\n" % (rust_text(ran.outcome + "".join(map(told_output, ran.outputs))), rust_text(text)))
         out.write('";\n')
@@ -263,11 +268,11 @@ def antt_node(thing):
     return "%s %s" % (thing.kind, listed(map(antt_value, thing.inside)))
 
 
-def antt_ran(ran, stage=None):
+def antt_ran(ran):
     outcome = {"ok": "Done", "error": "Raised", "stopped": "Stopped"}[ran.outcome]
     outputs = listed(["%s %s" % (o[0], " ".join(codes(part) for part in o[1:])) for o in ran.outputs])
     names = listed(["(codes \"%s\", %s)" % (n, antt_value(ran.names[n])) for n in sorted(ran.names)])
-    accessed = listed(['codes "%s"' % n for n in (stage or WHOLE).accessed(ran.accessed)])
+    accessed = listed(['codes "%s"' % n for n in sorted(set(ran.accessed))])
     if getattr(ran.machine, "things", None):
         return "ran_over %s %s %s %s %s %d" % (outcome, outputs, names, listed(map(antt_node, ran.machine.things)), accessed, ran.charge)
     return "ran %s %s %s %s %d" % (outcome, outputs, names, accessed, ran.charge)
@@ -281,24 +286,6 @@ DEEP = [
     (1, "(1); (2)"), (1, "(1) + -2 * (3)"), (2, "x = 3\nwhile x: x -= (1)"),
 ]
 
-# The line of the first piece with a form that no cell has yet.
-LATER = [
-    ("", None), ("x = 1\nwhile x: x -= 1\nprint(x)", None), ("a = b = 'é' if not x else -(1) ** 2 * 3\nif a in b is None: pass", None), ("x += 1\nx -= (1)", None),
-    ("print", 1), ("x = print", 1), ("print = 1", 1), ("print += 1", 1), ("len", 1), ("int", 1), ("print(len)", 1), ("print(1 + print)", 1), ("ValueError", 1), ("SimpleNamespace", 1),
-    ("x = 1\nlen.a", 2), ("x\n\n# c\nif x:\n  [len]\ny", 4), ("x; y; {len: 1}", 1), ("pass\nx = (1 +\n 2); y = [\nlen]", 2), ("\r\rx\r\n[len]", 4), ("x = '''\n''' + y\n[len]\n()", 3),
-    ("print(1, end='')(2)[3].print", None), ("SimpleNamespace(len=1).len", None), ("(SimpleNamespace)(a=(print)(1))", None), ("f()\n'a'(1).b(2)[3]", None), ("print.a", 1), ("print[0]", 1), ("print[0](1)", 1), ("SimpleNamespace.a()", 1), ("len(x)", 1), ("x.a(len)", 1), ("x(a=len)", 1), ("x()(len)", 1),
-    ("(1, 2), [], {}, {1: [2]}, ()", None), ("(1, len)", 1), ("x = 1, len", 1), ("x += 1, len", 1), ("[1, len]", 1), ("{1: len}", 1), ("{len: 1}", 1), ("x[0][1:2][::-1]", None), ("x[len]", 1), ("x[len:]", 1), ("x[:len]", 1), ("x[::len]", 1), ("len[0]", 1), ("len[:]", 1),
-    ("a, (b, [c]) = x[0], y.b = z", None), ("a, len = 1, 2", 1), ("[a, (len, b)] = x", 1), ("x[len] = 1", 1), ("x = x[0] = len[0] = 1", 1), ("len.a += 1", 1), ("x = len.a", 1), ("x.a += 1\nx[0] **= 2\ndel x.a, x[0], x", None),
-    ("for a, b in x.items(): pass", None), ("for len in x: pass", 1), ("for i in len: pass", 1), ("for i in x: len", 1), ("def f(): pass", 1), ("del len", 1), ("del x, y[len]", 1), ("assert x", 1), ("raise x", 1), ("try: pass\nexcept: pass", 1), ("x = 1\ntry: x\nfinally: x", 2),
-    ("from types import SimpleNamespace", None), ("from types import SimpleNamespace as len", None), ("from types import SimpleNamespace as len\nlen", 2), ("from types import SimpleNamespace\nS = SimpleNamespace", 2), ("while x:\n  for i in x:\n    def f(): pass", 1),
-    ("not (-x ** len)", 1), ("1 if 2 else len", 1), ("1 if len else 3", 1), ("len if 1 else 3", 1), ("x and y or len", 1), ("x < y < len", 1), ("1 + 2 - len", 1), ("2 * len", 1), ("len ** 2", 1), ("print(1, (len))", 1),
-    ("while len: pass", 1), ("while 1:\n  while 2: len", 1), ("if 1: pass\nelif len: pass", 1), ("if 1: pass\nelif 2: len", 1), ("if 1: pass\nelse: len", 1), ("x += len", 1), ("while 1:\n  for i in x:\n    try: pass\n    finally: pass", 1),
-    ("x = len\na = = 1", None), ("len\n'abc", None), ("x = [len\n", None), ("f(len)\nbreak", None), ("len(1 $ 2)", None),
-    ("(a) = 1\n(print)(a)", None), ("x = 1\n(len)(x)", 2), ("(print)", 1), ("(print) = 1", 1), ("((print))(x).y", None),
-]
-# bytes that are no text in UTF-8
-NO_TEXTS = [b"\xff", b"x = [1] # \x80", b"'\xc3'", b"[\xed\xa0\x80]"]
-
 EXPRESSIONS = "keyword_begins another argument attribute call slice_after item_or_slice trailer parenthesised list pair dict atom primary_parts primary power unary_level term sum compared negated_level conjunction disjunction expr_level exprs_level phrase"
 STATEMENTS = "primary_at another_simple raise return assertion delete global import update_of assignment_of update_or_assignment simple simples line block block_after arm choice while for caught handler handled finished try parameter definition define compound chunk program"
 UNFOLDING = (
@@ -309,7 +296,7 @@ IMPORTS = """use Rattle.std.proofs.Common.{◌≡◌, ◌∷◌, [], refl}
 use Rattle.std.specs.Prelude.{%s}
 use Rattle.std.specs.Char.{encode_utf8}
 use Rattle.std.specs.Fmt.{digits}
-use Rattle.std.specs.Str.{chars%s}
+use Rattle.std.specs.Str.{chars}
 %suse Rattle.kishu_model.specs.Names.{builtin_names, class_names}
 use Rattle.kishu_model.specs.Numbers.{power}
 use Rattle.kishu_model.specs.Marks.{reserved_marks, delimiter, operator}
@@ -332,31 +319,25 @@ GROUPS = (
     ("use Rattle.kishu_model.specs.Keys as %s\n", "p"),
     ("use Rattle.kishu_model.specs.Values.{%s}\n", "none bool integer text range builtin class node list tuple dict object function exception empty stream shown fault"),
     ("use Rattle.kishu_model.specs.Meaning.{%s}\n", "run call"),
-    ("use Rattle.kishu_model.specs.Later.{%s}\n", "later_line"),
     ("use Rattle.kishu_model.proofs.Cells.{%s}\n", "ran ran_over ranged run_with run_at"),
 )
 
-# Which script makes the rows, what they import, and how they tell the record of accesses.
-Stage = collections.namedtuple("Stage", "script groups accessed")
-WHOLE = Stage("tools/cells.py", GROUPS, lambda names: sorted(set(names)))
 
-
-def imports(rows, groups):
+def imports(rows):
     words = set(re.findall(r"\w+", re.sub(r'"(\\.|[^"\\])*"', "", " ".join(call + " " + answer for call, answer in rows))))
 
     def line(group):
         names = ", ".join(n for n in group[1].split() if n in words)
         return group[0] % names if names else ""
 
-    return IMPORTS % (line(("%s", FIRST)), ", is_utf8" if "later_line" in words else "", line(PROFILES) + line(OUTCOMES), "".join(map(line, groups)))
+    return IMPORTS % (line(("%s", FIRST)), line(PROFILES) + line(OUTCOMES), "".join(map(line, GROUPS)))
 
 
-def antt(path, head, name, first, rows, further="", stage=None):
-    stage = stage or WHOLE
+def antt(path, head, name, first, rows, further=""):
     own = rows[0][0].split()[0]
-    unfolding = UNFOLDING + {"run": " run", "later_line": " is_utf8 later_line"}.get(own, "") + further
+    unfolding = UNFOLDING + {"run": " run"}.get(own, "") + further
     with open(path, "w") as out:
-        out.write("-- %s: computed on the definition. Made by %s.\n%s" % (head, stage.script, imports(rows + [(further, "")], stage.groups)))
+        out.write("-- %s: computed on the definition. Made by tools/cells.py.\n%s" % (head, imports(rows + [(further, "")])))
         for i, (call, answer) in enumerate(rows, first):
             out.write("\n%s_%d : %s ≡ %s\n%s\n%s_%d = refl\n" % (name, i, call, answer, unfolding, name, i))
 
@@ -403,12 +384,11 @@ def antt_builtins(folder, rows):
 TOO_DEEP = 'fault (codes "RecursionError") (codes "depth limit reached") ∷ []'
 
 
-def antt_plain(folder, rows, ran, later, stage=None, prefix=""):
-    """The rows of plain cells: what they give, with few steps, and at a great depth; and the lines of later forms."""
-    short = [("run One %s empty" % codes(text), antt_ran(r, stage)) for text, r in rows if r.charge < 500]
-    few = [("run_with %d %s" % (n, codes(text)), antt_ran(ran(text, budget=n), stage)) for n, text in FEW]
-    lines = [(codes(text), line) for text, line in later] + [(listed(map(str, text)), None) for text in NO_TEXTS]
-    deep = [("run_at %d %s" % (1000 - n, codes(text)), antt_ran(ran(text), stage)) for n, text in DEEP]
+def antt_plain(folder, rows):
+    """The rows of plain cells: what they give, with few steps, and at a great depth."""
+    short = [("run One %s empty" % codes(text), antt_ran(ran)) for text, ran in rows if ran.charge < 500]
+    few = [("run_with %d %s" % (n, codes(text)), antt_ran(Ran(text, budget=n))) for n, text in FEW]
+    deep = [("run_at %d %s" % (1000 - n, codes(text)), antt_ran(Ran(text))) for n, text in DEEP]
     too_deep = [("(run_at %d %s).report.outputs" % (1001 - n, codes(text)), TOO_DEEP) for n, text in DEEP if n > 0]
     half = len(short) // 2
     tables = (
@@ -416,10 +396,9 @@ def antt_plain(folder, rows, ran, later, stage=None, prefix=""):
         ("MoreExamples", "What further cells give", "cell", half + 1, short[half:]),
         ("BudgetExamples", "What some cells give where few steps are left", "few", 1, few),
         ("DepthExamples", "What some cells give that begin at a great depth", "deep", 1, deep + too_deep),
-        ("LaterExamples", "Which cells have a form that no cell has yet", "later", 1, [("later_line " + text, "Some %d" % line if line else "None") for text, line in lines]),
     )
     for name, head, row, first, found in tables:
-        antt("%s/%s%s.antt" % (folder, prefix, name), head, row, first, found, stage=stage)
+        antt("%s/%s.antt" % (folder, name), head, row, first, found)
 
 
 def main():
@@ -429,14 +408,14 @@ def main():
     with_builtins = [(text, Ran(text)) for text in builtin_cells.SAME + builtin_cells.OWN]
     check(rows[: len(SAME)] + over_nodes[: len(node_cells.SAME)] + functions[: len(function_cells.SAME)] + with_builtins[: len(builtin_cells.SAME)])
     if sys.argv[1] == "rust":
-        return rust(sys.argv[2], rows + over_nodes, WHOLE.script)
+        return rust(sys.argv[2], rows + over_nodes + functions + with_builtins)
     if sys.argv[1] == "told":
         return told(sys.argv[2], rows + over_nodes + functions + with_builtins)
     folder = sys.argv[2]
     antt_nodes(folder, over_nodes)
     antt_functions(folder, functions)
     antt_builtins(folder, with_builtins)
-    antt_plain(folder, rows, Ran, LATER)
+    antt_plain(folder, rows)
 
 
 if __name__ == "__main__":

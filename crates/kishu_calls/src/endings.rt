@@ -1,8 +1,8 @@
 // What a cell gives whose run ended.
-ghost use Rattle.std.specs.Prelude.{IfOk, List, OnOk, Option, [], map, ℕ, ◌++◌, ◌∷◌, ◌≡◌};
+ghost use Rattle.std.specs.Prelude.{IfOk, List, OnOk, Option, [], map, ℕ, ◌++◌, ◌-◌, ◌∷◌, ◌≡◌};
 ghost use Rattle.std.specs.Str.{chars};
 ghost use Rattle.kishu_model.specs.Meaning.{ended, finished, printed, spent, uncaught};
-ghost use Rattle.kishu_model.specs.Moment.{Ends, fine};
+ghost use Rattle.kishu_model.specs.Moment.{Ends, fine, most_steps};
 ghost use Rattle.kishu_model.specs.Show.{class_name, show_thrown};
 ghost use Rattle.kishu_model.specs.Values.{fault, output_of, report_of, shown};
 ghost use Rattle.kishu_machine.specs.Machine.{Gives, GrownBy, moment_of, outputs_in, shown_of, state_of, thrown_of};
@@ -96,6 +96,7 @@ fn finish_raised<L: Ledger>(
     ensures report { IfOk result (λ r. report_of r ≡ (uncaught (thrown_of thrown.now) (show_thrown (thrown_of thrown.now) (moment_of machine.old))).report) }
     ensures state { OnOk result (state_of machine.new ≡ (uncaught (thrown_of thrown.now) (show_thrown (thrown_of thrown.now) (moment_of machine.old))).state) }
     ensures accessed { OnOk result (machine.new.names.accessed ≡ (uncaught (thrown_of thrown.now) (show_thrown (thrown_of thrown.now) (moment_of machine.old))).accessed) }
+    ensures charge { OnOk result ((uncaught (thrown_of thrown.now) (show_thrown (thrown_of thrown.now) (moment_of machine.old))).charge ≡ most_steps - machine.new.budget.left) }
     ensures kept { GrownBy 0 machine.old steps.old machine.new steps.new }
 {
     let text = show_thrown(machine, thrown, steps);
@@ -117,6 +118,7 @@ pub fn finish<L: Ledger>(
     ensures report { IfOk result (λ r. (e : Ends (Option (List ℕ))) → Gives shown_of end (moment_of machine.old) e → report_of r ≡ (finished e).report) }
     ensures state { OnOk result ((e : Ends (Option (List ℕ))) → Gives shown_of end (moment_of machine.old) e → state_of machine.new ≡ (finished e).state) }
     ensures accessed { OnOk result ((e : Ends (Option (List ℕ))) → Gives shown_of end (moment_of machine.old) e → machine.new.names.accessed ≡ (finished e).accessed) }
+    ensures charge { OnOk result ((e : Ends (Option (List ℕ))) → Gives shown_of end (moment_of machine.old) e → (finished e).charge ≡ most_steps - machine.new.budget.left) }
     ensures kept { GrownBy 0 machine.old steps.old machine.new steps.new }
 {
     match end {

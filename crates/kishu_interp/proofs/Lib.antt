@@ -1,17 +1,24 @@
-pub mod Rows
-pub mod Messages
-pub mod Bound
-pub mod Arithmetic
-pub mod Operands
-pub mod StatementRows
-pub mod Printed
-pub mod Levels
-pub mod Chains
-pub mod Turns
-pub mod Cells
-pub mod Recorded
-pub mod RecordedCells
-pub mod RecordedRuns
-pub mod Known
-pub mod LaterForms
-pub mod TextRuns
+mod Arguments
+mod Arms
+mod Bodies
+mod Calling
+mod Cells
+mod Chains
+mod Defining
+mod Displays
+mod Functions
+mod Handlers
+mod Joined
+mod Leaving
+mod Lists
+mod Loops
+mod Nested
+mod Places
+mod Primaries
+mod Raised
+mod Remaining
+mod Rests
+mod Runs
+mod SoundNames
+mod Turns
+mod Walked

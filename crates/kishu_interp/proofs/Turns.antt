@@ -1,67 +1,94 @@
--- Blocks behind conditions, and the turns of loops.
-use Rattle.std.proofs.Common.{◌≡◌, ◌∙◌, ◌+◌, ◌-◌, ◌<◌, ◌≤◌, ap, refl, arith, max, ℕ, suc, Bool, true, false, List, length, drop, get_or, leb-true}
-use Rattle.std.specs.Prelude.{if◌then◌else◌, nat_le}
-use Rattle.kishu_model.specs.declared.tree.Arm.{Arm as Arm'}
-use Rattle.kishu_model.specs.Tree.{expression_of}
-use Rattle.kishu_model.specs.Values.{Value}
-use Rattle.kishu_model.specs.PlainMoment.{Moment, Ends, fine, raised, stopped, M, and_then, give, ◌>>=◌, ◌>>◌, tick}
-use Rattle.kishu_model.specs.PlainOperators.{truth}
-use Rattle.kishu_model.specs.PlainMeaning.{Flow, onward, in_block, turn_on, turns}
-use Rattle.kishu_interp.specs.declared.statements.Flow as rust_flow
-use Rattle.kishu_interp.specs.declared.statements.Flow.TheVariants as flows
-use Rattle.kishu_interp.specs.Machine.{flow_of}
-use Rattle.kishu_interp.specs.Trees.{arms_of, statements_of}
-use Rattle.kishu_interp.specs.Heights.{height_of_arms, height_of_statements}
-use Rattle.kishu_interp.specs.Unrecorded.{expr, choice, acts}
-use Rattle.kishu_interp.proofs.StatementRows.{arm_at}
-use Rattle.kishu_interp.proofs.Chains.{here}
+-- Turns of loops, one after the other.
+use Rattle.std.proofs.Common.{◌≡◌, ◌∙◌, refl, ap, sym, subst, arith, ℕ, zero, suc, ◌<◌, ◌≤◌, Bool, true, false, IsTrue, Option, Some, None}
+use Rattle.std.specs.Prelude.{if◌then◌else◌}
+use Rattle.kishu_model.specs.Values.{Value, node}
+use Rattle.kishu_model.specs.Moment.{Moment, Ends, fine, M, and_then, give, tick, ◌>>=◌, ◌>>◌}
+use Rattle.kishu_model.specs.Operators.{truth}
+use Rattle.kishu_model.specs.Walks.{Walk, along_list, along_dict, along_tuple, along_text, along_range, item_for}
+use Rattle.kishu_model.specs.Ways.{Flow, onward, turns, turn_on, walk_on, with_item}
+use Rattle.kishu_access.specs.Access.{is_sound_walk}
+use Rattle.kishu_machine.specs.declared.fault.Fault.{Fault}
+use Rattle.kishu_machine.specs.Machine.{Fails}
+use Rattle.kishu_machine.specs.Composing.{fails_on}
+use Rattle.kishu_machine.specs.SoundMore.{sound_more, sound_more_all}
 
-pub arms_here : (as' : List Arm') (i : ℕ) (a : Arm') → i < length as' → a ≡ get_or as' i a → (other : M Flow)
-    → choice (arms_of (drop i as')) other ≡ (expr (expression_of a.test) >>= λ v. truth v >>= λ b. if b then in_block (statements_of a.body.items) (acts (statements_of a.body.items)) else choice (arms_of (drop (i + 1) as')) other)
-arms_here as' i a h e other =
-    ap (λ ys. choice (arms_of ys) other) (here as' i a h e)
-    ∙ ap (λ p. expr p.0 >>= λ v. truth v >>= λ b. if b then in_block p.1 (acts p.1) else choice (arms_of (drop (i + 1) as')) other) (arm_at a)
+pub walk_more : (n m : ℕ) → n ≤ m → (walk : Walk) → IsTrue (is_sound_walk n walk) → IsTrue (is_sound_walk m walk)
+walk_more n m p (along_list i) h = sound_more n m p (node i) h
+walk_more n m p (along_dict i size found) h = sound_more n m p (node i) h
+walk_more n m p (along_tuple vs) h = sound_more_all n m p vs h
+walk_more n m p (along_text cs) h = refl
+walk_more n m p (along_range start stop step) h = refl
 
-pub arms_height : (as' : List Arm') (i : ℕ) (a : Arm') → i < length as' → a ≡ get_or as' i a
-    → height_of_arms (arms_of (drop i as')) ≡ max (height_of_statements (statements_of a.body.items)) (height_of_arms (arms_of (drop (i + 1) as')))
-arms_height as' i a h e =
-    ap (λ ys. height_of_arms (arms_of ys)) (here as' i a h e)
-    ∙ ap (λ p. max (height_of_statements p.1) (height_of_arms (arms_of (drop (i + 1) as')))) (arm_at a)
+-- ---- `while`
 
--- Where steps are left, there is a turn.
-pub some_turn : (n l : ℕ) (test : M Value) (body : M Flow) → l < n → turns n test body ≡ turns (suc (n - 1)) test body
-some_turn n l test body h =
-    let e : n ≡ suc (n - 1) = omega arith in
-    ap (λ k. turns k test body) e
+module _ (n : ℕ) (test : M Value) (body : M Flow) where
+  pub test_fails : (f : Fault) (s t : Moment) → Fails f t (test s) → Fails f t (turns (suc n) test body s)
+  test_fails f s t h = fails_on (λ v. truth v >>= λ b. if b then (tick >> body >>= λ f. turn_on f (turns n test body)) else give onward) f t (test s) h
 
-abbrev left_of : {A : Type 0} → Ends A → ℕ
-left_of (fine a s) = s.left
-left_of (raised x s) = s.left
-left_of (stopped s) = s.left
+  module _ (s s1 : Moment) (v : Value) (h : test s ≡ fine v s1) where
+    tested : (b : Bool) → truth v s1 ≡ fine b s1 → turns (suc n) test body s ≡ (if b then (tick >> body >>= λ f. turn_on f (turns n test body)) else give onward) s1
+    tested b k =
+        ap (λ (x : Ends Value). and_then x (λ v. truth v >>= λ b. if b then (tick >> body >>= λ f. turn_on f (turns n test body)) else give onward)) h
+        ∙ ap (λ (x : Ends Bool). and_then x (λ b. if b then (tick >> body >>= λ f. turn_on f (turns n test body)) else give onward)) k
 
-tick_case : (b : Bool) (s t : Moment) (u : Unit {0}) → nat_le 1 s.left ≡ b → (if b then fine tt (record s { left = s.left - 1 }) else stopped (record s { left = 0 })) ≡ fine u t → t.left < s.left
-tick_case true s t u h e =
-    let k : s.left - 1 ≡ t.left = ap left_of e in
-    let g : 1 ≤ s.left = leb-true 1 s.left h in
-    omega arith
-tick_case false s t u h e = absurd (cc e)
+    pub no_turn : truth v s1 ≡ fine false s1 → turns (suc n) test body s ≡ fine onward s1
+    no_turn k = tested false k
 
--- a step that is taken is one less
-pub tick_less : (s t : Moment) (u : Unit {0}) → tick s ≡ fine u t → t.left < s.left
-tick_less s t u e = tick_case (nat_le 1 s.left) s t u refl e
+    module _ (k : truth v s1 ≡ fine true s1) where
+      pub tick_fails : (f : Fault) (t : Moment) → Fails f t (tick s1) → Fails f t (turns (suc n) test body s)
+      tick_fails f t g = subst (λ (x : Ends Flow). Fails f t x) (sym (tested true k)) (fails_on (λ f. turn_on f (turns n test body)) f t (and_then (tick s1) (λ _. body)) (fails_on (λ (_ : Unit {0}). body) f t (tick s1) g))
 
--- one turn of a loop, after which there may be more
-pub one_turn : (k : ℕ) (test : M Value) (body : M Flow) (v : Value) (f : Flow) (u : Unit {0}) (s s1 s2 s3 : Moment)
-    → test s ≡ fine v s1 → truth v s1 ≡ fine true s1 → tick s1 ≡ fine u s2 → body s2 ≡ fine f s3
-    → turns (suc k) test body s ≡ turn_on f (turns k test body) s3
-one_turn k test body v f u s s1 s2 s3 a b c d =
-    ap (λ e. and_then e (λ w. truth w >>= λ h. if h then (tick >> body >>= λ g. turn_on g (turns k test body)) else give onward)) a
-    ∙ ap (λ e. and_then e (λ h. if h then (tick >> body >>= λ g. turn_on g (turns k test body)) else give onward)) b
-    ∙ ap (λ e. and_then (and_then e (λ w. body)) (λ g. turn_on g (turns k test body))) c
-    ∙ ap (λ e. and_then e (λ g. turn_on g (turns k test body))) d
+      pub turn : (s2 : Moment) → tick s1 ≡ fine tt s2 → turns (suc n) test body s ≡ and_then (body s2) (λ f. turn_on f (turns n test body))
+      turn s2 g = tested true k ∙ ap (λ (x : Ends (Unit {0})). and_then (and_then x (λ _. body)) (λ f. turn_on f (turns n test body))) g
 
--- A turn that isn't broken off goes on with the further turns.
-pub turned : (f : rust_flow.Flow) → (f ≡ flows.Broke → ⊥) → (m : M Flow) → turn_on (flow_of f) m ≡ m
-turned flows.Onward h m = refl
-turned flows.Continued h m = refl
-turned flows.Broke h m = absurd (h refl)
+      pub body_fails : (s2 : Moment) → tick s1 ≡ fine tt s2 → (f : Fault) (t : Moment) → Fails f t (body s2) → Fails f t (turns (suc n) test body s)
+      body_fails s2 g f t j = subst (λ (x : Ends Flow). Fails f t x) (sym (turn s2 g)) (fails_on (λ f. turn_on f (turns n test body)) f t (body s2) j)
+
+      pub turned : (s2 s3 : Moment) (f : Flow) → tick s1 ≡ fine tt s2 → body s2 ≡ fine f s3 → turns (suc n) test body s ≡ turn_on f (turns n test body) s3
+      turned s2 s3 f g j = turn s2 g ∙ ap (λ (x : Ends Flow). and_then x (λ f. turn_on f (turns n test body))) j
+
+-- ---- `for`
+
+module _ (n : ℕ) (walk : Walk) (k : ℕ) (put : Value → M (Unit {0})) (body : M Flow) where
+  abbrev after : Flow → M Flow
+  after f = turn_on f (walk_on n walk (suc k) (λ v. put v >> body))
+
+  pub item_fails : (f : Fault) (s t : Moment) → Fails f t (item_for walk k s) → Fails f t (walk_on (suc n) walk k (λ v. put v >> body) s)
+  item_fails f s t h = fails_on (λ found. with_item found (λ v. put v >> body) >>= after) f t (item_for walk k s) h
+
+  pub walk_ends : (s s1 : Moment) → item_for walk k s ≡ fine None s1 → walk_on (suc n) walk k (λ v. put v >> body) s ≡ fine onward s1
+  walk_ends s s1 h = ap (λ (x : Ends (Option Value)). and_then x (λ found. with_item found (λ v. put v >> body) >>= after)) h
+
+  module _ (s s1 : Moment) (v : Value) (h : item_for walk k s ≡ fine (Some v) s1) where
+    with_this : walk_on (suc n) walk k (λ v. put v >> body) s ≡ and_then (and_then (tick s1) (λ _. put v >> body)) after
+    with_this = ap (λ (x : Ends (Option Value)). and_then x (λ found. with_item found (λ v. put v >> body) >>= after)) h
+
+    pub step_fails : (f : Fault) (t : Moment) → Fails f t (tick s1) → Fails f t (walk_on (suc n) walk k (λ v. put v >> body) s)
+    step_fails f t g = subst (λ (x : Ends Flow). Fails f t x) (sym with_this) (fails_on after f t (and_then (tick s1) (λ _. put v >> body)) (fails_on (λ (_ : Unit {0}). put v >> body) f t (tick s1) g))
+
+    module _ (s2 : Moment) (g : tick s1 ≡ fine tt s2) where
+      stepped : walk_on (suc n) walk k (λ v. put v >> body) s ≡ and_then (and_then (put v s2) (λ _. body)) after
+      stepped = with_this ∙ ap (λ (x : Ends (Unit {0})). and_then (and_then x (λ _. put v >> body)) after) g
+
+      pub put_fails : (f : Fault) (t : Moment) → Fails f t (put v s2) → Fails f t (walk_on (suc n) walk k (λ v. put v >> body) s)
+      put_fails f t j = subst (λ (x : Ends Flow). Fails f t x) (sym stepped) (fails_on after f t (and_then (put v s2) (λ _. body)) (fails_on (λ (_ : Unit {0}). body) f t (put v s2) j))
+
+      module _ (s3 : Moment) (j : put v s2 ≡ fine tt s3) where
+        put_then : walk_on (suc n) walk k (λ v. put v >> body) s ≡ and_then (body s3) after
+        put_then = stepped ∙ ap (λ (x : Ends (Unit {0})). and_then (and_then x (λ _. body)) after) j
+
+        pub walk_fails : (f : Fault) (t : Moment) → Fails f t (body s3) → Fails f t (walk_on (suc n) walk k (λ v. put v >> body) s)
+        walk_fails f t i = subst (λ (x : Ends Flow). Fails f t x) (sym put_then) (fails_on after f t (body s3) i)
+
+        pub walked : (s4 : Moment) (f : Flow) → body s3 ≡ fine f s4 → walk_on (suc n) walk k (λ v. put v >> body) s ≡ turn_on f (walk_on n walk (suc k) (λ v. put v >> body)) s4
+        walked s4 f i = put_then ∙ ap (λ (x : Ends Flow). and_then x after) i
+
+-- ---- what is told at the beginning of a turn
+
+pub while_told : (n m : ℕ) (test : M Value) (body : M Flow) (s : Moment) (e : Ends Flow) → m < n → e ≡ turns n test body s → (k : ℕ) × (n ≡ suc k) × (e ≡ turns (suc k) test body s)
+while_told zero m test body s e h told = absurd (omega (arith, h))
+while_told (suc n) m test body s e h told = (n, refl, told)
+
+pub for_told : (n m : ℕ) (walk : Walk) (place : ℕ) (turn : Value → M Flow) (s : Moment) (e : Ends Flow) → m < n → e ≡ walk_on n walk place turn s → (k : ℕ) × (n ≡ suc k) × (e ≡ walk_on (suc k) walk place turn s)
+for_told zero m walk place turn s e h told = absurd (omega (arith, h))
+for_told (suc n) m walk place turn s e h told = (n, refl, told)

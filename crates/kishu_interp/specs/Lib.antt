@@ -1,6 +1,2 @@
-pub mod Trees
-pub mod Heights
-pub mod Unrecorded
-pub mod Machine
-pub mod Answers
-pub mod Form
+pub mod Forms
+pub mod Running

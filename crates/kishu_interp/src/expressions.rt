@@ -1,202 +1,509 @@
 // Expressions.
-ghost use Rattle.std.specs.Prelude.{◌≡◌, ◌≤◌, map};
+ghost use Rattle.std.specs.Prelude.{[], IsTrue, OnOk, length, map, true, ◌+◌, ◌<◌, ◌^◌, ◌≡◌};
+ghost use Rattle.std.specs.List.{list_all};
 ghost use Rattle.std.specs.Rc.{rc_str_bytes};
+ghost use Rattle.std.specs.Str.{chars};
+ghost use Rattle.kishu_model.specs.Height.{of_arguments, of_bound, of_expression, of_expressions, of_links, of_operands, of_pairs, of_trailer, of_trailers};
+ghost use Rattle.kishu_model.specs.Meaning.{apply, bound_value, call, call_value, expr, first_that, inner_values, new_dict, nodes, part, values, with_pairs};
+ghost use Rattle.kishu_model.specs.Moment.{deeper, give, read, tick, ◌>>=◌ as ◌⊳◌, ◌>>◌ as ◌▹◌};
+ghost use Rattle.kishu_model.specs.Refusals.{all_differ};
+ghost use Rattle.kishu_model.specs.Sound.{are_sound, is_sound};
+ghost use Rattle.kishu_model.specs.Tree.{expression_of, value_of as tree_value};
+ghost use Rattle.kishu_model.specs.Values.{node, value_of};
+ghost use Rattle.kishu_calls.specs.Calls.{Owing, callee_of, given_of, is_sound_callee, is_sound_given, is_sound_part, owed, part_of};
+ghost use Rattle.kishu_calls.specs.Trees.{arguments_of, expressions_of, links_of, operands_of, pairs_of, trailer_of, trailers_of};
+ghost use Rattle.kishu_heap.specs.Cells.{entries_of};
+ghost use Rattle.kishu_model.specs.Fits.{ArgumentsFit, BoundFits, ExpressionFits, ExpressionsFit, LinksFit, OperandsFit, PairsFit, TrailerFits, TrailersFit, keywords};
+ghost use Rattle.kishu_interp.specs.Forms.{linked, slice_part};
+ghost use Rattle.kishu_machine.specs.Lists.{are_sound_pairs, value_pairs};
+ghost use Rattle.kishu_machine.specs.Machine.{Gives, GrownBy, HasRoom, HasRoomBy, IsSound, moment_of};
+ghost use Rattle.kishu_model.specs.Callees as c;
+ghost use Rattle.kishu_model.specs.Meaning as m;
 ghost use Rattle.kishu_model.specs.Tree as t;
-ghost use Rattle.kishu_model.specs.Tree.{expression_of};
-ghost use Rattle.kishu_model.specs.PlainMoment.{deeper};
-ghost use Rattle.kishu_model.specs.PlainMeaning.{nodes};
-ghost use Rattle.kishu_interp.specs.Trees.{expressions_of, operands_of, links_of, trailers_of, trailer_of, arguments_of, argument_of};
-ghost use Rattle.kishu_interp.specs.Machine.{value_of, moment_of, Gives};
-ghost use Rattle.kishu_interp.specs.Unrecorded.{expr, constant, decided, linked, behind, called, passed, passed_by};
+ghost use Rattle.kishu_model.specs.Values as model;
 
-use crate::calls::apply;
-use crate::compare::compare;
-use crate::fault::Fault;
-use crate::machine::{MOST_DEPTH, Machine, depth_fault, tick};
-use crate::names::read;
-use crate::operators::{operate, signed_value};
-use crate::values::{Value, is_true};
-use kishu_model::{Argument, Expr, Link, Operand, Operator, Sign, Trailer};
+use crate::calls::called;
+use indexmap::IndexMap;
+use kishu_access::{Bounds, item, slice};
+use kishu_calls::{
+    Callee, Given, Part, call_builtin, call_method, callee_in, construct, dotted_part, function_at,
+    settled,
+};
+use kishu_heap::Node;
+use kishu_machine::{
+    Fault, MOST_DEPTH, Machine, compare, key_of, make, new_list, new_tuple, not_callable, operate,
+    read, signed_value, tick, too_deep, truth,
+};
+use kishu_model::{
+    Argument, Expr, Key, Link, NodeId, Operand, Operator, Pair, Sign, Steps, Trailer, Value,
+};
 use std::rc::RcStr;
+use std::sync::ledger::Ledger;
 
-/// The value of an expression (Python Language Reference 3, "Expressions").
-#[cycle(expression)]
-#[tactic(auto, using(crate::proofs::Rows::tree_rows))]
-pub(crate) fn evaluate(machine: &mut Machine, e: &Expr) -> Result<Value, Fault>
-    ensures gives { Gives value_of result (moment_of machine.new) (expr (expression_of e.now) (moment_of machine.old)) }
-    ensures left { machine.new.left ≤ machine.old.left }
+/// The value of an expression (Python Language Reference 3, "Expressions"). `room` is how many calls
+/// may still be entered.
+#[cycle(run)]
+#[tactic(auto, using(kishu_calls::specs::Rows::tree_rows))]
+pub(crate) fn evaluate<L: Ledger>(
+    machine: &mut Machine,
+    e: &Expr,
+    room: u32,
+    steps: &mut Steps<L>,
+) -> Result<Value, Fault>
+    requires small_e { of_expression (expression_of e.now) < 2 ^ 20 }
+    requires fit_e { ExpressionFits (expression_of e.now) }
+    requires room { HasRoom machine.old }
+    ensures gives { Gives value_of result (moment_of machine.new) (expr (call room) (expression_of e.now) (moment_of machine.old)) }
+    ensures sound { IsSound (λ v. is_sound (length machine.new.heap) (value_of v)) (length machine.new.heap) result }
+    ensures kept { GrownBy 0 machine.old steps.old machine.new steps.new }
 {
     match e {
-        Expr::Name(name) => name_value(machine, name.as_str()),
-        Expr::Int(number) => constant(machine, Value::Int(*number)),
-        Expr::Text(text) => text_value(machine, text),
-        Expr::None => constant(machine, Value::None),
-        Expr::True => constant(machine, Value::Bool(true)),
-        Expr::False => constant(machine, Value::Bool(false)),
-        Expr::Paren(e) => deeper_value(machine, e),
-        Expr::Conditional { value, test, other } => chosen_value(machine, value, test, other),
-        Expr::Or(operands) => deciding_value(machine, true, operands),
-        Expr::And(operands) => deciding_value(machine, false, operands),
-        Expr::Not(e) => negated_value(machine, e),
-        Expr::Signed(sign, e) => value_with_sign(machine, *sign, e),
-        Expr::Power(base, exponent) => power_value(machine, base, exponent),
-        Expr::Sum(first, operands) => combined_value(machine, first, operands),
-        Expr::Product(first, operands) => combined_value(machine, first, operands),
-        Expr::Compared(first, links) => compared_value(machine, first, links),
-        Expr::Primary(atom, trailers) => primary_value(machine, atom, trailers),
-        Expr::Tuple(_) => Err(Fault::Stopped),
-        Expr::List(_) => Err(Fault::Stopped),
-        Expr::Dict(_) => Err(Fault::Stopped),
+        Expr::Name(name) => name_value(machine, name.as_str(), steps),
+        Expr::Int(number) => constant(machine, Value::Int(*number), steps),
+        Expr::Text(text) => text_value(machine, text, steps),
+        Expr::None => constant(machine, Value::None, steps),
+        Expr::True => constant(machine, Value::Bool(true), steps),
+        Expr::False => constant(machine, Value::Bool(false), steps),
+        Expr::Paren(e) => deeper_value(machine, e, room, steps),
+        Expr::Tuple(items) => tuple_value(machine, items, room, steps),
+        Expr::List(items) => list_value(machine, items, room, steps),
+        Expr::Dict(pairs) => dict_value(machine, pairs, room, steps),
+        Expr::Conditional { value, test, other } => {
+            chosen_value(machine, value, test, other, room, steps)
+        }
+        Expr::Or(operands) => deciding_value(machine, true, operands, room, steps),
+        Expr::And(operands) => deciding_value(machine, false, operands, room, steps),
+        Expr::Not(e) => negated_value(machine, e, room, steps),
+        Expr::Signed(sign, e) => value_with_sign(machine, *sign, e, room, steps),
+        Expr::Power(base, exponent) => power_value(machine, base, exponent, room, steps),
+        Expr::Sum(first, operands) => combined_value(machine, first, operands, room, steps),
+        Expr::Product(first, operands) => combined_value(machine, first, operands, room, steps),
+        Expr::Compared(first, links) => compared_value(machine, first, links, room, steps),
+        Expr::Primary(atom, trailers) => primary_value(machine, atom, trailers, room, steps),
     }
 }
 
-fn name_value(machine: &mut Machine, name: &str) -> Result<Value, Fault>
-    ensures gives { Gives value_of result (moment_of machine.new) (expr (t.name name.now) (moment_of machine.old)) }
-    ensures left { machine.new.left ≤ machine.old.left }
+fn name_value<L: Ledger>(
+    machine: &mut Machine,
+    name: &str,
+    steps: &mut Steps<L>,
+) -> Result<Value, Fault>
+    ensures gives { Gives value_of result (moment_of machine.new) ((tick ▹ read name.now) (moment_of machine.old)) }
+    ensures sound { IsSound (λ v. is_sound (length machine.new.heap) (value_of v)) (length machine.new.heap) result }
+    ensures kept { GrownBy 0 machine.old steps.old machine.new steps.new }
 {
-    tick(machine)?;
+    tick(machine, steps)?;
     read(machine, name)
 }
 
-fn constant(machine: &mut Machine, value: Value) -> Result<Value, Fault>
-    ensures gives { Gives value_of result (moment_of machine.new) (constant (value_of value) (moment_of machine.old)) }
-    ensures left { machine.new.left ≤ machine.old.left }
+fn constant<L: Ledger>(
+    machine: &mut Machine,
+    value: Value,
+    steps: &mut Steps<L>,
+) -> Result<Value, Fault>
+    requires sound_value { IsTrue (is_sound (length machine.old.heap) (value_of value)) }
+    ensures gives { Gives value_of result (moment_of machine.new) ((tick ▹ give (value_of value)) (moment_of machine.old)) }
+    ensures sound { IsSound (λ v. is_sound (length machine.new.heap) (value_of v)) (length machine.new.heap) result }
+    ensures kept { GrownBy 0 machine.old steps.old machine.new steps.new }
 {
-    tick(machine)?;
+    tick(machine, steps)?;
     Ok(value)
 }
 
-fn text_value(machine: &mut Machine, text: &RcStr) -> Result<Value, Fault>
-    ensures gives { Gives value_of result (moment_of machine.new) (expr (t.text (rc_str_bytes text.now)) (moment_of machine.old)) }
-    ensures left { machine.new.left ≤ machine.old.left }
+fn text_value<L: Ledger>(
+    machine: &mut Machine,
+    text: &RcStr,
+    steps: &mut Steps<L>,
+) -> Result<Value, Fault>
+    ensures gives { Gives value_of result (moment_of machine.new) ((tick ▹ give (model.text (chars (rc_str_bytes text.now)))) (moment_of machine.old)) }
+    ensures sound { IsSound (λ v. is_sound (length machine.new.heap) (value_of v)) (length machine.new.heap) result }
+    ensures kept { GrownBy 0 machine.old steps.old machine.new steps.new }
 {
-    tick(machine)?;
+    tick(machine, steps)?;
     Ok(Value::Text(text.clone()?))
 }
 
-// The value of an expression that lies one level deeper.
-#[cycle(expression)]
-fn deeper_value(machine: &mut Machine, e: &Expr) -> Result<Value, Fault>
-    ensures gives { Gives value_of result (moment_of machine.new) (deeper (expr (expression_of e.now)) (moment_of machine.old)) }
-    ensures left { machine.new.left ≤ machine.old.left }
+/// The value of an expression that lies one level deeper.
+#[cycle(run)]
+pub(crate) fn deeper_value<L: Ledger>(
+    machine: &mut Machine,
+    e: &Expr,
+    room: u32,
+    steps: &mut Steps<L>,
+) -> Result<Value, Fault>
+    requires small_e { of_expression (expression_of e.now) < 2 ^ 20 }
+    requires fit_e { ExpressionFits (expression_of e.now) }
+    requires room { HasRoom machine.old }
+    ensures gives { Gives value_of result (moment_of machine.new) (deeper (expr (call room) (expression_of e.now)) (moment_of machine.old)) }
+    ensures sound { IsSound (λ v. is_sound (length machine.new.heap) (value_of v)) (length machine.new.heap) result }
+    ensures kept { GrownBy 0 machine.old steps.old machine.new steps.new }
 {
-    let depth = machine.depth;
+    let depth = machine.budget.depth;
     if depth >= MOST_DEPTH {
-        return Err(Fault::Raised(depth_fault(machine.alloc)?));
+        return too_deep(machine.alloc);
     }
-    machine.depth = depth + 1;
-    let result = evaluate(machine, e);
-    machine.depth = depth;
+    machine.budget.depth = depth + 1;
+    let result = evaluate(machine, e, room, steps);
+    machine.budget.depth = depth;
     result
 }
 
-#[cycle(expression)]
-fn chosen_value(
+// ---- displays
+
+#[cycle(run)]
+fn tuple_value<L: Ledger>(
+    machine: &mut Machine,
+    items: &[Expr],
+    room: u32,
+    steps: &mut Steps<L>,
+) -> Result<Value, Fault>
+    requires small_items { of_expressions (expressions_of items.now) < 2 ^ 20 }
+    requires fit_items { ExpressionsFit (expressions_of items.now) }
+    requires room { HasRoom machine.old }
+    ensures gives { Gives value_of result (moment_of machine.new) (expr (call room) (t.tuple (expressions_of items.now)) (moment_of machine.old)) }
+    ensures sound { IsSound (λ v. is_sound (length machine.new.heap) (value_of v)) (length machine.new.heap) result }
+    ensures kept { GrownBy 0 machine.old steps.old machine.new steps.new }
+{
+    tick(machine, steps)?;
+    let values = values_of(machine, items, room, steps)?;
+    new_tuple(machine, values)
+}
+
+#[cycle(run)]
+fn values_of<L: Ledger>(
+    machine: &mut Machine,
+    items: &[Expr],
+    room: u32,
+    steps: &mut Steps<L>,
+) -> Result<Vec<Value>, Fault>
+    requires small_items { of_expressions (expressions_of items.now) < 2 ^ 20 }
+    requires fit_items { ExpressionsFit (expressions_of items.now) }
+    requires room { HasRoom machine.old }
+    ensures gives { Gives (λ v. map value_of v.items) result (moment_of machine.new) (values (call room) (expressions_of items.now) (moment_of machine.old)) }
+    ensures sound { IsSound (λ v. are_sound (length machine.new.heap) (map value_of v.items)) (length machine.new.heap) result }
+    ensures kept { GrownBy 0 machine.old steps.old machine.new steps.new }
+{
+    let mut values = Vec::new(machine.alloc);
+    for item in items {
+        values.push(evaluate(machine, item, room, steps)?)?;
+    }
+    Ok(values)
+}
+
+#[cycle(run)]
+fn list_value<L: Ledger>(
+    machine: &mut Machine,
+    items: &[Expr],
+    room: u32,
+    steps: &mut Steps<L>,
+) -> Result<Value, Fault>
+    requires small_items { of_expressions (expressions_of items.now) < 2 ^ 20 }
+    requires fit_items { ExpressionsFit (expressions_of items.now) }
+    requires room { HasRoom machine.old }
+    ensures gives { Gives value_of result (moment_of machine.new) (expr (call room) (t.list (expressions_of items.now)) (moment_of machine.old)) }
+    ensures sound { IsSound (λ v. is_sound (length machine.new.heap) (value_of v)) (length machine.new.heap) result }
+    ensures kept { GrownBy 0 machine.old steps.old machine.new steps.new }
+{
+    tick(machine, steps)?;
+    let values = inner_values(machine, items, room, steps)?;
+    new_list(machine, values)
+}
+
+// In brackets.
+#[cycle(run)]
+fn inner_values<L: Ledger>(
+    machine: &mut Machine,
+    items: &[Expr],
+    room: u32,
+    steps: &mut Steps<L>,
+) -> Result<Vec<Value>, Fault>
+    requires small_items { of_expressions (expressions_of items.now) < 2 ^ 20 }
+    requires fit_items { ExpressionsFit (expressions_of items.now) }
+    requires room { HasRoom machine.old }
+    ensures gives { Gives (λ v. map value_of v.items) result (moment_of machine.new) (inner_values (call room) (expressions_of items.now) (moment_of machine.old)) }
+    ensures sound { IsSound (λ v. are_sound (length machine.new.heap) (map value_of v.items)) (length machine.new.heap) result }
+    ensures kept { GrownBy 0 machine.old steps.old machine.new steps.new }
+{
+    let mut values = Vec::new(machine.alloc);
+    for item in items {
+        values.push(deeper_value(machine, item, room, steps)?)?;
+    }
+    Ok(values)
+}
+
+#[cycle(run)]
+fn dict_value<L: Ledger>(
+    machine: &mut Machine,
+    pairs: &[Pair],
+    room: u32,
+    steps: &mut Steps<L>,
+) -> Result<Value, Fault>
+    requires small { of_pairs (pairs_of pairs.now) < 2 ^ 20 }
+    requires fits { PairsFit (pairs_of pairs.now) }
+    requires room { HasRoom machine.old }
+    ensures gives { Gives value_of result (moment_of machine.new) (expr (call room) (t.dict (pairs_of pairs.now)) (moment_of machine.old)) }
+    ensures sound { IsSound (λ v. is_sound (length machine.new.heap) (value_of v)) (length machine.new.heap) result }
+    ensures kept { GrownBy 0 machine.old steps.old machine.new steps.new }
+{
+    tick(machine, steps)?;
+    let entries = pair_values(machine, pairs, room, steps)?;
+    new_dict(machine, entries, steps)
+}
+
+// All keys and values, from left to right.
+#[cycle(run)]
+fn pair_values<L: Ledger>(
+    machine: &mut Machine,
+    pairs: &[Pair],
+    room: u32,
+    steps: &mut Steps<L>,
+) -> Result<Vec<(Value, Value)>, Fault>
+    requires small { of_pairs (pairs_of pairs.now) < 2 ^ 20 }
+    requires fits { PairsFit (pairs_of pairs.now) }
+    requires room { HasRoom machine.old }
+    ensures gives { Gives value_pairs result (moment_of machine.new) (m.pairs (call room) (pairs_of pairs.now) (moment_of machine.old)) }
+    ensures sound { IsSound (λ v. are_sound_pairs (length machine.new.heap) (value_pairs v)) (length machine.new.heap) result }
+    ensures kept { GrownBy 0 machine.old steps.old machine.new steps.new }
+{
+    let mut entries = Vec::new(machine.alloc);
+    for pair in pairs {
+        let key = deeper_value(machine, &pair.key, room, steps)?;
+        let value = deeper_value(machine, &pair.value, room, steps)?;
+        entries.push((key, value))?;
+    }
+    Ok(entries)
+}
+
+// A dict with these entries.
+fn new_dict<L: Ledger>(
+    machine: &mut Machine,
+    pairs: Vec<(Value, Value)>,
+    steps: &mut Steps<L>,
+) -> Result<Value, Fault>
+    requires room { HasRoomBy 1 machine.old }
+    requires sound_pairs { IsTrue (are_sound_pairs (length machine.old.heap) (value_pairs pairs)) }
+    ensures gives { Gives value_of result (moment_of machine.new) (new_dict (value_pairs pairs) (moment_of machine.old)) }
+    ensures sound { IsSound (λ v. is_sound (length machine.new.heap) (value_of v)) (length machine.new.heap) result }
+    ensures kept { GrownBy 1 machine.old steps.old machine.new steps.new }
+{
+    let entries = entries_from(machine, pairs, steps)?;
+    Ok(Value::Node(make(machine, Node::Dict(entries))?))
+}
+
+// A later value under a key takes the place of an earlier one.
+fn entries_from<L: Ledger>(
+    machine: &mut Machine,
+    pairs: Vec<(Value, Value)>,
+    steps: &mut Steps<L>,
+) -> Result<IndexMap<Key, Value>, Fault>
+    requires sound_pairs { IsTrue (are_sound_pairs (length machine.old.heap) (value_pairs pairs)) }
+    ensures gives { Gives (λ es. entries_of es.entries) result (moment_of machine.new) (with_pairs (value_pairs pairs) [] (moment_of machine.old)) }
+    ensures sound { IsSound (λ es. list_all (λ e. is_sound (length machine.new.heap) e.1) (entries_of es.entries)) (length machine.new.heap) result }
+    ensures kept { GrownBy 0 machine.old steps.old machine.new steps.new }
+    ensures heap { machine.new.heap ≡ machine.old.heap }
+{
+    let mut entries = IndexMap::new(machine.alloc);
+    for (key, value) in pairs {
+        let key = key_of(machine, &key, steps)?;
+        entries.insert(key, value)?;
+    }
+    Ok(entries)
+}
+
+// ---- operators
+
+#[cycle(run)]
+fn chosen_value<L: Ledger>(
     machine: &mut Machine,
     value: &Expr,
     test: &Expr,
     other: &Expr,
+    room: u32,
+    steps: &mut Steps<L>,
 ) -> Result<Value, Fault>
-    ensures gives { Gives value_of result (moment_of machine.new) (expr (t.conditional (expression_of value.now) (expression_of test.now) (expression_of other.now)) (moment_of machine.old)) }
-    ensures left { machine.new.left ≤ machine.old.left }
+    requires small_value { of_expression (expression_of value.now) < 2 ^ 20 }
+    requires fit_value { ExpressionFits (expression_of value.now) }
+    requires small_test { of_expression (expression_of test.now) < 2 ^ 20 }
+    requires fit_test { ExpressionFits (expression_of test.now) }
+    requires small_other { of_expression (expression_of other.now) < 2 ^ 20 }
+    requires fit_other { ExpressionFits (expression_of other.now) }
+    requires room { HasRoom machine.old }
+    ensures gives { Gives value_of result (moment_of machine.new) (expr (call room) (t.conditional (expression_of value.now) (expression_of test.now) (expression_of other.now)) (moment_of machine.old)) }
+    ensures sound { IsSound (λ v. is_sound (length machine.new.heap) (value_of v)) (length machine.new.heap) result }
+    ensures kept { GrownBy 0 machine.old steps.old machine.new steps.new }
 {
-    tick(machine)?;
-    let decision = evaluate(machine, test)?;
-    if is_true(&decision) {
-        evaluate(machine, value)
+    tick(machine, steps)?;
+    let decision = evaluate(machine, test, room, steps)?;
+    if truth(machine, &decision, steps) {
+        evaluate(machine, value, room, steps)
     } else {
-        deeper_value(machine, other)
+        deeper_value(machine, other, room, steps)
     }
 }
 
 // The operand that decides: the first of this truth, or the last.
-#[cycle(expression)]
-fn deciding_value(machine: &mut Machine, which: bool, operands: &[Expr]) -> Result<Value, Fault>
-    ensures gives { Gives value_of result (moment_of machine.new) (decided which (expressions_of operands.now) (moment_of machine.old)) }
-    ensures left { machine.new.left ≤ machine.old.left }
+#[cycle(run)]
+fn deciding_value<L: Ledger>(
+    machine: &mut Machine,
+    which: bool,
+    operands: &[Expr],
+    room: u32,
+    steps: &mut Steps<L>,
+) -> Result<Value, Fault>
+    requires small_operands { of_expressions (expressions_of operands.now) < 2 ^ 20 }
+    requires fit_operands { ExpressionsFit (expressions_of operands.now) }
+    requires room { HasRoom machine.old }
+    ensures gives { Gives value_of result (moment_of machine.new) ((tick ▹ first_that (call room) which (expressions_of operands.now)) (moment_of machine.old)) }
+    ensures sound { IsSound (λ v. is_sound (length machine.new.heap) (value_of v)) (length machine.new.heap) result }
+    ensures kept { GrownBy 0 machine.old steps.old machine.new steps.new }
 {
-    tick(machine)?;
-    let mut last = Value::None;
-    for operand in operands {
-        last = evaluate(machine, operand)?;
-        if is_true(&last) == which {
-            return Ok(last);
+    tick(machine, steps)?;
+    for i in 0..operands.len() {
+        let value = evaluate(machine, &operands[i], room, steps)?;
+        if i + 1 == operands.len() || truth(machine, &value, steps) == which {
+            return Ok(value);
         }
     }
-    Ok(last)
+    Ok(Value::None)
 }
 
-#[cycle(expression)]
-fn negated_value(machine: &mut Machine, e: &Expr) -> Result<Value, Fault>
-    ensures gives { Gives value_of result (moment_of machine.new) (expr (t.not (expression_of e.now)) (moment_of machine.old)) }
-    ensures left { machine.new.left ≤ machine.old.left }
+#[cycle(run)]
+fn negated_value<L: Ledger>(
+    machine: &mut Machine,
+    e: &Expr,
+    room: u32,
+    steps: &mut Steps<L>,
+) -> Result<Value, Fault>
+    requires small_e { of_expression (expression_of e.now) < 2 ^ 20 }
+    requires fit_e { ExpressionFits (expression_of e.now) }
+    requires room { HasRoom machine.old }
+    ensures gives { Gives value_of result (moment_of machine.new) (expr (call room) (t.not (expression_of e.now)) (moment_of machine.old)) }
+    ensures sound { IsSound (λ v. is_sound (length machine.new.heap) (value_of v)) (length machine.new.heap) result }
+    ensures kept { GrownBy 0 machine.old steps.old machine.new steps.new }
 {
-    let value = deeper_value(machine, e)?;
-    tick(machine)?;
-    Ok(Value::Bool(!is_true(&value)))
+    let value = deeper_value(machine, e, room, steps)?;
+    tick(machine, steps)?;
+    Ok(Value::Bool(!truth(machine, &value, steps)))
 }
 
-#[cycle(expression)]
-fn value_with_sign(machine: &mut Machine, sign: Sign, e: &Expr) -> Result<Value, Fault>
-    ensures gives { Gives value_of result (moment_of machine.new) (expr (t.signed sign (expression_of e.now)) (moment_of machine.old)) }
-    ensures left { machine.new.left ≤ machine.old.left }
+#[cycle(run)]
+fn value_with_sign<L: Ledger>(
+    machine: &mut Machine,
+    sign: Sign,
+    e: &Expr,
+    room: u32,
+    steps: &mut Steps<L>,
+) -> Result<Value, Fault>
+    requires small_e { of_expression (expression_of e.now) < 2 ^ 20 }
+    requires fit_e { ExpressionFits (expression_of e.now) }
+    requires room { HasRoom machine.old }
+    ensures gives { Gives value_of result (moment_of machine.new) (expr (call room) (t.signed sign (expression_of e.now)) (moment_of machine.old)) }
+    ensures sound { IsSound (λ v. is_sound (length machine.new.heap) (value_of v)) (length machine.new.heap) result }
+    ensures kept { GrownBy 0 machine.old steps.old machine.new steps.new }
 {
-    let value = deeper_value(machine, e)?;
-    tick(machine)?;
-    signed_value(machine, sign, &value)
+    let value = deeper_value(machine, e, room, steps)?;
+    tick(machine, steps)?;
+    signed_value(machine, sign, &value, steps)
 }
 
-#[cycle(expression)]
-fn power_value(machine: &mut Machine, base: &Expr, exponent: &Expr) -> Result<Value, Fault>
-    ensures gives { Gives value_of result (moment_of machine.new) (expr (t.power (expression_of base.now) (expression_of exponent.now)) (moment_of machine.old)) }
-    ensures left { machine.new.left ≤ machine.old.left }
+#[cycle(run)]
+fn power_value<L: Ledger>(
+    machine: &mut Machine,
+    base: &Expr,
+    exponent: &Expr,
+    room: u32,
+    steps: &mut Steps<L>,
+) -> Result<Value, Fault>
+    requires small_base { of_expression (expression_of base.now) < 2 ^ 20 }
+    requires fit_base { ExpressionFits (expression_of base.now) }
+    requires small_exponent { of_expression (expression_of exponent.now) < 2 ^ 20 }
+    requires fit_exponent { ExpressionFits (expression_of exponent.now) }
+    requires room { HasRoom machine.old }
+    ensures gives { Gives value_of result (moment_of machine.new) (expr (call room) (t.power (expression_of base.now) (expression_of exponent.now)) (moment_of machine.old)) }
+    ensures sound { IsSound (λ v. is_sound (length machine.new.heap) (value_of v)) (length machine.new.heap) result }
+    ensures kept { GrownBy 0 machine.old steps.old machine.new steps.new }
 {
-    let base = evaluate(machine, base)?;
-    let exponent = deeper_value(machine, exponent)?;
-    tick(machine)?;
-    operate(machine, Operator::Power, &base, &exponent)
+    let base = evaluate(machine, base, room, steps)?;
+    let exponent = deeper_value(machine, exponent, room, steps)?;
+    tick(machine, steps)?;
+    operate(machine, Operator::Power, &base, &exponent, steps)
 }
 
 // A term or a factor, and the operators on it from left to right.
-#[cycle(expression)]
-#[tactic(auto, using(crate::proofs::Rows::part_rows))]
-fn combined_value(machine: &mut Machine, first: &Expr, operands: &[Operand]) -> Result<Value, Fault>
-    ensures gives { Gives value_of result (moment_of machine.new) (expr (t.sum (expression_of first.now) (operands_of operands.now)) (moment_of machine.old)) }
-    ensures left { machine.new.left ≤ machine.old.left }
+#[cycle(run)]
+#[tactic(auto, using(kishu_calls::specs::Rows::part_rows))]
+fn combined_value<L: Ledger>(
+    machine: &mut Machine,
+    first: &Expr,
+    others: &[Operand],
+    room: u32,
+    steps: &mut Steps<L>,
+) -> Result<Value, Fault>
+    requires small_first { of_expression (expression_of first.now) < 2 ^ 20 }
+    requires fit_first { ExpressionFits (expression_of first.now) }
+    requires small_others { of_operands (operands_of others.now) < 2 ^ 20 }
+    requires fit_others { OperandsFit (operands_of others.now) }
+    requires room { HasRoom machine.old }
+    ensures gives { Gives value_of result (moment_of machine.new) (expr (call room) (t.sum (expression_of first.now) (operands_of others.now)) (moment_of machine.old)) }
+    ensures sound { IsSound (λ v. is_sound (length machine.new.heap) (value_of v)) (length machine.new.heap) result }
+    ensures kept { GrownBy 0 machine.old steps.old machine.new steps.new }
 {
-    let mut value = evaluate(machine, first)?;
-    for operand in operands {
-        let right = evaluate(machine, &operand.value)?;
-        tick(machine)?;
-        value = operate(machine, operand.operator, &value, &right)?;
+    let mut value = evaluate(machine, first, room, steps)?;
+    for other in others {
+        let right = evaluate(machine, &other.value, room, steps)?;
+        tick(machine, steps)?;
+        value = operate(machine, other.operator, &value, &right, steps)?;
     }
     Ok(value)
 }
 
-#[cycle(expression)]
-fn compared_value(machine: &mut Machine, first: &Expr, links: &[Link]) -> Result<Value, Fault>
-    ensures gives { Gives value_of result (moment_of machine.new) (expr (t.compared (expression_of first.now) (links_of links.now)) (moment_of machine.old)) }
-    ensures left { machine.new.left ≤ machine.old.left }
+#[cycle(run)]
+fn compared_value<L: Ledger>(
+    machine: &mut Machine,
+    first: &Expr,
+    links: &[Link],
+    room: u32,
+    steps: &mut Steps<L>,
+) -> Result<Value, Fault>
+    requires small_first { of_expression (expression_of first.now) < 2 ^ 20 }
+    requires fit_first { ExpressionFits (expression_of first.now) }
+    requires small_links { of_links (links_of links.now) < 2 ^ 20 }
+    requires fit_links { LinksFit (links_of links.now) }
+    requires room { HasRoom machine.old }
+    ensures gives { Gives value_of result (moment_of machine.new) (expr (call room) (t.compared (expression_of first.now) (links_of links.now)) (moment_of machine.old)) }
+    ensures sound { IsSound (λ v. is_sound (length machine.new.heap) (value_of v)) (length machine.new.heap) result }
+    ensures kept { GrownBy 0 machine.old steps.old machine.new steps.new }
 {
-    let value = evaluate(machine, first)?;
+    let value = evaluate(machine, first, room, steps)?;
     if links.is_empty() {
         return Ok(value);
     }
-    linked_value(machine, value, links)
+    linked_value(machine, value, links, room, steps)
 }
 
 // Each operand once, up to the first comparison that is false.
-#[cycle(expression)]
-#[tactic(auto, using(crate::proofs::Rows::part_rows))]
-fn linked_value(machine: &mut Machine, first: Value, links: &[Link]) -> Result<Value, Fault>
-    ensures gives { Gives value_of result (moment_of machine.new) (linked (value_of first) (links_of links.now) (moment_of machine.old)) }
-    ensures left { machine.new.left ≤ machine.old.left }
+#[cycle(run)]
+#[tactic(auto, using(kishu_calls::specs::Rows::part_rows))]
+fn linked_value<L: Ledger>(
+    machine: &mut Machine,
+    first: Value,
+    links: &[Link],
+    room: u32,
+    steps: &mut Steps<L>,
+) -> Result<Value, Fault>
+    requires sound_first { IsTrue (is_sound (length machine.old.heap) (value_of first)) }
+    requires small { of_links (links_of links.now) < 2 ^ 20 }
+    requires fits { LinksFit (links_of links.now) }
+    requires room { HasRoom machine.old }
+    ensures gives { Gives value_of result (moment_of machine.new) (linked (call room) (value_of first) (links_of links.now) (moment_of machine.old)) }
+    ensures sound { IsSound (λ v. is_sound (length machine.new.heap) (value_of v)) (length machine.new.heap) result }
+    ensures kept { GrownBy 0 machine.old steps.old machine.new steps.new }
 {
     let mut left = first;
     for link in links {
-        let right = evaluate(machine, &link.value)?;
-        tick(machine)?;
-        if !compare(machine, link.comparison, &left, &right)? {
+        let right = evaluate(machine, &link.value, room, steps)?;
+        tick(machine, steps)?;
+        if !compare(machine, link.comparison, &left, &right, steps)? {
             return Ok(Value::Bool(false));
         }
         left = right;
@@ -204,75 +511,415 @@ fn linked_value(machine: &mut Machine, first: Value, links: &[Link]) -> Result<V
     Ok(Value::Bool(true))
 }
 
+// ---- primaries
+
 // The nodes of a primary take their steps before its atom.
-fn take_nodes(machine: &mut Machine, trailers: &[Trailer]) -> Result<(), Fault>
+fn take_nodes<L: Ledger>(
+    machine: &mut Machine,
+    trailers: &[Trailer],
+    steps: &mut Steps<L>,
+) -> Result<(), Fault>
     ensures gives { Gives (λ u. u) result (moment_of machine.new) (nodes (trailers_of trailers.now) (moment_of machine.old)) }
-    ensures left { machine.new.left ≤ machine.old.left }
+    ensures sound { IsSound (λ _. true) (length machine.new.heap) result }
+    ensures kept { GrownBy 0 machine.old steps.old machine.new steps.new }
+    ensures taken { OnOk result (machine.new.budget.left + length trailers.now ≡ machine.old.budget.left) }
+    ensures heap { machine.new.heap ≡ machine.old.heap }
 {
     for _trailer in trailers {
-        tick(machine)?;
+        tick(machine, steps)?;
     }
     Ok(())
 }
 
-#[cycle(expression)]
-fn primary_value(machine: &mut Machine, atom: &Expr, trailers: &[Trailer]) -> Result<Value, Fault>
-    ensures gives { Gives value_of result (moment_of machine.new) (expr (t.primary (expression_of atom.now) (trailers_of trailers.now)) (moment_of machine.old)) }
-    ensures left { machine.new.left ≤ machine.old.left }
+#[cycle(run)]
+#[tactic(auto, using(crate::proofs::Chains::in_turn))]
+fn primary_value<L: Ledger>(
+    machine: &mut Machine,
+    atom: &Expr,
+    trailers: &[Trailer],
+    room: u32,
+    steps: &mut Steps<L>,
+) -> Result<Value, Fault>
+    requires small_atom { of_expression (expression_of atom.now) < 2 ^ 20 }
+    requires fit_atom { ExpressionFits (expression_of atom.now) }
+    requires small_trailers { of_trailers (trailers_of trailers.now) < 2 ^ 20 }
+    requires fit_trailers { TrailersFit (trailers_of trailers.now) }
+    requires room { HasRoom machine.old }
+    ensures gives { Gives value_of result (moment_of machine.new) (expr (call room) (t.primary (expression_of atom.now) (trailers_of trailers.now)) (moment_of machine.old)) }
+    ensures sound { IsSound (λ v. is_sound (length machine.new.heap) (value_of v)) (length machine.new.heap) result }
+    ensures kept { GrownBy 0 machine.old steps.old machine.new steps.new }
 {
-    take_nodes(machine, trailers)?;
-    let mut value = evaluate(machine, atom)?;
-    for trailer in trailers {
-        value = value_behind(machine, value, trailer)?;
-    }
-    Ok(value)
+    let part = primary_part(machine, atom, trailers, room, steps)?;
+    settled(machine, part, steps)
 }
 
-// What is done with a value.
-#[cycle(expression)]
-#[tactic(auto, using(crate::proofs::Rows::tree_rows))]
-fn value_behind(machine: &mut Machine, value: Value, trailer: &Trailer) -> Result<Value, Fault>
-    ensures gives { Gives value_of result (moment_of machine.new) (behind (value_of value) (trailer_of trailer.now) (moment_of machine.old)) }
-    ensures left { machine.new.left ≤ machine.old.left }
+#[cycle(run)]
+fn primary_part<L: Ledger>(
+    machine: &mut Machine,
+    atom: &Expr,
+    trailers: &[Trailer],
+    room: u32,
+    steps: &mut Steps<L>,
+) -> Result<Part, Fault>
+    requires small_atom { of_expression (expression_of atom.now) < 2 ^ 20 }
+    requires fit_atom { ExpressionFits (expression_of atom.now) }
+    requires small_trailers { of_trailers (trailers_of trailers.now) < 2 ^ 20 }
+    requires fit_trailers { TrailersFit (trailers_of trailers.now) }
+    requires room { HasRoom machine.old }
+    ensures gives { Gives part_of result (moment_of machine.new) ((nodes (trailers_of trailers.now) ▹ part (call room) (expression_of atom.now) (expr (call room) (expression_of atom.now)) ⊳ λ p. m.trailers (call room) p (trailers_of trailers.now)) (moment_of machine.old)) }
+    ensures sound { IsSound (λ v. is_sound_part (length machine.new.heap) (part_of v)) (length machine.new.heap) result }
+    ensures kept { GrownBy 0 machine.old steps.old machine.new steps.new }
+    ensures owes { Owing 0 machine.old result machine.new }
+{
+    take_nodes(machine, trailers, steps)?;
+    part_behind(machine, atom, trailers, room, steps)
+}
+
+/// What the trailers behind an atom make of it, whose steps were taken.
+#[cycle(run)]
+pub(crate) fn part_behind<L: Ledger>(
+    machine: &mut Machine,
+    atom: &Expr,
+    trailers: &[Trailer],
+    room: u32,
+    steps: &mut Steps<L>,
+) -> Result<Part, Fault>
+    requires small_atom { of_expression (expression_of atom.now) < 2 ^ 20 }
+    requires fit_atom { ExpressionFits (expression_of atom.now) }
+    requires small_trailers { of_trailers (trailers_of trailers.now) < 2 ^ 20 }
+    requires fit_trailers { TrailersFit (trailers_of trailers.now) }
+    requires room { HasRoomBy (length trailers.now) machine.old }
+    ensures gives { Gives part_of result (moment_of machine.new) ((part (call room) (expression_of atom.now) (expr (call room) (expression_of atom.now)) ⊳ λ p. m.trailers (call room) p (trailers_of trailers.now)) (moment_of machine.old)) }
+    ensures sound { IsSound (λ v. is_sound_part (length machine.new.heap) (part_of v)) (length machine.new.heap) result }
+    ensures kept { GrownBy (length trailers.now) machine.old steps.old machine.new steps.new }
+    ensures owes { Owing (length trailers.now) machine.old result machine.new }
+{
+    let mut found = part(machine, atom, room, steps)?;
+    for trailer in trailers {
+        found = trailer_part(machine, found, trailer, room, steps)?;
+    }
+    Ok(found)
+}
+
+/// A primary, in parentheses too, may be what a call or a walk asks for; all else is its value.
+#[cycle(run)]
+#[tactic(auto, using(kishu_calls::specs::Rows::tree_rows))]
+pub(crate) fn part<L: Ledger>(
+    machine: &mut Machine,
+    e: &Expr,
+    room: u32,
+    steps: &mut Steps<L>,
+) -> Result<Part, Fault>
+    requires small_e { of_expression (expression_of e.now) < 2 ^ 20 }
+    requires fit_e { ExpressionFits (expression_of e.now) }
+    requires room { HasRoom machine.old }
+    ensures gives { Gives part_of result (moment_of machine.new) (part (call room) (expression_of e.now) (expr (call room) (expression_of e.now)) (moment_of machine.old)) }
+    ensures sound { IsSound (λ v. is_sound_part (length machine.new.heap) (part_of v)) (length machine.new.heap) result }
+    ensures kept { GrownBy 0 machine.old steps.old machine.new steps.new }
+    ensures owes { Owing 0 machine.old result machine.new }
+{
+    match e {
+        Expr::Paren(inner) => deeper_part(machine, inner, room, steps),
+        Expr::Primary(atom, trailers) => primary_part(machine, atom, trailers, room, steps),
+        Expr::Name(_) => whole_part(machine, e, room, steps),
+        Expr::Int(_) => whole_part(machine, e, room, steps),
+        Expr::Text(_) => whole_part(machine, e, room, steps),
+        Expr::None => whole_part(machine, e, room, steps),
+        Expr::True => whole_part(machine, e, room, steps),
+        Expr::False => whole_part(machine, e, room, steps),
+        Expr::Tuple(_) => whole_part(machine, e, room, steps),
+        Expr::List(_) => whole_part(machine, e, room, steps),
+        Expr::Dict(_) => whole_part(machine, e, room, steps),
+        Expr::Conditional { .. } => whole_part(machine, e, room, steps),
+        Expr::Or(_) => whole_part(machine, e, room, steps),
+        Expr::And(_) => whole_part(machine, e, room, steps),
+        Expr::Not(_) => whole_part(machine, e, room, steps),
+        Expr::Signed(_, _) => whole_part(machine, e, room, steps),
+        Expr::Power(_, _) => whole_part(machine, e, room, steps),
+        Expr::Sum(_, _) => whole_part(machine, e, room, steps),
+        Expr::Product(_, _) => whole_part(machine, e, room, steps),
+        Expr::Compared(_, _) => whole_part(machine, e, room, steps),
+    }
+}
+
+#[cycle(run)]
+fn whole_part<L: Ledger>(
+    machine: &mut Machine,
+    e: &Expr,
+    room: u32,
+    steps: &mut Steps<L>,
+) -> Result<Part, Fault>
+    requires small_e { of_expression (expression_of e.now) < 2 ^ 20 }
+    requires fit_e { ExpressionFits (expression_of e.now) }
+    requires room { HasRoom machine.old }
+    ensures gives { Gives part_of result (moment_of machine.new) ((expr (call room) (expression_of e.now) ⊳ λ v. give (c.whole v)) (moment_of machine.old)) }
+    ensures sound { IsSound (λ v. is_sound_part (length machine.new.heap) (part_of v)) (length machine.new.heap) result }
+    ensures kept { GrownBy 0 machine.old steps.old machine.new steps.new }
+    ensures owes { Owing 0 machine.old result machine.new }
+{
+    Ok(Part::Whole(evaluate(machine, e, room, steps)?))
+}
+
+#[cycle(run)]
+fn deeper_part<L: Ledger>(
+    machine: &mut Machine,
+    e: &Expr,
+    room: u32,
+    steps: &mut Steps<L>,
+) -> Result<Part, Fault>
+    requires small_e { of_expression (expression_of e.now) < 2 ^ 20 }
+    requires fit_e { ExpressionFits (expression_of e.now) }
+    requires room { HasRoom machine.old }
+    ensures gives { Gives part_of result (moment_of machine.new) (deeper (part (call room) (expression_of e.now) (expr (call room) (expression_of e.now))) (moment_of machine.old)) }
+    ensures sound { IsSound (λ v. is_sound_part (length machine.new.heap) (part_of v)) (length machine.new.heap) result }
+    ensures kept { GrownBy 0 machine.old steps.old machine.new steps.new }
+    ensures owes { Owing 0 machine.old result machine.new }
+{
+    let depth = machine.budget.depth;
+    if depth >= MOST_DEPTH {
+        return too_deep(machine.alloc);
+    }
+    machine.budget.depth = depth + 1;
+    let result = part(machine, e, room, steps);
+    machine.budget.depth = depth;
+    result
+}
+
+/// What is done with a part.
+#[cycle(run)]
+#[tactic(auto, using(kishu_calls::specs::Rows::tree_rows))]
+pub(crate) fn trailer_part<L: Ledger>(
+    machine: &mut Machine,
+    part: Part,
+    trailer: &Trailer,
+    room: u32,
+    steps: &mut Steps<L>,
+) -> Result<Part, Fault>
+    requires sound_part { IsTrue (is_sound_part (length machine.old.heap) (part_of part)) }
+    requires small { of_trailer (trailer_of trailer.now) < 2 ^ 20 }
+    requires fits { TrailerFits (trailer_of trailer.now) }
+    requires room { HasRoomBy (1 + owed (part_of part)) machine.old }
+    ensures gives { Gives part_of result (moment_of machine.new) (m.trailer (call room) (part_of part) (trailer_of trailer.now) (moment_of machine.old)) }
+    ensures sound { IsSound (λ v. is_sound_part (length machine.new.heap) (part_of v)) (length machine.new.heap) result }
+    ensures kept { GrownBy (1 + owed (part_of part)) machine.old steps.old machine.new steps.new }
+    ensures owes { Owing (1 + owed (part_of part)) machine.old result machine.new }
 {
     match trailer {
-        Trailer::Call(arguments) => called(machine, value, arguments),
-        Trailer::Attribute(_) => Err(Fault::Stopped),
-        Trailer::Index(_) => Err(Fault::Stopped),
-        Trailer::Slice { .. } => Err(Fault::Stopped),
+        Trailer::Attribute(name) => dotted_part(machine, part, name, steps),
+        Trailer::Call(arguments) => called_part(machine, part, arguments, room, steps),
+        Trailer::Index(index) => item_part(machine, part, index, room, steps),
+        Trailer::Slice { start, stop, step } => {
+            let value = settled(machine, part, steps)?;
+            slice_part(machine, &value, start, stop, step, room, steps)
+        }
     }
 }
 
-#[cycle(expression)]
-fn called(machine: &mut Machine, callee: Value, arguments: &[Argument]) -> Result<Value, Fault>
-    ensures gives { Gives value_of result (moment_of machine.new) (called (value_of callee) (arguments_of arguments.now) (moment_of machine.old)) }
-    ensures left { machine.new.left ≤ machine.old.left }
+// A callee, or a method, is found before the arguments are evaluated.
+#[cycle(run)]
+fn called_part<L: Ledger>(
+    machine: &mut Machine,
+    part: Part,
+    arguments: &[Argument],
+    room: u32,
+    steps: &mut Steps<L>,
+) -> Result<Part, Fault>
+    requires sound_part { IsTrue (is_sound_part (length machine.old.heap) (part_of part)) }
+    requires small { of_arguments (arguments_of arguments.now) < 2 ^ 20 }
+    requires fits { ArgumentsFit (arguments_of arguments.now) }
+    requires differ { IsTrue (all_differ (keywords (arguments_of arguments.now))) }
+    requires room { HasRoomBy (1 + owed (part_of part)) machine.old }
+    ensures gives { Gives part_of result (moment_of machine.new) (m.trailer (call room) (part_of part) (t.call (arguments_of arguments.now)) (moment_of machine.old)) }
+    ensures sound { IsSound (λ v. is_sound_part (length machine.new.heap) (part_of v)) (length machine.new.heap) result }
+    ensures kept { GrownBy (1 + owed (part_of part)) machine.old steps.old machine.new steps.new }
+    ensures owes { Owing (1 + owed (part_of part)) machine.old result machine.new }
 {
-    let values = argument_values(machine, arguments)?;
-    apply(machine, &callee, &values)
+    let found = callee_in(machine, part, arguments, steps)?;
+    let given = arguments_given(machine, arguments, room, steps)?;
+    apply(machine, found, given, room, steps)
 }
 
-#[cycle(expression)]
-fn argument_values(machine: &mut Machine, arguments: &[Argument]) -> Result<Vec<Value>, Fault>
-    ensures gives { Gives (λ v. map value_of v.items) result (moment_of machine.new) (passed (arguments_of arguments.now) (moment_of machine.old)) }
-    ensures left { machine.new.left ≤ machine.old.left }
+#[cycle(run)]
+fn item_part<L: Ledger>(
+    machine: &mut Machine,
+    part: Part,
+    index: &Expr,
+    room: u32,
+    steps: &mut Steps<L>,
+) -> Result<Part, Fault>
+    requires sound_part { IsTrue (is_sound_part (length machine.old.heap) (part_of part)) }
+    requires small_index { of_expression (expression_of index.now) < 2 ^ 20 }
+    requires fit_index { ExpressionFits (expression_of index.now) }
+    requires room { HasRoomBy (1 + owed (part_of part)) machine.old }
+    ensures gives { Gives part_of result (moment_of machine.new) (m.trailer (call room) (part_of part) (t.index (expression_of index.now)) (moment_of machine.old)) }
+    ensures sound { IsSound (λ v. is_sound_part (length machine.new.heap) (part_of v)) (length machine.new.heap) result }
+    ensures kept { GrownBy (1 + owed (part_of part)) machine.old steps.old machine.new steps.new }
+    ensures owes { Owing (1 + owed (part_of part)) machine.old result machine.new }
 {
-    let mut values = Vec::new(machine.alloc);
+    let value = settled(machine, part, steps)?;
+    let index = deeper_value(machine, index, room, steps)?;
+    Ok(Part::Whole(item(machine, &value, &index, steps)?))
+}
+
+// An absent bound is None.
+#[cycle(run)]
+fn bound_value<L: Ledger>(
+    machine: &mut Machine,
+    bound: &Option<Expr>,
+    room: u32,
+    steps: &mut Steps<L>,
+) -> Result<Value, Fault>
+    requires small { of_bound (t.bound_of (tree_value bound.now)) < 2 ^ 20 }
+    requires fits { BoundFits (t.bound_of (tree_value bound.now)) }
+    requires room { HasRoom machine.old }
+    ensures gives { Gives value_of result (moment_of machine.new) (bound_value (call room) (t.bound_of (tree_value bound.now)) (moment_of machine.old)) }
+    ensures sound { IsSound (λ v. is_sound (length machine.new.heap) (value_of v)) (length machine.new.heap) result }
+    ensures kept { GrownBy 0 machine.old steps.old machine.new steps.new }
+{
+    match bound {
+        Some(e) => deeper_value(machine, e, room, steps),
+        None => Ok(Value::None),
+    }
+}
+
+#[cycle(run)]
+fn slice_part<L: Ledger>(
+    machine: &mut Machine,
+    value: &Value,
+    start: &Option<Expr>,
+    stop: &Option<Expr>,
+    step: &Option<Expr>,
+    room: u32,
+    steps: &mut Steps<L>,
+) -> Result<Part, Fault>
+    requires sound_value { IsTrue (is_sound (length machine.old.heap) (value_of value.now)) }
+    requires small_start { of_bound (t.bound_of (tree_value start.now)) < 2 ^ 20 }
+    requires fit_start { BoundFits (t.bound_of (tree_value start.now)) }
+    requires small_stop { of_bound (t.bound_of (tree_value stop.now)) < 2 ^ 20 }
+    requires fit_stop { BoundFits (t.bound_of (tree_value stop.now)) }
+    requires small_step { of_bound (t.bound_of (tree_value step.now)) < 2 ^ 20 }
+    requires fit_step { BoundFits (t.bound_of (tree_value step.now)) }
+    requires room { HasRoomBy 1 machine.old }
+    ensures gives { Gives part_of result (moment_of machine.new) (slice_part (call room) (value_of value.now) (t.bound_of (tree_value start.now)) (t.bound_of (tree_value stop.now)) (t.bound_of (tree_value step.now)) (moment_of machine.old)) }
+    ensures sound { IsSound (λ v. is_sound_part (length machine.new.heap) (part_of v)) (length machine.new.heap) result }
+    ensures kept { GrownBy 1 machine.old steps.old machine.new steps.new }
+    ensures owes { Owing 1 machine.old result machine.new }
+{
+    let start = bound_value(machine, start, room, steps)?;
+    let stop = bound_value(machine, stop, room, steps)?;
+    let step = bound_value(machine, step, room, steps)?;
+    let bounds = Bounds {
+        start: &start,
+        stop: &stop,
+        step: &step,
+    };
+    Ok(Part::Whole(slice(machine, value, &bounds, steps)?))
+}
+
+// ---- calls
+
+#[cycle(run)]
+#[tactic(auto, using(kishu_calls::specs::Rows::part_rows))]
+fn arguments_given<L: Ledger>(
+    machine: &mut Machine,
+    arguments: &[Argument],
+    room: u32,
+    steps: &mut Steps<L>,
+) -> Result<Given, Fault>
+    requires small { of_arguments (arguments_of arguments.now) < 2 ^ 20 }
+    requires fits { ArgumentsFit (arguments_of arguments.now) }
+    requires differ { IsTrue (all_differ (keywords (arguments_of arguments.now))) }
+    requires room { HasRoom machine.old }
+    ensures gives { Gives given_of result (moment_of machine.new) (m.arguments (call room) (arguments_of arguments.now) (moment_of machine.old)) }
+    ensures sound { IsSound (λ g. is_sound_given (length machine.new.heap) (given_of g)) (length machine.new.heap) result }
+    ensures kept { GrownBy 0 machine.old steps.old machine.new steps.new }
+{
+    let mut plain = Vec::new(machine.alloc);
+    let mut named = Vec::new(machine.alloc);
     for argument in arguments {
-        let value = argument_value(machine, argument)?;
-        values.push(value)?;
+        match argument {
+            Argument::Plain(e) => plain.push(deeper_value(machine, e, room, steps)?)?,
+            Argument::Keyword(name, e) => {
+                let value = deeper_value(machine, e, room, steps)?;
+                named.push((name.clone()?, value))?;
+            }
+        }
     }
-    Ok(values)
+    Ok(Given { plain, named })
 }
 
-#[cycle(expression)]
-#[tactic(auto, using(crate::proofs::Rows::tree_rows))]
-fn argument_value(machine: &mut Machine, argument: &Argument) -> Result<Value, Fault>
-    ensures gives { Gives value_of result (moment_of machine.new) (passed_by (argument_of argument.now) (moment_of machine.old)) }
-    ensures left { machine.new.left ≤ machine.old.left }
+#[cycle(run)]
+fn apply<L: Ledger>(
+    machine: &mut Machine,
+    callee: Callee,
+    given: Given,
+    room: u32,
+    steps: &mut Steps<L>,
+) -> Result<Part, Fault>
+    requires sound_callee { IsTrue (is_sound_callee (length machine.old.heap) (callee_of callee)) }
+    requires sound_given { IsTrue (is_sound_given (length machine.old.heap) (given_of given)) }
+    requires room { HasRoomBy 1 machine.old }
+    ensures gives { Gives part_of result (moment_of machine.new) (apply (call room) (callee_of callee) (given_of given) (moment_of machine.old)) }
+    ensures sound { IsSound (λ v. is_sound_part (length machine.new.heap) (part_of v)) (length machine.new.heap) result }
+    ensures kept { GrownBy 1 machine.old steps.old machine.new steps.new }
+    ensures owes { Owing 1 machine.old result machine.new }
 {
-    match argument {
-        Argument::Plain(e) => deeper_value(machine, e),
-        Argument::Keyword(_, _) => Err(Fault::Stopped),
+    match callee {
+        Callee::Function(function) => {
+            Ok(Part::Whole(call_value(machine, &function, given, room, steps)?))
+        }
+        Callee::Method(value, name) => {
+            let found = call_method(machine, &value, name.as_str(), &given, steps)?;
+            Ok(Part::Whole(found))
+        }
+        Callee::View(id, view) => Ok(Part::Viewed(id, view)),
+    }
+}
+
+#[cycle(run)]
+fn call_value<L: Ledger>(
+    machine: &mut Machine,
+    function: &Value,
+    given: Given,
+    room: u32,
+    steps: &mut Steps<L>,
+) -> Result<Value, Fault>
+    requires sound_function { IsTrue (is_sound (length machine.old.heap) (value_of function.now)) }
+    requires sound_given { IsTrue (is_sound_given (length machine.old.heap) (given_of given)) }
+    requires room { HasRoomBy 1 machine.old }
+    ensures gives { Gives value_of result (moment_of machine.new) (call_value (call room) (value_of function.now) (given_of given) (moment_of machine.old)) }
+    ensures sound { IsSound (λ v. is_sound (length machine.new.heap) (value_of v)) (length machine.new.heap) result }
+    ensures kept { GrownBy 1 machine.old steps.old machine.new steps.new }
+{
+    match function {
+        Value::Builtin(builtin) => call_builtin(machine, *builtin, &given, steps),
+        Value::Class(class) => construct(machine, *class, given, steps),
+        Value::Node(id) => call_node(machine, *id, &given, room, steps),
+        Value::None => not_callable(machine, function, steps),
+        Value::Bool(_) => not_callable(machine, function, steps),
+        Value::Int(_) => not_callable(machine, function, steps),
+        Value::Text(_) => not_callable(machine, function, steps),
+        Value::Range(..) => not_callable(machine, function, steps),
+    }
+}
+
+#[cycle(run)]
+fn call_node<L: Ledger>(
+    machine: &mut Machine,
+    id: NodeId,
+    given: &Given,
+    room: u32,
+    steps: &mut Steps<L>,
+) -> Result<Value, Fault>
+    requires id { id.0 < length machine.old.heap }
+    requires sound_given { IsTrue (is_sound_given (length machine.old.heap) (given_of given.now)) }
+    requires room { HasRoomBy 1 machine.old }
+    ensures gives { Gives value_of result (moment_of machine.new) (call_value (call room) (node id.0) (given_of given.now) (moment_of machine.old)) }
+    ensures sound { IsSound (λ v. is_sound (length machine.new.heap) (value_of v)) (length machine.new.heap) result }
+    ensures kept { GrownBy 1 machine.old steps.old machine.new steps.new }
+{
+    match function_at(machine, id, steps)? {
+        Some(function) => called(machine, &function, given, room, steps),
+        None => not_callable(machine, &Value::Node(id), steps),
     }
 }

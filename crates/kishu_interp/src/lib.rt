@@ -1,27 +1,19 @@
-//! Runs a cell: reads its text's tree, and runs that by steps: expressions, assignments to names,
-//! `if`, `while` and `print`. A run gives exactly the outcome, the outputs and the names that
-//! `kishu_model`'s definition of a cell's run says, and it ends, since each turn of a loop takes a
-//! step. No call recurses deeper than the tree is high.
+//! Runs a cell: reads its text's tree, and runs that by steps over a heap and names. A run gives
+//! exactly the outcome, the outputs, the heap, the names and the record of accesses that
+//! `kishu_model`'s definition of a cell's run says, and it ends: each turn of a loop takes a step, and
+//! each call is one level deeper. A call recurses no deeper than the points under evaluation lie, a
+//! few frames for each level.
+//!
+//! The cycle of `expressions`, `calls`, `targets` and `statements` has one function for each form of
+//! the language, over what `kishu_machine`, `kishu_access` and `kishu_calls` do with values. `cell`
+//! and `run` are what a whole cell gives.
 #![tactic(auto)]
 
 mod calls;
 mod cell;
-mod compare;
 mod expressions;
-mod fault;
-mod form;
-mod later;
-mod machine;
-mod names;
-mod numbers;
-mod operators;
 mod run;
-mod show;
-mod state;
 mod statements;
-mod texts;
-mod values;
+mod targets;
 
-pub use form::later_form;
-pub use run::run_plain;
-pub use state::PlainState;
+pub use run::run_cell;

@@ -1,38 +1,105 @@
 // Texts that run.
-ghost use Rattle.std.specs.Prelude.{◌≡◌, ◌≤◌, length, IfOk, OnOk};
-ghost use Rattle.kishu_model.specs.declared.profile.Profile.TheVariants.{One};
-ghost use Rattle.kishu_model.specs.Values.{report_of};
-ghost use Rattle.kishu_model.specs.PlainMeaning.{run};
+ghost use Rattle.std.specs.Prelude.{IfOk, IsTrue, Ok, OnOk, length, ◌+◌, ◌<◌, ◌^◌, ◌≡◌, ◌≤◌};
+ghost use Rattle.kishu_model.specs.Accesses.{with_accesses};
+ghost use Rattle.kishu_model.specs.Height.{of_statements};
+ghost use Rattle.kishu_model.specs.Meaning.{run, run_tree, unread};
+ghost use Rattle.kishu_model.specs.Sound.{are_sound_names};
+ghost use Rattle.kishu_model.specs.Tree.{program_of};
+ghost use Rattle.kishu_model.specs.Values.{State, report_of};
+ghost use Rattle.kishu_calls.specs.Trees.{statements_of};
+ghost use Rattle.kishu_model.specs.Fits.{StatementsFit};
+ghost use Rattle.kishu_machine.specs.Machine.{state_in};
 
-use crate::cell::{run_program, syntax_fault};
-use crate::state::PlainState;
-use kishu_model::{CellResult, Profile};
+use crate::cell::run_statements;
+use kishu_calls::{ended, fault_output, finish};
+use kishu_heap::Heap;
+use kishu_machine::{MOST_STEPS, Machine};
+use kishu_model::{Budget, CellResult, Outcome, Profile, Program, Steps};
+use kishu_names::Names;
 use kishu_parser::{SyntaxFault, parse};
 use std::alloc::{AllocError, Global};
+use std::mem;
+use std::sync::ledger::Ledger;
+
+// Runs the statements of a cell on what the cells before left, as `run_cell` tells it of a text.
+fn run_program<L: Ledger>(
+    alloc: Global,
+    profile: Profile,
+    program: &Program,
+    heap: &mut Heap,
+    names: &mut Names,
+    steps: &mut Steps<L>,
+) -> Result<CellResult, AllocError>
+    requires small { of_statements (statements_of program.now.statements.items) < 2 ^ 20 }
+    requires fits { StatementsFit (statements_of program.now.statements.items) }
+    requires room { length heap.old ≤ 2 ^ 31 }
+    requires sound { IsTrue (are_sound_names (length heap.old) names.old.bound) }
+    ensures report { IfOk result (λ r. report_of r ≡ (run_tree profile (Ok (program_of program.now)) (state_in heap.old names.old)).report) }
+    ensures state { OnOk result (state_in heap.new names.new ≡ (run_tree profile (Ok (program_of program.now)) (state_in heap.old names.old)).state) }
+    ensures accessed { OnOk result (names.new.accessed ≡ with_accesses (run_tree profile (Ok (program_of program.now)) (state_in heap.old names.old)).accessed names.old.accessed) }
+    ensures sound { IsTrue (are_sound_names (length heap.new) names.new.bound) }
+    ensures least { OnOk result (steps.old + (run_tree profile (Ok (program_of program.now)) (state_in heap.old names.old)).charge ≤ steps.new) }
+{
+    let earlier = names.take_record();
+    let mut machine = Machine {
+        alloc,
+        profile,
+        heap: mem::replace(heap, Heap::new(alloc)),
+        names: mem::replace(names, Names::new(alloc)),
+        locals: None,
+        handled: None,
+        budget: Budget {
+            left: MOST_STEPS,
+            depth: 0,
+        },
+        printed: String::new(alloc),
+    };
+    let end = run_statements(&mut machine, &program.statements, steps);
+    let result = finish(&mut machine, end, steps);
+    *heap = machine.heap;
+    *names = machine.names;
+    names.join_record(earlier)?;
+    result
+}
+
+// What a text without a tree gives: the exception that names the line of its fault. It runs nothing.
+fn syntax_fault(alloc: Global, line: u32) -> Result<CellResult, AllocError>
+    ensures { (s : State) → IfOk result (λ r. report_of r ≡ (unread line s).report) }
+{
+    let text = format!(in alloc; "invalid syntax, line {line}")?;
+    let output = fault_output(alloc, "SyntaxError", text.as_str())?;
+    ended(alloc, Outcome::Raised, "", Some(output))
+}
 
 /// Runs a cell on what the cells before left (Python Language Reference 3, "Execution model").
 ///
-/// The state is left with the names that the cell bound, also those before a statement that raised.
-/// What was printed is one output, before the value that the last statement shows, or the exception
-/// that ended the cell. A cell that takes 4,000,000 steps and needs one more is stopped. A text
-/// without a tree runs nothing: its output is a SyntaxError that names the line of its fault, and
-/// the state stays.
+/// Heap and names are left as the cell changed them, also before a statement that raised. The names
+/// that it accessed, misses too, are added to the record of `names`. What was printed is one output,
+/// before the value that the last statement shows, or the exception that ended the cell. A cell that
+/// takes 4,000,000 steps and needs one more is stopped. A text without a tree runs nothing: its
+/// output is a SyntaxError that names the line of its fault, and all stays.
 ///
-/// A form that no cell has yet has no meaning of its own: the cell is stopped there.
-///
-/// The only error is want of memory. It leaves a state of which nothing is said but that it is one.
-#[tactic(auto, using(crate::proofs::TextRuns::run_of_tree))]
-pub fn run_plain(
+/// Each step of the budget is one of `steps`. The only error is want of memory: heap and names are
+/// valid then, and nothing else is said of them.
+pub fn run_cell<L: Ledger>(
     alloc: Global,
+    profile: Profile,
     text: &str,
-    state: &mut PlainState,
+    heap: &mut Heap,
+    names: &mut Names,
+    steps: &mut Steps<L>,
 ) -> Result<CellResult, AllocError>
     requires short { length text.now ≤ 1048576 }
-    ensures report { IfOk result (λ r. report_of r ≡ (run One text.now state.old).report) }
-    ensures state { OnOk result (state.new ≡ (run One text.now state.old).state) }
+    requires room { length heap.old ≤ 2 ^ 31 }
+    requires sound { IsTrue (are_sound_names (length heap.old) names.old.bound) }
+    ensures report { IfOk result (λ r. report_of r ≡ (run profile text.now (state_in heap.old names.old)).report) }
+    ensures state { OnOk result (state_in heap.new names.new ≡ (run profile text.now (state_in heap.old names.old)).state) }
+    ensures accessed { OnOk result (names.new.accessed ≡ with_accesses (run profile text.now (state_in heap.old names.old)).accessed names.old.accessed) }
+    ensures sound { IsTrue (are_sound_names (length heap.new) names.new.bound) }
+    ensures least { OnOk result (steps.old + (run profile text.now (state_in heap.old names.old)).charge ≤ steps.new) }
 {
-    match parse(alloc, Profile::One, text) {
-        Ok(program) => run_program(alloc, &program, state),
+    match parse(alloc, profile, text) {
+        Ok(program) => run_program(alloc, profile, &program, heap, names, steps),
         Err(SyntaxFault::Syntax { line }) => syntax_fault(alloc, line),
         Err(SyntaxFault::NoMemory) => Err(AllocError),
     }

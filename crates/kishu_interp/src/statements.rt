@@ -1,228 +1,724 @@
 // Statements.
-ghost use Rattle.std.specs.Prelude.{◌≡◌, ◌≤◌, map};
+ghost use Rattle.std.specs.Prelude.{IfOk, IsTrue, Some, length, map, true, ◌<◌, ◌^◌, ◌≡◌, ◌≤◌};
 ghost use Rattle.std.specs.Rc.{rc_str_bytes};
+ghost use Rattle.kishu_model.specs.Classes.{namespace_number};
+ghost use Rattle.kishu_model.specs.Functions.{or_class_name};
+ghost use Rattle.kishu_model.specs.Height.{of_arms, of_expression, of_handlers, of_list, of_optional, of_parameters, of_statement, of_statements};
+ghost use Rattle.kishu_model.specs.Meaning.{act, acts, call, defaults, in_block, is_for, raise_by, returned_by, store};
+ghost use Rattle.kishu_model.specs.Moment.{Ends, assign, give, ◌>>◌ as ◌▹◌};
+ghost use Rattle.kishu_model.specs.Names.{is_name};
+ghost use Rattle.kishu_model.specs.Parse.{ParseDef};
+ghost use Rattle.kishu_model.specs.Sound.{are_sound, with_default};
+ghost use Rattle.kishu_model.specs.Tree.{definition_of, expression_of, parameter_of, statement_of, text_of, value_of as tree_value};
+ghost use Rattle.kishu_model.specs.Values.{class, node, value_of};
+ghost use Rattle.kishu_model.specs.Ways.{and_last, attempt, forget_caught, handle, handling, onward, walk_along};
+ghost use Rattle.kishu_access.specs.Access.{is_sound_walk, walk_of};
+ghost use Rattle.kishu_calls.specs.Calls.{flow_of, is_sound_flow, is_sound_way};
+ghost use Rattle.kishu_calls.specs.Trees.{arms_of, handlers_of, statements_of};
+ghost use Rattle.kishu_model.specs.Fits.{ArmsFit, ExpressionFits, HandlersFit, ListFits, OptionalFits, ParametersFit, StatementFits, StatementsFit, TitleFits};
+ghost use Rattle.kishu_machine.specs.Machine.{Gives, GrownBy, HasRoom, HasRoomBy, IsSound, is_sound_thrown, moment_of, thrown_of};
+ghost use Rattle.kishu_model.specs.Meaning as m;
 ghost use Rattle.kishu_model.specs.Tree as t;
-ghost use Rattle.kishu_model.specs.Tree.{expression_of, statement_of};
-ghost use Rattle.kishu_model.specs.PlainMeaning.{repeat, in_block};
-ghost use Rattle.kishu_interp.specs.Machine.{value_of, moment_of, flow_of, Gives};
-ghost use Rattle.kishu_interp.specs.Trees.{statements_of, arms_of};
-ghost use Rattle.kishu_interp.specs.Unrecorded.{expr, store, store_all, update_name, act, choice, acts};
+ghost use Rattle.kishu_model.specs.Ways as w;
 
-use crate::expressions::evaluate;
-use crate::fault::Fault;
-use crate::machine::{MOST_DEPTH, Machine, depth_fault, tick};
-use crate::names::{assign, read};
-use crate::operators::operate;
-use crate::values::{Value, copied, is_true};
-use kishu_model::{Arm, Expr, Operator, Stmt};
-use std::rc::RcStr;
-
-/// How a statement ended that raised nothing.
-#[derive(Clone, Copy)]
-pub(crate) enum Flow {
-    Onward,
-    Broke,
-    Continued,
-}
+use crate::expressions::{deeper_value, evaluate, part};
+use crate::targets::{place_at, store, store_all};
+use kishu_access::{Walk, delete_place, item_for, read_place, store_in, updated};
+use kishu_calls::{Flow, is_caught, object_of, throw_again, throw_value, walked_by};
+use kishu_heap::{FunctionNode, Node};
+use kishu_machine::{
+    ASSERTION_ERROR, Fault, MOST_DEPTH, Machine, NAMESPACE, Thrown, assign, forget, make, tick,
+    too_deep, truth,
+};
+use kishu_model::{Arm, Def, Expr, Handler, NodeId, Operator, Steps, Stmt, Value};
+use std::mem;
+use std::rc::{Rc, RcStr};
+use std::sync::ledger::Ledger;
 
 /// Runs a statement (Python Language Reference 3, "Simple statements" and "Compound statements").
-#[cycle(statement)]
-#[tactic(auto, using(crate::proofs::StatementRows::statement_rows))]
-pub(crate) fn run_statement(machine: &mut Machine, statement: &Stmt) -> Result<Flow, Fault>
-    ensures gives { Gives flow_of result (moment_of machine.new) (act (statement_of statement.now) (moment_of machine.old)) }
-    ensures left { machine.new.left ≤ machine.old.left }
+/// `room` is how many calls may still be entered.
+#[cycle(run)]
+#[tactic(auto, using(kishu_calls::specs::StatementRows::statement_rows))]
+pub(crate) fn run_statement<L: Ledger>(
+    machine: &mut Machine,
+    statement: &Stmt,
+    room: u32,
+    steps: &mut Steps<L>,
+) -> Result<Flow, Fault>
+    requires small { of_statement (statement_of statement.now) < 2 ^ 20 }
+    requires fits { StatementFits (statement_of statement.now) }
+    requires room { HasRoomBy 4 machine.old }
+    ensures gives { Gives flow_of result (moment_of machine.new) (act (call room) (statement_of statement.now) (moment_of machine.old)) }
+    ensures sound { IsSound (λ v. is_sound_flow (length machine.new.heap) (flow_of v)) (length machine.new.heap) result }
+    ensures kept { GrownBy 3 machine.old steps.old machine.new steps.new }
 {
     match statement {
         Stmt::Pass => Ok(Flow::Onward),
         Stmt::Break => Ok(Flow::Broke),
         Stmt::Continue => Ok(Flow::Continued),
-        Stmt::Assign(targets, value) => run_assignment(machine, targets, value),
-        Stmt::Update(place, operator, operand) => run_update(machine, place, *operator, operand),
-        Stmt::If(arms, other) => run_choice(machine, arms, other),
-        Stmt::While(test, body) => run_loop(machine, test, body),
-        Stmt::Return(_) => Err(Fault::Stopped),
-        Stmt::Raise(_) => Err(Fault::Stopped),
-        Stmt::Assert(_, _) => Err(Fault::Stopped),
-        Stmt::Del(_) => Err(Fault::Stopped),
-        Stmt::Global(_) => Err(Fault::Stopped),
-        Stmt::Import(_) => Err(Fault::Stopped),
-        Stmt::For(_, _, _) => Err(Fault::Stopped),
-        Stmt::Try { .. } => Err(Fault::Stopped),
-        Stmt::Finally(_, _) => Err(Fault::Stopped),
-        Stmt::Def(_, _) => Err(Fault::Stopped),
+        Stmt::Return(value) => run_return(machine, value, room, steps),
+        Stmt::Raise(value) => run_raise(machine, value, room, steps),
+        Stmt::Assert(test, message) => run_assert(machine, test, message, room, steps),
+        Stmt::Del(places) => run_delete(machine, places, room, steps),
+        Stmt::Global(_) => Ok(Flow::Onward),
+        Stmt::Import(name) => run_import(machine, name),
+        Stmt::Update(place, operator, operand) => {
+            run_update(machine, place, *operator, operand, room, steps)
+        }
+        Stmt::Assign(targets, value) => run_assignment(machine, targets, value, room, steps),
+        Stmt::If(arms, other) => run_choice(machine, arms, other, room, steps),
+        Stmt::While(test, body) => run_while(machine, test, body, room, steps),
+        Stmt::For(target, walked, body) => run_for(machine, target, walked, body, room, steps),
+        Stmt::Try {
+            body,
+            handlers,
+            other,
+            last,
+        } => run_try(machine, body, handlers, other, last, room, steps),
+        Stmt::Finally(body, last) => run_finally(machine, body, last, room, steps),
+        Stmt::Def(def, code) => run_def(machine, def, code, room, steps),
     }
 }
 
-// Puts a value into a place. Parentheses around it change nothing.
-#[tactic(auto, using(crate::proofs::Rows::tree_rows))]
-fn store(machine: &mut Machine, place: &Expr, value: &Value) -> Result<(), Fault>
-    ensures gives { Gives (λ u. u) result (moment_of machine.new) (store (expression_of place.now) (value_of value.now) (moment_of machine.old)) }
-    ensures left { machine.new.left ≤ machine.old.left }
+// ---- simple statements
+
+#[cycle(run)]
+fn run_return<L: Ledger>(
+    machine: &mut Machine,
+    value: &Option<Expr>,
+    room: u32,
+    steps: &mut Steps<L>,
+) -> Result<Flow, Fault>
+    requires small_value { of_optional (tree_value value.now) < 2 ^ 20 }
+    requires fit_value { OptionalFits (tree_value value.now) }
+    requires room { HasRoomBy 4 machine.old }
+    ensures gives { Gives flow_of result (moment_of machine.new) (returned_by (call room) (tree_value value.now) (moment_of machine.old)) }
+    ensures sound { IsSound (λ v. is_sound_flow (length machine.new.heap) (flow_of v)) (length machine.new.heap) result }
+    ensures kept { GrownBy 3 machine.old steps.old machine.new steps.new }
 {
-    match place {
-        Expr::Name(name) => assign(machine, name, copied(value)?),
-        Expr::Paren(inner) => store(machine, inner, value),
-        Expr::Int(_) => Err(Fault::Stopped),
-        Expr::Text(_) => Err(Fault::Stopped),
-        Expr::None => Err(Fault::Stopped),
-        Expr::True => Err(Fault::Stopped),
-        Expr::False => Err(Fault::Stopped),
-        Expr::Conditional { .. } => Err(Fault::Stopped),
-        Expr::Or(_) => Err(Fault::Stopped),
-        Expr::And(_) => Err(Fault::Stopped),
-        Expr::Not(_) => Err(Fault::Stopped),
-        Expr::Signed(_, _) => Err(Fault::Stopped),
-        Expr::Power(_, _) => Err(Fault::Stopped),
-        Expr::Sum(_, _) => Err(Fault::Stopped),
-        Expr::Product(_, _) => Err(Fault::Stopped),
-        Expr::Compared(_, _) => Err(Fault::Stopped),
-        Expr::Primary(_, _) => Err(Fault::Stopped),
-        Expr::Tuple(_) => Err(Fault::Stopped),
-        Expr::List(_) => Err(Fault::Stopped),
-        Expr::Dict(_) => Err(Fault::Stopped),
+    match value {
+        Some(e) => Ok(Flow::Returned(evaluate(machine, e, room, steps)?)),
+        None => Ok(Flow::Returned(Value::None)),
     }
 }
 
-fn store_all(machine: &mut Machine, targets: &[Expr], value: &Value) -> Result<(), Fault>
-    ensures gives { Gives (λ u. u) result (moment_of machine.new) (store_all (map expression_of targets.now) (value_of value.now) (moment_of machine.old)) }
-    ensures left { machine.new.left ≤ machine.old.left }
+#[cycle(run)]
+fn run_raise<L: Ledger>(
+    machine: &mut Machine,
+    value: &Option<Expr>,
+    room: u32,
+    steps: &mut Steps<L>,
+) -> Result<Flow, Fault>
+    requires small_value { of_optional (tree_value value.now) < 2 ^ 20 }
+    requires fit_value { OptionalFits (tree_value value.now) }
+    requires room { HasRoomBy 4 machine.old }
+    ensures gives { Gives flow_of result (moment_of machine.new) (raise_by (call room) (tree_value value.now) (moment_of machine.old)) }
+    ensures sound { IsSound (λ v. is_sound_flow (length machine.new.heap) (flow_of v)) (length machine.new.heap) result }
+    ensures kept { GrownBy 3 machine.old steps.old machine.new steps.new }
 {
-    for target in targets {
-        store(machine, target, value)?;
+    match value {
+        Some(e) => {
+            let thrown = evaluate(machine, e, room, steps)?;
+            throw_value(machine, &thrown, steps)
+        }
+        None => throw_again(machine, steps),
     }
-    Ok(())
 }
 
-// The value once, and then the targets from left to right.
-fn run_assignment(machine: &mut Machine, targets: &[Expr], value: &Expr) -> Result<Flow, Fault>
-    ensures gives { Gives flow_of result (moment_of machine.new) (act (t.assign (map expression_of targets.now) (expression_of value.now)) (moment_of machine.old)) }
-    ensures left { machine.new.left ≤ machine.old.left }
+#[cycle(run)]
+fn run_assert<L: Ledger>(
+    machine: &mut Machine,
+    test: &Expr,
+    message: &Option<Expr>,
+    room: u32,
+    steps: &mut Steps<L>,
+) -> Result<Flow, Fault>
+    requires small_test { of_expression (expression_of test.now) < 2 ^ 20 }
+    requires fit_test { ExpressionFits (expression_of test.now) }
+    requires small_message { of_optional (tree_value message.now) < 2 ^ 20 }
+    requires fit_message { OptionalFits (tree_value message.now) }
+    requires room { HasRoomBy 4 machine.old }
+    ensures gives { Gives flow_of result (moment_of machine.new) (act (call room) (t.assert (expression_of test.now) (tree_value message.now)) (moment_of machine.old)) }
+    ensures sound { IsSound (λ v. is_sound_flow (length machine.new.heap) (flow_of v)) (length machine.new.heap) result }
+    ensures kept { GrownBy 3 machine.old steps.old machine.new steps.new }
 {
-    let value = evaluate(machine, value)?;
-    store_all(machine, targets, &value)?;
+    let value = evaluate(machine, test, room, steps)?;
+    if truth(machine, &value, steps) {
+        return Ok(Flow::Onward);
+    }
+    match message {
+        Some(e) => {
+            let message = evaluate(machine, e, room, steps)?;
+            Err(Fault::Raised(Thrown::With(ASSERTION_ERROR, message)))
+        }
+        None => Err(Fault::Raised(Thrown::Plain(ASSERTION_ERROR))),
+    }
+}
+
+#[cycle(run)]
+fn run_delete<L: Ledger>(
+    machine: &mut Machine,
+    places: &[Expr],
+    room: u32,
+    steps: &mut Steps<L>,
+) -> Result<Flow, Fault>
+    requires small { of_list (map expression_of places.now) < 2 ^ 20 }
+    requires fits { ListFits (map expression_of places.now) }
+    requires room { HasRoomBy 4 machine.old }
+    ensures gives { Gives flow_of result (moment_of machine.new) (act (call room) (t.delete (map expression_of places.now)) (moment_of machine.old)) }
+    ensures sound { IsSound (λ v. is_sound_flow (length machine.new.heap) (flow_of v)) (length machine.new.heap) result }
+    ensures kept { GrownBy 3 machine.old steps.old machine.new steps.new }
+{
+    for e in places {
+        let found = place_at(machine, e, room, steps)?;
+        delete_place(machine, &found, steps)?;
+    }
     Ok(Flow::Onward)
 }
 
-// The name is read, the operand evaluated, and the result bound.
-fn update_name(
-    machine: &mut Machine,
-    name: &RcStr,
-    operator: Operator,
-    operand: &Expr,
-) -> Result<(), Fault>
-    ensures gives { Gives (λ u. u) result (moment_of machine.new) (update_name (rc_str_bytes name.now) operator (expr (expression_of operand.now)) (moment_of machine.old)) }
-    ensures left { machine.new.left ≤ machine.old.left }
+// An import binds the class SimpleNamespace.
+fn run_import(machine: &mut Machine, name: &Option<RcStr>) -> Result<Flow, Fault>
+    requires fit_name { TitleFits (text_of name.now) }
+    ensures gives { Gives flow_of result (moment_of machine.new) ((assign (or_class_name (text_of name.now)) (class namespace_number) ▹ give onward) (moment_of machine.old)) }
+    ensures sound { IsSound (λ v. is_sound_flow (length machine.new.heap) (flow_of v)) (length machine.new.heap) result }
+    ensures heap { machine.new.heap ≡ machine.old.heap }
+    ensures budget { machine.new.budget ≡ machine.old.budget }
 {
-    tick(machine)?;
-    let value = read(machine, name.as_str())?;
-    let operand = evaluate(machine, operand)?;
-    tick(machine)?;
-    let result = operate(machine, operator, &value, &operand)?;
-    assign(machine, name, result)
+    let class = Value::Class(NAMESPACE);
+    match name {
+        Some(name) => assign(machine, name, class)?,
+        None => {
+            let name = RcStr::from_str(machine.alloc, "SimpleNamespace")?;
+            assign(machine, &name, class)?;
+        }
+    }
+    Ok(Flow::Onward)
 }
 
-#[tactic(auto, using(crate::proofs::Rows::tree_rows))]
-fn run_update(
+// The value once, and then the targets from left to right.
+#[cycle(run)]
+fn run_assignment<L: Ledger>(
     machine: &mut Machine,
-    place: &Expr,
-    operator: Operator,
-    operand: &Expr,
+    targets: &[Expr],
+    value: &Expr,
+    room: u32,
+    steps: &mut Steps<L>,
 ) -> Result<Flow, Fault>
-    ensures gives { Gives flow_of result (moment_of machine.new) (act (t.update (expression_of place.now) operator (expression_of operand.now)) (moment_of machine.old)) }
-    ensures left { machine.new.left ≤ machine.old.left }
+    requires small_targets { of_list (map expression_of targets.now) < 2 ^ 20 }
+    requires fit_targets { ListFits (map expression_of targets.now) }
+    requires small_value { of_expression (expression_of value.now) < 2 ^ 20 }
+    requires fit_value { ExpressionFits (expression_of value.now) }
+    requires room { HasRoomBy 4 machine.old }
+    ensures gives { Gives flow_of result (moment_of machine.new) (act (call room) (t.assign (map expression_of targets.now) (expression_of value.now)) (moment_of machine.old)) }
+    ensures sound { IsSound (λ v. is_sound_flow (length machine.new.heap) (flow_of v)) (length machine.new.heap) result }
+    ensures kept { GrownBy 3 machine.old steps.old machine.new steps.new }
 {
-    match place {
-        Expr::Name(name) => {
-            update_name(machine, name, operator, operand)?;
-            Ok(Flow::Onward)
-        }
-        Expr::Paren(_) => Err(Fault::Stopped),
-        Expr::Int(_) => Err(Fault::Stopped),
-        Expr::Text(_) => Err(Fault::Stopped),
-        Expr::None => Err(Fault::Stopped),
-        Expr::True => Err(Fault::Stopped),
-        Expr::False => Err(Fault::Stopped),
-        Expr::Conditional { .. } => Err(Fault::Stopped),
-        Expr::Or(_) => Err(Fault::Stopped),
-        Expr::And(_) => Err(Fault::Stopped),
-        Expr::Not(_) => Err(Fault::Stopped),
-        Expr::Signed(_, _) => Err(Fault::Stopped),
-        Expr::Power(_, _) => Err(Fault::Stopped),
-        Expr::Sum(_, _) => Err(Fault::Stopped),
-        Expr::Product(_, _) => Err(Fault::Stopped),
-        Expr::Compared(_, _) => Err(Fault::Stopped),
-        Expr::Primary(_, _) => Err(Fault::Stopped),
-        Expr::Tuple(_) => Err(Fault::Stopped),
-        Expr::List(_) => Err(Fault::Stopped),
-        Expr::Dict(_) => Err(Fault::Stopped),
-    }
+    let value = evaluate(machine, value, room, steps)?;
+    store_all(machine, targets, &value, room, steps)?;
+    Ok(Flow::Onward)
 }
 
-// The first block whose condition holds, or that of `else`.
-#[cycle(statement)]
-#[tactic(auto, using(crate::proofs::StatementRows::arm_at))]
-fn run_choice(machine: &mut Machine, arms: &[Arm], other: &[Stmt]) -> Result<Flow, Fault>
-    ensures gives { Gives flow_of result (moment_of machine.new) (choice (arms_of arms.now) (in_block (statements_of other.now) (acts (statements_of other.now))) (moment_of machine.old)) }
-    ensures left { machine.new.left ≤ machine.old.left }
+// The place is found and read, the operand evaluated, and the result stored.
+#[cycle(run)]
+fn run_update<L: Ledger>(
+    machine: &mut Machine,
+    target: &Expr,
+    operator: Operator,
+    operand: &Expr,
+    room: u32,
+    steps: &mut Steps<L>,
+) -> Result<Flow, Fault>
+    requires small_target { of_expression (expression_of target.now) < 2 ^ 20 }
+    requires fit_target { ExpressionFits (expression_of target.now) }
+    requires small_operand { of_expression (expression_of operand.now) < 2 ^ 20 }
+    requires fit_operand { ExpressionFits (expression_of operand.now) }
+    requires room { HasRoomBy 4 machine.old }
+    ensures gives { Gives flow_of result (moment_of machine.new) (act (call room) (t.update (expression_of target.now) operator (expression_of operand.now)) (moment_of machine.old)) }
+    ensures sound { IsSound (λ v. is_sound_flow (length machine.new.heap) (flow_of v)) (length machine.new.heap) result }
+    ensures kept { GrownBy 3 machine.old steps.old machine.new steps.new }
 {
-    for arm in arms {
-        let decision = evaluate(machine, &arm.test)?;
-        if is_true(&decision) {
-            return run_block(machine, &arm.body);
-        }
-    }
-    run_block(machine, other)
+    let found = place_at(machine, target, room, steps)?;
+    tick(machine, steps)?;
+    let value = read_place(machine, &found, steps)?;
+    let operand = evaluate(machine, operand, room, steps)?;
+    tick(machine, steps)?;
+    let result = updated(machine, operator, value, &operand, steps)?;
+    store_in(machine, &found, result, steps)?;
+    Ok(Flow::Onward)
 }
 
-// Each turn takes a step.
-#[cycle(statement)]
-fn run_loop(machine: &mut Machine, test: &Expr, body: &[Stmt]) -> Result<Flow, Fault>
-    ensures gives { Gives flow_of result (moment_of machine.new) (repeat (expr (expression_of test.now)) (in_block (statements_of body.now) (acts (statements_of body.now))) (moment_of machine.old)) }
-    ensures left { machine.new.left ≤ machine.old.left }
-{
-    loop {
-        let decision = evaluate(machine, test)?;
-        if !is_true(&decision) {
-            return Ok(Flow::Onward);
-        }
-        tick(machine)?;
-        if let Flow::Broke = run_block(machine, body)? {
-            return Ok(Flow::Onward);
-        }
-    }
-}
+// ---- blocks and choices
 
-// A block lies one level deeper, and one that is absent does nothing.
-#[cycle(statement)]
-fn run_block(machine: &mut Machine, block: &[Stmt]) -> Result<Flow, Fault>
-    ensures gives { Gives flow_of result (moment_of machine.new) (in_block (statements_of block.now) (acts (statements_of block.now)) (moment_of machine.old)) }
-    ensures left { machine.new.left ≤ machine.old.left }
+/// Statements one level deeper; none do nothing.
+#[cycle(run)]
+pub(crate) fn block<L: Ledger>(
+    machine: &mut Machine,
+    body: &[Stmt],
+    room: u32,
+    steps: &mut Steps<L>,
+) -> Result<Flow, Fault>
+    requires small_body { of_statements (statements_of body.now) < 2 ^ 20 }
+    requires fit_body { StatementsFit (statements_of body.now) }
+    requires room { HasRoom machine.old }
+    ensures gives { Gives flow_of result (moment_of machine.new) (in_block (statements_of body.now) (acts (call room) (statements_of body.now)) (moment_of machine.old)) }
+    ensures sound { IsSound (λ v. is_sound_flow (length machine.new.heap) (flow_of v)) (length machine.new.heap) result }
+    ensures kept { GrownBy 0 machine.old steps.old machine.new steps.new }
 {
-    if block.is_empty() {
+    if body.is_empty() {
         return Ok(Flow::Onward);
     }
-    let depth = machine.depth;
+    let depth = machine.budget.depth;
     if depth >= MOST_DEPTH {
-        return Err(Fault::Raised(depth_fault(machine.alloc)?));
+        return too_deep(machine.alloc);
     }
-    machine.depth = depth + 1;
-    let flow = run_statements(machine, block);
-    machine.depth = depth;
-    flow
+    machine.budget.depth = depth + 1;
+    let result = run_all(machine, body, room, steps);
+    machine.budget.depth = depth;
+    result
 }
 
-#[cycle(statement)]
-fn run_statements(machine: &mut Machine, statements: &[Stmt]) -> Result<Flow, Fault>
-    ensures gives { Gives flow_of result (moment_of machine.new) (acts (statements_of statements.now) (moment_of machine.old)) }
-    ensures left { machine.new.left ≤ machine.old.left }
+// In order, as far as the flow goes on.
+#[cycle(run)]
+fn run_all<L: Ledger>(
+    machine: &mut Machine,
+    body: &[Stmt],
+    room: u32,
+    steps: &mut Steps<L>,
+) -> Result<Flow, Fault>
+    requires small_body { of_statements (statements_of body.now) < 2 ^ 20 }
+    requires fit_body { StatementsFit (statements_of body.now) }
+    requires room { HasRoom machine.old }
+    ensures gives { Gives flow_of result (moment_of machine.new) (acts (call room) (statements_of body.now) (moment_of machine.old)) }
+    ensures sound { IsSound (λ v. is_sound_flow (length machine.new.heap) (flow_of v)) (length machine.new.heap) result }
+    ensures kept { GrownBy 0 machine.old steps.old machine.new steps.new }
 {
-    for statement in statements {
-        tick(machine)?;
-        match run_statement(machine, statement)? {
+    for statement in body {
+        tick(machine, steps)?;
+        match run_statement(machine, statement, room, steps)? {
             Flow::Onward => {}
             Flow::Broke => return Ok(Flow::Broke),
             Flow::Continued => return Ok(Flow::Continued),
+            Flow::Returned(value) => return Ok(Flow::Returned(value)),
         }
     }
+    Ok(Flow::Onward)
+}
+
+// The first block whose condition holds.
+#[cycle(run)]
+#[tactic(auto, using(kishu_calls::specs::StatementRows::statement_rows))]
+fn run_choice<L: Ledger>(
+    machine: &mut Machine,
+    arms: &[Arm],
+    other: &[Stmt],
+    room: u32,
+    steps: &mut Steps<L>,
+) -> Result<Flow, Fault>
+    requires small_arms { of_arms (arms_of arms.now) < 2 ^ 20 }
+    requires fit_arms { ArmsFit (arms_of arms.now) }
+    requires small_other { of_statements (statements_of other.now) < 2 ^ 20 }
+    requires fit_other { StatementsFit (statements_of other.now) }
+    requires room { HasRoomBy 4 machine.old }
+    ensures gives { Gives flow_of result (moment_of machine.new) (act (call room) (t.choose (arms_of arms.now) (statements_of other.now)) (moment_of machine.old)) }
+    ensures sound { IsSound (λ v. is_sound_flow (length machine.new.heap) (flow_of v)) (length machine.new.heap) result }
+    ensures kept { GrownBy 3 machine.old steps.old machine.new steps.new }
+{
+    for arm in arms {
+        let value = evaluate(machine, &arm.test, room, steps)?;
+        if truth(machine, &value, steps) {
+            return block(machine, &arm.body, room, steps);
+        }
+    }
+    block(machine, other, room, steps)
+}
+
+// ---- loops
+
+#[cycle(run)]
+fn run_while<L: Ledger>(
+    machine: &mut Machine,
+    test: &Expr,
+    body: &[Stmt],
+    room: u32,
+    steps: &mut Steps<L>,
+) -> Result<Flow, Fault>
+    requires small_test { of_expression (expression_of test.now) < 2 ^ 20 }
+    requires fit_test { ExpressionFits (expression_of test.now) }
+    requires small_body { of_statements (statements_of body.now) < 2 ^ 20 }
+    requires fit_body { StatementsFit (statements_of body.now) }
+    requires room { HasRoomBy 4 machine.old }
+    ensures gives { Gives flow_of result (moment_of machine.new) (act (call room) (t.while (expression_of test.now) (statements_of body.now)) (moment_of machine.old)) }
+    ensures sound { IsSound (λ v. is_sound_flow (length machine.new.heap) (flow_of v)) (length machine.new.heap) result }
+    ensures kept { GrownBy 3 machine.old steps.old machine.new steps.new }
+{
+    loop {
+        let value = evaluate(machine, test, room, steps)?;
+        if !truth(machine, &value, steps) {
+            return Ok(Flow::Onward);
+        }
+        tick(machine, steps)?;
+        match block(machine, body, room, steps)? {
+            Flow::Onward => {}
+            Flow::Continued => {}
+            Flow::Broke => return Ok(Flow::Onward),
+            Flow::Returned(value) => return Ok(Flow::Returned(value)),
+        }
+    }
+}
+
+#[cycle(run)]
+fn run_for<L: Ledger>(
+    machine: &mut Machine,
+    target: &Expr,
+    walked: &Expr,
+    body: &[Stmt],
+    room: u32,
+    steps: &mut Steps<L>,
+) -> Result<Flow, Fault>
+    requires small_target { of_expression (expression_of target.now) < 2 ^ 20 }
+    requires fit_target { ExpressionFits (expression_of target.now) }
+    requires small_walked { of_expression (expression_of walked.now) < 2 ^ 20 }
+    requires fit_walked { ExpressionFits (expression_of walked.now) }
+    requires small_body { of_statements (statements_of body.now) < 2 ^ 20 }
+    requires fit_body { StatementsFit (statements_of body.now) }
+    requires room { HasRoomBy 4 machine.old }
+    ensures gives { Gives flow_of result (moment_of machine.new) (act (call room) (t.for (expression_of target.now) (expression_of walked.now) (statements_of body.now)) (moment_of machine.old)) }
+    ensures sound { IsSound (λ v. is_sound_flow (length machine.new.heap) (flow_of v)) (length machine.new.heap) result }
+    ensures kept { GrownBy 3 machine.old steps.old machine.new steps.new }
+{
+    let walked = part(machine, walked, room, steps)?;
+    let walk = walked_by(machine, walked, steps)?;
+    run_turns(machine, target, &walk, body, room, steps)
+}
+
+#[cycle(run)]
+fn run_turns<L: Ledger>(
+    machine: &mut Machine,
+    target: &Expr,
+    walk: &Walk,
+    body: &[Stmt],
+    room: u32,
+    steps: &mut Steps<L>,
+) -> Result<Flow, Fault>
+    requires small_target { of_expression (expression_of target.now) < 2 ^ 20 }
+    requires fit_target { ExpressionFits (expression_of target.now) }
+    requires sound_walk { IsTrue (is_sound_walk (length machine.old.heap) (walk_of walk.now)) }
+    requires small_body { of_statements (statements_of body.now) < 2 ^ 20 }
+    requires fit_body { StatementsFit (statements_of body.now) }
+    requires room { HasRoomBy 2 machine.old }
+    ensures gives { Gives flow_of result (moment_of machine.new) (walk_along (walk_of walk.now) (λ v. store (call room) (expression_of target.now) v ▹ in_block (statements_of body.now) (acts (call room) (statements_of body.now))) (moment_of machine.old)) }
+    ensures sound { IsSound (λ v. is_sound_flow (length machine.new.heap) (flow_of v)) (length machine.new.heap) result }
+    ensures kept { GrownBy 2 machine.old steps.old machine.new steps.new }
+{
+    let mut place = 0;
+    loop {
+        let Some(item) = item_for(machine, walk, place, steps)? else {
+            return Ok(Flow::Onward);
+        };
+        tick(machine, steps)?;
+        store(machine, target, &item, room, steps)?;
+        match block(machine, body, room, steps)? {
+            Flow::Onward => {}
+            Flow::Continued => {}
+            Flow::Broke => return Ok(Flow::Onward),
+            Flow::Returned(value) => return Ok(Flow::Returned(value)),
+        }
+        place += 1;
+    }
+}
+
+// ---- exceptions
+
+#[cycle(run)]
+fn run_try<L: Ledger>(
+    machine: &mut Machine,
+    body: &[Stmt],
+    handlers: &[Handler],
+    other: &[Stmt],
+    last: &[Stmt],
+    room: u32,
+    steps: &mut Steps<L>,
+) -> Result<Flow, Fault>
+    requires small_body { of_statements (statements_of body.now) < 2 ^ 20 }
+    requires fit_body { StatementsFit (statements_of body.now) }
+    requires small_handlers { of_handlers (handlers_of handlers.now) < 2 ^ 20 }
+    requires fit_handlers { HandlersFit (handlers_of handlers.now) }
+    requires small_other { of_statements (statements_of other.now) < 2 ^ 20 }
+    requires fit_other { StatementsFit (statements_of other.now) }
+    requires small_last { of_statements (statements_of last.now) < 2 ^ 20 }
+    requires fit_last { StatementsFit (statements_of last.now) }
+    requires room { HasRoomBy 4 machine.old }
+    ensures gives { Gives flow_of result (moment_of machine.new) (act (call room) (t.try (statements_of body.now) (handlers_of handlers.now) (statements_of other.now) (statements_of last.now)) (moment_of machine.old)) }
+    ensures sound { IsSound (λ v. is_sound_flow (length machine.new.heap) (flow_of v)) (length machine.new.heap) result }
+    ensures kept { GrownBy 3 machine.old steps.old machine.new steps.new }
+{
+    let way = run_attempt(machine, body, handlers, other, room, steps);
+    run_last(machine, way, last, room, steps)
+}
+
+// The handlers are for what the body raises, and the block of `else` for where it ends plainly.
+#[cycle(run)]
+fn run_attempt<L: Ledger>(
+    machine: &mut Machine,
+    body: &[Stmt],
+    handlers: &[Handler],
+    other: &[Stmt],
+    room: u32,
+    steps: &mut Steps<L>,
+) -> Result<Flow, Fault>
+    requires small_body { of_statements (statements_of body.now) < 2 ^ 20 }
+    requires fit_body { StatementsFit (statements_of body.now) }
+    requires small_handlers { of_handlers (handlers_of handlers.now) < 2 ^ 20 }
+    requires fit_handlers { HandlersFit (handlers_of handlers.now) }
+    requires small_other { of_statements (statements_of other.now) < 2 ^ 20 }
+    requires fit_other { StatementsFit (statements_of other.now) }
+    requires room { HasRoomBy 1 machine.old }
+    ensures gives { Gives flow_of result (moment_of machine.new) (attempt (in_block (statements_of body.now) (acts (call room) (statements_of body.now))) (m.handlers (call room) (handlers_of handlers.now)) (in_block (statements_of other.now) (acts (call room) (statements_of other.now))) (moment_of machine.old)) }
+    ensures sound { IsSound (λ v. is_sound_flow (length machine.new.heap) (flow_of v)) (length machine.new.heap) result }
+    ensures kept { GrownBy 1 machine.old steps.old machine.new steps.new }
+{
+    match block(machine, body, room, steps) {
+        Ok(Flow::Onward) => block(machine, other, room, steps),
+        Ok(Flow::Broke) => Ok(Flow::Broke),
+        Ok(Flow::Continued) => Ok(Flow::Continued),
+        Ok(Flow::Returned(value)) => Ok(Flow::Returned(value)),
+        Err(Fault::Raised(thrown)) => run_handlers(machine, handlers, thrown, room, steps),
+        Err(Fault::Stopped) => Err(Fault::Stopped),
+        Err(Fault::NoMemory) => Err(Fault::NoMemory),
+    }
+}
+
+// The handlers are tried in order.
+#[cycle(run)]
+#[tactic(auto, using(kishu_calls::specs::StatementRows::statement_rows))]
+fn run_handlers<L: Ledger>(
+    machine: &mut Machine,
+    handlers: &[Handler],
+    thrown: Thrown,
+    room: u32,
+    steps: &mut Steps<L>,
+) -> Result<Flow, Fault>
+    requires small { of_handlers (handlers_of handlers.now) < 2 ^ 20 }
+    requires fits { HandlersFit (handlers_of handlers.now) }
+    requires sound_thrown { IsTrue (is_sound_thrown (length machine.old.heap) (thrown_of thrown)) }
+    requires room { HasRoomBy 1 machine.old }
+    ensures gives { Gives flow_of result (moment_of machine.new) (m.handlers (call room) (handlers_of handlers.now) (thrown_of thrown) (moment_of machine.old)) }
+    ensures sound { IsSound (λ v. is_sound_flow (length machine.new.heap) (flow_of v)) (length machine.new.heap) result }
+    ensures kept { GrownBy 1 machine.old steps.old machine.new steps.new }
+{
+    for handler in handlers {
+        if is_for(machine, &handler.class, &thrown, room, steps)? {
+            return handle(machine, &handler.name, &handler.body, thrown, room, steps);
+        }
+    }
+    Err(Fault::Raised(thrown))
+}
+
+// A handler without a class is for each exception.
+#[cycle(run)]
+fn is_for<L: Ledger>(
+    machine: &mut Machine,
+    class: &Option<Expr>,
+    thrown: &Thrown,
+    room: u32,
+    steps: &mut Steps<L>,
+) -> Result<bool, Fault>
+    requires small_class { of_optional (tree_value class.now) < 2 ^ 20 }
+    requires fit_class { OptionalFits (tree_value class.now) }
+    requires room { HasRoom machine.old }
+    ensures gives { Gives (λ b. b) result (moment_of machine.new) (is_for (call room) (tree_value class.now) (thrown_of thrown.now) (moment_of machine.old)) }
+    ensures sound { IsSound (λ _. true) (length machine.new.heap) result }
+    ensures kept { GrownBy 0 machine.old steps.old machine.new steps.new }
+{
+    match class {
+        Some(e) => {
+            let classes = evaluate(machine, e, room, steps)?;
+            is_caught(machine, thrown, &classes, steps)
+        }
+        None => Ok(true),
+    }
+}
+
+// The exception is bound for the block, and its name unbound on each way out.
+#[cycle(run)]
+fn handle<L: Ledger>(
+    machine: &mut Machine,
+    name: &Option<RcStr>,
+    body: &[Stmt],
+    thrown: Thrown,
+    room: u32,
+    steps: &mut Steps<L>,
+) -> Result<Flow, Fault>
+    requires fit_name { TitleFits (text_of name.now) }
+    requires small_body { of_statements (statements_of body.now) < 2 ^ 20 }
+    requires fit_body { StatementsFit (statements_of body.now) }
+    requires sound_thrown { IsTrue (is_sound_thrown (length machine.old.heap) (thrown_of thrown)) }
+    requires room { HasRoomBy 1 machine.old }
+    ensures gives { Gives flow_of result (moment_of machine.new) (handle (text_of name.now) (in_block (statements_of body.now) (acts (call room) (statements_of body.now))) (thrown_of thrown) (moment_of machine.old)) }
+    ensures sound { IsSound (λ v. is_sound_flow (length machine.new.heap) (flow_of v)) (length machine.new.heap) result }
+    ensures kept { GrownBy 1 machine.old steps.old machine.new steps.new }
+{
+    let id = object_of(machine, thrown)?;
+    let Some(name) = name else {
+        return handling(machine, id, body, room, steps);
+    };
+    assign(machine, name, Value::Node(id))?;
+    let way = handling(machine, id, body, room, steps);
+    forgotten(machine, way, name.as_str())
+}
+
+// A spent budget leaves the name.
+fn forgotten(machine: &mut Machine, way: Result<Flow, Fault>, name: &str) -> Result<Flow, Fault>
+    requires sound_way { IsTrue (is_sound_way (length machine.old.heap) way) }
+    ensures gives { (e : Ends w.Flow) → Gives flow_of way (moment_of machine.old) e → Gives flow_of result (moment_of machine.new) (and_last e (forget_caught (Some name.now) ▹ give onward)) }
+    ensures sound { IsSound (λ v. is_sound_flow (length machine.new.heap) (flow_of v)) (length machine.new.heap) result }
+    ensures heap { machine.new.heap ≡ machine.old.heap }
+    ensures budget { machine.new.budget ≡ machine.old.budget }
+{
+    match way {
+        Err(Fault::Stopped) => Err(Fault::Stopped),
+        Err(Fault::NoMemory) => Err(Fault::NoMemory),
+        Err(Fault::Raised(thrown)) => {
+            forget(machine, name)?;
+            Err(Fault::Raised(thrown))
+        }
+        Ok(flow) => {
+            forget(machine, name)?;
+            Ok(flow)
+        }
+    }
+}
+
+// While this object is handled.
+#[cycle(run)]
+fn handling<L: Ledger>(
+    machine: &mut Machine,
+    id: NodeId,
+    body: &[Stmt],
+    room: u32,
+    steps: &mut Steps<L>,
+) -> Result<Flow, Fault>
+    requires id { id.0 < length machine.old.heap }
+    requires small_body { of_statements (statements_of body.now) < 2 ^ 20 }
+    requires fit_body { StatementsFit (statements_of body.now) }
+    requires room { HasRoom machine.old }
+    ensures gives { Gives flow_of result (moment_of machine.new) (handling (node id.0) (in_block (statements_of body.now) (acts (call room) (statements_of body.now))) (moment_of machine.old)) }
+    ensures sound { IsSound (λ v. is_sound_flow (length machine.new.heap) (flow_of v)) (length machine.new.heap) result }
+    ensures kept { GrownBy 0 machine.old steps.old machine.new steps.new }
+{
+    let outer = mem::replace(&mut machine.handled, Some(Value::Node(id)));
+    let way = block(machine, body, room, steps);
+    machine.handled = outer;
+    way
+}
+
+#[cycle(run)]
+fn run_finally<L: Ledger>(
+    machine: &mut Machine,
+    body: &[Stmt],
+    last: &[Stmt],
+    room: u32,
+    steps: &mut Steps<L>,
+) -> Result<Flow, Fault>
+    requires small_body { of_statements (statements_of body.now) < 2 ^ 20 }
+    requires fit_body { StatementsFit (statements_of body.now) }
+    requires small_last { of_statements (statements_of last.now) < 2 ^ 20 }
+    requires fit_last { StatementsFit (statements_of last.now) }
+    requires room { HasRoomBy 4 machine.old }
+    ensures gives { Gives flow_of result (moment_of machine.new) (act (call room) (t.finally (statements_of body.now) (statements_of last.now)) (moment_of machine.old)) }
+    ensures sound { IsSound (λ v. is_sound_flow (length machine.new.heap) (flow_of v)) (length machine.new.heap) result }
+    ensures kept { GrownBy 3 machine.old steps.old machine.new steps.new }
+{
+    let way = block(machine, body, room, steps);
+    run_last(machine, way, last, room, steps)
+}
+
+// The last block runs on each way out, but for a spent budget; where it leaves by itself, that takes
+// the place of the way out.
+#[cycle(run)]
+fn run_last<L: Ledger>(
+    machine: &mut Machine,
+    way: Result<Flow, Fault>,
+    last: &[Stmt],
+    room: u32,
+    steps: &mut Steps<L>,
+) -> Result<Flow, Fault>
+    requires small_last { of_statements (statements_of last.now) < 2 ^ 20 }
+    requires fit_last { StatementsFit (statements_of last.now) }
+    requires room { HasRoom machine.old }
+    requires sound_way { IsTrue (is_sound_way (length machine.old.heap) way) }
+    ensures gives { (e : Ends w.Flow) → Gives flow_of way (moment_of machine.old) e → Gives flow_of result (moment_of machine.new) (and_last e (in_block (statements_of last.now) (acts (call room) (statements_of last.now)))) }
+    ensures sound { IsSound (λ v. is_sound_flow (length machine.new.heap) (flow_of v)) (length machine.new.heap) result }
+    ensures kept { GrownBy 0 machine.old steps.old machine.new steps.new }
+{
+    if let Err(Fault::Stopped) = &way {
+        return way;
+    }
+    if let Err(Fault::NoMemory) = &way {
+        return way;
+    }
+    match block(machine, last, room, steps)? {
+        Flow::Onward => way,
+        Flow::Broke => Ok(Flow::Broke),
+        Flow::Continued => Ok(Flow::Continued),
+        Flow::Returned(value) => Ok(Flow::Returned(value)),
+    }
+}
+
+// ---- functions
+
+// The defaults from left to right, in parentheses.
+#[cycle(run)]
+fn default_values<L: Ledger>(
+    machine: &mut Machine,
+    params: &[(RcStr, Option<Expr>)],
+    room: u32,
+    steps: &mut Steps<L>,
+) -> Result<Vec<Value>, Fault>
+    requires small { of_parameters (map parameter_of params.now) < 2 ^ 20 }
+    requires fits { ParametersFit (map parameter_of params.now) }
+    requires room { HasRoom machine.old }
+    ensures gives { Gives (λ v. map value_of v.items) result (moment_of machine.new) (defaults (call room) (map parameter_of params.now) (moment_of machine.old)) }
+    ensures sound { IsSound (λ v. are_sound (length machine.new.heap) (map value_of v.items)) (length machine.new.heap) result }
+    ensures count { IfOk result (λ v. length v.items ≡ with_default (map parameter_of params.now)) }
+    ensures kept { GrownBy 0 machine.old steps.old machine.new steps.new }
+{
+    let mut values = Vec::new(machine.alloc);
+    for (_, default) in params {
+        if let Some(e) = default {
+            values.push(deeper_value(machine, e, room, steps)?)?;
+        }
+    }
+    Ok(values)
+}
+
+// The defaults, and then a new function is bound.
+#[cycle(run)]
+fn run_def<L: Ledger>(
+    machine: &mut Machine,
+    def: &Rc<Def>,
+    code: &RcStr,
+    room: u32,
+    steps: &mut Steps<L>,
+) -> Result<Flow, Fault>
+    requires small { of_parameters (definition_of def.now.value).parameters < 2 ^ 20 }
+    requires fits { ParametersFit (definition_of def.now.value).parameters }
+    requires short { length (rc_str_bytes code.now) ≤ 1048576 }
+    requires read { ∥ ParseDef machine.old.profile (rc_str_bytes code.now) (definition_of def.now.value) ∥₁ }
+    requires name { IsTrue (is_name (definition_of def.now.value).title) }
+    requires room { HasRoomBy 4 machine.old }
+    ensures gives { Gives flow_of result (moment_of machine.new) (act (call room) (t.define (definition_of def.now.value).title (definition_of def.now.value).parameters (definition_of def.now.value).body (rc_str_bytes code.now)) (moment_of machine.old)) }
+    ensures sound { IsSound (λ v. is_sound_flow (length machine.new.heap) (flow_of v)) (length machine.new.heap) result }
+    ensures kept { GrownBy 3 machine.old steps.old machine.new steps.new }
+{
+    let defaults = default_values(machine, def.params.as_slice(), room, steps)?;
+    let function = FunctionNode {
+        profile: machine.profile,
+        code: code.clone()?,
+        def: def.clone()?,
+        defaults,
+    };
+    let id = make(machine, Node::Function(function))?;
+    assign(machine, &def.name, Value::Node(id))?;
     Ok(Flow::Onward)
 }

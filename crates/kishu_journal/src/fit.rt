@@ -6,7 +6,6 @@ ghost use Rattle.kishu_model.specs.Laws.{IsLinear};
 ghost use Rattle.kishu_record.specs.Entries.{entry_of};
 
 use crate::Entry;
-use kishu_interp::later_form;
 use kishu_model::Profile;
 use kishu_record::decode;
 use std::alloc::{AllocError, Global};
@@ -17,50 +16,38 @@ const LONGEST_CELL: usize = 1 << 20;
 const MOST_RECORDS: u64 = 1_000_000;
 
 /// Whether a text may be a cell of a commit.
-fn is_cell(alloc: Global, text: &str) -> Result<bool, AllocError>
-    ensures yes { result ≡ Ok true → IsCell text.now }
-    ensures no { result ≡ Ok false → IsCell text.now → ⊥ }
+fn is_cell(text: &str) -> bool
+    ensures yes { result ≡ true → IsCell text.now }
+    ensures no { result ≡ false → IsCell text.now → ⊥ }
 {
-    if text.len() > LONGEST_CELL {
-        return Ok(false);
-    }
-    match later_form(alloc, text.as_bytes())? {
-        Some(_) => Ok(false),
-        None => Ok(true),
-    }
+    text.len() <= LONGEST_CELL
 }
 
 /// Whether each text may be a cell of a commit.
-fn are_cells(alloc: Global, cells: &[RcStr]) -> Result<bool, AllocError>
-    ensures yes { result ≡ Ok true → AreCells (map rc_str_bytes cells.now) }
-    ensures no { result ≡ Ok false → AreCells (map rc_str_bytes cells.now) → ⊥ }
+fn are_cells(cells: &[RcStr]) -> bool
+    ensures yes { result ≡ true → AreCells (map rc_str_bytes cells.now) }
+    ensures no { result ≡ false → AreCells (map rc_str_bytes cells.now) → ⊥ }
 {
     for cell in cells {
-        if !is_cell(alloc, cell.as_str())? {
-            return Ok(false);
+        if !is_cell(cell.as_str()) {
+            return false;
         }
     }
-    Ok(true)
+    true
 }
 
 /// Whether a commit record fits the graph of so many.
-fn fits(
-    alloc: Global,
-    parent: u32,
-    profile: Profile,
-    cells: &[RcStr],
-    count: u64,
-) -> Result<bool, AllocError>
-    ensures yes { result ≡ Ok true → (g : Graph) → IsLinear g count → Fits g (commit parent profile (map rc_str_bytes cells.now)) }
-    ensures no { result ≡ Ok false → (g : Graph) (e : Record) → IsLinear g count → Fits g e → length (body_of e) ≤ longest_body → body_of (commit parent profile (map rc_str_bytes cells.now)) ≡ body_of e → ⊥ }
+fn fits(parent: u32, profile: Profile, cells: &[RcStr], count: u64) -> bool
+    ensures yes { result ≡ true → (g : Graph) → IsLinear g count → Fits g (commit parent profile (map rc_str_bytes cells.now)) }
+    ensures no { result ≡ false → (g : Graph) (e : Record) → IsLinear g count → Fits g e → length (body_of e) ≤ longest_body → body_of (commit parent profile (map rc_str_bytes cells.now)) ≡ body_of e → ⊥ }
 {
     if count >= MOST_RECORDS || parent as u64 != count {
-        return Ok(false);
+        return false;
     }
     if profile != Profile::One || cells.is_empty() {
-        return Ok(false);
+        return false;
     }
-    are_cells(alloc, cells)
+    are_cells(cells)
 }
 
 /// The record that a body spells, where it fits the graph of so many.
@@ -78,7 +65,7 @@ pub(crate) fn fitting(alloc: Global, body: &[u8], count: u64) -> Result<Option<E
         profile,
         cells,
     } = &entry;
-    if fits(alloc, *parent, *profile, cells, count)? {
+    if fits(*parent, *profile, cells, count) {
         Ok(Some(entry))
     } else {
         Ok(None)

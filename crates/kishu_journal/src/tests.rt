@@ -82,9 +82,9 @@ const CASES: [Case; 12] = [
         after: b"KISHU-JOURNAL-1\n\xa5\0\0\0\0\0\0\0\x26\0\0\0\x22\x01\0\0\0\x01\x01\0\0\0\x01\0\0\0\x0cprint(1 + 2)\0\0\0\0\0\0\0\0\0",
     },
     Case {
-        name: "a cell of a later form",
+        name: "a cell with a display",
         file: b"KISHU-JOURNAL-1\n\xa5\0\0\0\0\0\0\0\x1c\0\0\0\x18\x01\0\0\0\0\x01\0\0\0\x01\0\0\0\x02[]\0\0\0\0\0\0\0\0\0",
-        answer: Err(JournalFault::Damaged { at: 16 }),
+        answer: Ok(1),
         after: b"KISHU-JOURNAL-1\n\xa5\0\0\0\0\0\0\0\x1c\0\0\0\x18\x01\0\0\0\0\x01\0\0\0\x01\0\0\0\x02[]\0\0\0\0\0\0\0\0\0",
     },
     Case {

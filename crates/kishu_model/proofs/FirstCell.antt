@@ -1,7 +1,7 @@
 -- The first cell of an empty store: its file and its answer, computed on the definitions.
-use Rattle.std.proofs.Common.{◌≡◌, inl, inr, [], ◌∷◌, ◌++◌, length, codes, Some, None, refl, sym, ap, arith, slice_index}
-use Rattle.std.proofs.lemmas.Option.{none-some}
+use Rattle.std.proofs.Common.{◌≡◌, inl, inr, [], ◌∷◌, ◌++◌, length, codes, Some, None, refl, ap, arith, slice_index}
 use Rattle.serde_json.proofs.OnLiterals.{serde_json_on_literals}
+use Rattle.std.proofs.lemmas.Bool.{false≢true}
 use Rattle.std.specs.Char.{encode_utf8}
 use Rattle.std.specs.Fmt.{digits}
 use Rattle.std.specs.Str.{chars, is_utf8}
@@ -17,8 +17,7 @@ use Rattle.kishu_model.specs.Code.{code_of}
 use Rattle.kishu_model.specs.ReadExpressions as E
 use Rattle.kishu_model.specs.ReadStatements as S
 use Rattle.kishu_model.specs.ReadText as R
-use Rattle.kishu_model.specs.PlainMeaning.{run}
-use Rattle.kishu_model.specs.PlainLater.{later_line}
+use Rattle.kishu_model.specs.Meaning.{run}
 use Rattle.kishu_model.specs.Graph.{Graph, new_graph}
 use Rattle.kishu_model.specs.Answers.{answer_line}
 use Rattle.kishu_model.specs.Step.{cell, unreadable, step}
@@ -66,6 +65,12 @@ second_answer : answer_line (step (step new_graph (cell (codes "n = 1; m = 1 // 
 unfolding reserved_marks delimiter operator numeral Q.escape Q.item Q.closes Q.body Q.quoted token_piece lexeme L.cut L.indented L.begin L.bracket L.step L.layout encode_utf8 code_of E.keyword_begins E.another E.argument E.attribute E.call E.slice_after E.item_or_slice E.trailer E.parenthesised E.list E.pair E.dict E.atom E.primary_parts E.primary E.power E.unary_level E.term E.sum E.compared E.negated_level E.conjunction E.disjunction E.expr_level E.exprs_level E.phrase S.primary_at S.another_simple S.raise S.return S.assertion S.delete S.global S.import S.update_of S.assignment_of S.update_or_assignment S.simple S.simples S.line S.block S.block_after S.arm S.choice S.while S.for S.caught S.handler S.handled S.finished S.try S.parameter S.definition S.define S.compound S.chunk S.program R.piece R.read_chars chars digits power builtin_names class_names run serde_json_on_literals
 second_answer = refl
 
+-- So are nodes, with what they share.
+shared_answer : answer_line (step (step new_graph (cell (codes "a = [1]; b = a"))).graph (cell (codes "b.append(2); a"))).answer
+    ≡ codes "{\"answer\":\"cell\",\"commit\":2,\"count\":2,\"outcome\":\"ok\",\"outputs\":[{\"data\":{\"text/plain\":\"[1, 2]\"},\"execution_count\":2,\"metadata\":{},\"output_type\":\"execute_result\"}]}\n"
+unfolding reserved_marks delimiter operator numeral Q.escape Q.item Q.closes Q.body Q.quoted token_piece lexeme L.cut L.indented L.begin L.bracket L.step L.layout encode_utf8 code_of E.keyword_begins E.another E.argument E.attribute E.call E.slice_after E.item_or_slice E.trailer E.parenthesised E.list E.pair E.dict E.atom E.primary_parts E.primary E.power E.unary_level E.term E.sum E.compared E.negated_level E.conjunction E.disjunction E.expr_level E.exprs_level E.phrase S.primary_at S.another_simple S.raise S.return S.assertion S.delete S.global S.import S.update_of S.assignment_of S.update_or_assignment S.simple S.simples S.line S.block S.block_after S.arm S.choice S.while S.for S.caught S.handler S.handled S.finished S.try S.parameter S.definition S.define S.compound S.chunk S.program R.piece R.read_chars chars digits power builtin_names class_names run serde_json_on_literals
+shared_answer = refl
+
 full_answer : answer_line (step (let g : Graph = record { commits = []; branches = []; head = record { commit = 0; branch = None }; records = 1000000 } in g) (cell (codes "x = 1"))).answer
     ≡ codes "{\"answer\":\"refused\",\"number\":5,\"reason\":\"StoreFull\"}\n"
 unfolding digits serde_json_on_literals
@@ -91,26 +96,22 @@ eighteen_bytes : IsForeign (codes "xxxxxxxxxxxxxxxxxx")
 unfolding header
 eighteen_bytes = (omega arith, λ rest e. let d : 120 ≡ 75 = ap (λ l. slice_index l 0) e in absurd (omega arith))
 
--- A text without a tree is a cell too, and one with a later form isn't.
+-- Any text within the limit is a cell, also one without a tree.
 first_cell : IsCell (codes "print(1 + 2)")
-unfolding reserved_marks delimiter operator numeral Q.escape Q.item Q.closes Q.body Q.quoted token_piece lexeme L.cut L.indented L.begin L.bracket L.step L.layout encode_utf8 code_of E.keyword_begins E.another E.argument E.attribute E.call E.slice_after E.item_or_slice E.trailer E.parenthesised E.list E.pair E.dict E.atom E.primary_parts E.primary E.power E.unary_level E.term E.sum E.compared E.negated_level E.conjunction E.disjunction E.expr_level E.exprs_level E.phrase S.primary_at S.another_simple S.raise S.return S.assertion S.delete S.global S.import S.update_of S.assignment_of S.update_or_assignment S.simple S.simples S.line S.block S.block_after S.arm S.choice S.while S.for S.caught S.handler S.handled S.finished S.try S.parameter S.definition S.define S.compound S.chunk S.program R.piece R.read_chars chars digits power builtin_names class_names is_utf8 later_line
-first_cell = record { short = omega arith; utf8 = refl; plain = refl }
+unfolding is_utf8 chars encode_utf8
+first_cell = record { short = omega arith; utf8 = refl }
 
 empty_cell : IsCell []
-unfolding reserved_marks delimiter operator numeral Q.escape Q.item Q.closes Q.body Q.quoted token_piece lexeme L.cut L.indented L.begin L.bracket L.step L.layout encode_utf8 code_of E.keyword_begins E.another E.argument E.attribute E.call E.slice_after E.item_or_slice E.trailer E.parenthesised E.list E.pair E.dict E.atom E.primary_parts E.primary E.power E.unary_level E.term E.sum E.compared E.negated_level E.conjunction E.disjunction E.expr_level E.exprs_level E.phrase S.primary_at S.another_simple S.raise S.return S.assertion S.delete S.global S.import S.update_of S.assignment_of S.update_or_assignment S.simple S.simples S.line S.block S.block_after S.arm S.choice S.while S.for S.caught S.handler S.handled S.finished S.try S.parameter S.definition S.define S.compound S.chunk S.program R.piece R.read_chars chars digits power builtin_names class_names is_utf8 later_line
-empty_cell = record { short = omega arith; utf8 = refl; plain = refl }
+unfolding is_utf8 chars encode_utf8
+empty_cell = record { short = omega arith; utf8 = refl }
 
 faulty_cell : IsCell (codes "a = = 1\ndef f")
-unfolding reserved_marks delimiter operator numeral Q.escape Q.item Q.closes Q.body Q.quoted token_piece lexeme L.cut L.indented L.begin L.bracket L.step L.layout encode_utf8 code_of E.keyword_begins E.another E.argument E.attribute E.call E.slice_after E.item_or_slice E.trailer E.parenthesised E.list E.pair E.dict E.atom E.primary_parts E.primary E.power E.unary_level E.term E.sum E.compared E.negated_level E.conjunction E.disjunction E.expr_level E.exprs_level E.phrase S.primary_at S.another_simple S.raise S.return S.assertion S.delete S.global S.import S.update_of S.assignment_of S.update_or_assignment S.simple S.simples S.line S.block S.block_after S.arm S.choice S.while S.for S.caught S.handler S.handled S.finished S.try S.parameter S.definition S.define S.compound S.chunk S.program R.piece R.read_chars chars digits power builtin_names class_names is_utf8 later_line
-faulty_cell = record { short = omega arith; utf8 = refl; plain = refl }
+unfolding is_utf8 chars encode_utf8
+faulty_cell = record { short = omega arith; utf8 = refl }
 
-no_cell : IsCell (codes "x = [1]") → ⊥
-unfolding reserved_marks delimiter operator numeral Q.escape Q.item Q.closes Q.body Q.quoted token_piece lexeme L.cut L.indented L.begin L.bracket L.step L.layout encode_utf8 code_of E.keyword_begins E.another E.argument E.attribute E.call E.slice_after E.item_or_slice E.trailer E.parenthesised E.list E.pair E.dict E.atom E.primary_parts E.primary E.power E.unary_level E.term E.sum E.compared E.negated_level E.conjunction E.disjunction E.expr_level E.exprs_level E.phrase S.primary_at S.another_simple S.raise S.return S.assertion S.delete S.global S.import S.update_of S.assignment_of S.update_or_assignment S.simple S.simples S.line S.block S.block_after S.arm S.choice S.while S.for S.caught S.handler S.handled S.finished S.try S.parameter S.definition S.define S.compound S.chunk S.program R.piece R.read_chars chars digits power builtin_names class_names is_utf8 later_line
-no_cell c = none-some 1 (sym c.plain)
-
-no_cell_of_a_builtin : IsCell (codes "x = len") → ⊥
-unfolding reserved_marks delimiter operator numeral Q.escape Q.item Q.closes Q.body Q.quoted token_piece lexeme L.cut L.indented L.begin L.bracket L.step L.layout encode_utf8 code_of E.keyword_begins E.another E.argument E.attribute E.call E.slice_after E.item_or_slice E.trailer E.parenthesised E.list E.pair E.dict E.atom E.primary_parts E.primary E.power E.unary_level E.term E.sum E.compared E.negated_level E.conjunction E.disjunction E.expr_level E.exprs_level E.phrase S.primary_at S.another_simple S.raise S.return S.assertion S.delete S.global S.import S.update_of S.assignment_of S.update_or_assignment S.simple S.simples S.line S.block S.block_after S.arm S.choice S.while S.for S.caught S.handler S.handled S.finished S.try S.parameter S.definition S.define S.compound S.chunk S.program R.piece R.read_chars chars digits power builtin_names class_names is_utf8 later_line
-no_cell_of_a_builtin c = none-some 1 (sym c.plain)
+no_cell : IsCell (255 ∷ []) → ⊥
+unfolding is_utf8 chars encode_utf8
+no_cell c = false≢true c.utf8
 
 first_fits : Fits new_graph (commit 0 One (codes "print(1 + 2)" ∷ []))
 first_fits = (omega arith, refl, refl, omega arith, (first_cell, tt))

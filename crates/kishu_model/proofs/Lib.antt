@@ -13,7 +13,6 @@ mod MeaningExamples
 mod MoreExamples
 mod BudgetExamples
 mod DepthExamples
-mod LaterExamples
 mod KeyExamples
 mod NodeExamples
 mod EqualExamples
@@ -34,10 +33,3 @@ mod BuiltinCells
 mod MoreBuiltinCells
 mod BuiltinBudget
 mod FunctionBudget
-mod PlainCells
-mod PlainExamples
-mod PlainMeaningExamples
-mod PlainMoreExamples
-mod PlainBudgetExamples
-mod PlainDepthExamples
-mod PlainLaterExamples

@@ -1,9 +1,9 @@
 -- What some changes make of nodes, as CPython's lists, dicts and objects tell: computed on the definition. Made by tools/nodes.py.
-use Rattle.std.proofs.Common.{◌≡◌, refl, [], ◌∷◌, true, false}
-use Rattle.std.specs.Prelude.{pos, negsuc, codes, Some, None}
+use Rattle.std.proofs.Common.{◌≡◌, refl, [], ◌∷◌, true}
+use Rattle.std.specs.Prelude.{pos, codes, Some, None}
 use Rattle.kishu_model.specs.Keys as p
 use Rattle.kishu_model.specs.Keys.{is_one}
-use Rattle.kishu_model.specs.Values.{Value, none, bool, integer, text, range, builtin, class, node, list, tuple, dict, object, exception}
+use Rattle.kishu_model.specs.Values.{Value, none, bool, integer, text, list, tuple, dict, object}
 use Rattle.kishu_model.specs.Nodes.{value_at, with_entry, without_entry, last_of, changed, set_item, push, pop, replace_list, insert, remove, set_attr, remove_attr}
 
 node_1 : with_entry is_one (p.single (p.integer (pos 1))) (integer (pos 7)) [] ≡ (((p.single (p.integer (pos 1))), (integer (pos 7))) ∷ [])

@@ -122,7 +122,7 @@ any_listed one = pure tt or listed one (λ all so. so) (λ all so. so)
 
 module _ {A : Type 0} {P Q : Expression → Type 0} (make : Expression → List (A × Expression) → Expression)
     (stays : (e : Expression) → P e → Q e) (made : (e : Expression) (x : A × Expression) (xs : List (A × Expression)) → P e → Each (λ p. P p.1) (x ∷ xs) → Q (make e (x ∷ xs))) where
-  unless_alone : (e : Expression) (xs : List (A × Expression)) → P e → Each (λ p. P p.1) xs → Q (g.unless_alone make e xs)
+  pub unless_alone : (e : Expression) (xs : List (A × Expression)) → P e → Each (λ p. P p.1) xs → Q (g.unless_alone make e xs)
   unless_alone e [] so each = stays e so
   unless_alone e (x ∷ xs) so each = made e x xs so each
 

@@ -61,6 +61,12 @@ pub mod CarriesStatements
 pub mod TreeLaws
 pub mod Gives
 pub mod Height
+pub mod Fits
+pub mod Keywords
+pub mod Named
+pub mod FitLaws
+pub mod NamedPhrases
+pub mod NamedStatements
 pub mod HeightPhrases
 pub mod HeightStatements
 pub mod HeightLaws
@@ -82,6 +88,9 @@ pub mod CodeTexts
 pub mod CodeAlone
 pub mod FunctionCodes
 pub mod CodeLaws
+pub mod NamedTokens
+pub mod ParsedFits
+pub mod ParameterLaws
 pub mod Keys
 pub mod KeyLaws
 pub mod Values
@@ -117,13 +126,6 @@ pub mod Callees
 pub mod Functions
 pub mod Ways
 pub mod Meaning
-pub mod Later
-pub mod PlainMoment
-pub mod PlainEqual
-pub mod PlainShow
-pub mod PlainOperators
-pub mod PlainMeaning
-pub mod PlainLater
 pub mod Graph
 pub mod Replay
 pub mod Answers

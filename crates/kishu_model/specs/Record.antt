@@ -1,10 +1,9 @@
 -- Records, and their bytes. Numbers are big-endian.
-use Rattle.std.specs.Prelude.{◌≡◌, ◌<◌, ◌≤◌, ◌^◌, ℕ, true, List, [], ◌∷◌, ◌++◌, length, None}
+use Rattle.std.specs.Prelude.{◌≡◌, ◌<◌, ◌≤◌, ◌^◌, ℕ, true, List, [], ◌∷◌, ◌++◌, length}
 use Rattle.std.specs.Int.{w32, to_be_bytes}
 use Rattle.std.specs.Str.{is_utf8}
 use Rattle.kishu_model.specs.declared.profile.Profile.{Profile}
 use Rattle.kishu_model.specs.declared.profile.Profile.TheVariants.{One}
-use Rattle.kishu_model.specs.PlainLater.{later_line}
 use Rattle.kishu_model.specs.Graph.{Graph, with_commit}
 use Rattle.kishu_model.specs.Step.{most_records, newest_profile}
 
@@ -39,11 +38,10 @@ longest_cell = 1048576
 abbrev pub longest_body : ℕ
 longest_body = 2 ^ 30
 
--- A cell that a commit may hold. Cells of a later form can't be run yet.
+-- A cell that a commit may hold.
 pub record IsCell (text : List ℕ) : Type 0 where
   pub short : length text ≤ longest_cell
   pub utf8 : is_utf8 text ≡ true
-  pub plain : later_line text ≡ None
 
 abbrev pub AreCells : List (List ℕ) → Type 0
 AreCells [] = Unit {0}

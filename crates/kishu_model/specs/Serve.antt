@@ -1,8 +1,8 @@
 -- A whole run: what is written for which requests, from which graph.
-use Rattle.std.specs.Prelude.{◌≡◌, ◌⊎◌, ℕ, List, [], ◌∷◌, ◌++◌}
+use Rattle.std.specs.Prelude.{◌≡◌, ◌⊎◌, ◌+◌, ℕ, List, [], ◌∷◌, ◌++◌}
 use Rattle.kishu_model.specs.Graph.{Graph}
 use Rattle.kishu_model.specs.Answers.{answer_line}
-use Rattle.kishu_model.specs.Step.{Request, step}
+use Rattle.kishu_model.specs.Step.{Request, step, charge_of}
 
 -- the graph after a request, and the line that answers it
 abbrev pub after : Graph → Request → Graph
@@ -20,6 +20,11 @@ after_all g (q ∷ qs) = after_all (after g q) qs
 abbrev pub answers : Graph → List Request → List ℕ
 answers g [] = []
 answers g (q ∷ qs) = answer_of g q ++ answers (after g q) qs
+
+-- the steps that they take
+abbrev pub charges : Graph → List Request → ℕ
+charges g [] = 0
+charges g (q ∷ qs) = charge_of g q + charges (after g q) qs
 
 abbrev pub IsPrefix : List ℕ → List ℕ → Type 0
 IsPrefix p bytes = (rest : List ℕ) × (bytes ≡ p ++ rest)

@@ -1,8 +1,8 @@
--- One request to the replaying machine: the graph after it, and its answer. A cell of a later form is no request yet: a run that gets one ends before its first step.
+-- One request to the replaying machine: the graph after it, and its answer.
 use Rattle.std.specs.Prelude.{ℕ, suc, nat_le, if◌then◌else◌, List, [], ◌∷◌}
 use Rattle.kishu_model.specs.declared.profile.Profile.{Profile}
 use Rattle.kishu_model.specs.declared.profile.Profile.TheVariants.{One}
-use Rattle.kishu_model.specs.PlainMeaning.{run}
+use Rattle.kishu_model.specs.Meaning.{run}
 use Rattle.kishu_model.specs.Graph.{Graph, newest, with_commit, count_of}
 use Rattle.kishu_model.specs.Replay.{replay}
 use Rattle.kishu_model.specs.Answers.{Refusal, Answer, ran_cell, refused, bad_request, store_full}
@@ -31,6 +31,10 @@ committed text g = record {
   answer = ran_cell (suc (newest g)) (suc (count_of g g.head.commit)) (run newest_profile text (replay g g.head.commit)).report;
 }
 
+-- the steps that it takes
+abbrev pub charge_for : List ℕ → Graph → ℕ
+charge_for text g = (run newest_profile text (replay g g.head.commit)).charge
+
 -- A refusal changes nothing.
 abbrev pub refused_with : Refusal → Graph → Stepped
 refused_with refusal g = record { graph = g; answer = refused refusal }
@@ -38,3 +42,8 @@ refused_with refusal g = record { graph = g; answer = refused refusal }
 abbrev pub step : Graph → Request → Stepped
 step g unreadable = refused_with bad_request g
 step g (cell text) = if nat_le most_records g.records then refused_with store_full g else committed text g
+
+-- A refused request takes no step.
+abbrev pub charge_of : Graph → Request → ℕ
+charge_of g unreadable = 0
+charge_of g (cell text) = if nat_le most_records g.records then 0 else charge_for text g

@@ -21,7 +21,7 @@ use Rattle.kishu_model.specs.TokenRules.{Pieces, ByRules, Stands, is_written, Wr
 
 -- ---- a piece, by what it is
 
-abbrev kind_of : Lexeme → Option Kind
+abbrev pub kind_of : Lexeme → Option Kind
 kind_of (word w) = Some (word_kind w)
 kind_of (number z) = Some (y.integer z)
 kind_of (string u) = Some (y.quoted u)
@@ -60,7 +60,7 @@ stands_word : (piece rest : List ℕ) (o : Option Mark) → reserved_mark piece 
 stands_word piece rest None e first h small = (refl, name_is piece first h small e)
 stands_word piece rest (Some k) e first h small = inl e
 
-stands : {piece rest : List ℕ} {l : Lexeme} (k : Kind) → Piece piece rest l → kind_of l ≡ Some k → Stands piece rest k
+pub stands : {piece rest : List ℕ} {l : Lexeme} (k : Kind) → Piece piece rest l → kind_of l ≡ Some k → Stands piece rest k
 stands k (p.white some h q) e = absurd cc
 stands k (p.remark h none q) e = absurd cc
 stands k p.join e = absurd cc
@@ -96,7 +96,7 @@ module _ (source : List ℕ) where
   copies zero line start end = tt
   copies (suc n) line start end = ((λ e. absurd cc), copies n line start end)
 
-  of_value : (l : Lexeme) (k : Kind) → value l ≡ Some k → kind_of l ≡ Some k
+  pub of_value : (l : Lexeme) (k : Kind) → value l ≡ Some k → kind_of l ≡ Some k
   of_value (word w) k h = h
   of_value (number z) k h = h
   of_value (string u) k h = h

@@ -89,7 +89,7 @@ pub record Report : Type 0 where
 abbrev pub report_of : CellResult → Report
 report_of r = record { outcome = r.outcome; outputs = map output_of r.outputs.items }
 
--- what a run gives: the names that it accessed, in byte order and each once (each access in order where `PlainMeaning` runs it), and the number of steps that it took, besides what it leaves and shows
+-- what a run gives: the names that it accessed, in byte order and each once, and the number of steps that it took, besides what it leaves and shows
 pub record Ran : Type 0 where
   pub state : State
   pub report : Report

@@ -1,32 +1,33 @@
 -- One cell that is committed.
-use Rattle.std.proofs.Common.{◌≡◌, ◌<◌, ◌≤◌, ◌+◌, ℕ, suc, List, [], ◌∷◌, length, None, refl, sym, ◌∙◌, ap, subst, arith}
+use Rattle.std.proofs.Common.{◌≡◌, ◌<◌, ◌≤◌, ◌+◌, ℕ, suc, List, [], ◌∷◌, length, refl, sym, ◌∙◌, ap, subst, arith}
 use Rattle.std.specs.Str.{IsUtf8}
 use Rattle.std.proofs.lemmas.Str.{is_utf8-from_IsUtf8}
 use Rattle.kishu_host.specs.Host.{State, Only, DuringPut, Elapses}
 use Rattle.kishu_host.specs.Going.{weaker, goes_on}
 use Rattle.kishu_model.specs.declared.profile.Profile.TheVariants.{One}
 use Rattle.kishu_model.specs.Values as values
-use Rattle.kishu_model.specs.PlainMeaning.{run}
+use Rattle.kishu_model.specs.Meaning.{run}
 use Rattle.kishu_model.specs.Graph.{Graph, newest, with_commit, count_of}
 use Rattle.kishu_model.specs.Answers.{Refusal, answer_line, ran_cell}
-use Rattle.kishu_model.specs.Step.{Request, Stepped, cell, step, committed, refused_with}
+use Rattle.kishu_model.specs.Step.{Request, Stepped, cell, step, committed, refused_with, charge_of}
+use Rattle.kishu_model.specs.Replay.{replay, IsFull}
 use Rattle.kishu_model.specs.Record.{Entry, commit, changed, longest_cell, IsCell, Fits, body_of}
-use Rattle.kishu_model.specs.PlainLater.{later_line}
 use Rattle.kishu_model.specs.Holds.{Holds, graph_of}
 use Rattle.kishu_model.specs.Serve.{after, answer_of}
-use Rattle.kishu_model.specs.Growth.{step-cell, replay-with_commit, count-with_commit}
+use Rattle.kishu_model.specs.Growth.{step-cell, charge-cell, replay-with_commit, count-with_commit}
 use Rattle.kishu_model.specs.Laws.{changed-push, ends-holds}
 use Rattle.kishu_model.specs.Graph.{new_graph}
 use Rattle.kishu_journal.specs.Stands.{JournalState, Stands, IsNext, with_entry}
 use Rattle.kishu_journal.specs.Going.{WithOrWithout}
 use Rattle.kishu_serve.specs.declared.session.Session.{Session}
+use Rattle.kishu_serve.specs.Lives.{state_of}
 use Rattle.kishu_serve.specs.Attached.{IsAttached}
 use Rattle.kishu_serve.specs.Headline.{IsPart}
 use Rattle.kishu_serve.proofs.Parts.{part-append, part-put}
 
 -- a text that a commit may hold
-pub cell-is : (text : List ℕ) → length text ≤ longest_cell → IsUtf8 text → later_line text ≡ None → IsCell text
-cell-is text short utf8 plain = record { short = short; utf8 = is_utf8-from_IsUtf8 text utf8; plain = plain }
+pub cell-is : (text : List ℕ) → length text ≤ longest_cell → IsUtf8 text → IsCell text
+cell-is text short utf8 = record { short = short; utf8 = is_utf8-from_IsUtf8 text utf8 }
 
 abbrev pub entry_for : Session → List ℕ → Entry
 entry_for session text = commit session.commits One (text ∷ [])
@@ -49,15 +50,21 @@ module _ (session : Session) (s : State) (g : Graph) (text : List ℕ) (a : IsAt
   pub next-is : (journal : JournalState) (body : List ℕ) → IsCell text → journal ≡ session.journal → body ≡ body_of (entry_for session text) → IsNext journal s.file body a.entries (entry_for session text)
   next-is journal body fit same is = record { stands = subst (λ (j : JournalState). Stands j s.file a.entries) (sym same) a.stands; fits = fits fit; body_is = is }
 
-  pub line-is : (line : List ℕ) → line ≡ answer_line (ran_cell (session.commits + 1) (session.cells + 1) (run One text session.state).report) → line ≡ answer_of g (cell text)
+  pub line-is : (line : List ℕ) → line ≡ answer_line (ran_cell (session.commits + 1) (session.cells + 1) (run One text (state_of session.live)).report) → line ≡ answer_of g (cell text)
   line-is line e =
       let number : session.commits + 1 ≡ suc (newest g) = omega (arith, a.commits) in
       let count : session.cells + 1 ≡ suc (count_of g g.head.commit) = omega (arith, a.cells) in
       e
-      ∙ ap (λ (n : ℕ). answer_line (ran_cell n (session.cells + 1) (run One text session.state).report)) number
-      ∙ ap (λ (n : ℕ). answer_line (ran_cell (suc (newest g)) n (run One text session.state).report)) count
+      ∙ ap (λ (n : ℕ). answer_line (ran_cell n (session.cells + 1) (run One text (state_of session.live)).report)) number
+      ∙ ap (λ (n : ℕ). answer_line (ran_cell (suc (newest g)) n (run One text (state_of session.live)).report)) count
       ∙ ap (λ (t : values.State). answer_line (ran_cell (suc (newest g)) (suc (count_of g g.head.commit)) (run One text t).report)) a.live
       ∙ ap (λ (x : Stepped). answer_line x.answer) (sym stepped)
+
+  pub charge-is : (m n : ℕ) → m + (run One text (state_of session.live)).charge ≤ n → m + charge_of g (cell text) ≤ n
+  charge-is m n more = omega (arith, more, ap (λ (t : values.State). (run One text t).charge) a.live, charge-cell g text (omega (arith, a.records, a.commits)))
+
+  pub full-is : IsFull (state_of session.live) → IsFull (replay g g.head.commit)
+  full-is full = subst IsFull a.live full
 
   pub append-stop : (s1 : State) → Elapses s s1 (WithOrWithout s a.entries (entry_for session text)) → Elapses s s1 (IsPart s g (cell text ∷ []))
   append-stop s1 time = weaker s s1 (IsPart s g (cell text ∷ [])) (WithOrWithout s a.entries (entry_for session text)) time (part-append s g (cell text) a.entries (entry_for session text) a.graph moves)
@@ -71,7 +78,7 @@ module _ (session : Session) (s : State) (g : Graph) (text : List ℕ) (a : IsAt
     put-stop s2 line is first second =
         goes_on s s1 s2 (IsPart s g (cell text ∷ [])) (DuringPut s1 line) (append-stop s1 first) second (part-put s g (cell text) s1 line is only holds same)
 
-    pub attached-after : (next : Session) (s2 : State) → next.journal ≡ journal → next.commits ≡ session.commits + 1 → next.cells ≡ session.cells + 1 → next.state ≡ (run One text session.state).state
+    pub attached-after : (next : Session) (s2 : State) → next.journal ≡ journal → next.commits ≡ session.commits + 1 → next.cells ≡ session.cells + 1 → state_of next.live ≡ (run One text (state_of session.live)).state
         → s2.file ≡ s1.file → ((c : List ℕ) → s2.may_leave c → s1.may_leave c) → IsAttached next s2 (after g (cell text))
     attached-after next s2 same_journal commits cells live file crash =
         subst (λ (x : Graph). IsAttached next s2 x) (sym after-is)

@@ -27,6 +27,11 @@ OpenStop s g c o = Now s c o ⊎ (Holds c g × (o ≡ s.out))
 pub long-bad : (file : List ℕ) → ((g : Graph) → Holds file g → ⊥) → 17 < length file
 long-bad file bad = ⊎_elim (λ (l : 17 < length file). l) (λ (l : length file ≤ 17). absurd (bad new_graph (inl (l, refl)))) (cases_lt 17 (length file))
 
+-- what opening keeps of a graph that a file holds
+pub kept-holds : (old new : List ℕ) → (17 < length old → new ≡ old) → (length old ≤ 17 → length new ≤ 17) → (g : Graph) → Holds old g → Holds new g
+kept-holds old new kept short g (inl s) = inl (short s.0, s.1)
+kept-holds old new kept short g (inr l) = subst (λ (f : List ℕ). Holds f g) (sym (kept l.0)) (inr l)
+
 pub attached-holds : (session : Session) (s : State) (g : Graph) → IsAttached session s g → Holds s.file g
 attached-holds session s g a = subst (λ (x : Graph). Holds s.file x) (sym a.graph) (ends-holds s.file a.entries a.stands.ends)
 

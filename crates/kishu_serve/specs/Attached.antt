@@ -6,6 +6,7 @@ use Rattle.kishu_model.specs.Replay.{replay}
 use Rattle.kishu_model.specs.Record.{Entry}
 use Rattle.kishu_model.specs.Holds.{graph_of}
 use Rattle.kishu_journal.specs.Stands.{Stands}
+use Rattle.kishu_serve.specs.Lives.{state_of}
 use Rattle.kishu_serve.specs.declared.session.Session.{Session}
 
 pub record IsAttached (session : Session) (s : host.State) (g : Graph) : Type 0 where
@@ -20,4 +21,4 @@ pub record IsAttached (session : Session) (s : host.State) (g : Graph) : Type 0 
   pub commits : session.commits ≡ newest g
   pub cells : session.cells ≡ count_of g g.head.commit
   -- the live state is that of the head's replay
-  pub live : session.state ≡ replay g g.head.commit
+  pub live : state_of session.live ≡ replay g g.head.commit

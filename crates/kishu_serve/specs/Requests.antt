@@ -1,6 +1,5 @@
 -- What a session is asked, and which requests it can answer.
-use Rattle.std.specs.Prelude.{◌≡◌, ◌≤◌, length, None}
-use Rattle.kishu_model.specs.PlainLater.{later_line}
+use Rattle.std.specs.Prelude.{◌≤◌, length}
 use Rattle.kishu_model.specs.Record.{longest_cell}
 use Rattle.kishu_model.specs.Step.{Request, cell, unreadable}
 use Rattle.kishu_serve.specs.declared.request.Request as rust
@@ -10,7 +9,7 @@ abbrev pub request_of : rust.Request → Request
 request_of (Cell text) = cell text.now
 request_of Unreadable = unreadable
 
--- Cells that are too long, or of a later form, can't be run yet.
-abbrev pub IsBuilt : Request → Type 0
-IsBuilt (cell text) = (length text ≤ longest_cell) × (later_line text ≡ None)
-IsBuilt unreadable = Unit {0}
+-- Cells that are too long can't be run.
+abbrev pub IsShort : Request → Type 0
+IsShort (cell text) = length text ≤ longest_cell
+IsShort unreadable = Unit {0}

@@ -1,7 +1,7 @@
 -- How a run can end: the program's exit code and what it says on standard error.
 use Rattle.std.specs.Prelude.{ℕ, List, ◌++◌, codes, decimal}
 use Rattle.kishu_serve.specs.declared.status.Status.{Status}
-use Rattle.kishu_serve.specs.declared.status.Status.TheVariants.{Done, Usage, NotAJournal, Damaged, DiskFault, InputFault, OutputFault, NoMemory, InputTooLong, NotYet}
+use Rattle.kishu_serve.specs.declared.status.Status.TheVariants.{Done, Usage, NotAJournal, Damaged, DiskFault, InputFault, OutputFault, NoMemory, InputTooLong, HeapFull}
 
 abbrev pub code_of : Status → ℕ
 code_of Done = 0
@@ -13,7 +13,7 @@ code_of InputFault = 6
 code_of OutputFault = 7
 code_of NoMemory = 8
 code_of InputTooLong = 9
-code_of (NotYet line) = 10
+code_of HeapFull = 11
 
 abbrev pub text_of : Status → List ℕ
 text_of Done = codes "done"
@@ -25,4 +25,4 @@ text_of InputFault = codes "input fault"
 text_of OutputFault = codes "output fault"
 text_of NoMemory = codes "no memory"
 text_of InputTooLong = codes "input too long"
-text_of (NotYet line) = codes "not yet: line " ++ decimal line
+text_of HeapFull = codes "heap full"

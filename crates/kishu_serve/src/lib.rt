@@ -6,6 +6,7 @@
 #![tactic(auto)]
 
 mod input;
+mod live;
 mod request;
 mod serving;
 mod session;

@@ -1,64 +1,83 @@
 ghost use Rattle.std.specs.Prelude.{◌≡◌, ◌≤◌, ◌<◌, ◌⊎◌, ◌+◌, ◌^◌, ◌++◌, ◌∷◌, [], ℕ, List, length, false, None, IfOk, OnOk, IsErrOf};
 ghost use Rattle.kishu_host.specs.Host.{State, Told, Now, Only, Elapses, Rises, DuringPut};
-ghost use Rattle.kishu_model.specs.PlainLater.{later_line};
 ghost use Rattle.kishu_model.specs.Graph.{Graph};
 ghost use Rattle.kishu_model.specs.Record.{longest_cell};
+ghost use Rattle.kishu_model.specs.Replay.{replay, replay_charge, Fills, IsFull};
 ghost use Rattle.kishu_model.specs.Step as spec;
-ghost use Rattle.kishu_model.specs.Step.{cell, step, refused_with};
+ghost use Rattle.kishu_model.specs.Step.{cell, step, refused_with, charge_of};
 ghost use Rattle.kishu_model.specs.Holds.{Holds, IsForeign, IsBroken};
 ghost use Rattle.kishu_model.specs.Serve.{after, answer_of};
 ghost use Rattle.kishu_lines.specs.Lines.{refusal_of};
 ghost use Rattle.kishu_serve.specs.Headline.{IsPart};
-ghost use Rattle.kishu_serve.specs.Requests.{request_of, IsBuilt};
+ghost use Rattle.kishu_serve.specs.Requests.{request_of, IsShort};
 ghost use Rattle.kishu_serve.specs.Attached.{IsAttached};
 ghost use Rattle.kishu_journal.specs.declared.journal.JournalFault.TheVariants.{NotAJournal, Damaged};
 ghost use Rattle.kishu_journal.specs.declared.journal.JournalFault.TheVariants.{DiskFault as NoDisk};
-ghost use Rattle.kishu_serve.specs.declared.session.Halt.TheVariants.{DiskFault, OutputFault};
+ghost use Rattle.kishu_serve.specs.declared.serving.OpenFault.TheVariants.{Unread, HeapFull as Full};
+ghost use Rattle.kishu_serve.specs.declared.session.Halt.TheVariants.{HeapFull, DiskFault, OutputFault};
 
+use crate::live::Unrun;
 use crate::request::Request;
 use crate::session::{Halt, Session, replay_stored};
 use kishu_host::Host;
 use kishu_journal::{Journal, JournalFault};
 use kishu_lines::{Answer, Refusal, write_answer};
+use kishu_model::Steps;
 use std::alloc::Global;
+use std::sync::ledger::Ledger;
 
 /// The most records that a store holds.
 const MOST_RECORDS: u32 = 1_000_000;
 
+/// Why a store isn't opened.
+#[derive(Clone, Copy, Debug, PartialEq, Eq)]
+pub(crate) enum OpenFault {
+    Unread(JournalFault),
+    /// One of its cells would have begun with too many nodes.
+    HeapFull,
+}
+
 impl Session {
     /// Opens the store, and runs its cells in order.
-    pub(crate) fn open<H: Host>(alloc: Global, host: &mut H) -> Result<Session, JournalFault>
+    pub(crate) fn open<H: Host, L: Ledger>(
+        alloc: Global,
+        host: &mut H,
+        steps: &mut Steps<L>,
+    ) -> Result<Session, OpenFault>
         ensures attached { IfOk result (λ s. Told (H.state host.old) ((g : Graph) → Holds (H.state host.old).file g → IsAttached s (H.state host.new) g)) }
         ensures stands { IfOk result (λ s. Told (H.state host.old) ((g : Graph) × IsAttached s (H.state host.new) g)) }
         ensures opened { IfOk result (λ s. s.journal.closed ≡ false) }
         ensures held { Told (H.state host.old) ((g : Graph) → Holds (H.state host.old).file g → Holds (H.state host.new).file g) }
         ensures bad { Told (H.state host.old) (((g : Graph) → Holds (H.state host.old).file g → ⊥) → (H.state host.new).file ≡ (H.state host.old).file) }
         ensures good { OnOk result (Told (H.state host.old) ((g : Graph) × Holds (H.state host.old).file g)) }
-        ensures durable { IsErrOf result NoDisk ⊎ Told (H.state host.old) (Only (H.state host.new).file (H.state host.new).may_leave) }
+        ensures durable { IsErrOf result (Unread NoDisk) ⊎ Told (H.state host.old) (Only (H.state host.new).file (H.state host.new).may_leave) }
         ensures out { (H.state host.new).out ≡ (H.state host.old).out }
         ensures stop { Told (H.state host.old) ((g : Graph) → Holds (H.state host.old).file g
             → Elapses (H.state host.old) (H.state host.new) (λ c o. Now (H.state host.old) c o ⊎ (Holds c g × (o ≡ (H.state host.old).out)))) }
         ensures tells { (H.state host.new).tells ≡ (H.state host.old).tells }
-        ensures foreign { IsErrOf result NotAJournal → Told (H.state host.old) (IsForeign (H.state host.old).file) }
-        ensures damaged { (at : ℕ) → IsErrOf result (Damaged at) → Told (H.state host.old) (IsBroken (H.state host.old).file at) }
-        ensures disk_fault { IsErrOf result NoDisk → Rises (H.state host.old).disk_faults (H.state host.new).disk_faults }
+        ensures foreign { IsErrOf result (Unread NotAJournal) → Told (H.state host.old) (IsForeign (H.state host.old).file) }
+        ensures damaged { (at : ℕ) → IsErrOf result (Unread (Damaged at)) → Told (H.state host.old) (IsBroken (H.state host.old).file at) }
+        ensures least { OnOk result (Told (H.state host.old) ((g : Graph) → Holds (H.state host.old).file g → steps.old + replay_charge g g.head.commit ≤ steps.new)) }
+        ensures full { IsErrOf result Full → Told (H.state host.old) ((g : Graph) × Holds (H.state host.old).file g × Fills g) }
+        ensures disk_fault { IsErrOf result (Unread NoDisk) → Rises (H.state host.old).disk_faults (H.state host.new).disk_faults }
         ensures disk { (H.state host.old).disk_faults ≤ (H.state host.new).disk_faults }
         ensures outs { (H.state host.old).out_faults ≤ (H.state host.new).out_faults }
     {
-        match Journal::attach(alloc, host) {
-            Ok((journal, stored)) => {
-                let Ok((state, cells)) = replay_stored(alloc, &stored) else {
-                    return Err(JournalFault::NoMemory);
-                };
-                Ok(Session {
-                    journal,
-                    commits: stored.len() as u32,
-                    cells,
-                    state,
-                })
-            }
-            Err(fault) => Err(fault),
-        }
+        let (journal, stored) = match Journal::attach(alloc, host) {
+            Ok((journal, stored)) => (journal, stored),
+            Err(fault) => return Err(OpenFault::Unread(fault)),
+        };
+        let (live, cells) = match replay_stored(alloc, &stored, steps) {
+            Ok((live, cells)) => (live, cells),
+            Err(Unrun::HeapFull) => return Err(OpenFault::HeapFull),
+            Err(Unrun::NoMemory) => return Err(OpenFault::Unread(JournalFault::NoMemory)),
+        };
+        Ok(Session {
+            journal,
+            commits: stored.len() as u32,
+            cells,
+            live,
+        })
     }
 }
 
@@ -70,6 +89,7 @@ fn refuse<H: Host>(alloc: Global, host: &mut H, refusal: Refusal) -> Result<(), 
     ensures stop { (g : Graph) (q : spec.Request) → step g q ≡ refused_with (refusal_of refusal) g → Elapses (H.state host.old) (H.state host.new) (DuringPut (H.state host.old) (answer_of g q)) }
     ensures tells { (H.state host.new).tells ≡ (H.state host.old).tells }
     ensures no_disk { IsErrOf result DiskFault → ⊥ }
+    ensures not_full { IsErrOf result HeapFull → ⊥ }
     ensures output_fault { IsErrOf result OutputFault → Rises (H.state host.old).out_faults (H.state host.new).out_faults }
     ensures disk { (H.state host.old).disk_faults ≤ (H.state host.new).disk_faults }
     ensures outs { (H.state host.old).out_faults ≤ (H.state host.new).out_faults }
@@ -85,16 +105,23 @@ fn refuse<H: Host>(alloc: Global, host: &mut H, refusal: Refusal) -> Result<(), 
 
 impl Session {
     /// Runs a cell, commits it, and puts its answer out.
-    fn commit_cell<H: Host>(&mut self, alloc: Global, host: &mut H, text: &str) -> Result<(), Halt>
+    fn commit_cell<H: Host, L: Ledger>(
+        &mut self,
+        alloc: Global,
+        host: &mut H,
+        text: &str,
+        steps: &mut Steps<L>,
+    ) -> Result<(), Halt>
         requires opened { self.old.journal.closed ≡ false }
         requires room { self.old.commits < 1000000 }
         requires short { length text.now ≤ longest_cell }
-        requires plain { later_line text.now ≡ None }
         requires stands { Told (H.state host.old) ((g : Graph) × IsAttached self.old (H.state host.old) g) }
 
         ensures attached { OnOk result (Told (H.state host.old) ((g : Graph) → IsAttached self.old (H.state host.old) g → IsAttached self.new (H.state host.new) (after g (cell text.now)))) }
         ensures answered { OnOk result (Told (H.state host.old) ((g : Graph) → IsAttached self.old (H.state host.old) g
             → (H.state host.new).out ≡ (H.state host.old).out ++ answer_of g (cell text.now))) }
+        ensures least { OnOk result (Told (H.state host.old) ((g : Graph) → IsAttached self.old (H.state host.old) g → steps.old + charge_of g (cell text.now) ≤ steps.new)) }
+        ensures full { IsErrOf result HeapFull → Told (H.state host.old) ((g : Graph) → IsAttached self.old (H.state host.old) g → IsFull (replay g g.head.commit)) }
         ensures stop { Told (H.state host.old) ((g : Graph) → IsAttached self.old (H.state host.old) g
             → Elapses (H.state host.old) (H.state host.new) (IsPart (H.state host.old) g (cell text.now ∷ []))) }
         ensures tells { (H.state host.new).tells ≡ (H.state host.old).tells }
@@ -103,8 +130,10 @@ impl Session {
         ensures disk { (H.state host.old).disk_faults ≤ (H.state host.new).disk_faults }
         ensures outs { (H.state host.old).out_faults ≤ (H.state host.new).out_faults }
     {
-        let Ok(prepared) = self.prepared(alloc, text) else {
-            return Err(Halt::NoMemory);
+        let prepared = match self.prepared(alloc, text, steps) {
+            Ok(prepared) => prepared,
+            Err(Unrun::HeapFull) => return Err(Halt::HeapFull),
+            Err(Unrun::NoMemory) => return Err(Halt::NoMemory),
         };
         match self.journal.append(alloc, host, &prepared.body) {
             Ok(_) => {}
@@ -123,19 +152,22 @@ impl Session {
 
 impl Session {
     /// Answers a request: a cell is committed, or the request is refused.
-    pub(crate) fn serve<H: Host>(
+    pub(crate) fn serve<H: Host, L: Ledger>(
         &mut self,
         alloc: Global,
         host: &mut H,
         request: Request,
+        steps: &mut Steps<L>,
     ) -> Result<(), Halt>
         requires opened { self.old.journal.closed ≡ false }
-        requires built { IsBuilt (request_of request) }
+        requires short { IsShort (request_of request) }
         requires stands { Told (H.state host.old) ((g : Graph) × IsAttached self.old (H.state host.old) g) }
 
         ensures attached { OnOk result (Told (H.state host.old) ((g : Graph) → IsAttached self.old (H.state host.old) g → IsAttached self.new (H.state host.new) (after g (request_of request.entry)))) }
         ensures answered { OnOk result (Told (H.state host.old) ((g : Graph) → IsAttached self.old (H.state host.old) g
             → (H.state host.new).out ≡ (H.state host.old).out ++ answer_of g (request_of request.entry))) }
+        ensures least { OnOk result (Told (H.state host.old) ((g : Graph) → IsAttached self.old (H.state host.old) g → steps.old + charge_of g (request_of request.entry) ≤ steps.new)) }
+        ensures full { IsErrOf result HeapFull → Told (H.state host.old) ((g : Graph) → IsAttached self.old (H.state host.old) g → IsFull (replay g g.head.commit)) }
         ensures stop { Told (H.state host.old) ((g : Graph) → IsAttached self.old (H.state host.old) g
             → Elapses (H.state host.old) (H.state host.new) (IsPart (H.state host.old) g (request_of request.entry ∷ []))) }
         ensures tells { (H.state host.new).tells ≡ (H.state host.old).tells }
@@ -150,6 +182,6 @@ impl Session {
         if self.commits >= MOST_RECORDS {
             return refuse(alloc, host, Refusal::StoreFull);
         }
-        self.commit_cell(alloc, host, text)
+        self.commit_cell(alloc, host, text, steps)
     }
 }

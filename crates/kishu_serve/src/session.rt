@@ -1,24 +1,28 @@
 ghost use Rattle.std.specs.Prelude.{◌≡◌, ◌≤◌, ◌<◌, ◌⊎◌, ◌+◌, ◌*◌, ◌^◌, ◌++◌, ◌∷◌, [], ℕ, List, length, false, None, IfOk, OnOk, IfErr, IsErr, IsErrOf};
 ghost use Rattle.kishu_model.specs.declared.profile.Profile.TheVariants.{One};
-ghost use Rattle.kishu_model.specs.PlainLater.{later_line};
-ghost use Rattle.kishu_model.specs.PlainMeaning.{run};
+ghost use Rattle.kishu_model.specs.Accesses.{with_accesses};
+ghost use Rattle.kishu_model.specs.Meaning.{run};
 ghost use Rattle.kishu_model.specs.Graph.{new_graph, count_of};
-ghost use Rattle.kishu_model.specs.Replay.{replay, after_cells};
+ghost use Rattle.kishu_model.specs.Growth.{FillsBefore};
+ghost use Rattle.kishu_model.specs.Replay.{replay, after_cells, charge_in, FillsIn, IsFull};
 ghost use Rattle.kishu_model.specs.Answers.{answer_line, ran_cell};
 ghost use Rattle.kishu_model.specs.Record.{commit, body_of, cells_of, longest_cell, AreCells, AreRecords};
 ghost use Rattle.kishu_model.specs.Holds.{graph_of};
 ghost use Rattle.kishu_record.specs.Entries.{entry_of};
 ghost use Rattle.kishu_journal.specs.Found.{entries_of};
+ghost use Rattle.kishu_serve.specs.Lives.{state_of};
 ghost use Rattle.kishu_serve.specs.Texts.{texts_of};
 ghost use Rattle.kishu_serve.specs.Midway.{Replayed};
+ghost use Rattle.kishu_serve.specs.declared.live.Unrun.TheVariants.{HeapFull};
 
-use kishu_interp::{PlainState, run_plain};
+use crate::live::{Live, Unrun};
 use kishu_journal::{Journal, JournalFault};
 use kishu_lines::{Answer, write_answer};
-use kishu_model::Profile;
+use kishu_model::{Profile, Steps};
 use kishu_record::{Entry, encode};
 use std::alloc::{AllocError, Global};
 use std::rc::RcStr;
+use std::sync::ledger::Ledger;
 
 /// A store that is open: its journal, the numbers of its commits and cells, and the live state.
 #[derive(Drop)]
@@ -26,51 +30,67 @@ pub(crate) struct Session {
     pub(crate) journal: Journal,
     pub(crate) commits: u32,
     pub(crate) cells: u64,
-    pub(crate) state: PlainState,
+    pub(crate) live: Live,
     ghost bound: { cells ≤ commits * 2 ^ 30 },
 }
 
 /// Runs cells in order.
-fn run_all(alloc: Global, texts: &[RcStr], state: &mut PlainState) -> Result<(), AllocError>
+fn run_all<L: Ledger>(
+    alloc: Global,
+    texts: &[RcStr],
+    live: &mut Live,
+    steps: &mut Steps<L>,
+) -> Result<(), Unrun>
     requires { AreCells (texts_of texts.now) }
-    ensures { OnOk result (state.new ≡ after_cells One (texts_of texts.now) state.old) }
+    ensures state { OnOk result (state_of live.new ≡ after_cells One (texts_of texts.now) (state_of live.old)) }
+    ensures least { OnOk result (steps.old + charge_in One (texts_of texts.now) (state_of live.old) ≤ steps.new) }
+    ensures full { IsErrOf result HeapFull → FillsIn One (texts_of texts.now) (state_of live.old) }
 {
     for text in texts {
-        let _ = run_plain(alloc, text.as_str(), state)?;
+        let _ = live.run(alloc, text.as_str(), steps)?;
     }
     Ok(())
 }
 
 /// Runs the cells of a record, and answers how many they are.
-fn run_entry(alloc: Global, entry: &Entry, state: &mut PlainState) -> Result<u64, AllocError>
+fn run_entry<L: Ledger>(
+    alloc: Global,
+    entry: &Entry,
+    live: &mut Live,
+    steps: &mut Steps<L>,
+) -> Result<u64, Unrun>
     requires { AreCells (cells_of (entry_of entry.now)) }
-    ensures state { OnOk result (state.new ≡ after_cells One (cells_of (entry_of entry.now)) state.old) }
+    ensures state { OnOk result (state_of live.new ≡ after_cells One (cells_of (entry_of entry.now)) (state_of live.old)) }
+    ensures least { OnOk result (steps.old + charge_in One (cells_of (entry_of entry.now)) (state_of live.old) ≤ steps.new) }
+    ensures full { IsErrOf result HeapFull → FillsIn One (cells_of (entry_of entry.now)) (state_of live.old) }
     ensures count { IfOk result (λ n. n ≡ length (cells_of (entry_of entry.now))) }
 {
     match entry {
         Entry::Commit { cells, .. } => {
-            run_all(alloc, cells, state)?;
+            run_all(alloc, cells, live, steps)?;
             Ok(cells.len() as u64)
         }
     }
 }
 
 /// The state after the cells of these records, and how many cells they are.
-pub(crate) fn replay_stored(
+pub(crate) fn replay_stored<L: Ledger>(
     alloc: Global,
     stored: &[(u64, Entry)],
-) -> Result<(PlainState, u64), AllocError>
+    steps: &mut Steps<L>,
+) -> Result<(Live, u64), Unrun>
     requires few { length stored.now ≤ 1000000 }
     requires fit { AreRecords new_graph (entries_of stored.now) }
-    ensures replayed { IfOk result (λ r. Replayed (graph_of (entries_of stored.now)) r.0 r.1) }
+    ensures replayed { IfOk result (λ r. Replayed (graph_of (entries_of stored.now)) (state_of r.0) r.1 steps.old steps.new) }
     ensures small { IfOk result (λ r. r.1 ≤ length stored.now * 2 ^ 30) }
+    ensures full { IsErrOf result HeapFull → FillsBefore (graph_of (entries_of stored.now)) }
 {
-    let mut state = PlainState::new(alloc);
+    let mut live = Live::new(alloc);
     let mut cells = 0;
     for found in stored {
-        cells += run_entry(alloc, &found.1, &mut state)?;
+        cells += run_entry(alloc, &found.1, &mut live, steps)?;
     }
-    Ok((state, cells))
+    Ok((live, cells))
 }
 
 /// What a commit writes: the record's body, and the line that answers the request.
@@ -95,16 +115,24 @@ fn one_cell(alloc: Global, parent: u32, text: &str) -> Result<Entry, AllocError>
 
 impl Session {
     /// Runs a cell on the live state, and answers what its commit writes.
-    pub(crate) fn prepared(&mut self, alloc: Global, text: &str) -> Result<Prepared, AllocError>
+    pub(crate) fn prepared<L: Ledger>(
+        &mut self,
+        alloc: Global,
+        text: &str,
+        steps: &mut Steps<L>,
+    ) -> Result<Prepared, Unrun>
         requires short { length text.now ≤ longest_cell }
-        requires plain { later_line text.now ≡ None }
         requires room { self.old.commits < 1000000 }
         ensures body { IfOk result (λ p. p.body.items ≡ body_of (commit self.old.commits One (text.now ∷ []))) }
-        ensures line { IfOk result (λ p. p.line.items ≡ answer_line (ran_cell (self.old.commits + 1) (self.old.cells + 1) (run One text.now self.old.state).report)) }
-        ensures state { OnOk result (self.new.state ≡ (run One text.now self.old.state).state) }
+        ensures line { IfOk result (λ p. p.line.items ≡ answer_line (ran_cell (self.old.commits + 1) (self.old.cells + 1) (run One text.now (state_of self.old.live)).report)) }
+        ensures state { OnOk result (state_of self.new.live ≡ (run One text.now (state_of self.old.live)).state) }
+        ensures accessed { OnOk result (self.new.live.names.accessed ≡ with_accesses (run One text.now (state_of self.old.live)).accessed []) }
+        ensures least { OnOk result (steps.old + (run One text.now (state_of self.old.live)).charge ≤ steps.new) }
+        ensures full { IsErrOf result HeapFull → IsFull (state_of self.old.live) }
         ensures rest { (self.new.journal ≡ self.old.journal) × (self.new.commits ≡ self.old.commits) × (self.new.cells ≡ self.old.cells) }
     {
-        let result = run_plain(alloc, text, &mut self.state)?;
+        self.live.clear_record();
+        let result = self.live.run(alloc, text, steps)?;
         let answer = Answer::Cell {
             commit: self.commits + 1,
             count: self.cells + 1,
@@ -120,6 +148,7 @@ impl Session {
 /// Why a request isn't answered.
 #[derive(Clone, Copy, Debug, PartialEq, Eq)]
 pub(crate) enum Halt {
+    HeapFull,
     DiskFault,
     OutputFault,
     NoMemory,

@@ -24,8 +24,8 @@ pub enum Status {
     NoMemory,
     /// The input has more bytes than a cell may have.
     InputTooLong,
-    /// The cell has a form that isn't built yet; this is the first line, counted from 1, that has it.
-    NotYet { line: u32 },
+    /// A cell would have begun with more than 2^31 nodes.
+    HeapFull,
 }
 
 impl Status {
@@ -42,7 +42,7 @@ impl Status {
             Status::OutputFault => 7,
             Status::NoMemory => 8,
             Status::InputTooLong => 9,
-            Status::NotYet { .. } => 10,
+            Status::HeapFull => 11,
         }
     }
 
@@ -60,7 +60,7 @@ impl Status {
             Status::OutputFault => String::from_str(alloc, "output fault"),
             Status::NoMemory => String::from_str(alloc, "no memory"),
             Status::InputTooLong => String::from_str(alloc, "input too long"),
-            Status::NotYet { line } => format!(in alloc; "not yet: line {line}"),
+            Status::HeapFull => String::from_str(alloc, "heap full"),
         }
     }
 }

@@ -1,28 +1,30 @@
 ghost use Rattle.std.specs.Prelude.{◌≡◌, ◌≤◌, ◌<◌, ◌⊎◌, ◌↔◌, ◌+◌, ◌^◌, ◌++◌, ◌∷◌, [], ℕ, List, length, true, false, Some, None, is_some, IfOk, OnOk, IsOk, IsSome, Err};
 ghost use Rattle.kishu_host.specs.Host.{State, Told, Now, Only, Elapses, Rises};
 ghost use Rattle.kishu_host.specs.Source.{SourceState};
-ghost use Rattle.kishu_model.specs.PlainLater.{later_line};
 ghost use Rattle.kishu_model.specs.Graph.{Graph};
 ghost use Rattle.kishu_model.specs.Record.{longest_cell};
+ghost use Rattle.kishu_model.specs.Replay.{replay_charge, Fills};
+ghost use Rattle.kishu_model.specs.Serve.{charges};
 ghost use Rattle.kishu_model.specs.Task.{task, one_cell};
 ghost use Rattle.kishu_model.specs.Holds.{Holds, IsForeign, IsBroken};
 ghost use Rattle.kishu_serve.specs.Headline.{IsPart, IsWhole, IsGiven};
-ghost use Rattle.kishu_serve.specs.Requests.{request_of, IsBuilt};
+ghost use Rattle.kishu_serve.specs.Requests.{request_of, IsShort};
 ghost use Rattle.kishu_serve.specs.Words.{texts, form_of};
-ghost use Rattle.kishu_serve.specs.declared.status.Status.TheVariants.{Done, Usage, NotAJournal, Damaged, DiskFault, InputFault, OutputFault, NoMemory, InputTooLong, NotYet};
-ghost use Rattle.kishu_serve.specs.declared.session.Halt.TheVariants.{DiskFault as HaltDisk, OutputFault as HaltOutput};
+ghost use Rattle.kishu_serve.specs.declared.status.Status.TheVariants.{Done, Usage, NotAJournal, Damaged, DiskFault, InputFault, OutputFault, NoMemory, InputTooLong, HeapFull};
+ghost use Rattle.kishu_serve.specs.declared.session.Halt.TheVariants.{HeapFull as HaltFull, DiskFault as HaltDisk, OutputFault as HaltOutput};
+ghost use Rattle.kishu_serve.specs.declared.serving.OpenFault.TheVariants.{Unread, HeapFull as Full};
 ghost use Rattle.kishu_journal.specs.declared.journal.JournalFault.TheVariants.{NotAJournal as Foreign, Damaged as Broken, DiskFault as NoDisk};
 
 use crate::Status;
 use crate::input::{InputStop, read_input};
 use crate::request::{Request, cell_request};
+use crate::serving::OpenFault;
 use crate::session::{Halt, Session};
 use crate::words::is_cell;
 use kishu_host::{Host, Source};
-use kishu_interp::later_form;
 use kishu_journal::JournalFault;
 use kishu_model::Steps;
-use std::alloc::{AllocError, Global};
+use std::alloc::Global;
 use std::sync::ledger::Ledger;
 
 /// How a run ends whose request was served so.
@@ -31,10 +33,12 @@ fn served(outcome: Result<(), Halt>) -> Status
     ensures disk_fault { result ≡ DiskFault → outcome ≡ Err HaltDisk }
     ensures disk { outcome ≡ Err HaltDisk → result ≡ DiskFault }
     ensures output_fault { result ≡ OutputFault → outcome ≡ Err HaltOutput }
-    ensures these { (result ≡ Done) ⊎ (result ≡ NoMemory) ⊎ (result ≡ DiskFault) ⊎ (result ≡ OutputFault) }
+    ensures full { result ≡ HeapFull → outcome ≡ Err HaltFull }
+    ensures these { (result ≡ Done) ⊎ (result ≡ NoMemory) ⊎ (result ≡ HeapFull) ⊎ (result ≡ DiskFault) ⊎ (result ≡ OutputFault) }
 {
     match outcome {
         Ok(()) => Status::Done,
+        Err(Halt::HeapFull) => Status::HeapFull,
         Err(Halt::DiskFault) => Status::DiskFault,
         Err(Halt::OutputFault) => Status::OutputFault,
         Err(Halt::NoMemory) => Status::NoMemory,
@@ -42,24 +46,31 @@ fn served(outcome: Result<(), Halt>) -> Status
 }
 
 /// How a run ends whose store isn't opened.
-fn unopened(fault: JournalFault) -> Status
-    ensures foreign { result ≡ NotAJournal → fault ≡ Foreign }
-    ensures damaged { (at : ℕ) → result ≡ Damaged at → fault ≡ Broken at }
-    ensures disk_fault { result ≡ DiskFault → fault ≡ NoDisk }
-    ensures disk { fault ≡ NoDisk → result ≡ DiskFault }
-    ensures these { (result ≡ NotAJournal) ⊎ ((at : ℕ) × (result ≡ Damaged at)) ⊎ (result ≡ DiskFault) ⊎ (result ≡ NoMemory) }
+fn unopened(fault: OpenFault) -> Status
+    ensures foreign { result ≡ NotAJournal → fault ≡ Unread Foreign }
+    ensures damaged { (at : ℕ) → result ≡ Damaged at → fault ≡ Unread (Broken at) }
+    ensures disk_fault { result ≡ DiskFault → fault ≡ Unread NoDisk }
+    ensures full { result ≡ HeapFull → fault ≡ Full }
+    ensures disk { fault ≡ Unread NoDisk → result ≡ DiskFault }
+    ensures these { (result ≡ NotAJournal) ⊎ ((at : ℕ) × (result ≡ Damaged at)) ⊎ (result ≡ DiskFault) ⊎ (result ≡ HeapFull) ⊎ (result ≡ NoMemory) }
 {
     match fault {
-        JournalFault::NotAJournal => Status::NotAJournal,
-        JournalFault::Damaged { at } => Status::Damaged { at },
-        JournalFault::DiskFault => Status::DiskFault,
-        JournalFault::NoMemory => Status::NoMemory,
+        OpenFault::Unread(JournalFault::NotAJournal) => Status::NotAJournal,
+        OpenFault::Unread(JournalFault::Damaged { at }) => Status::Damaged { at },
+        OpenFault::Unread(JournalFault::DiskFault) => Status::DiskFault,
+        OpenFault::Unread(JournalFault::NoMemory) => Status::NoMemory,
+        OpenFault::HeapFull => Status::HeapFull,
     }
 }
 
 /// Opens the store, and answers a request.
-fn run_request<H: Host>(alloc: Global, host: &mut H, request: Request) -> Status
-    requires built { IsBuilt (request_of request) }
+fn run_request<H: Host, L: Ledger>(
+    alloc: Global,
+    host: &mut H,
+    request: Request,
+    steps: &mut Steps<L>,
+) -> Status
+    requires short { IsShort (request_of request) }
 
     ensures run { Told (H.state host.old) ((g : Graph) → Holds (H.state host.old).file g
         → IsPart (H.state host.old) g (request_of request.entry ∷ []) (H.state host.new).file (H.state host.new).out) }
@@ -72,16 +83,19 @@ fn run_request<H: Host>(alloc: Global, host: &mut H, request: Request) -> Status
     ensures good { result ≡ Done → Told (H.state host.old) ((g : Graph) × Holds (H.state host.old).file g) }
     ensures bad { Told (H.state host.old) (((g : Graph) → Holds (H.state host.old).file g → ⊥) → (H.state host.new).file ≡ (H.state host.old).file) }
 
-    ensures these { (result ≡ Usage → ⊥) × (result ≡ InputFault → ⊥) × (result ≡ InputTooLong → ⊥) × ((line : ℕ) → result ≡ NotYet line → ⊥) }
+    ensures these { (result ≡ Usage → ⊥) × (result ≡ InputFault → ⊥) × (result ≡ InputTooLong → ⊥) }
     ensures foreign { result ≡ NotAJournal → Told (H.state host.old) (IsForeign (H.state host.old).file) }
     ensures damaged { (at : ℕ) → result ≡ Damaged at → Told (H.state host.old) (IsBroken (H.state host.old).file at) }
     ensures disk_fault { result ≡ DiskFault → Rises (H.state host.old).disk_faults (H.state host.new).disk_faults }
     ensures output_fault { result ≡ OutputFault → Rises (H.state host.old).out_faults (H.state host.new).out_faults }
     ensures complete { Told (H.state host.old) ((g : Graph) → Holds (H.state host.old).file g
-        → (result ≡ Done) ⊎ (result ≡ NoMemory) ⊎ (result ≡ DiskFault) ⊎ (result ≡ OutputFault)) }
+        → (result ≡ Done) ⊎ (result ≡ NoMemory) ⊎ (result ≡ HeapFull) ⊎ (result ≡ DiskFault) ⊎ (result ≡ OutputFault)) }
+    ensures full { result ≡ HeapFull → Told (H.state host.old) ((g : Graph) × Holds (H.state host.old).file g × Fills g) }
+    ensures counted { result ≡ Done → Told (H.state host.old) ((g : Graph) → Holds (H.state host.old).file g
+        → steps.old + replay_charge g g.head.commit + charges g (request_of request.entry ∷ []) ≤ steps.new) }
 {
-    match Session::open(alloc, host) {
-        Ok(mut session) => served(session.serve(alloc, host, request)),
+    match Session::open(alloc, host, steps) {
+        Ok(mut session) => served(session.serve(alloc, host, request, steps)),
         Err(fault) => unopened(fault),
     }
 }
@@ -121,7 +135,7 @@ pub fn kishu<H: Host, S: Source, L: Ledger>(
     // Each status has its cause.
     ensures usage { result ≡ Usage ↔ (form_of (texts words.now) ≡ None) }
     ensures unread { result ≡ Usage → source.new ≡ source.old }
-    ensures untouched { (result ≡ Usage) ⊎ (result ≡ InputFault) ⊎ (result ≡ InputTooLong) ⊎ ((line : ℕ) × (result ≡ NotYet line)) → host.new ≡ host.old }
+    ensures untouched { (result ≡ Usage) ⊎ (result ≡ InputFault) ⊎ (result ≡ InputTooLong) → host.new ≡ host.old }
     ensures foreign { result ≡ NotAJournal → Told (H.state host.old) (IsForeign (H.state host.old).file) }
     ensures damaged { (at : ℕ) → result ≡ Damaged at → Told (H.state host.old) (IsBroken (H.state host.old).file at) }
     ensures disk_fault { result ≡ DiskFault → Rises (H.state host.old).disk_faults (H.state host.new).disk_faults }
@@ -135,25 +149,24 @@ pub fn kishu<H: Host, S: Source, L: Ledger>(
         → (result ≡ InputTooLong) ⊎ (result ≡ Usage) ⊎ (result ≡ InputFault) ⊎ (result ≡ NoMemory) }
     ensures taken { (S.source source.old).tells ≡ true → length (S.source source.old).left ≤ longest_cell + 4096 + length (S.source source.new).left }
 
-    // Within the limit, a cell of a later form is told by its line, unless the input fails or memory runs out before.
-    ensures not_yet { (line : ℕ) → result ≡ NotYet line → (S.source source.old).tells ≡ true
-        → (length (S.source source.old).left ≤ longest_cell) × (later_line (S.source source.old).left ≡ Some line) }
-    ensures later { (line : ℕ) → (S.source source.old).tells ≡ true → length (S.source source.old).left ≤ longest_cell → later_line (S.source source.old).left ≡ Some line
-        → (result ≡ NotYet line) ⊎ (result ≡ Usage) ⊎ (result ≡ InputFault) ⊎ (result ≡ NoMemory) }
+    // The heap is full only where one of the cells that lead to the head, or the next one, would begin with more than 2^31 nodes.
+    ensures heap_full { result ≡ HeapFull → Told (H.state host.old) ((g : Graph) × Holds (H.state host.old).file g × Fills g) }
 
     // Where no fault came, it does its work, or memory ran out.
     ensures complete { (g : Graph) → IsGiven (H.state host.old) (S.source source.old) g → IsSome (form_of (texts words.now))
         → (Rises (H.state host.old).disk_faults (H.state host.new).disk_faults → ⊥)
         → (Rises (H.state host.old).out_faults (H.state host.new).out_faults → ⊥)
         → (Rises (S.source source.old).in_faults (S.source source.new).in_faults → ⊥)
-        → (result ≡ Done) ⊎ (result ≡ NoMemory) ⊎ (result ≡ InputTooLong) ⊎ ((line : ℕ) × (result ≡ NotYet line)) }
+        → (result ≡ Done) ⊎ (result ≡ NoMemory) ⊎ (result ≡ InputTooLong) ⊎ (result ≡ HeapFull) }
 
     // Over a file that holds no graph it isn't done, and the file stays.
     ensures good { result ≡ Done → Told (H.state host.old) ((g : Graph) × Holds (H.state host.old).file g) }
     ensures bad { Told (H.state host.old) (((g : Graph) → Holds (H.state host.old).file g → ⊥) → (H.state host.new).file ≡ (H.state host.old).file) }
 
-    // Nothing is counted yet.
-    ensures counted { steps.new ≡ steps.old }
+    // Each step of the cells that are run is counted, and none is where no store is opened.
+    ensures counted { result ≡ Done → (g : Graph) → IsGiven (H.state host.old) (S.source source.old) g
+        → steps.old + replay_charge g g.head.commit + charges g (task (form_of (texts words.now)) (S.source source.old).left) ≤ steps.new }
+    ensures idle { (result ≡ Usage) ⊎ (result ≡ InputFault) ⊎ (result ≡ InputTooLong) → steps.new ≡ steps.old }
 {
     if !is_cell(words) {
         return Status::Usage;
@@ -164,9 +177,5 @@ pub fn kishu<H: Host, S: Source, L: Ledger>(
         Err(InputStop::TooLong) => return Status::InputTooLong,
         Err(InputStop::NoMemory) => return Status::NoMemory,
     };
-    match later_form(alloc, &input) {
-        Ok(None) => run_request(alloc, host, cell_request(&input)),
-        Ok(Some(line)) => Status::NotYet { line },
-        Err(AllocError) => Status::NoMemory,
-    }
+    run_request(alloc, host, cell_request(&input), steps)
 }

@@ -1,9 +1,17 @@
 // Cells as texts, with what they give.
-mod forms;
+ghost use Rattle.std.specs.Prelude.{IsTrue, length, ◌≡◌, ◌<◌};
+ghost use Rattle.kishu_model.specs.Sound.{are_sound_names};
 
-use kishu_interp::{PlainState, run_plain};
-use kishu_model::{CellResult, Outcome, Output};
+mod cells;
+
+use kishu_heap::Heap;
+use kishu_interp::run_cell;
+use kishu_model::{CellResult, Outcome, Output, Profile, Steps};
+use kishu_names::Names;
 use std::alloc::{AllocError, Global};
+use std::marker::Brand;
+use std::rc::RcStr;
+use std::sync::ledger::{Blank, Ledger};
 use std::test::Fail;
 
 fn push_output(told: &mut String, output: &Output) -> Result<(), AllocError> {
@@ -29,8 +37,8 @@ fn push_output(told: &mut String, output: &Output) -> Result<(), AllocError> {
 // The outcome and the outputs: what was printed stands in `<` and `>`.
 fn told(alloc: Global, ran: &CellResult) -> Result<String, AllocError> {
     let outcome = match ran.outcome {
-        Outcome::Done => "done",
-        Outcome::Raised => "raised",
+        Outcome::Done => "ok",
+        Outcome::Raised => "error",
         Outcome::Stopped => "stopped",
     };
     let mut told = String::from_str(alloc, outcome)?;
@@ -40,146 +48,126 @@ fn told(alloc: Global, ran: &CellResult) -> Result<String, AllocError> {
     Ok(told)
 }
 
-fn run(alloc: Global, text: &str, state: &mut PlainState) -> Result<String, AllocError> {
-    if text.len() > 1_048_576 {
+// Runs a cell on what the cells before left.
+fn next<L: Ledger>(
+    alloc: Global,
+    text: &str,
+    heap: &mut Heap,
+    names: &mut Names,
+    steps: &mut Steps<L>,
+) -> Result<String, AllocError>
+    requires sound { IsTrue (are_sound_names (length heap.old) names.old.bound) }
+    ensures sound { IsTrue (are_sound_names (length heap.new) names.new.bound) }
+{
+    if text.len() > 1_048_576 || heap.len() > 2_147_483_648 {
         return String::from_str(alloc, "too long");
     }
-    let ran = run_plain(alloc, text, state)?;
+    let ran = run_cell(alloc, Profile::One, text, heap, names, steps)?;
     told(alloc, &ran)
 }
 
-// Each on a state of its own.
-const CELLS: [(&str, &str); 38] = [
-    ("", "done"),
-    ("print(1 + 2)", "done <3\n>"),
-    ("x = 2\nprint(x * x + 1)", "done <5\n>"),
-    (
-        "print(-7 // 2, -7 % 2, 7 // -2, 7 % -2)",
-        "done <-4 1 -4 -1\n>",
-    ),
-    (
-        "print(2 + 3 * 4 - 10 % 4, (2 + 3) * -4, -2 ** 2)",
-        "done <12 -20 -4\n>",
-    ),
-    ("2 ** 10;", "done 1024"),
-    ("print()\nNone", "done <\n>"),
-    ("print(None, True, 'it\\'s')", "done <None True it's\n>"),
-    ("'it\\'s'", "done \"it's\""),
-    ("'\\u00e9\\t' + 'x' * 3", "done 'é\\txxx'"),
-    ("3 * 'ab' + 'c' * -1", "done 'ababab'"),
-    ("0 and x", "done 0"),
-    ("1 and '' and x", "done ''"),
-    ("'' or 0 or 'b'", "done 'b'"),
-    ("2 or x", "done 2"),
-    (
-        "print(not 0, not 'a', +True, -True)",
-        "done <True False 1 -1\n>",
-    ),
-    (
-        "print(1 < 2 < 3, 1 < 3 < 2, 3 < 2 < x)",
-        "done <True False False\n>",
-    ),
-    (
-        "print(1 == True, 'a' == 1, None is None, 1 is not 1)",
-        "done <True False True False\n>",
-    ),
-    (
-        "print('a' < 'b' <= 'ba', 'an' in 'banana', 'x' not in 'y')",
-        "done <True True True\n>",
-    ),
-    ("'yes' if 1 else x", "done 'yes'"),
-    ("x = (y) = 5\nprint(x, y)", "done <5 5\n>"),
-    ("s = 'a'\ns *= 3\ns += 'b'\ns", "done 'aaab'"),
-    ("n = 7\nn -= 1; n //= 2; n **= 3; n %= 10\nn", "done 7"),
-    (
-        "x = 0\nif x: print(1)\nelif x == 0: print(2)\nelse: print(3)",
-        "done <2\n>",
-    ),
-    (
-        "n = 0\nwhile n < 10:\n    n += 1\n    if n % 2: continue\n    if n > 6: break\n    print(n)\nn",
-        "done <2\n4\n6\n> 8",
-    ),
-    (
-        "while 1:\n    while 1: break\n    break\n'out'",
-        "done 'out'",
-    ),
-    ("print(z)", "raised NameError: name 'z' is not defined"),
-    (
-        "print('a')\n1 // 0\nprint('b')",
-        "raised <a\n> ZeroDivisionError: division by zero",
-    ),
-    ("2 ** -1", "raised ValueError: negative power"),
-    (
-        "170141183460469231731687303715884105727 + 1",
-        "raised OverflowError: whole number too large",
-    ),
-    (
-        "170141183460469231731687303715884105728",
-        "raised SyntaxError: invalid syntax, line 1",
-    ),
-    (
-        "'a' + 1",
-        "raised TypeError: bad operand types for +: 'str' and 'int'",
-    ),
-    (
-        "None < 1",
-        "raised TypeError: bad operand types for <: 'NoneType' and 'int'",
-    ),
-    ("-'a'", "raised TypeError: bad operand type for -: 'str'"),
-    ("1 in 2", "raised TypeError: 'int' object is not iterable"),
-    ("1()", "raised TypeError: 'int' object is not callable"),
-    (
-        "x = 1\nif x:\n    y = ",
-        "raised SyntaxError: invalid syntax, line 2",
-    ),
-    ("'abc", "raised SyntaxError: invalid syntax, line 1"),
-];
+// Runs cells on one state, which is empty at first: `\x1e` stands between them, and behind what each gives.
+fn answers<L: Ledger>(alloc: Global, texts: &RcStr, blank: Blank) -> Result<String, AllocError>
+    requires name { blank.name ≡ L.name }
+    requires parts { blank.parts ≡ L.parts }
+    requires some { 0 < L.parts }
+{
+    let mut steps = Steps::<L>::new(blank);
+    let mut heap = Heap::new(alloc);
+    let mut names = Names::new(alloc);
+    let mut all = String::new(alloc);
+    for text in texts.as_str().split('\x1e') {
+        let given = next(alloc, text, &mut heap, &mut names, &mut steps)?;
+        all.push_str(given.as_str())?;
+        all.push('\x1e')?;
+    }
+    Ok(all)
+}
+
+// What cells give that are run in turn on a state of their own.
+fn given(alloc: Global, texts: &str) -> Result<String, AllocError> {
+    let texts = RcStr::from_str(alloc, texts)?;
+    answers::<Brand>(alloc, &texts, Blank::new(1))
+}
 
 #[test]
-fn cells_run(rt: HostRuntime) -> Result<(), Fail> {
+fn first_cells(rt: HostRuntime) -> Result<(), Fail> {
     let alloc = rt.alloc();
-    for (text, want) in CELLS {
-        let mut state = PlainState::new(alloc);
-        assert_eq!(rt; run(alloc, text, &mut state)?.as_str(), want, "at {text}");
+    for (texts, want) in [
+        ("", "ok\x1e"),
+        ("print(1 + 2)", "ok <3\n>\x1e"),
+        (
+            "a = [1]; b = a\x1eb.append(2)\x1ea",
+            "ok\x1eok\x1eok [1, 2]\x1e",
+        ),
+        (
+            "def g(x, acc=[]): acc.append(x); return acc\x1ep = g(1)\x1eprint(g(2) is p, p)",
+            "ok\x1eok\x1eok <True [1, 2]\n>\x1e",
+        ),
+        (
+            "n = 1; m = 1 // 0; n = 2\x1en\x1em",
+            "error ZeroDivisionError: division by zero\x1eok 1\x1eerror NameError: name 'm' is not defined\x1e",
+        ),
+        (
+            "n = 5\x1en = n n\x1en",
+            "ok\x1eerror SyntaxError: invalid syntax, line 1\x1eok 5\x1e",
+        ),
+    ] {
+        assert_eq!(rt; given(alloc, texts)?.as_str(), want, "at {texts}");
     }
     Ok(())
 }
 
-// One after another on one state.
-const SESSION: [(&str, &str); 11] = [
-    (
-        "n = 1; m = 1 // 0; n = 2",
-        "raised ZeroDivisionError: division by zero",
-    ),
-    ("n", "done 1"),
-    ("m", "raised NameError: name 'm' is not defined"),
-    (
-        "n = 5\nn = n n",
-        "raised SyntaxError: invalid syntax, line 2",
-    ),
-    ("n; s = 'a' * 2000; p = 'a' * 1999; n", "done 1"),
-    // The search takes 3,998,000 steps, and eight are taken besides it and the repetition.
-    ("r = p in s and 'b' * 1992", "done"),
-    (
-        "t = p in s and 'b' * 1993",
-        "stopped Stopped: step budget spent",
-    ),
-    ("t", "raised NameError: name 't' is not defined"),
-    ("n = 0; t = 'a' * 100", "done"),
-    // One step, and then 10,010 a turn, of which six lead to the new n.
-    (
-        "while True: n += 1; t in t",
-        "stopped Stopped: step budget spent",
-    ),
-    ("n", "done 400"),
-];
+// Each search takes 3,998,000 steps, and eight are taken besides it and the repetition. A turn takes
+// one step and then 10,010, of which six lead to the new n.
+#[test]
+fn names_outlive_spent_steps(rt: HostRuntime) -> Result<(), Fail> {
+    let alloc = rt.alloc();
+    let texts =
+        "s = 'a' * 2000; p = 'a' * 1999\x1er = p in s and 'b' * 1992\x1et = p in s and 'b' * 1993\x1et\x1en = 0; t = 'a' * 100\x1ewhile True: n += 1; t in t\x1en";
+    let want =
+        "ok\x1eok\x1estopped Stopped: step budget spent\x1eerror NameError: name 't' is not defined\x1eok\x1estopped Stopped: step budget spent\x1eok 400\x1e";
+    assert_eq!(rt; given(alloc, texts)?.as_str(), want);
+    Ok(())
+}
+
+// Whether a row's cell spends its steps.
+fn is_spent(row: &str) -> bool {
+    row.starts_with("stopped")
+}
+
+// Whether a row's cell gives what the row says.
+fn holds(alloc: Global, row: &str) -> Result<bool, AllocError> {
+    let (want, text) = row.split_once('\x1f').unwrap_or((row, ""));
+    let given = given(alloc, text)?;
+    Ok(given.as_str().strip_suffix('\x1e') == Some(want))
+}
 
 #[test]
-fn names_stay(rt: HostRuntime) -> Result<(), Fail> {
+fn cells_give_what_they_mean(rt: HostRuntime) -> Result<(), Fail> {
     let alloc = rt.alloc();
-    let mut state = PlainState::new(alloc);
-    for (text, want) in SESSION {
-        assert_eq!(rt; run(alloc, text, &mut state)?.as_str(), want, "at {text}");
+    let mut count: usize = 0;
+    for row in cells::ROWS.split('\x1e') {
+        if !row.is_empty() {
+            assert!(rt; is_spent(row) || holds(alloc, row)?, "at {row}");
+            count = count.wrapping_add(1);
+        }
     }
+    assert_eq!(rt; count, cells::COUNT);
+    Ok(())
+}
+
+// These take 4,000,000 steps each: a few seconds in all as a test is built, and many minutes under `rt try`.
+#[test]
+fn cells_that_spend_their_steps(rt: HostRuntime) -> Result<(), Fail> {
+    let alloc = rt.alloc();
+    let mut count: usize = 0;
+    for row in cells::ROWS.split('\x1e') {
+        if is_spent(row) {
+            assert!(rt; holds(alloc, row)?, "at {row}");
+            count = count.wrapping_add(1);
+        }
+    }
+    assert_eq!(rt; count, cells::SPENT);
     Ok(())
 }

@@ -1,6 +1,9 @@
-// Made by tools/plain_cells.py: the cell's outcome and outputs in its answer, and its text, with \x1f between, and
+// Made by tools/cells.py: the cell's outcome and outputs in its answer, and its text, with \x1f between, and
 // \x1e behind each row. The answer is BEGIN, this, END.
-pub(crate) const COUNT: usize = 169;
+pub(crate) const COUNT: usize = 732;
+
+// Of these so many spend their steps.
+pub(crate) const SPENT: usize = 21;
 
 pub(crate) const BEGIN: &str = "{\"answer\":\"cell\",\"commit\":1,\"count\":1,\"outcome\":";
 
@@ -176,4 +179,567 @@ pub(crate) const ROWS: &str = "\
     \"error\",\"outputs\":[{\"ename\":\"SyntaxError\",\"evalue\":\"invalid syntax, line 1\",\"output_type\":\"error\",\"traceback\":[\"SyntaxError: invalid syntax, line 1\"]}]\x1fx = 1 $ 2\x1e\
     \"error\",\"outputs\":[{\"ename\":\"SyntaxError\",\"evalue\":\"invalid syntax, line 3\",\"output_type\":\"error\",\"traceback\":[\"SyntaxError: invalid syntax, line 3\"]}]\x1f\n\nx = 1 +\n\x1e\
     \"error\",\"outputs\":[{\"ename\":\"SyntaxError\",\"evalue\":\"invalid syntax, line 1\",\"output_type\":\"error\",\"traceback\":[\"SyntaxError: invalid syntax, line 1\"]}]\x1fif 1: pass\nelse pass\x1e\
+    \"ok\",\"outputs\":[{\"data\":{\"text/plain\":\"[]\"},\"execution_count\":1,\"metadata\":{},\"output_type\":\"execute_result\"}]\x1f[]\x1e\
+    \"ok\",\"outputs\":[{\"data\":{\"text/plain\":\"()\"},\"execution_count\":1,\"metadata\":{},\"output_type\":\"execute_result\"}]\x1f()\x1e\
+    \"ok\",\"outputs\":[{\"data\":{\"text/plain\":\"{}\"},\"execution_count\":1,\"metadata\":{},\"output_type\":\"execute_result\"}]\x1f{}\x1e\
+    \"ok\",\"outputs\":[{\"data\":{\"text/plain\":\"[1, 'a', None]\"},\"execution_count\":1,\"metadata\":{},\"output_type\":\"execute_result\"}]\x1f[1, 'a', None]\x1e\
+    \"ok\",\"outputs\":[{\"data\":{\"text/plain\":\"(1,)\"},\"execution_count\":1,\"metadata\":{},\"output_type\":\"execute_result\"}]\x1f(1,)\x1e\
+    \"ok\",\"outputs\":[{\"data\":{\"text/plain\":\"(1, 2)\"},\"execution_count\":1,\"metadata\":{},\"output_type\":\"execute_result\"}]\x1f1, 2\x1e\
+    \"ok\",\"outputs\":[{\"data\":{\"text/plain\":\"(1,)\"},\"execution_count\":1,\"metadata\":{},\"output_type\":\"execute_result\"}]\x1fx = 1,\nx\x1e\
+    \"ok\",\"outputs\":[{\"data\":{\"text/plain\":\"([[1], [2]], ())\"},\"execution_count\":1,\"metadata\":{},\"output_type\":\"execute_result\"}]\x1f[[1], [2]], ()\x1e\
+    \"ok\",\"outputs\":[{\"data\":{\"text/plain\":\"{1: 'b'}\"},\"execution_count\":1,\"metadata\":{},\"output_type\":\"execute_result\"}]\x1f{1: 'a', True: 'b'}\x1e\
+    \"ok\",\"outputs\":[{\"name\":\"stdout\",\"output_type\":\"stream\",\"text\":\"{1: 'b'}\\n\"}]\x1fd = {1: 'a', True: 'b'}; print(d)\x1e\
+    \"ok\",\"outputs\":[{\"data\":{\"text/plain\":\"{'k': [1], (1, 'a'): {}}\"},\"execution_count\":1,\"metadata\":{},\"output_type\":\"execute_result\"}]\x1f{'k': [1], (1, 'a'): {}}\x1e\
+    \"ok\",\"outputs\":[{\"data\":{\"text/plain\":\"{None: 0, 'a': 1, 2: 3, (): 4}\"},\"execution_count\":1,\"metadata\":{},\"output_type\":\"execute_result\"}]\x1f{None: 0, 'a': 1, 2: 3, (): 4}\x1e\
+    \"error\",\"outputs\":[{\"ename\":\"TypeError\",\"evalue\":\"unhashable key: 'list'\",\"output_type\":\"error\",\"traceback\":[\"TypeError: unhashable key: 'list'\"]}]\x1f{[]: 1}\x1e\
+    \"error\",\"outputs\":[{\"ename\":\"TypeError\",\"evalue\":\"unhashable key: 'dict'\",\"output_type\":\"error\",\"traceback\":[\"TypeError: unhashable key: 'dict'\"]}]\x1f{{}: 1}\x1e\
+    \"error\",\"outputs\":[{\"ename\":\"TypeError\",\"evalue\":\"unhashable key: 'list'\",\"output_type\":\"error\",\"traceback\":[\"TypeError: unhashable key: 'list'\"]}]\x1f{(1, []): 1}\x1e\
+    \"error\",\"outputs\":[{\"ename\":\"NameError\",\"evalue\":\"name 'x' is not defined\",\"output_type\":\"error\",\"traceback\":[\"NameError: name 'x' is not defined\"]}]\x1f{1: x}\x1e\
+    \"error\",\"outputs\":[{\"ename\":\"NameError\",\"evalue\":\"name 'x' is not defined\",\"output_type\":\"error\",\"traceback\":[\"NameError: name 'x' is not defined\"]}]\x1f[1, x]\x1e\
+    \"error\",\"outputs\":[{\"name\":\"stdout\",\"output_type\":\"stream\",\"text\":\"1\\n3\\n\"},{\"ename\":\"TypeError\",\"evalue\":\"unhashable key: 'list'\",\"output_type\":\"error\",\"traceback\":[\"TypeError: unhashable key: 'list'\"]}]\x1fx = {[]: print(1), 2: print(3)}\x1e\
+    \"error\",\"outputs\":[{\"name\":\"stdout\",\"output_type\":\"stream\",\"text\":\"3\\n\"},{\"ename\":\"KeyError\",\"evalue\":\"None\",\"output_type\":\"error\",\"traceback\":[\"KeyError: None\"]}]\x1f{1: 2}[print(3)]\x1e\
+    \"ok\",\"outputs\":[{\"data\":{\"text/plain\":\"[[...]]\"},\"execution_count\":1,\"metadata\":{},\"output_type\":\"execute_result\"}]\x1fa = []; a.append(a); a\x1e\
+    \"ok\",\"outputs\":[{\"name\":\"stdout\",\"output_type\":\"stream\",\"text\":\"1\\n2\\n3\\n4\\n[None, None] {None: None}\\n\"}]\x1fprint([print(1), print(2)], {print(3): print(4)})\x1e\
+    \"ok\",\"outputs\":[{\"name\":\"stdout\",\"output_type\":\"stream\",\"text\":\"[1, 2] True False\\n\"}]\x1fa = [1]; b = a; b.append(2); print(a, a is b, [1] is [1])\x1e\
+    \"ok\",\"outputs\":[{\"name\":\"stdout\",\"output_type\":\"stream\",\"text\":\"[[1], [1]] True False\\n\"}]\x1fa = []; b = [a, a]; b[0].append(1); print(b, b[0] is b[1], a is not b[0])\x1e\
+    \"ok\",\"outputs\":[{\"data\":{\"text/plain\":\"True\"},\"execution_count\":1,\"metadata\":{},\"output_type\":\"execute_result\"}]\x1fd = {}; d is {} or d is d\x1e\
+    \"ok\",\"outputs\":[{\"data\":{\"text/plain\":\"True\"},\"execution_count\":1,\"metadata\":{},\"output_type\":\"execute_result\"}]\x1fa = (1, 2); b = a; a is b\x1e\
+    \"ok\",\"outputs\":[{\"name\":\"stdout\",\"output_type\":\"stream\",\"text\":\"False False False\\n\"}]\x1fprint([] is None, None is [], 1 is [1])\x1e\
+    \"ok\",\"outputs\":[{\"data\":{\"text/plain\":\"'none'\"},\"execution_count\":1,\"metadata\":{},\"output_type\":\"execute_result\"}]\x1f[] or () or {} or 'none'\x1e\
+    \"ok\",\"outputs\":[{\"data\":{\"text/plain\":\"'all'\"},\"execution_count\":1,\"metadata\":{},\"output_type\":\"execute_result\"}]\x1f[0] and (0,) and {0: 0} and 'all'\x1e\
+    \"ok\",\"outputs\":[{\"data\":{\"text/plain\":\"2\"},\"execution_count\":1,\"metadata\":{},\"output_type\":\"execute_result\"}]\x1fx = 1 if [] else 2\nx\x1e\
+    \"ok\",\"outputs\":[{\"data\":{\"text/plain\":\"False\"},\"execution_count\":1,\"metadata\":{},\"output_type\":\"execute_result\"}]\x1fnot [[]]\x1e\
+    \"ok\",\"outputs\":[{\"data\":{\"text/plain\":\"1\"},\"execution_count\":1,\"metadata\":{},\"output_type\":\"execute_result\"}]\x1f[1, 2, 3][0]\x1e\
+    \"ok\",\"outputs\":[{\"data\":{\"text/plain\":\"3\"},\"execution_count\":1,\"metadata\":{},\"output_type\":\"execute_result\"}]\x1f[1, 2, 3][-1]\x1e\
+    \"ok\",\"outputs\":[{\"data\":{\"text/plain\":\"2\"},\"execution_count\":1,\"metadata\":{},\"output_type\":\"execute_result\"}]\x1f(1, 2)[True]\x1e\
+    \"ok\",\"outputs\":[{\"data\":{\"text/plain\":\"'b'\"},\"execution_count\":1,\"metadata\":{},\"output_type\":\"execute_result\"}]\x1f'abc'[1]\x1e\
+    \"ok\",\"outputs\":[{\"data\":{\"text/plain\":\"'a'\"},\"execution_count\":1,\"metadata\":{},\"output_type\":\"execute_result\"}]\x1f'abc'[-3]\x1e\
+    \"ok\",\"outputs\":[{\"data\":{\"text/plain\":\"1\"},\"execution_count\":1,\"metadata\":{},\"output_type\":\"execute_result\"}]\x1f{'a': 1}['a']\x1e\
+    \"ok\",\"outputs\":[{\"data\":{\"text/plain\":\"2\"},\"execution_count\":1,\"metadata\":{},\"output_type\":\"execute_result\"}]\x1f{1: 2}[True]\x1e\
+    \"ok\",\"outputs\":[{\"data\":{\"text/plain\":\"3\"},\"execution_count\":1,\"metadata\":{},\"output_type\":\"execute_result\"}]\x1f{(1, 2): 3}[1, 2]\x1e\
+    \"ok\",\"outputs\":[{\"data\":{\"text/plain\":\"2\"},\"execution_count\":1,\"metadata\":{},\"output_type\":\"execute_result\"}]\x1f[[1, 2], [3]][0][1]\x1e\
+    \"ok\",\"outputs\":[{\"data\":{\"text/plain\":\"'\u{1f600}'\"},\"execution_count\":1,\"metadata\":{},\"output_type\":\"execute_result\"}]\x1f'\u{e9}\u{1f600}'[1]\x1e\
+    \"error\",\"outputs\":[{\"ename\":\"IndexError\",\"evalue\":\"index out of range\",\"output_type\":\"error\",\"traceback\":[\"IndexError: index out of range\"]}]\x1f[1][1]\x1e\
+    \"error\",\"outputs\":[{\"ename\":\"IndexError\",\"evalue\":\"index out of range\",\"output_type\":\"error\",\"traceback\":[\"IndexError: index out of range\"]}]\x1f[1][-2]\x1e\
+    \"error\",\"outputs\":[{\"ename\":\"IndexError\",\"evalue\":\"index out of range\",\"output_type\":\"error\",\"traceback\":[\"IndexError: index out of range\"]}]\x1f()[0]\x1e\
+    \"error\",\"outputs\":[{\"ename\":\"IndexError\",\"evalue\":\"index out of range\",\"output_type\":\"error\",\"traceback\":[\"IndexError: index out of range\"]}]\x1f''[0]\x1e\
+    \"error\",\"outputs\":[{\"ename\":\"KeyError\",\"evalue\":\"'k'\",\"output_type\":\"error\",\"traceback\":[\"KeyError: 'k'\"]}]\x1f{}['k']\x1e\
+    \"error\",\"outputs\":[{\"ename\":\"KeyError\",\"evalue\":\"(1,)\",\"output_type\":\"error\",\"traceback\":[\"KeyError: (1,)\"]}]\x1f{1: 2}[(1,)]\x1e\
+    \"error\",\"outputs\":[{\"ename\":\"TypeError\",\"evalue\":\"unhashable key: 'list'\",\"output_type\":\"error\",\"traceback\":[\"TypeError: unhashable key: 'list'\"]}]\x1f{}[[]]\x1e\
+    \"error\",\"outputs\":[{\"ename\":\"TypeError\",\"evalue\":\"bad index type: 'str'\",\"output_type\":\"error\",\"traceback\":[\"TypeError: bad index type: 'str'\"]}]\x1f[1]['a']\x1e\
+    \"error\",\"outputs\":[{\"ename\":\"TypeError\",\"evalue\":\"bad index type: 'NoneType'\",\"output_type\":\"error\",\"traceback\":[\"TypeError: bad index type: 'NoneType'\"]}]\x1f[1][None]\x1e\
+    \"error\",\"outputs\":[{\"ename\":\"TypeError\",\"evalue\":\"bad index type: 'str'\",\"output_type\":\"error\",\"traceback\":[\"TypeError: bad index type: 'str'\"]}]\x1f'a'['b']\x1e\
+    \"error\",\"outputs\":[{\"ename\":\"TypeError\",\"evalue\":\"'int' object is not subscriptable\",\"output_type\":\"error\",\"traceback\":[\"TypeError: 'int' object is not subscriptable\"]}]\x1f1[0]\x1e\
+    \"error\",\"outputs\":[{\"ename\":\"TypeError\",\"evalue\":\"'NoneType' object is not subscriptable\",\"output_type\":\"error\",\"traceback\":[\"TypeError: 'NoneType' object is not subscriptable\"]}]\x1fNone[0]\x1e\
+    \"error\",\"outputs\":[{\"ename\":\"TypeError\",\"evalue\":\"'bool' object is not subscriptable\",\"output_type\":\"error\",\"traceback\":[\"TypeError: 'bool' object is not subscriptable\"]}]\x1f(1 < 2)[0]\x1e\
+    \"error\",\"outputs\":[{\"ename\":\"ZeroDivisionError\",\"evalue\":\"division by zero\",\"output_type\":\"error\",\"traceback\":[\"ZeroDivisionError: division by zero\"]}]\x1fx = [1]\nx[1 // 0]\x1e\
+    \"error\",\"outputs\":[{\"ename\":\"NameError\",\"evalue\":\"name 'y' is not defined\",\"output_type\":\"error\",\"traceback\":[\"NameError: name 'y' is not defined\"]}]\x1fx = {}\nx[y]\x1e\
+    \"ok\",\"outputs\":[{\"data\":{\"text/plain\":\"[2, 3]\"},\"execution_count\":1,\"metadata\":{},\"output_type\":\"execute_result\"}]\x1f[1, 2, 3, 4][1:3]\x1e\
+    \"ok\",\"outputs\":[{\"data\":{\"text/plain\":\"([1, 2], [3, 4], [1, 2])\"},\"execution_count\":1,\"metadata\":{},\"output_type\":\"execute_result\"}]\x1f[1, 2, 3, 4][:2], [1, 2, 3, 4][2:], [1, 2][:]\x1e\
+    \"ok\",\"outputs\":[{\"name\":\"stdout\",\"output_type\":\"stream\",\"text\":\"fdb [2, 3]\\n\"}]\x1fprint('abcdef'[::-2], [1, 2, 3, 4][-3:-1])\x1e\
+    \"ok\",\"outputs\":[{\"data\":{\"text/plain\":\"[3, 2, 1]\"},\"execution_count\":1,\"metadata\":{},\"output_type\":\"execute_result\"}]\x1f[1, 2, 3][::-1]\x1e\
+    \"ok\",\"outputs\":[{\"data\":{\"text/plain\":\"((2, 3), (), (1, 2))\"},\"execution_count\":1,\"metadata\":{},\"output_type\":\"execute_result\"}]\x1f(1, 2, 3)[1:], (1, 2)[5:], (1, 2)[-9:9]\x1e\
+    \"ok\",\"outputs\":[{\"data\":{\"text/plain\":\"'dcb'\"},\"execution_count\":1,\"metadata\":{},\"output_type\":\"execute_result\"}]\x1f'abcde'[3:0:-1]\x1e\
+    \"ok\",\"outputs\":[{\"data\":{\"text/plain\":\"'ec'\"},\"execution_count\":1,\"metadata\":{},\"output_type\":\"execute_result\"}]\x1f'abcde'[-1:-4:-2]\x1e\
+    \"ok\",\"outputs\":[{\"data\":{\"text/plain\":\"[1, 2, 3]\"},\"execution_count\":1,\"metadata\":{},\"output_type\":\"execute_result\"}]\x1f[1, 2, 3][None:None:None]\x1e\
+    \"ok\",\"outputs\":[{\"data\":{\"text/plain\":\"[]\"},\"execution_count\":1,\"metadata\":{},\"output_type\":\"execute_result\"}]\x1f[1, 2, 3][2:1]\x1e\
+    \"ok\",\"outputs\":[{\"data\":{\"text/plain\":\"'b'\"},\"execution_count\":1,\"metadata\":{},\"output_type\":\"execute_result\"}]\x1f'abc'[1:-1:2]\x1e\
+    \"ok\",\"outputs\":[{\"data\":{\"text/plain\":\"[4, 2]\"},\"execution_count\":1,\"metadata\":{},\"output_type\":\"execute_result\"}]\x1f[1, 2, 3, 4, 5][-2::-2]\x1e\
+    \"ok\",\"outputs\":[{\"data\":{\"text/plain\":\"[2, 1]\"},\"execution_count\":1,\"metadata\":{},\"output_type\":\"execute_result\"}]\x1f[1, 2][10:-10:-1]\x1e\
+    \"ok\",\"outputs\":[{\"data\":{\"text/plain\":\"'a'\"},\"execution_count\":1,\"metadata\":{},\"output_type\":\"execute_result\"}]\x1f'ab'[::100]\x1e\
+    \"ok\",\"outputs\":[{\"data\":{\"text/plain\":\"False\"},\"execution_count\":1,\"metadata\":{},\"output_type\":\"execute_result\"}]\x1fa = [1]; a[:] is a\x1e\
+    \"error\",\"outputs\":[{\"ename\":\"ValueError\",\"evalue\":\"step is zero\",\"output_type\":\"error\",\"traceback\":[\"ValueError: step is zero\"]}]\x1f[1][::0]\x1e\
+    \"error\",\"outputs\":[{\"ename\":\"TypeError\",\"evalue\":\"bad index type: 'str'\",\"output_type\":\"error\",\"traceback\":[\"TypeError: bad index type: 'str'\"]}]\x1f[1]['a':]\x1e\
+    \"error\",\"outputs\":[{\"ename\":\"TypeError\",\"evalue\":\"bad index type: 'str'\",\"output_type\":\"error\",\"traceback\":[\"TypeError: bad index type: 'str'\"]}]\x1f[1][:'b']\x1e\
+    \"error\",\"outputs\":[{\"ename\":\"TypeError\",\"evalue\":\"bad index type: 'str'\",\"output_type\":\"error\",\"traceback\":[\"TypeError: bad index type: 'str'\"]}]\x1f[1][::'c']\x1e\
+    \"error\",\"outputs\":[{\"ename\":\"ValueError\",\"evalue\":\"step is zero\",\"output_type\":\"error\",\"traceback\":[\"ValueError: step is zero\"]}]\x1f[1]['a'::0]\x1e\
+    \"error\",\"outputs\":[{\"ename\":\"TypeError\",\"evalue\":\"'int' object is not subscriptable\",\"output_type\":\"error\",\"traceback\":[\"TypeError: 'int' object is not subscriptable\"]}]\x1f1[1:2]\x1e\
+    \"error\",\"outputs\":[{\"ename\":\"TypeError\",\"evalue\":\"'dict' object is not subscriptable\",\"output_type\":\"error\",\"traceback\":[\"TypeError: 'dict' object is not subscriptable\"]}]\x1f{}[1:2]\x1e\
+    \"error\",\"outputs\":[{\"ename\":\"NameError\",\"evalue\":\"name 'x' is not defined\",\"output_type\":\"error\",\"traceback\":[\"NameError: name 'x' is not defined\"]}]\x1f[1][x:]\x1e\
+    \"ok\",\"outputs\":[{\"data\":{\"text/plain\":\"namespace(a=1, b=[namespace(...)])\"},\"execution_count\":1,\"metadata\":{},\"output_type\":\"execute_result\"}]\x1ffrom types import SimpleNamespace\no = SimpleNamespace(a=1); o.b = [o]; o\x1e\
+    \"ok\",\"outputs\":[{\"data\":{\"text/plain\":\"namespace(y=1)\"},\"execution_count\":1,\"metadata\":{},\"output_type\":\"execute_result\"}]\x1ffrom types import SimpleNamespace\no = SimpleNamespace(); o.x = 1; o.y = o.x; del o.x; o\x1e\
+    \"ok\",\"outputs\":[{\"data\":{\"text/plain\":\"3\"},\"execution_count\":1,\"metadata\":{},\"output_type\":\"execute_result\"}]\x1ffrom types import SimpleNamespace\no = SimpleNamespace(a=1); o.a += 2; o.a\x1e\
+    \"ok\",\"outputs\":[{\"data\":{\"text/plain\":\"2\"},\"execution_count\":1,\"metadata\":{},\"output_type\":\"execute_result\"}]\x1ffrom types import SimpleNamespace\nSimpleNamespace(a=1, b=[2]).b[0]\x1e\
+    \"error\",\"outputs\":[{\"ename\":\"AttributeError\",\"evalue\":\"'SimpleNamespace' object has no attribute 'a'\",\"output_type\":\"error\",\"traceback\":[\"AttributeError: 'SimpleNamespace' object has no attribute 'a'\"]}]\x1ffrom types import SimpleNamespace\nSimpleNamespace().a\x1e\
+    \"error\",\"outputs\":[{\"ename\":\"AttributeError\",\"evalue\":\"'SimpleNamespace' object has no attribute 'a'\",\"output_type\":\"error\",\"traceback\":[\"AttributeError: 'SimpleNamespace' object has no attribute 'a'\"]}]\x1ffrom types import SimpleNamespace\no = SimpleNamespace(); del o.a\x1e\
+    \"ok\",\"outputs\":[{\"data\":{\"text/plain\":\"namespace(b=[1])\"},\"execution_count\":1,\"metadata\":{},\"output_type\":\"execute_result\"}]\x1ffrom types import SimpleNamespace\no = SimpleNamespace(a=[]); o.a.append(1); o.f = SimpleNamespace; o.f(b=o.a)\x1e\
+    \"error\",\"outputs\":[{\"ename\":\"TypeError\",\"evalue\":\"SimpleNamespace() got bad arguments\",\"output_type\":\"error\",\"traceback\":[\"TypeError: SimpleNamespace() got bad arguments\"]}]\x1ffrom types import SimpleNamespace\nSimpleNamespace(1)\x1e\
+    \"ok\",\"outputs\":[{\"data\":{\"text/plain\":\"namespace()\"},\"execution_count\":1,\"metadata\":{},\"output_type\":\"execute_result\"}]\x1ffrom types import SimpleNamespace\no = SimpleNamespace(keys=SimpleNamespace); o.keys()\x1e\
+    \"error\",\"outputs\":[{\"ename\":\"AttributeError\",\"evalue\":\"'SimpleNamespace' object has no attribute 'keys'\",\"output_type\":\"error\",\"traceback\":[\"AttributeError: 'SimpleNamespace' object has no attribute 'keys'\"]}]\x1ffrom types import SimpleNamespace\no = SimpleNamespace(); o.keys()\x1e\
+    \"ok\",\"outputs\":[{\"data\":{\"text/plain\":\"namespace(a=namespace(b=1))\"},\"execution_count\":1,\"metadata\":{},\"output_type\":\"execute_result\"}]\x1ffrom types import SimpleNamespace as S\no = S(a=S()); o.a.b = 1; o\x1e\
+    \"ok\",\"outputs\":[{\"data\":{\"text/plain\":\"(True, False)\"},\"execution_count\":1,\"metadata\":{},\"output_type\":\"execute_result\"}]\x1ffrom types import SimpleNamespace\nx = SimpleNamespace(a=1) == SimpleNamespace(a=1), SimpleNamespace(a=1) == SimpleNamespace(b=1); x\x1e\
+    \"error\",\"outputs\":[{\"ename\":\"AttributeError\",\"evalue\":\"'list' object has no attribute 'a'\",\"output_type\":\"error\",\"traceback\":[\"AttributeError: 'list' object has no attribute 'a'\"]}]\x1f[].a\x1e\
+    \"error\",\"outputs\":[{\"ename\":\"AttributeError\",\"evalue\":\"'int' object has no attribute 'a'\",\"output_type\":\"error\",\"traceback\":[\"AttributeError: 'int' object has no attribute 'a'\"]}]\x1fx = 1\nx.a = 2\x1e\
+    \"error\",\"outputs\":[{\"ename\":\"AttributeError\",\"evalue\":\"'str' object has no attribute 'b'\",\"output_type\":\"error\",\"traceback\":[\"AttributeError: 'str' object has no attribute 'b'\"]}]\x1f'a'.b\x1e\
+    \"error\",\"outputs\":[{\"ename\":\"NameError\",\"evalue\":\"name 'x' is not defined\",\"output_type\":\"error\",\"traceback\":[\"NameError: name 'x' is not defined\"]}]\x1f(1).a = x\x1e\
+    \"error\",\"outputs\":[{\"ename\":\"AttributeError\",\"evalue\":\"'list' object has no attribute 'x'\",\"output_type\":\"error\",\"traceback\":[\"AttributeError: 'list' object has no attribute 'x'\"]}]\x1f[1].x = 2\x1e\
+    \"error\",\"outputs\":[{\"ename\":\"AttributeError\",\"evalue\":\"'list' object has no attribute 'x'\",\"output_type\":\"error\",\"traceback\":[\"AttributeError: 'list' object has no attribute 'x'\"]}]\x1fdel [1].x\x1e\
+    \"error\",\"outputs\":[{\"ename\":\"AttributeError\",\"evalue\":\"'NoneType' object has no attribute 'a'\",\"output_type\":\"error\",\"traceback\":[\"AttributeError: 'NoneType' object has no attribute 'a'\"]}]\x1fNone.a.b\x1e\
+    \"ok\",\"outputs\":[{\"data\":{\"text/plain\":\"[1, 2, None]\"},\"execution_count\":1,\"metadata\":{},\"output_type\":\"execute_result\"}]\x1fa = [1]; a.append(a.append(2)); a\x1e\
+    \"error\",\"outputs\":[{\"ename\":\"AttributeError\",\"evalue\":\"'list' object has no attribute 'foo'\",\"output_type\":\"error\",\"traceback\":[\"AttributeError: 'list' object has no attribute 'foo'\"]}]\x1f[].foo()\x1e\
+    \"ok\",\"outputs\":[]\x1fx = [].append(1)\nx\x1e\
+    \"error\",\"outputs\":[{\"ename\":\"TypeError\",\"evalue\":\"append() got bad arguments\",\"output_type\":\"error\",\"traceback\":[\"TypeError: append() got bad arguments\"]}]\x1f[].append(1, 2)\x1e\
+    \"error\",\"outputs\":[{\"ename\":\"AttributeError\",\"evalue\":\"'list' object has no attribute 'foo'\",\"output_type\":\"error\",\"traceback\":[\"AttributeError: 'list' object has no attribute 'foo'\"]}]\x1f[].foo(print(1))\x1e\
+    \"error\",\"outputs\":[{\"ename\":\"AttributeError\",\"evalue\":\"'int' object has no attribute 'append'\",\"output_type\":\"error\",\"traceback\":[\"AttributeError: 'int' object has no attribute 'append'\"]}]\x1f(1).append(2)\x1e\
+    \"ok\",\"outputs\":[{\"data\":{\"text/plain\":\"[3, 4]\"},\"execution_count\":1,\"metadata\":{},\"output_type\":\"execute_result\"}]\x1fa = [3]; (a.append)(4); a\x1e\
+    \"ok\",\"outputs\":[{\"name\":\"stdout\",\"output_type\":\"stream\",\"text\":\"2 [1]\\n\"}]\x1fa = [1, 2]; print(a.pop(), a)\x1e\
+    \"error\",\"outputs\":[{\"ename\":\"IndexError\",\"evalue\":\"pop from empty list\",\"output_type\":\"error\",\"traceback\":[\"IndexError: pop from empty list\"]}]\x1f[].pop()\x1e\
+    \"ok\",\"outputs\":[{\"data\":{\"text/plain\":\"{'k': 2, 'j': 3}\"},\"execution_count\":1,\"metadata\":{},\"output_type\":\"execute_result\"}]\x1fd = {'k': 1}; d.update({'k': 2, 'j': 3}); d\x1e\
+    \"ok\",\"outputs\":[{\"name\":\"stdout\",\"output_type\":\"stream\",\"text\":\"2 None 4\\n\"}]\x1fd = {1: 2}; print(d.get(1), d.get(3), d.get(3, 4))\x1e\
+    \"error\",\"outputs\":[{\"ename\":\"TypeError\",\"evalue\":\"unhashable key: 'list'\",\"output_type\":\"error\",\"traceback\":[\"TypeError: unhashable key: 'list'\"]}]\x1f{}.get([])\x1e\
+    \"error\",\"outputs\":[{\"ename\":\"TypeError\",\"evalue\":\"append() got bad arguments\",\"output_type\":\"error\",\"traceback\":[\"TypeError: append() got bad arguments\"]}]\x1f[].append(x=1)\x1e\
+    \"error\",\"outputs\":[{\"ename\":\"TypeError\",\"evalue\":\"'int' object is not callable\",\"output_type\":\"error\",\"traceback\":[\"TypeError: 'int' object is not callable\"]}]\x1f1()\x1e\
+    \"error\",\"outputs\":[{\"ename\":\"TypeError\",\"evalue\":\"'list' object is not callable\",\"output_type\":\"error\",\"traceback\":[\"TypeError: 'list' object is not callable\"]}]\x1f[](2)\x1e\
+    \"error\",\"outputs\":[{\"name\":\"stdout\",\"output_type\":\"stream\",\"text\":\"2\\n\"},{\"ename\":\"TypeError\",\"evalue\":\"'int' object is not callable\",\"output_type\":\"error\",\"traceback\":[\"TypeError: 'int' object is not callable\"]}]\x1fx = 1\nx(print(2))\x1e\
+    \"error\",\"outputs\":[{\"ename\":\"NameError\",\"evalue\":\"name 'y' is not defined\",\"output_type\":\"error\",\"traceback\":[\"NameError: name 'y' is not defined\"]}]\x1fNone(y)\x1e\
+    \"ok\",\"outputs\":[{\"data\":{\"text/plain\":\"[1, 2, 3]\"},\"execution_count\":1,\"metadata\":{},\"output_type\":\"execute_result\"}]\x1f[1] + [2, 3]\x1e\
+    \"ok\",\"outputs\":[{\"data\":{\"text/plain\":\"(1, 2)\"},\"execution_count\":1,\"metadata\":{},\"output_type\":\"execute_result\"}]\x1f(1,) + (2,)\x1e\
+    \"ok\",\"outputs\":[{\"data\":{\"text/plain\":\"False\"},\"execution_count\":1,\"metadata\":{},\"output_type\":\"execute_result\"}]\x1fa = [1]; b = a + []; b is a\x1e\
+    \"ok\",\"outputs\":[{\"data\":{\"text/plain\":\"[1, 2, 1, 2]\"},\"execution_count\":1,\"metadata\":{},\"output_type\":\"execute_result\"}]\x1f[1, 2] * 2\x1e\
+    \"ok\",\"outputs\":[{\"data\":{\"text/plain\":\"(1, 2, 1, 2)\"},\"execution_count\":1,\"metadata\":{},\"output_type\":\"execute_result\"}]\x1f2 * (1, 2)\x1e\
+    \"ok\",\"outputs\":[{\"data\":{\"text/plain\":\"([], (), [0])\"},\"execution_count\":1,\"metadata\":{},\"output_type\":\"execute_result\"}]\x1f[1] * -1, () * 3, [0] * True\x1e\
+    \"error\",\"outputs\":[{\"ename\":\"TypeError\",\"evalue\":\"bad operand types for +: 'list' and 'tuple'\",\"output_type\":\"error\",\"traceback\":[\"TypeError: bad operand types for +: 'list' and 'tuple'\"]}]\x1f[1] + (2,)\x1e\
+    \"error\",\"outputs\":[{\"ename\":\"TypeError\",\"evalue\":\"bad operand types for +: 'list' and 'int'\",\"output_type\":\"error\",\"traceback\":[\"TypeError: bad operand types for +: 'list' and 'int'\"]}]\x1f[1] + 1\x1e\
+    \"error\",\"outputs\":[{\"ename\":\"TypeError\",\"evalue\":\"bad operand types for +: 'int' and 'list'\",\"output_type\":\"error\",\"traceback\":[\"TypeError: bad operand types for +: 'int' and 'list'\"]}]\x1f1 + [1]\x1e\
+    \"error\",\"outputs\":[{\"ename\":\"TypeError\",\"evalue\":\"bad operand types for -: 'tuple' and 'tuple'\",\"output_type\":\"error\",\"traceback\":[\"TypeError: bad operand types for -: 'tuple' and 'tuple'\"]}]\x1f(1,) - (1,)\x1e\
+    \"error\",\"outputs\":[{\"ename\":\"TypeError\",\"evalue\":\"bad operand types for *: 'list' and 'list'\",\"output_type\":\"error\",\"traceback\":[\"TypeError: bad operand types for *: 'list' and 'list'\"]}]\x1f[1] * [1]\x1e\
+    \"error\",\"outputs\":[{\"ename\":\"TypeError\",\"evalue\":\"bad operand types for +: 'dict' and 'dict'\",\"output_type\":\"error\",\"traceback\":[\"TypeError: bad operand types for +: 'dict' and 'dict'\"]}]\x1f{} + {}\x1e\
+    \"error\",\"outputs\":[{\"ename\":\"TypeError\",\"evalue\":\"bad operand types for *: 'str' and 'list'\",\"output_type\":\"error\",\"traceback\":[\"TypeError: bad operand types for *: 'str' and 'list'\"]}]\x1f'a' * []\x1e\
+    \"error\",\"outputs\":[{\"ename\":\"TypeError\",\"evalue\":\"bad operand type for -: 'list'\",\"output_type\":\"error\",\"traceback\":[\"TypeError: bad operand type for -: 'list'\"]}]\x1f-[1]\x1e\
+    \"ok\",\"outputs\":[{\"data\":{\"text/plain\":\"True\"},\"execution_count\":1,\"metadata\":{},\"output_type\":\"execute_result\"}]\x1fnot {}\x1e\
+    \"ok\",\"outputs\":[{\"data\":{\"text/plain\":\"[[1], [1]]\"},\"execution_count\":1,\"metadata\":{},\"output_type\":\"execute_result\"}]\x1fa = [[]] * 2; a[0].append(1); a\x1e\
+    \"ok\",\"outputs\":[{\"data\":{\"text/plain\":\"(True, True, False, True)\"},\"execution_count\":1,\"metadata\":{},\"output_type\":\"execute_result\"}]\x1f[1, 2] == [1, 2], (1,) == (1,), [1] == (1,), {1: 2} == {True: 2}\x1e\
+    \"ok\",\"outputs\":[{\"name\":\"stdout\",\"output_type\":\"stream\",\"text\":\"True True True\\n\"}]\x1fprint((1, 2) < (1, 3), [1] == [True], {1: 2} == {True: 2})\x1e\
+    \"ok\",\"outputs\":[{\"data\":{\"text/plain\":\"(True, True, True, True)\"},\"execution_count\":1,\"metadata\":{},\"output_type\":\"execute_result\"}]\x1f[1, 'a'] < [1, 'b'], [] < [0], [1] <= [1], (2,) > (1, 5)\x1e\
+    \"error\",\"outputs\":[{\"ename\":\"TypeError\",\"evalue\":\"bad operand types for <: 'list' and 'list'\",\"output_type\":\"error\",\"traceback\":[\"TypeError: bad operand types for <: 'list' and 'list'\"]}]\x1f[1] < ['a']\x1e\
+    \"error\",\"outputs\":[{\"ename\":\"TypeError\",\"evalue\":\"bad operand types for <: 'list' and 'tuple'\",\"output_type\":\"error\",\"traceback\":[\"TypeError: bad operand types for <: 'list' and 'tuple'\"]}]\x1f[1] < (1,)\x1e\
+    \"error\",\"outputs\":[{\"ename\":\"TypeError\",\"evalue\":\"bad operand types for <: 'dict' and 'dict'\",\"output_type\":\"error\",\"traceback\":[\"TypeError: bad operand types for <: 'dict' and 'dict'\"]}]\x1f{} < {}\x1e\
+    \"error\",\"outputs\":[{\"ename\":\"TypeError\",\"evalue\":\"bad operand types for >=: 'list' and 'list'\",\"output_type\":\"error\",\"traceback\":[\"TypeError: bad operand types for >=: 'list' and 'list'\"]}]\x1f[1, []] >= [1, {}]\x1e\
+    \"ok\",\"outputs\":[{\"data\":{\"text/plain\":\"(False, True)\"},\"execution_count\":1,\"metadata\":{},\"output_type\":\"execute_result\"}]\x1f[] != [], [[]] != [[], 1]\x1e\
+    \"ok\",\"outputs\":[{\"data\":{\"text/plain\":\"True\"},\"execution_count\":1,\"metadata\":{},\"output_type\":\"execute_result\"}]\x1f{1: [2], 3: 4} == {3: 4, 1: [2]}\x1e\
+    \"ok\",\"outputs\":[{\"data\":{\"text/plain\":\"(True, False, True, True)\"},\"execution_count\":1,\"metadata\":{},\"output_type\":\"execute_result\"}]\x1f1 in [1, 2], 'a' in ('b',), [1] in [[1]], 3 not in [1, 2]\x1e\
+    \"ok\",\"outputs\":[{\"data\":{\"text/plain\":\"(True, False, True)\"},\"execution_count\":1,\"metadata\":{},\"output_type\":\"execute_result\"}]\x1f1 in {True: 0}, 'k' in {}, (1,) in {(1,): 2}\x1e\
+    \"error\",\"outputs\":[{\"ename\":\"TypeError\",\"evalue\":\"unhashable key: 'list'\",\"output_type\":\"error\",\"traceback\":[\"TypeError: unhashable key: 'list'\"]}]\x1f[] in {}\x1e\
+    \"error\",\"outputs\":[{\"ename\":\"TypeError\",\"evalue\":\"'int' object is not iterable\",\"output_type\":\"error\",\"traceback\":[\"TypeError: 'int' object is not iterable\"]}]\x1f1 in 1\x1e\
+    \"error\",\"outputs\":[{\"ename\":\"TypeError\",\"evalue\":\"'NoneType' object is not iterable\",\"output_type\":\"error\",\"traceback\":[\"TypeError: 'NoneType' object is not iterable\"]}]\x1f1 in None\x1e\
+    \"error\",\"outputs\":[{\"ename\":\"NameError\",\"evalue\":\"name 'x' is not defined\",\"output_type\":\"error\",\"traceback\":[\"NameError: name 'x' is not defined\"]}]\x1f1 in [2, 1, x]\x1e\
+    \"error\",\"outputs\":[{\"ename\":\"NameError\",\"evalue\":\"name 'x' is not defined\",\"output_type\":\"error\",\"traceback\":[\"NameError: name 'x' is not defined\"]}]\x1f1 in [x]\x1e\
+    \"ok\",\"outputs\":[{\"data\":{\"text/plain\":\"True\"},\"execution_count\":1,\"metadata\":{},\"output_type\":\"execute_result\"}]\x1fa = []; a in [[], a]\x1e\
+    \"ok\",\"outputs\":[{\"data\":{\"text/plain\":\"True\"},\"execution_count\":1,\"metadata\":{},\"output_type\":\"execute_result\"}]\x1f1 < 2 in [2, True]\x1e\
+    \"ok\",\"outputs\":[{\"data\":{\"text/plain\":\"(2, 1)\"},\"execution_count\":1,\"metadata\":{},\"output_type\":\"execute_result\"}]\x1fa, b = 1, 2\nb, a = a, b\n(a, b)\x1e\
+    \"ok\",\"outputs\":[{\"data\":{\"text/plain\":\"(1, 2, 3)\"},\"execution_count\":1,\"metadata\":{},\"output_type\":\"execute_result\"}]\x1f[a, (b, c)] = 1, [2, 3]\na, b, c\x1e\
+    \"ok\",\"outputs\":[{\"data\":{\"text/plain\":\"('x', 'y')\"},\"execution_count\":1,\"metadata\":{},\"output_type\":\"execute_result\"}]\x1fa, b = 'xy'; a, b\x1e\
+    \"ok\",\"outputs\":[{\"data\":{\"text/plain\":\"1\"},\"execution_count\":1,\"metadata\":{},\"output_type\":\"execute_result\"}]\x1f(a), = [1]; a\x1e\
+    \"ok\",\"outputs\":[{\"data\":{\"text/plain\":\"('x', 'y')\"},\"execution_count\":1,\"metadata\":{},\"output_type\":\"execute_result\"}]\x1fa, b = {'x': 1, 'y': 2}; a, b\x1e\
+    \"error\",\"outputs\":[{\"ename\":\"ValueError\",\"evalue\":\"cannot unpack into 2\",\"output_type\":\"error\",\"traceback\":[\"ValueError: cannot unpack into 2\"]}]\x1fa, b = 1, 2, 3\x1e\
+    \"error\",\"outputs\":[{\"ename\":\"ValueError\",\"evalue\":\"cannot unpack into 2\",\"output_type\":\"error\",\"traceback\":[\"ValueError: cannot unpack into 2\"]}]\x1fa, b = 1,\x1e\
+    \"error\",\"outputs\":[{\"ename\":\"TypeError\",\"evalue\":\"'int' object is not iterable\",\"output_type\":\"error\",\"traceback\":[\"TypeError: 'int' object is not iterable\"]}]\x1fa, b = 5\x1e\
+    \"error\",\"outputs\":[{\"ename\":\"TypeError\",\"evalue\":\"'NoneType' object is not iterable\",\"output_type\":\"error\",\"traceback\":[\"TypeError: 'NoneType' object is not iterable\"]}]\x1fa, b = None\x1e\
+    \"error\",\"outputs\":[{\"ename\":\"NameError\",\"evalue\":\"name 'x' is not defined\",\"output_type\":\"error\",\"traceback\":[\"NameError: name 'x' is not defined\"]}]\x1f[a, b] = x\x1e\
+    \"ok\",\"outputs\":[{\"data\":{\"text/plain\":\"((1, 2), 1, 2)\"},\"execution_count\":1,\"metadata\":{},\"output_type\":\"execute_result\"}]\x1fa = b, c = 1, 2\na, b, c\x1e\
+    \"error\",\"outputs\":[{\"ename\":\"TypeError\",\"evalue\":\"'int' object is not iterable\",\"output_type\":\"error\",\"traceback\":[\"TypeError: 'int' object is not iterable\"]}]\x1fa, (b, c) = 1, 2\x1e\
+    \"ok\",\"outputs\":[{\"data\":{\"text/plain\":\"[0, 2]\"},\"execution_count\":1,\"metadata\":{},\"output_type\":\"execute_result\"}]\x1fa = [0, 0]; i = 0; i, a[i] = 1, 2; a\x1e\
+    \"ok\",\"outputs\":[{\"data\":{\"text/plain\":\"[2, 1]\"},\"execution_count\":1,\"metadata\":{},\"output_type\":\"execute_result\"}]\x1fa = [1, 2]; a[0], a[1] = a[1], a[0]; a\x1e\
+    \"ok\",\"outputs\":[{\"data\":{\"text/plain\":\"[[...]]\"},\"execution_count\":1,\"metadata\":{},\"output_type\":\"execute_result\"}]\x1fa = [0]; a[0] = a; a\x1e\
+    \"ok\",\"outputs\":[{\"data\":{\"text/plain\":\"[5]\"},\"execution_count\":1,\"metadata\":{},\"output_type\":\"execute_result\"}]\x1fa = [0]; a[-1] = 5; a\x1e\
+    \"ok\",\"outputs\":[{\"data\":{\"text/plain\":\"{'k': 1, 'j': 1}\"},\"execution_count\":1,\"metadata\":{},\"output_type\":\"execute_result\"}]\x1fd = {}; d['k'] = d['j'] = 1; d\x1e\
+    \"ok\",\"outputs\":[{\"data\":{\"text/plain\":\"{(1, 2): 3}\"},\"execution_count\":1,\"metadata\":{},\"output_type\":\"execute_result\"}]\x1fd = {}; d[1, 2] = 3; d\x1e\
+    \"error\",\"outputs\":[{\"ename\":\"IndexError\",\"evalue\":\"index out of range\",\"output_type\":\"error\",\"traceback\":[\"IndexError: index out of range\"]}]\x1fa = [1]; a[1] = 2\x1e\
+    \"error\",\"outputs\":[{\"ename\":\"TypeError\",\"evalue\":\"bad index type: 'str'\",\"output_type\":\"error\",\"traceback\":[\"TypeError: bad index type: 'str'\"]}]\x1fa = [1]; a['x'] = 2\x1e\
+    \"error\",\"outputs\":[{\"ename\":\"TypeError\",\"evalue\":\"unhashable key: 'list'\",\"output_type\":\"error\",\"traceback\":[\"TypeError: unhashable key: 'list'\"]}]\x1fd = {}; d[[]] = 1\x1e\
+    \"error\",\"outputs\":[{\"ename\":\"TypeError\",\"evalue\":\"'str' object is not subscriptable\",\"output_type\":\"error\",\"traceback\":[\"TypeError: 'str' object is not subscriptable\"]}]\x1fx = 'ab'\nx[0] = 'c'\x1e\
+    \"error\",\"outputs\":[{\"ename\":\"TypeError\",\"evalue\":\"'tuple' object is not subscriptable\",\"output_type\":\"error\",\"traceback\":[\"TypeError: 'tuple' object is not subscriptable\"]}]\x1f(1, 2)[0] = 3\x1e\
+    \"error\",\"outputs\":[{\"ename\":\"NameError\",\"evalue\":\"name 'y' is not defined\",\"output_type\":\"error\",\"traceback\":[\"NameError: name 'y' is not defined\"]}]\x1fx = 1\nx[0] = y\x1e\
+    \"error\",\"outputs\":[{\"name\":\"stdout\",\"output_type\":\"stream\",\"text\":\"1\\n0\\n\"},{\"ename\":\"TypeError\",\"evalue\":\"bad index type: 'NoneType'\",\"output_type\":\"error\",\"traceback\":[\"TypeError: bad index type: 'NoneType'\"]}]\x1fx = [1]; x[print(0)] = print(1)\x1e\
+    \"ok\",\"outputs\":[{\"name\":\"stdout\",\"output_type\":\"stream\",\"text\":\"[0]\\n\"},{\"data\":{\"text/plain\":\"[(1, 0)]\"},\"execution_count\":1,\"metadata\":{},\"output_type\":\"execute_result\"}]\x1fx = [0]\nprint(x)\nx[0] = x[0] + 1, x[0]\nx\x1e\
+    \"ok\",\"outputs\":[{\"data\":{\"text/plain\":\"[1]\"},\"execution_count\":1,\"metadata\":{},\"output_type\":\"execute_result\"}]\x1fa = b = []; a.append(1); b\x1e\
+    \"ok\",\"outputs\":[{\"data\":{\"text/plain\":\"[3]\"},\"execution_count\":1,\"metadata\":{},\"output_type\":\"execute_result\"}]\x1fa = [1]\na, a[0] = [2], 3\na\x1e\
+    \"ok\",\"outputs\":[{\"name\":\"stdout\",\"output_type\":\"stream\",\"text\":\"[1, 2] [1, 2] True\\n\"}]\x1fa = [1]; b = a; a += [2]; print(a, b, a is b)\x1e\
+    \"ok\",\"outputs\":[{\"name\":\"stdout\",\"output_type\":\"stream\",\"text\":\"[1, 2] [1]\\n\"}]\x1fa = [1]; b = a; a = a + [2]; print(a, b)\x1e\
+    \"ok\",\"outputs\":[{\"data\":{\"text/plain\":\"[1, 'x', 'y', 3, 4]\"},\"execution_count\":1,\"metadata\":{},\"output_type\":\"execute_result\"}]\x1fa = [1]; a += 'xy'; a += (3,); a += {4: 5}; a\x1e\
+    \"ok\",\"outputs\":[{\"data\":{\"text/plain\":\"[1, 1]\"},\"execution_count\":1,\"metadata\":{},\"output_type\":\"execute_result\"}]\x1fa = [1]; a += a; a\x1e\
+    \"error\",\"outputs\":[{\"ename\":\"TypeError\",\"evalue\":\"'int' object is not iterable\",\"output_type\":\"error\",\"traceback\":[\"TypeError: 'int' object is not iterable\"]}]\x1fa = [1]; a += 1\x1e\
+    \"ok\",\"outputs\":[{\"data\":{\"text/plain\":\"[1, 1]\"},\"execution_count\":1,\"metadata\":{},\"output_type\":\"execute_result\"}]\x1fa = [1]; a *= 2; a\x1e\
+    \"ok\",\"outputs\":[{\"data\":{\"text/plain\":\"{'n': 3}\"},\"execution_count\":1,\"metadata\":{},\"output_type\":\"execute_result\"}]\x1fd = {'n': 1}; d['n'] += 2; d\x1e\
+    \"ok\",\"outputs\":[{\"data\":{\"text/plain\":\"[[1, 2]]\"},\"execution_count\":1,\"metadata\":{},\"output_type\":\"execute_result\"}]\x1fa = [[1]]; a[0] += [2]; a\x1e\
+    \"ok\",\"outputs\":[{\"data\":{\"text/plain\":\"(1, 2)\"},\"execution_count\":1,\"metadata\":{},\"output_type\":\"execute_result\"}]\x1ft = (1,); t += (2,); t\x1e\
+    \"error\",\"outputs\":[{\"ename\":\"TypeError\",\"evalue\":\"bad operand types for -: 'list' and 'int'\",\"output_type\":\"error\",\"traceback\":[\"TypeError: bad operand types for -: 'list' and 'int'\"]}]\x1fa = [1]; a -= 1\x1e\
+    \"ok\",\"outputs\":[{\"name\":\"stdout\",\"output_type\":\"stream\",\"text\":\"0\\n\"},{\"data\":{\"text/plain\":\"[1, 7]\"},\"execution_count\":1,\"metadata\":{},\"output_type\":\"execute_result\"}]\x1fx = [1, 2]\nx[print(0) is None] += 5\nx\x1e\
+    \"error\",\"outputs\":[{\"ename\":\"KeyError\",\"evalue\":\"'n'\",\"output_type\":\"error\",\"traceback\":[\"KeyError: 'n'\"]}]\x1fd = {}; d['n'] += 1\x1e\
+    \"error\",\"outputs\":[{\"ename\":\"IndexError\",\"evalue\":\"index out of range\",\"output_type\":\"error\",\"traceback\":[\"IndexError: index out of range\"]}]\x1fa = []; a[0] += 1\x1e\
+    \"ok\",\"outputs\":[]\x1f[1][0] += 1\x1e\
+    \"error\",\"outputs\":[{\"ename\":\"TypeError\",\"evalue\":\"'tuple' object is not subscriptable\",\"output_type\":\"error\",\"traceback\":[\"TypeError: 'tuple' object is not subscriptable\"]}]\x1f(1, 2)[0] += 1\x1e\
+    \"error\",\"outputs\":[{\"ename\":\"NameError\",\"evalue\":\"name 'x' is not defined\",\"output_type\":\"error\",\"traceback\":[\"NameError: name 'x' is not defined\"]}]\x1fx.a += 1\x1e\
+    \"error\",\"outputs\":[{\"ename\":\"TypeError\",\"evalue\":\"'tuple' object is not subscriptable\",\"output_type\":\"error\",\"traceback\":[\"TypeError: 'tuple' object is not subscriptable\"]}]\x1fa = ([1],)\na[0] += [2]\x1e\
+    \"ok\",\"outputs\":[{\"data\":{\"text/plain\":\"[25]\"},\"execution_count\":1,\"metadata\":{},\"output_type\":\"execute_result\"}]\x1fa = [5]\ni = 0\na[i] **= 2\na\x1e\
+    \"error\",\"outputs\":[{\"ename\":\"NameError\",\"evalue\":\"name 'x' is not defined\",\"output_type\":\"error\",\"traceback\":[\"NameError: name 'x' is not defined\"]}]\x1fx = 1; del x; x\x1e\
+    \"error\",\"outputs\":[{\"ename\":\"NameError\",\"evalue\":\"name 'x' is not defined\",\"output_type\":\"error\",\"traceback\":[\"NameError: name 'x' is not defined\"]}]\x1fdel x\x1e\
+    \"ok\",\"outputs\":[{\"data\":{\"text/plain\":\"[1, 3]\"},\"execution_count\":1,\"metadata\":{},\"output_type\":\"execute_result\"}]\x1fa = [1, 2, 3]; del a[1]; a\x1e\
+    \"ok\",\"outputs\":[{\"data\":{\"text/plain\":\"[]\"},\"execution_count\":1,\"metadata\":{},\"output_type\":\"execute_result\"}]\x1fa = [1, 2]; del a[-1], a[0]; a\x1e\
+    \"ok\",\"outputs\":[{\"data\":{\"text/plain\":\"{3: 4}\"},\"execution_count\":1,\"metadata\":{},\"output_type\":\"execute_result\"}]\x1fd = {1: 2, 3: 4}; del d[True]; d\x1e\
+    \"error\",\"outputs\":[{\"ename\":\"KeyError\",\"evalue\":\"'k'\",\"output_type\":\"error\",\"traceback\":[\"KeyError: 'k'\"]}]\x1fd = {}; del d['k']\x1e\
+    \"error\",\"outputs\":[{\"ename\":\"IndexError\",\"evalue\":\"index out of range\",\"output_type\":\"error\",\"traceback\":[\"IndexError: index out of range\"]}]\x1fa = []; del a[0]\x1e\
+    \"error\",\"outputs\":[{\"ename\":\"TypeError\",\"evalue\":\"'tuple' object is not subscriptable\",\"output_type\":\"error\",\"traceback\":[\"TypeError: 'tuple' object is not subscriptable\"]}]\x1fdel (1, 2)[0]\x1e\
+    \"error\",\"outputs\":[{\"ename\":\"TypeError\",\"evalue\":\"bad index type: 'str'\",\"output_type\":\"error\",\"traceback\":[\"TypeError: bad index type: 'str'\"]}]\x1fa = [1]; del a['x']\x1e\
+    \"error\",\"outputs\":[{\"ename\":\"NameError\",\"evalue\":\"name 'x' is not defined\",\"output_type\":\"error\",\"traceback\":[\"NameError: name 'x' is not defined\"]}]\x1fx = y = 1\ndel x, x\x1e\
+    \"error\",\"outputs\":[{\"ename\":\"TypeError\",\"evalue\":\"unhashable key: 'list'\",\"output_type\":\"error\",\"traceback\":[\"TypeError: unhashable key: 'list'\"]}]\x1fd = {1: 2}; del d[[]]\x1e\
+    \"ok\",\"outputs\":[{\"data\":{\"text/plain\":\"{3: 4, 1: 5}\"},\"execution_count\":1,\"metadata\":{},\"output_type\":\"execute_result\"}]\x1fd = {1: 2, 3: 4}; del d[1]; d[1] = 5; d\x1e\
+    \"ok\",\"outputs\":[{\"name\":\"stdout\",\"output_type\":\"stream\",\"text\":\"1\\n2\\n\"}]\x1ffor x in [1, 2]: print(x)\x1e\
+    \"error\",\"outputs\":[{\"ename\":\"NameError\",\"evalue\":\"name 'x' is not defined\",\"output_type\":\"error\",\"traceback\":[\"NameError: name 'x' is not defined\"]}]\x1ffor x in (): print(x)\nx\x1e\
+    \"ok\",\"outputs\":[{\"name\":\"stdout\",\"output_type\":\"stream\",\"text\":\"a\\nb\\n\"}]\x1ffor c in 'ab': print(c)\x1e\
+    \"ok\",\"outputs\":[{\"name\":\"stdout\",\"output_type\":\"stream\",\"text\":\"a\\nb\\n\"}]\x1ffor k in {'a': 1, 'b': 2}: print(k)\x1e\
+    \"ok\",\"outputs\":[{\"name\":\"stdout\",\"output_type\":\"stream\",\"text\":\"3\\n7\\n\"}]\x1ffor a, b in [(1, 2), (3, 4)]: print(a + b)\x1e\
+    \"ok\",\"outputs\":[{\"name\":\"stdout\",\"output_type\":\"stream\",\"text\":\"1\\n2\\n\"}]\x1ffor x in 1, 2: print(x)\x1e\
+    \"ok\",\"outputs\":[{\"name\":\"stdout\",\"output_type\":\"stream\",\"text\":\"x y\\n1 2\\n\"}]\x1ffor [a, b] in 'xy', [1, 2]: print(a, b)\x1e\
+    \"ok\",\"outputs\":[{\"name\":\"stdout\",\"output_type\":\"stream\",\"text\":\"1\\n2\\n\"}]\x1ffor x, in [[1], (2,)]: print(x)\x1e\
+    \"error\",\"outputs\":[{\"ename\":\"TypeError\",\"evalue\":\"'int' object is not iterable\",\"output_type\":\"error\",\"traceback\":[\"TypeError: 'int' object is not iterable\"]}]\x1ffor x in 5: pass\x1e\
+    \"error\",\"outputs\":[{\"ename\":\"TypeError\",\"evalue\":\"'NoneType' object is not iterable\",\"output_type\":\"error\",\"traceback\":[\"TypeError: 'NoneType' object is not iterable\"]}]\x1ffor x in None: pass\x1e\
+    \"error\",\"outputs\":[{\"ename\":\"NameError\",\"evalue\":\"name 'y' is not defined\",\"output_type\":\"error\",\"traceback\":[\"NameError: name 'y' is not defined\"]}]\x1ffor x in y: pass\x1e\
+    \"error\",\"outputs\":[{\"ename\":\"TypeError\",\"evalue\":\"'int' object is not iterable\",\"output_type\":\"error\",\"traceback\":[\"TypeError: 'int' object is not iterable\"]}]\x1ffor a, b in [1]: pass\x1e\
+    \"ok\",\"outputs\":[{\"name\":\"stdout\",\"output_type\":\"stream\",\"text\":\"[1, 2, 3]\\n\"}]\x1fa = [1]\nfor x in a:\n    if x < 3: a.append(x + 1)\nprint(a)\x1e\
+    \"ok\",\"outputs\":[{\"name\":\"stdout\",\"output_type\":\"stream\",\"text\":\"1\\n2\\n\"}]\x1fa = [1, 2, 3, 4]\nfor x in a:\n    a.pop()\n    print(x)\x1e\
+    \"error\",\"outputs\":[{\"ename\":\"RuntimeError\",\"evalue\":\"dictionary changed size during iteration\",\"output_type\":\"error\",\"traceback\":[\"RuntimeError: dictionary changed size during iteration\"]}]\x1fd = {1: 1}\nfor k in d: d[k + 1] = 0\x1e\
+    \"ok\",\"outputs\":[{\"data\":{\"text/plain\":\"{1: 2, 2: 3}\"},\"execution_count\":1,\"metadata\":{},\"output_type\":\"execute_result\"}]\x1fd = {1: 1, 2: 2}\nfor k in d: d[k] += 1\nd\x1e\
+    \"error\",\"outputs\":[{\"ename\":\"RuntimeError\",\"evalue\":\"dictionary changed size during iteration\",\"output_type\":\"error\",\"traceback\":[\"RuntimeError: dictionary changed size during iteration\"]}]\x1fd = {1: 1}\nfor k in d: d.clear()\x1e\
+    \"ok\",\"outputs\":[{\"data\":{\"text/plain\":\"{}\"},\"execution_count\":1,\"metadata\":{},\"output_type\":\"execute_result\"}]\x1fd = {1: 1, 2: 2}\nfor k in d:\n    d.clear()\n    break\nd\x1e\
+    \"ok\",\"outputs\":[{\"name\":\"stdout\",\"output_type\":\"stream\",\"text\":\"(1, 2) True\\n1\\n\"}]\x1fd = {(1, 2): 3}\nfor k in d: print(k, k is k)\nfor a, b in d: print(a)\x1e\
+    \"ok\",\"outputs\":[{\"name\":\"stdout\",\"output_type\":\"stream\",\"text\":\"a\\nb\\n1\\n2\\na 1\\nb 2\\n\"}]\x1fd = {'a': 1, 'b': 2}\nfor k in d.keys(): print(k)\nfor v in d.values(): print(v)\nfor k, v in d.items(): print(k, v)\x1e\
+    \"ok\",\"outputs\":[{\"name\":\"stdout\",\"output_type\":\"stream\",\"text\":\"((1, 2), 3)\\n\"}]\x1fd = {(1, 2): 3}\nfor p in d.items(): print(p)\x1e\
+    \"error\",\"outputs\":[{\"ename\":\"RuntimeError\",\"evalue\":\"dictionary changed size during iteration\",\"output_type\":\"error\",\"traceback\":[\"RuntimeError: dictionary changed size during iteration\"]}]\x1fd = {1: 2}\nfor k, v in d.items(): d[3] = v\x1e\
+    \"ok\",\"outputs\":[{\"data\":{\"text/plain\":\"{}\"},\"execution_count\":1,\"metadata\":{},\"output_type\":\"execute_result\"}]\x1fd = {}\nfor k in (d.keys()): pass\nd\x1e\
+    \"ok\",\"outputs\":[{\"name\":\"stdout\",\"output_type\":\"stream\",\"text\":\"1\\n\"}]\x1ffor k in {1: 2}.keys(): print(k)\x1e\
+    \"error\",\"outputs\":[{\"ename\":\"AttributeError\",\"evalue\":\"'list' object has no attribute 'keys'\",\"output_type\":\"error\",\"traceback\":[\"AttributeError: 'list' object has no attribute 'keys'\"]}]\x1ffor k in [1].keys(): pass\x1e\
+    \"error\",\"outputs\":[{\"ename\":\"AttributeError\",\"evalue\":\"'dict' object has no attribute 'keyz'\",\"output_type\":\"error\",\"traceback\":[\"AttributeError: 'dict' object has no attribute 'keyz'\"]}]\x1ffor k in {}.keyz(): pass\x1e\
+    \"error\",\"outputs\":[{\"ename\":\"TypeError\",\"evalue\":\"'SimpleNamespace' object is not iterable\",\"output_type\":\"error\",\"traceback\":[\"TypeError: 'SimpleNamespace' object is not iterable\"]}]\x1ffrom types import SimpleNamespace\no = SimpleNamespace(keys=SimpleNamespace)\nfor k in o.keys(): pass\x1e\
+    \"ok\",\"outputs\":[{\"data\":{\"text/plain\":\"[8, 1]\"},\"execution_count\":1,\"metadata\":{},\"output_type\":\"execute_result\"}]\x1fx = [3, 1]\nfor x[0] in [7, 8]: pass\nx\x1e\
+    \"ok\",\"outputs\":[{\"name\":\"stdout\",\"output_type\":\"stream\",\"text\":\"1\\n\"},{\"data\":{\"text/plain\":\"3\"},\"execution_count\":1,\"metadata\":{},\"output_type\":\"execute_result\"}]\x1ffor i in [1, 2, 3]:\n    if i == 2: continue\n    if i == 3: break\n    print(i)\ni\x1e\
+    \"ok\",\"outputs\":[{\"name\":\"stdout\",\"output_type\":\"stream\",\"text\":\"1 a\\n2 a\\n\"}]\x1ffor i in [1, 2]:\n    for j in 'ab':\n        if j == 'b': break\n        print(i, j)\x1e\
+    \"error\",\"outputs\":[{\"ename\":\"ZeroDivisionError\",\"evalue\":\"division by zero\",\"output_type\":\"error\",\"traceback\":[\"ZeroDivisionError: division by zero\"]}]\x1ffor x in [1, 0]: 1 // x\x1e\
+    \"ok\",\"outputs\":[{\"data\":{\"text/plain\":\"6\"},\"execution_count\":1,\"metadata\":{},\"output_type\":\"execute_result\"}]\x1fn = 0\nfor x in [1, 2, 3]: n += x\nn\x1e\
+    \"ok\",\"outputs\":[{\"data\":{\"text/plain\":\"{'ann': 8, 'bo': 4}\"},\"execution_count\":1,\"metadata\":{},\"output_type\":\"execute_result\"}]\x1frows = [{'name': 'ann', 'n': 3}, {'name': 'bo', 'n': 4}, {'name': 'ann', 'n': 5}]\ntot = {}\nfor r in rows:\n    tot[r['name']] = tot.get(r['name'], 0) + r['n']\ntot\x1e\
+    \"ok\",\"outputs\":[{\"name\":\"stdout\",\"output_type\":\"stream\",\"text\":\"12\\n\"}]\x1fprint(1, 2, sep='')\x1e\
+    \"ok\",\"outputs\":[{\"name\":\"stdout\",\"output_type\":\"stream\",\"text\":\"a, b!\"}]\x1fprint('a', 'b', sep=', ', end='!')\x1e\
+    \"ok\",\"outputs\":[]\x1fprint(end='')\x1e\
+    \"error\",\"outputs\":[{\"ename\":\"TypeError\",\"evalue\":\"print() got bad arguments\",\"output_type\":\"error\",\"traceback\":[\"TypeError: print() got bad arguments\"]}]\x1fprint(sep=1)\x1e\
+    \"ok\",\"outputs\":[{\"name\":\"stdout\",\"output_type\":\"stream\",\"text\":\"1\\n\\n\"}]\x1fprint(1, sep='-', end='\\n\\n')\x1e\
+    \"error\",\"outputs\":[{\"ename\":\"TypeError\",\"evalue\":\"print() got bad arguments\",\"output_type\":\"error\",\"traceback\":[\"TypeError: print() got bad arguments\"]}]\x1fprint(x=1)\x1e\
+    \"ok\",\"outputs\":[{\"name\":\"stdout\",\"output_type\":\"stream\",\"text\":\"[1, 'a'] {'k': (1,)} x\\n\"}]\x1fprint([1, 'a'], {'k': (1,)}, 'x')\x1e\
+    \"ok\",\"outputs\":[{\"name\":\"stdout\",\"output_type\":\"stream\",\"text\":\"1\\t2\"}]\x1fprint(1, 2, end='', sep='\\t')\x1e\
+    \"ok\",\"outputs\":[{\"data\":{\"text/plain\":\"True\"},\"execution_count\":1,\"metadata\":{},\"output_type\":\"execute_result\"}]\x1ffrom types import SimpleNamespace as S; S is S\x1e\
+    \"ok\",\"outputs\":[{\"data\":{\"text/plain\":\"True\"},\"execution_count\":1,\"metadata\":{},\"output_type\":\"execute_result\"}]\x1ffrom types import SimpleNamespace\nSimpleNamespace is SimpleNamespace\x1e\
+    \"error\",\"outputs\":[{\"ename\":\"AttributeError\",\"evalue\":\"'class' object has no attribute 'a'\",\"output_type\":\"error\",\"traceback\":[\"AttributeError: 'class' object has no attribute 'a'\"]}]\x1ffrom types import SimpleNamespace as S\nS.a\x1e\
+    \"error\",\"outputs\":[{\"ename\":\"TypeError\",\"evalue\":\"'class' object is not subscriptable\",\"output_type\":\"error\",\"traceback\":[\"TypeError: 'class' object is not subscriptable\"]}]\x1ffrom types import SimpleNamespace as S\nS[0]\x1e\
+    \"error\",\"outputs\":[{\"ename\":\"NameError\",\"evalue\":\"name 'S' is not defined\",\"output_type\":\"error\",\"traceback\":[\"NameError: name 'S' is not defined\"]}]\x1ffrom types import SimpleNamespace as S\ndel S\nS\x1e\
+    \"error\",\"outputs\":[{\"ename\":\"ZeroDivisionError\",\"evalue\":\"division by zero\",\"output_type\":\"error\",\"traceback\":[\"ZeroDivisionError: division by zero\"]}]\x1fa = [1]\na.append(2)\na.append(1 // 0)\x1e\
+    \"error\",\"outputs\":[{\"ename\":\"ValueError\",\"evalue\":\"cannot unpack into 3\",\"output_type\":\"error\",\"traceback\":[\"ValueError: cannot unpack into 3\"]}]\x1fa = [1]\na[0], b, c = 5, 6\x1e\
+    \"error\",\"outputs\":[{\"ename\":\"IndexError\",\"evalue\":\"index out of range\",\"output_type\":\"error\",\"traceback\":[\"IndexError: index out of range\"]}]\x1fa = [0]\na[0], a[1] = 5, 6\x1e\
+    \"error\",\"outputs\":[{\"ename\":\"NameError\",\"evalue\":\"name 'y' is not defined\",\"output_type\":\"error\",\"traceback\":[\"NameError: name 'y' is not defined\"]}]\x1fx, y.a = 1, 2\x1e\
+    \"error\",\"outputs\":[{\"ename\":\"AttributeError\",\"evalue\":\"'list' object has no attribute 'append'\",\"output_type\":\"error\",\"traceback\":[\"AttributeError: 'list' object has no attribute 'append'\"]}]\x1f[].append\x1e\
+    \"error\",\"outputs\":[{\"ename\":\"AttributeError\",\"evalue\":\"'dict' object has no attribute 'keys'\",\"output_type\":\"error\",\"traceback\":[\"AttributeError: 'dict' object has no attribute 'keys'\"]}]\x1f{}.keys()\x1e\
+    \"error\",\"outputs\":[{\"ename\":\"AttributeError\",\"evalue\":\"'dict' object has no attribute 'items'\",\"output_type\":\"error\",\"traceback\":[\"AttributeError: 'dict' object has no attribute 'items'\"]}]\x1f{1: 2}.items\x1e\
+    \"error\",\"outputs\":[{\"ename\":\"AttributeError\",\"evalue\":\"'dict' object has no attribute 'keys'\",\"output_type\":\"error\",\"traceback\":[\"AttributeError: 'dict' object has no attribute 'keys'\"]}]\x1ffor k in [{}.keys()]: pass\x1e\
+    \"error\",\"outputs\":[{\"ename\":\"AttributeError\",\"evalue\":\"'dict' object has no attribute 'keys'\",\"output_type\":\"error\",\"traceback\":[\"AttributeError: 'dict' object has no attribute 'keys'\"]}]\x1fx = {}\nfor k in x.keys(1): pass\x1e\
+    \"error\",\"outputs\":[{\"ename\":\"AttributeError\",\"evalue\":\"'dict' object has no attribute 'values'\",\"output_type\":\"error\",\"traceback\":[\"AttributeError: 'dict' object has no attribute 'values'\"]}]\x1f{}.values()[0]\x1e\
+    \"ok\",\"outputs\":[{\"data\":{\"text/plain\":\"namespace(a=1, b=[namespace(...)])\"},\"execution_count\":1,\"metadata\":{},\"output_type\":\"execute_result\"}]\x1fo = SimpleNamespace(a=1); o.b = [o]; o\x1e\
+    \"ok\",\"outputs\":[{\"data\":{\"text/plain\":\"1\"},\"execution_count\":1,\"metadata\":{},\"output_type\":\"execute_result\"}]\x1fSimpleNamespace(a=1).a\x1e\
+    \"error\",\"outputs\":[{\"ename\":\"TypeError\",\"evalue\":\"print() got bad arguments\",\"output_type\":\"error\",\"traceback\":[\"TypeError: print() got bad arguments\"]}]\x1fprint(sep=None)\x1e\
+    \"error\",\"outputs\":[{\"ename\":\"TypeError\",\"evalue\":\"print() got bad arguments\",\"output_type\":\"error\",\"traceback\":[\"TypeError: print() got bad arguments\"]}]\x1fprint(1, end=None)\x1e\
+    \"ok\",\"outputs\":[{\"data\":{\"text/plain\":\"<class 'SimpleNamespace'>\"},\"execution_count\":1,\"metadata\":{},\"output_type\":\"execute_result\"}]\x1ffrom types import SimpleNamespace as S\nS\x1e\
+    \"error\",\"outputs\":[{\"ename\":\"TypeError\",\"evalue\":\"bad operand types for +: 'class' and 'int'\",\"output_type\":\"error\",\"traceback\":[\"TypeError: bad operand types for +: 'class' and 'int'\"]}]\x1ffrom types import SimpleNamespace as S\nS + 1\x1e\
+    \"ok\",\"outputs\":[{\"data\":{\"text/plain\":\"namespace(a=1)\"},\"execution_count\":1,\"metadata\":{},\"output_type\":\"execute_result\"}]\x1ffrom types import SimpleNamespace as print\nprint(a=1)\x1e\
+    \"error\",\"outputs\":[{\"ename\":\"TypeError\",\"evalue\":\"unhashable key: 'class'\",\"output_type\":\"error\",\"traceback\":[\"TypeError: unhashable key: 'class'\"]}]\x1ffrom types import SimpleNamespace as S\n{S: 1}\x1e\
+    \"error\",\"outputs\":[{\"ename\":\"TypeError\",\"evalue\":\"'dict' object is not subscriptable\",\"output_type\":\"error\",\"traceback\":[\"TypeError: 'dict' object is not subscriptable\"]}]\x1f{1: 2}[1:2]\x1e\
+    \"ok\",\"outputs\":[{\"data\":{\"text/plain\":\"False\"},\"execution_count\":1,\"metadata\":{},\"output_type\":\"execute_result\"}]\x1f[1, 2] is [1, 2]\x1e\
+    \"ok\",\"outputs\":[{\"data\":{\"text/plain\":\"(False, [1, 1], [1])\"},\"execution_count\":1,\"metadata\":{},\"output_type\":\"execute_result\"}]\x1fa = [1]; b = a; a *= 2; a is b, a, b\x1e\
+    \"error\",\"outputs\":[{\"ename\":\"TypeError\",\"evalue\":\"append() got bad arguments\",\"output_type\":\"error\",\"traceback\":[\"TypeError: append() got bad arguments\"]}]\x1fa = []; (a.append)(x=1)\x1e\
+    \"ok\",\"outputs\":[{\"data\":{\"text/plain\":\"1\"},\"execution_count\":1,\"metadata\":{},\"output_type\":\"execute_result\"}]\x1fa = []; ((a).append)((1)); (a).pop()\x1e\
+    \"stopped\",\"outputs\":[{\"ename\":\"Stopped\",\"evalue\":\"step budget spent\",\"output_type\":\"error\",\"traceback\":[\"Stopped: step budget spent\"]}]\x1fx = [1] * 4000000\x1e\
+    \"stopped\",\"outputs\":[{\"ename\":\"Stopped\",\"evalue\":\"step budget spent\",\"output_type\":\"error\",\"traceback\":[\"Stopped: step budget spent\"]}]\x1fx = [0]\nx *= 170141183460469231731687303715884105727\x1e\
+    \"stopped\",\"outputs\":[{\"ename\":\"Stopped\",\"evalue\":\"step budget spent\",\"output_type\":\"error\",\"traceback\":[\"Stopped: step budget spent\"]}]\x1fx = [0]\nwhile True: x += x\x1e\
+    \"stopped\",\"outputs\":[{\"ename\":\"Stopped\",\"evalue\":\"step budget spent\",\"output_type\":\"error\",\"traceback\":[\"Stopped: step budget spent\"]}]\x1fa = [1]\nfor x in a: a.append(x)\x1e\
+    \"stopped\",\"outputs\":[{\"ename\":\"Stopped\",\"evalue\":\"step budget spent\",\"output_type\":\"error\",\"traceback\":[\"Stopped: step budget spent\"]}]\x1fd = {}\nn = 0\nwhile True:\n    d[n] = n\n    n += 1\x1e\
+    \"ok\",\"outputs\":[{\"name\":\"stdout\",\"output_type\":\"stream\",\"text\":\"None\\n\"}]\x1fdef f(): pass\nf()\nprint(f())\x1e\
+    \"ok\",\"outputs\":[{\"data\":{\"text/plain\":\"2\"},\"execution_count\":1,\"metadata\":{},\"output_type\":\"execute_result\"}]\x1fdef f(): return 1\nf() + 1\x1e\
+    \"ok\",\"outputs\":[{\"data\":{\"text/plain\":\"((1, 2, 3), (1, 5, 3), (1, 2, 7), (0, 1, 3))\"},\"execution_count\":1,\"metadata\":{},\"output_type\":\"execute_result\"}]\x1fdef f(a, b=2, c=3): return a, b, c\nf(1), f(1, 5), f(1, c=7), f(b=1, a=0)\x1e\
+    \"ok\",\"outputs\":[{\"data\":{\"text/plain\":\"<function f>\"},\"execution_count\":1,\"metadata\":{},\"output_type\":\"execute_result\"}]\x1fdef f(x): return x\nf\x1e\
+    \"ok\",\"outputs\":[{\"data\":{\"text/plain\":\"True\"},\"execution_count\":1,\"metadata\":{},\"output_type\":\"execute_result\"}]\x1fdef f(): return\nf() is None\x1e\
+    \"error\",\"outputs\":[{\"ename\":\"TypeError\",\"evalue\":\"f() got bad arguments\",\"output_type\":\"error\",\"traceback\":[\"TypeError: f() got bad arguments\"]}]\x1fdef f(a): pass\nf()\x1e\
+    \"error\",\"outputs\":[{\"ename\":\"TypeError\",\"evalue\":\"f() got bad arguments\",\"output_type\":\"error\",\"traceback\":[\"TypeError: f() got bad arguments\"]}]\x1fdef f(a): pass\nf(1, 2)\x1e\
+    \"error\",\"outputs\":[{\"ename\":\"TypeError\",\"evalue\":\"f() got bad arguments\",\"output_type\":\"error\",\"traceback\":[\"TypeError: f() got bad arguments\"]}]\x1fdef f(a): pass\nf(b=1)\x1e\
+    \"error\",\"outputs\":[{\"ename\":\"TypeError\",\"evalue\":\"f() got bad arguments\",\"output_type\":\"error\",\"traceback\":[\"TypeError: f() got bad arguments\"]}]\x1fdef f(a): pass\nf(1, a=2)\x1e\
+    \"error\",\"outputs\":[{\"ename\":\"TypeError\",\"evalue\":\"f() got bad arguments\",\"output_type\":\"error\",\"traceback\":[\"TypeError: f() got bad arguments\"]}]\x1fdef f(a, b): return b\nf(b=1)\x1e\
+    \"ok\",\"outputs\":[{\"data\":{\"text/plain\":\"(True, [1, 1, 1, 1])\"},\"execution_count\":1,\"metadata\":{},\"output_type\":\"execute_result\"}]\x1fdef f(a=[]):\n    a.append(1)\n    return a\nf()\nf() is f(), f()\x1e\
+    \"ok\",\"outputs\":[{\"name\":\"stdout\",\"output_type\":\"stream\",\"text\":\"True [1, 2, 3]\\n\"}]\x1fdef g(x, acc=[]): acc.append(x); return acc\nprint(g(1) is g(2), g(3))\x1e\
+    \"ok\",\"outputs\":[{\"data\":{\"text/plain\":\"[1]\"},\"execution_count\":1,\"metadata\":{},\"output_type\":\"execute_result\"}]\x1fd = []\ndef f(a=d): return a\nd.append(1)\nd = 5\nf()\x1e\
+    \"ok\",\"outputs\":[{\"name\":\"stdout\",\"output_type\":\"stream\",\"text\":\"1\\n2\\n3\\n\"}]\x1fdef f(a=print(1), b=print(2)): pass\nf(print(3))\x1e\
+    \"error\",\"outputs\":[{\"ename\":\"NameError\",\"evalue\":\"name 'x' is not defined\",\"output_type\":\"error\",\"traceback\":[\"NameError: name 'x' is not defined\"]}]\x1fdef f(a=x): pass\x1e\
+    \"ok\",\"outputs\":[{\"data\":{\"text/plain\":\"120\"},\"execution_count\":1,\"metadata\":{},\"output_type\":\"execute_result\"}]\x1fdef f(n): return 1 if n < 2 else n * f(n - 1)\nf(5)\x1e\
+    \"ok\",\"outputs\":[{\"data\":{\"text/plain\":\"(True, False)\"},\"execution_count\":1,\"metadata\":{},\"output_type\":\"execute_result\"}]\x1fdef even(n): return True if n == 0 else odd(n - 1)\ndef odd(n): return False if n == 0 else even(n - 1)\neven(4), odd(4)\x1e\
+    \"ok\",\"outputs\":[{\"data\":{\"text/plain\":\"(1, 2)\"},\"execution_count\":1,\"metadata\":{},\"output_type\":\"execute_result\"}]\x1fdef f(): return g()\ndef g(): return 1\na = f()\ndef g(): return 2\na, f()\x1e\
+    \"ok\",\"outputs\":[{\"data\":{\"text/plain\":\"[1, 1]\"},\"execution_count\":1,\"metadata\":{},\"output_type\":\"execute_result\"}]\x1fL = []\ndef f(): L.append(1)\nf(); f(); L\x1e\
+    \"ok\",\"outputs\":[{\"data\":{\"text/plain\":\"(2, 1)\"},\"execution_count\":1,\"metadata\":{},\"output_type\":\"execute_result\"}]\x1fx = 1\ndef f():\n    x = 2\n    return x\nf(), x\x1e\
+    \"ok\",\"outputs\":[{\"data\":{\"text/plain\":\"2\"},\"execution_count\":1,\"metadata\":{},\"output_type\":\"execute_result\"}]\x1fx = 1\ndef f():\n    global x\n    x = 2\nf(); x\x1e\
+    \"ok\",\"outputs\":[{\"data\":{\"text/plain\":\"5\"},\"execution_count\":1,\"metadata\":{},\"output_type\":\"execute_result\"}]\x1fx = 1\ndef f(): return x\nx = 5\nf()\x1e\
+    \"error\",\"outputs\":[{\"ename\":\"UnboundLocalError\",\"evalue\":\"local name 'x' has no value\",\"output_type\":\"error\",\"traceback\":[\"UnboundLocalError: local name 'x' has no value\"]}]\x1fx = 1\ndef f():\n    print(x)\n    x = 2\nf()\x1e\
+    \"error\",\"outputs\":[{\"ename\":\"UnboundLocalError\",\"evalue\":\"local name 'y' has no value\",\"output_type\":\"error\",\"traceback\":[\"UnboundLocalError: local name 'y' has no value\"]}]\x1fdef f():\n    if 0: y = 1\n    return y\nf()\x1e\
+    \"error\",\"outputs\":[{\"ename\":\"UnboundLocalError\",\"evalue\":\"local name 'a' has no value\",\"output_type\":\"error\",\"traceback\":[\"UnboundLocalError: local name 'a' has no value\"]}]\x1fdef f(a):\n    del a\n    return a\nf(1)\x1e\
+    \"error\",\"outputs\":[{\"ename\":\"UnboundLocalError\",\"evalue\":\"local name 'a' has no value\",\"output_type\":\"error\",\"traceback\":[\"UnboundLocalError: local name 'a' has no value\"]}]\x1fdef f():\n    del a\nf()\x1e\
+    \"ok\",\"outputs\":[{\"data\":{\"text/plain\":\"2\"},\"execution_count\":1,\"metadata\":{},\"output_type\":\"execute_result\"}]\x1fdef f(a):\n    a += 1\n    return a\nf(1)\x1e\
+    \"error\",\"outputs\":[{\"ename\":\"UnboundLocalError\",\"evalue\":\"local name 'x' has no value\",\"output_type\":\"error\",\"traceback\":[\"UnboundLocalError: local name 'x' has no value\"]}]\x1fx = 1\ndef f(): x += 1\nf()\x1e\
+    \"ok\",\"outputs\":[{\"data\":{\"text/plain\":\"2\"},\"execution_count\":1,\"metadata\":{},\"output_type\":\"execute_result\"}]\x1fdef f():\n    for i in [1, 2]:\n        if i == 2: return i\n    return 0\nf()\x1e\
+    \"ok\",\"outputs\":[{\"data\":{\"text/plain\":\"'w'\"},\"execution_count\":1,\"metadata\":{},\"output_type\":\"execute_result\"}]\x1fdef f():\n    while 1:\n        return 'w'\nf()\x1e\
+    \"ok\",\"outputs\":[{\"data\":{\"text/plain\":\"1\"},\"execution_count\":1,\"metadata\":{},\"output_type\":\"execute_result\"}]\x1fdef f(f): return f\nf(1)\x1e\
+    \"ok\",\"outputs\":[{\"data\":{\"text/plain\":\"True\"},\"execution_count\":1,\"metadata\":{},\"output_type\":\"execute_result\"}]\x1fdef f(): return f\nf() is f\x1e\
+    \"ok\",\"outputs\":[{\"data\":{\"text/plain\":\"(True, False)\"},\"execution_count\":1,\"metadata\":{},\"output_type\":\"execute_result\"}]\x1fdef f(): return f\ng = f\ndef f(): pass\ng() is f, g is f\x1e\
+    \"error\",\"outputs\":[{\"ename\":\"NameError\",\"evalue\":\"name 'y' is not defined\",\"output_type\":\"error\",\"traceback\":[\"NameError: name 'y' is not defined\"]}]\x1fdef f(): return y\nf()\x1e\
+    \"ok\",\"outputs\":[{\"data\":{\"text/plain\":\"1\"},\"execution_count\":1,\"metadata\":{},\"output_type\":\"execute_result\"}]\x1fdef f(x): x = 2\nx = 1\nf(x); x\x1e\
+    \"ok\",\"outputs\":[{\"data\":{\"text/plain\":\"[1, 2]\"},\"execution_count\":1,\"metadata\":{},\"output_type\":\"execute_result\"}]\x1fdef f(x): x.append(2)\nx = [1]\nf(x); x\x1e\
+    \"error\",\"outputs\":[{\"ename\":\"NameError\",\"evalue\":\"name 'b' is not defined\",\"output_type\":\"error\",\"traceback\":[\"NameError: name 'b' is not defined\"]}]\x1fdef f():\n    global a\n    a, b = 1, 2\nf()\na\nb\x1e\
+    \"error\",\"outputs\":[{\"ename\":\"NameError\",\"evalue\":\"name 'c' is not defined\",\"output_type\":\"error\",\"traceback\":[\"NameError: name 'c' is not defined\"]}]\x1fdef f(): (a, [b]), c[0] = [1, [2]], 3\nf()\x1e\
+    \"ok\",\"outputs\":[{\"data\":{\"text/plain\":\"1\"},\"execution_count\":1,\"metadata\":{},\"output_type\":\"execute_result\"}]\x1fdef f():\n    from types import SimpleNamespace\n    return SimpleNamespace(a=1)\nf().a\x1e\
+    \"ok\",\"outputs\":[{\"name\":\"stdout\",\"output_type\":\"stream\",\"text\":\"1\\n2\\n\"},{\"data\":{\"text/plain\":\"2\"},\"execution_count\":1,\"metadata\":{},\"output_type\":\"execute_result\"}]\x1fdef f(a, b): return a - b\nf(print(1) or 5, b=print(2) or 3)\x1e\
+    \"error\",\"outputs\":[{\"ename\":\"AttributeError\",\"evalue\":\"'function' object has no attribute 'a'\",\"output_type\":\"error\",\"traceback\":[\"AttributeError: 'function' object has no attribute 'a'\"]}]\x1fdef f(): pass\nf.a\x1e\
+    \"ok\",\"outputs\":[{\"data\":{\"text/plain\":\"(True, True, True, False)\"},\"execution_count\":1,\"metadata\":{},\"output_type\":\"execute_result\"}]\x1fdef f(): pass\nf == f, f is f, f != 1, not f\x1e\
+    \"error\",\"outputs\":[{\"ename\":\"TypeError\",\"evalue\":\"bad operand types for <: 'function' and 'function'\",\"output_type\":\"error\",\"traceback\":[\"TypeError: bad operand types for <: 'function' and 'function'\"]}]\x1fdef f(): pass\nf < f\x1e\
+    \"error\",\"outputs\":[{\"ename\":\"ZeroDivisionError\",\"evalue\":\"division by zero\",\"output_type\":\"error\",\"traceback\":[\"ZeroDivisionError: division by zero\"]}]\x1fdef f(): 1 // 0\nf()\x1e\
+    \"ok\",\"outputs\":[{\"data\":{\"text/plain\":\"(1, 2)\"},\"execution_count\":1,\"metadata\":{},\"output_type\":\"execute_result\"}]\x1fdef f(a=1): return a\no = [f]\no[0](), o[0](2)\x1e\
+    \"ok\",\"outputs\":[{\"data\":{\"text/plain\":\"1\"},\"execution_count\":1,\"metadata\":{},\"output_type\":\"execute_result\"}]\x1ffrom types import SimpleNamespace\ndef f(a): return a\no = SimpleNamespace(f=f)\no.f(1)\x1e\
+    \"ok\",\"outputs\":[{\"data\":{\"text/plain\":\"(1, 2)\"},\"execution_count\":1,\"metadata\":{},\"output_type\":\"execute_result\"}]\x1fdef f():\n    x = 1\n    def_ = 2\n    return x, def_\nf()\x1e\
+    \"error\",\"outputs\":[{\"ename\":\"TypeError\",\"evalue\":\"'int' object is not callable\",\"output_type\":\"error\",\"traceback\":[\"TypeError: 'int' object is not callable\"]}]\x1fdef f(a): return a\nf(1)(2)\x1e\
+    \"error\",\"outputs\":[{\"ename\":\"UnboundLocalError\",\"evalue\":\"local name 'x' has no value\",\"output_type\":\"error\",\"traceback\":[\"UnboundLocalError: local name 'x' has no value\"]}]\x1fdef f(): del x\nx = 1\nf()\x1e\
+    \"error\",\"outputs\":[{\"ename\":\"NameError\",\"evalue\":\"name 'x' is not defined\",\"output_type\":\"error\",\"traceback\":[\"NameError: name 'x' is not defined\"]}]\x1fdef f():\n    global x\n    del x\nx = 1\nf()\nx\x1e\
+    \"ok\",\"outputs\":[{\"name\":\"stdout\",\"output_type\":\"stream\",\"text\":\"'k'\\nend\\n\"}]\x1ftry:\n    {}['k']\nexcept KeyError as e:\n    print(e)\nfinally:\n    print('end')\x1e\
+    \"ok\",\"outputs\":[{\"name\":\"stdout\",\"output_type\":\"stream\",\"text\":\"z\\n\"}]\x1ftry: raise ZeroDivisionError('z')\nexcept ArithmeticError as e: print(e)\x1e\
+    \"ok\",\"outputs\":[{\"name\":\"stdout\",\"output_type\":\"stream\",\"text\":\"yes\\n\"}]\x1ftry: 1 // 0\nexcept KeyError: print('no')\nexcept (IndexError, ZeroDivisionError): print('yes')\x1e\
+    \"ok\",\"outputs\":[{\"name\":\"stdout\",\"output_type\":\"stream\",\"text\":\"any\\n\"}]\x1ftry: x\nexcept: print('any')\x1e\
+    \"ok\",\"outputs\":[{\"name\":\"stdout\",\"output_type\":\"stream\",\"text\":\"else\\nlast\\n\"}]\x1ftry: pass\nexcept: print('no')\nelse: print('else')\nfinally: print('last')\x1e\
+    \"error\",\"outputs\":[{\"name\":\"stdout\",\"output_type\":\"stream\",\"text\":\"f\\n\"},{\"ename\":\"ZeroDivisionError\",\"evalue\":\"division by zero\",\"output_type\":\"error\",\"traceback\":[\"ZeroDivisionError: division by zero\"]}]\x1ftry: 1 // 0\nexcept KeyError: pass\nfinally: print('f')\x1e\
+    \"ok\",\"outputs\":[{\"name\":\"stdout\",\"output_type\":\"stream\",\"text\":\"inner\\nouter\\n\"}]\x1ftry:\n    try: 1 // 0\n    finally: print('inner')\nexcept Exception: print('outer')\x1e\
+    \"error\",\"outputs\":[{\"ename\":\"NameError\",\"evalue\":\"name 'e' is not defined\",\"output_type\":\"error\",\"traceback\":[\"NameError: name 'e' is not defined\"]}]\x1ftry: 1 // 0\nexcept ZeroDivisionError as e: pass\ne\x1e\
+    \"error\",\"outputs\":[{\"ename\":\"NameError\",\"evalue\":\"name 'e' is not defined\",\"output_type\":\"error\",\"traceback\":[\"NameError: name 'e' is not defined\"]}]\x1fe = 5\ntry: 1 // 0\nexcept Exception as e: e = 6\ne\x1e\
+    \"ok\",\"outputs\":[]\x1ftry: 1 // 0\nexcept Exception as e: del e\x1e\
+    \"ok\",\"outputs\":[{\"data\":{\"text/plain\":\"NameError(\\\"name 'x' is not defined\\\")\"},\"execution_count\":1,\"metadata\":{},\"output_type\":\"execute_result\"}]\x1ftry: x\nexcept Exception as e: x = e\nx\x1e\
+    \"ok\",\"outputs\":[{\"data\":{\"text/plain\":\"(\\\"name 'y' is not defined\\\",)\"},\"execution_count\":1,\"metadata\":{},\"output_type\":\"execute_result\"}]\x1ftry: y\nexcept Exception as e: y = e.args\ny\x1e\
+    \"error\",\"outputs\":[{\"ename\":\"TypeError\",\"evalue\":\"exceptions must be exception classes or objects\",\"output_type\":\"error\",\"traceback\":[\"TypeError: exceptions must be exception classes or objects\"]}]\x1ftry: 1 // 0\nexcept 5: pass\x1e\
+    \"error\",\"outputs\":[{\"ename\":\"TypeError\",\"evalue\":\"exceptions must be exception classes or objects\",\"output_type\":\"error\",\"traceback\":[\"TypeError: exceptions must be exception classes or objects\"]}]\x1ftry: 1 // 0\nexcept (KeyError, 5): pass\x1e\
+    \"ok\",\"outputs\":[{\"data\":{\"text/plain\":\"1\"},\"execution_count\":1,\"metadata\":{},\"output_type\":\"execute_result\"}]\x1ftry: pass\nexcept 5: pass\n1\x1e\
+    \"error\",\"outputs\":[{\"ename\":\"NameError\",\"evalue\":\"name 'x' is not defined\",\"output_type\":\"error\",\"traceback\":[\"NameError: name 'x' is not defined\"]}]\x1ftry: 1 // 0\nexcept KeyError: pass\nexcept x: pass\x1e\
+    \"error\",\"outputs\":[{\"name\":\"stdout\",\"output_type\":\"stream\",\"text\":\"1\\n\"},{\"ename\":\"TypeError\",\"evalue\":\"exceptions must be exception classes or objects\",\"output_type\":\"error\",\"traceback\":[\"TypeError: exceptions must be exception classes or objects\"]}]\x1ftry: 1 // 0\nexcept print(1): pass\x1e\
+    \"error\",\"outputs\":[{\"ename\":\"NameError\",\"evalue\":\"name 'z' is not defined\",\"output_type\":\"error\",\"traceback\":[\"NameError: name 'z' is not defined\"]}]\x1ftry: 1 // 0\nexcept Exception as e: z\x1e\
+    \"error\",\"outputs\":[{\"ename\":\"ZeroDivisionError\",\"evalue\":\"division by zero\",\"output_type\":\"error\",\"traceback\":[\"ZeroDivisionError: division by zero\"]}]\x1ftry: 1 // 0\nexcept () : pass\x1e\
+    \"ok\",\"outputs\":[{\"name\":\"stdout\",\"output_type\":\"stream\",\"text\":\"(1, 'a')\\n\"}]\x1ftry: {}[1, 'a']\nexcept LookupError as e: print(e)\x1e\
+    \"ok\",\"outputs\":[{\"name\":\"stdout\",\"output_type\":\"stream\",\"text\":\"1\\n\"}]\x1ftry: x\nexcept NameError: print(1)\nelse: print(2)\x1e\
+    \"ok\",\"outputs\":[{\"name\":\"stdout\",\"output_type\":\"stream\",\"text\":\"t\\n\"}]\x1ftry: 'a' + 1\nexcept (ValueError, (TypeError)): print('t')\x1e\
+    \"ok\",\"outputs\":[{\"name\":\"stdout\",\"output_type\":\"stream\",\"text\":\"f\\n\"},{\"data\":{\"text/plain\":\"1\"},\"execution_count\":1,\"metadata\":{},\"output_type\":\"execute_result\"}]\x1fdef f():\n    try: return 1\n    finally: print('f')\nf()\x1e\
+    \"ok\",\"outputs\":[{\"data\":{\"text/plain\":\"2\"},\"execution_count\":1,\"metadata\":{},\"output_type\":\"execute_result\"}]\x1fdef f():\n    try: return 1\n    finally: return 2\nf()\x1e\
+    \"ok\",\"outputs\":[{\"data\":{\"text/plain\":\"2\"},\"execution_count\":1,\"metadata\":{},\"output_type\":\"execute_result\"}]\x1fdef f():\n    try: 1 // 0\n    finally: return 2\nf()\x1e\
+    \"ok\",\"outputs\":[{\"name\":\"stdout\",\"output_type\":\"stream\",\"text\":\"1\\n2\\n\"},{\"data\":{\"text/plain\":\"'d'\"},\"execution_count\":1,\"metadata\":{},\"output_type\":\"execute_result\"}]\x1fdef f():\n    for i in [1, 2]:\n        try: continue\n        finally: print(i)\n    return 'd'\nf()\x1e\
+    \"ok\",\"outputs\":[{\"name\":\"stdout\",\"output_type\":\"stream\",\"text\":\"1\\n\"},{\"data\":{\"text/plain\":\"1\"},\"execution_count\":1,\"metadata\":{},\"output_type\":\"execute_result\"}]\x1ffor i in [1, 2]:\n    try: break\n    finally: print(i)\ni\x1e\
+    \"ok\",\"outputs\":[]\x1ffor i in [1, 2]:\n    try: 1 // 0\n    except: continue\n    print('no')\x1e\
+    \"ok\",\"outputs\":[{\"data\":{\"text/plain\":\"1\"},\"execution_count\":1,\"metadata\":{},\"output_type\":\"execute_result\"}]\x1fwhile 1:\n    try: 1 // 0\n    finally: break\n1\x1e\
+    \"error\",\"outputs\":[{\"name\":\"stdout\",\"output_type\":\"stream\",\"text\":\"f\\n\"},{\"ename\":\"ZeroDivisionError\",\"evalue\":\"division by zero\",\"output_type\":\"error\",\"traceback\":[\"ZeroDivisionError: division by zero\"]}]\x1ftry: 1 // 0\nexcept: 1 // 0\nfinally: print('f')\x1e\
+    \"error\",\"outputs\":[{\"ename\":\"NameError\",\"evalue\":\"name 'x' is not defined\",\"output_type\":\"error\",\"traceback\":[\"NameError: name 'x' is not defined\"]}]\x1ftry: pass\nfinally: x\x1e\
+    \"error\",\"outputs\":[{\"ename\":\"NameError\",\"evalue\":\"name 'y' is not defined\",\"output_type\":\"error\",\"traceback\":[\"NameError: name 'y' is not defined\"]}]\x1ftry: x\nfinally: y // 1\x1e\
+    \"ok\",\"outputs\":[{\"name\":\"stdout\",\"output_type\":\"stream\",\"text\":\"name 'x' is not defined\\n\"}]\x1ftry:\n    try: x\n    except NameError: raise\nexcept Exception as e: print(e)\x1e\
+    \"ok\",\"outputs\":[{\"name\":\"stdout\",\"output_type\":\"stream\",\"text\":\"True\\n\"}]\x1ftry:\n    try: {}[0]\n    except Exception as e: x = e; raise\nexcept Exception as f: print(f is x)\x1e\
+    \"error\",\"outputs\":[{\"ename\":\"ZeroDivisionError\",\"evalue\":\"division by zero\",\"output_type\":\"error\",\"traceback\":[\"ZeroDivisionError: division by zero\"]}]\x1ftry: 1 // 0\nexcept Exception:\n    try: x\n    except Exception: pass\n    raise\x1e\
+    \"ok\",\"outputs\":[{\"data\":{\"text/plain\":\"KeyError(0)\"},\"execution_count\":1,\"metadata\":{},\"output_type\":\"execute_result\"}]\x1fdef f():\n    try: return {}[0]\n    except Exception as e: return e\nf()\x1e\
+    \"ok\",\"outputs\":[{\"data\":{\"text/plain\":\"'h'\"},\"execution_count\":1,\"metadata\":{},\"output_type\":\"execute_result\"}]\x1fdef f():\n    try: return 1 // 0\n    except Exception: return 'h'\n    else: return 'e'\nf()\x1e\
+    \"error\",\"outputs\":[{\"ename\":\"ZeroDivisionError\",\"evalue\":\"division by zero\",\"output_type\":\"error\",\"traceback\":[\"ZeroDivisionError: division by zero\"]}]\x1ftry: pass\nexcept: pass\nelse: 1 // 0\x1e\
+    \"ok\",\"outputs\":[{\"data\":{\"text/plain\":\"1\"},\"execution_count\":1,\"metadata\":{},\"output_type\":\"execute_result\"}]\x1ffor i in [1]:\n    try: pass\n    except: pass\n    else: break\ni\x1e\
+    \"ok\",\"outputs\":[{\"data\":{\"text/plain\":\"1\"},\"execution_count\":1,\"metadata\":{},\"output_type\":\"execute_result\"}]\x1ftry:\n    x = 1\n    1 // 0\nexcept: pass\nx\x1e\
+    \"error\",\"outputs\":[{\"ename\":\"ValueError\",\"evalue\":\"('x', 1)\",\"output_type\":\"error\",\"traceback\":[\"ValueError: ('x', 1)\"]}]\x1fraise ValueError('x', 1)\x1e\
+    \"error\",\"outputs\":[{\"ename\":\"ValueError\",\"evalue\":\"\",\"output_type\":\"error\",\"traceback\":[\"ValueError: \"]}]\x1fraise ValueError\x1e\
+    \"error\",\"outputs\":[{\"ename\":\"ValueError\",\"evalue\":\"\",\"output_type\":\"error\",\"traceback\":[\"ValueError: \"]}]\x1fraise ValueError()\x1e\
+    \"error\",\"outputs\":[{\"ename\":\"KeyError\",\"evalue\":\"'k'\",\"output_type\":\"error\",\"traceback\":[\"KeyError: 'k'\"]}]\x1fraise KeyError('k')\x1e\
+    \"error\",\"outputs\":[{\"ename\":\"KeyError\",\"evalue\":\"(1,)\",\"output_type\":\"error\",\"traceback\":[\"KeyError: (1,)\"]}]\x1fraise KeyError((1,))\x1e\
+    \"error\",\"outputs\":[{\"ename\":\"ValueError\",\"evalue\":\"[1]\",\"output_type\":\"error\",\"traceback\":[\"ValueError: [1]\"]}]\x1fraise ValueError([1])\x1e\
+    \"error\",\"outputs\":[{\"ename\":\"TypeError\",\"evalue\":\"exceptions must be exception classes or objects\",\"output_type\":\"error\",\"traceback\":[\"TypeError: exceptions must be exception classes or objects\"]}]\x1fraise 5\x1e\
+    \"error\",\"outputs\":[{\"ename\":\"TypeError\",\"evalue\":\"exceptions must be exception classes or objects\",\"output_type\":\"error\",\"traceback\":[\"TypeError: exceptions must be exception classes or objects\"]}]\x1fraise None\x1e\
+    \"error\",\"outputs\":[{\"ename\":\"TypeError\",\"evalue\":\"exceptions must be exception classes or objects\",\"output_type\":\"error\",\"traceback\":[\"TypeError: exceptions must be exception classes or objects\"]}]\x1fraise print\x1e\
+    \"error\",\"outputs\":[{\"ename\":\"TypeError\",\"evalue\":\"exceptions must be exception classes or objects\",\"output_type\":\"error\",\"traceback\":[\"TypeError: exceptions must be exception classes or objects\"]}]\x1fraise (ValueError,)\x1e\
+    \"error\",\"outputs\":[{\"ename\":\"ValueError\",\"evalue\":\"a\",\"output_type\":\"error\",\"traceback\":[\"ValueError: a\"]}]\x1fx = ValueError('a'); raise x\x1e\
+    \"ok\",\"outputs\":[{\"name\":\"stdout\",\"output_type\":\"stream\",\"text\":\"True ('a',)\\n\"}]\x1fx = ValueError('a')\ntry: raise x\nexcept ValueError as e: print(e is x, e.args)\x1e\
+    \"error\",\"outputs\":[{\"ename\":\"NameError\",\"evalue\":\"name 'x' is not defined\",\"output_type\":\"error\",\"traceback\":[\"NameError: name 'x' is not defined\"]}]\x1fraise x\x1e\
+    \"error\",\"outputs\":[{\"ename\":\"ZeroDivisionError\",\"evalue\":\"division by zero\",\"output_type\":\"error\",\"traceback\":[\"ZeroDivisionError: division by zero\"]}]\x1fraise ValueError(1 // 0)\x1e\
+    \"ok\",\"outputs\":[{\"data\":{\"text/plain\":\"KeyError(1, 2)\"},\"execution_count\":1,\"metadata\":{},\"output_type\":\"execute_result\"}]\x1fe = KeyError(1, 2)\ne\x1e\
+    \"ok\",\"outputs\":[{\"data\":{\"text/plain\":\"False\"},\"execution_count\":1,\"metadata\":{},\"output_type\":\"execute_result\"}]\x1fValueError('a') == ValueError('a')\x1e\
+    \"error\",\"outputs\":[{\"ename\":\"TypeError\",\"evalue\":\"ValueError() got bad arguments\",\"output_type\":\"error\",\"traceback\":[\"TypeError: ValueError() got bad arguments\"]}]\x1fValueError(a=1)\x1e\
+    \"ok\",\"outputs\":[{\"data\":{\"text/plain\":\"'a'\"},\"execution_count\":1,\"metadata\":{},\"output_type\":\"execute_result\"}]\x1fValueError('a').args[0]\x1e\
+    \"ok\",\"outputs\":[]\x1fassert 1\x1e\
+    \"error\",\"outputs\":[{\"ename\":\"AssertionError\",\"evalue\":\"\",\"output_type\":\"error\",\"traceback\":[\"AssertionError: \"]}]\x1fassert 0\x1e\
+    \"error\",\"outputs\":[{\"ename\":\"AssertionError\",\"evalue\":\"m\",\"output_type\":\"error\",\"traceback\":[\"AssertionError: m\"]}]\x1fassert [], 'm'\x1e\
+    \"ok\",\"outputs\":[]\x1fassert 1, x\x1e\
+    \"error\",\"outputs\":[{\"ename\":\"NameError\",\"evalue\":\"name 'x' is not defined\",\"output_type\":\"error\",\"traceback\":[\"NameError: name 'x' is not defined\"]}]\x1fassert 0, x\x1e\
+    \"error\",\"outputs\":[{\"ename\":\"NameError\",\"evalue\":\"name 'x' is not defined\",\"output_type\":\"error\",\"traceback\":[\"NameError: name 'x' is not defined\"]}]\x1fassert x\x1e\
+    \"error\",\"outputs\":[{\"ename\":\"AssertionError\",\"evalue\":\"[1, 'a']\",\"output_type\":\"error\",\"traceback\":[\"AssertionError: [1, 'a']\"]}]\x1fassert 0, [1, 'a']\x1e\
+    \"error\",\"outputs\":[{\"ename\":\"AssertionError\",\"evalue\":\"('a', 'b')\",\"output_type\":\"error\",\"traceback\":[\"AssertionError: ('a', 'b')\"]}]\x1fassert 0, ('a', 'b')\x1e\
+    \"ok\",\"outputs\":[]\x1fassert (0, 1)\x1e\
+    \"ok\",\"outputs\":[{\"name\":\"stdout\",\"output_type\":\"stream\",\"text\":\"5 (5,)\\n\"}]\x1ftry: assert 0, 5\nexcept AssertionError as e: print(e, e.args)\x1e\
+    \"ok\",\"outputs\":[]\x1ftry: raise NotImplementedError\nexcept RuntimeError as e: e.args\x1e\
+    \"error\",\"outputs\":[{\"ename\":\"AttributeError\",\"evalue\":\"'class' object has no attribute 'a'\",\"output_type\":\"error\",\"traceback\":[\"AttributeError: 'class' object has no attribute 'a'\"]}]\x1fValueError.a\x1e\
+    \"error\",\"outputs\":[{\"ename\":\"AttributeError\",\"evalue\":\"'ValueError' object has no attribute 'b'\",\"output_type\":\"error\",\"traceback\":[\"AttributeError: 'ValueError' object has no attribute 'b'\"]}]\x1fValueError().b\x1e\
+    \"ok\",\"outputs\":[{\"data\":{\"text/plain\":\"<class 'ValueError'>\"},\"execution_count\":1,\"metadata\":{},\"output_type\":\"execute_result\"}]\x1fValueError\x1e\
+    \"ok\",\"outputs\":[{\"name\":\"stdout\",\"output_type\":\"stream\",\"text\":\"x 'x'  (1, 2)\\n\"}]\x1fprint(ValueError('x'), KeyError('x'), ValueError(), ValueError(1, 2))\x1e\
+    \"ok\",\"outputs\":[{\"data\":{\"text/plain\":\"False\"},\"execution_count\":1,\"metadata\":{},\"output_type\":\"execute_result\"}]\x1fnot ValueError()\x1e\
+    \"ok\",\"outputs\":[{\"data\":{\"text/plain\":\"(True, False)\"},\"execution_count\":1,\"metadata\":{},\"output_type\":\"execute_result\"}]\x1fValueError is ValueError, ValueError == KeyError\x1e\
+    \"ok\",\"outputs\":[{\"name\":\"stdout\",\"output_type\":\"stream\",\"text\":\"n\\n\"}]\x1ftry: raise UnboundLocalError\nexcept NameError: print('n')\x1e\
+    \"ok\",\"outputs\":[{\"name\":\"stdout\",\"output_type\":\"stream\",\"text\":\"r\\n\"}]\x1ftry: raise RecursionError\nexcept (LookupError, RuntimeError): print('r')\x1e\
+    \"error\",\"outputs\":[{\"ename\":\"Exception\",\"evalue\":\"\",\"output_type\":\"error\",\"traceback\":[\"Exception: \"]}]\x1ftry: raise Exception\nexcept ValueError: print('no')\x1e\
+    \"error\",\"outputs\":[{\"ename\":\"OverflowError\",\"evalue\":\"\",\"output_type\":\"error\",\"traceback\":[\"OverflowError: \"]}]\x1ftry: raise OverflowError\nexcept LookupError: print('no')\x1e\
+    \"error\",\"outputs\":[{\"ename\":\"AttributeError\",\"evalue\":\"'function' object has no attribute 'a'\",\"output_type\":\"error\",\"traceback\":[\"AttributeError: 'function' object has no attribute 'a'\"]}]\x1fdef f(): pass\nf.a = 1\x1e\
+    \"ok\",\"outputs\":[{\"data\":{\"text/plain\":\"ValueError([ValueError(...)])\"},\"execution_count\":1,\"metadata\":{},\"output_type\":\"execute_result\"}]\x1fx = ValueError([]); x.args[0].append(x); x\x1e\
+    \"ok\",\"outputs\":[{\"data\":{\"text/plain\":\"ZeroDivisionError('division by zero')\"},\"execution_count\":1,\"metadata\":{},\"output_type\":\"execute_result\"}]\x1ftry: 1 // 0\nexcept Exception as e: x = e\nx\x1e\
+    \"ok\",\"outputs\":[{\"name\":\"stdout\",\"output_type\":\"stream\",\"text\":\"index out of range\\n\"}]\x1ftry: [][0]\nexcept LookupError as e: print(e)\x1e\
+    \"error\",\"outputs\":[{\"ename\":\"TypeError\",\"evalue\":\"unhashable key: 'function'\",\"output_type\":\"error\",\"traceback\":[\"TypeError: unhashable key: 'function'\"]}]\x1fdef f(): pass\n{f: 1}\x1e\
+    \"error\",\"outputs\":[{\"ename\":\"AttributeError\",\"evalue\":\"'ValueError' object has no attribute 'args'\",\"output_type\":\"error\",\"traceback\":[\"AttributeError: 'ValueError' object has no attribute 'args'\"]}]\x1fValueError().args()\x1e\
+    \"error\",\"outputs\":[{\"ename\":\"AttributeError\",\"evalue\":\"'ValueError' object has no attribute 'foo'\",\"output_type\":\"error\",\"traceback\":[\"AttributeError: 'ValueError' object has no attribute 'foo'\"]}]\x1fValueError('a').foo(1)\x1e\
+    \"error\",\"outputs\":[{\"ename\":\"AttributeError\",\"evalue\":\"'function' object has no attribute 'x'\",\"output_type\":\"error\",\"traceback\":[\"AttributeError: 'function' object has no attribute 'x'\"]}]\x1fdef f(): pass\nf.x(1)\x1e\
+    \"stopped\",\"outputs\":[{\"ename\":\"Stopped\",\"evalue\":\"step budget spent\",\"output_type\":\"error\",\"traceback\":[\"Stopped: step budget spent\"]}]\x1ftry:\n    while True: pass\nexcept Exception: print('no')\nfinally: print('no')\x1e\
+    \"stopped\",\"outputs\":[{\"ename\":\"Stopped\",\"evalue\":\"step budget spent\",\"output_type\":\"error\",\"traceback\":[\"Stopped: step budget spent\"]}]\x1fdef f():\n    while True: pass\ntry: f()\nexcept: pass\x1e\
+    \"error\",\"outputs\":[{\"ename\":\"TypeError\",\"evalue\":\"exceptions must be exception classes or objects\",\"output_type\":\"error\",\"traceback\":[\"TypeError: exceptions must be exception classes or objects\"]}]\x1ftry: 1 // 0\nexcept SimpleNamespace: pass\x1e\
+    \"error\",\"outputs\":[{\"ename\":\"TypeError\",\"evalue\":\"exceptions must be exception classes or objects\",\"output_type\":\"error\",\"traceback\":[\"TypeError: exceptions must be exception classes or objects\"]}]\x1fraise SimpleNamespace\x1e\
+    \"error\",\"outputs\":[{\"ename\":\"TypeError\",\"evalue\":\"f() got bad arguments\",\"output_type\":\"error\",\"traceback\":[\"TypeError: f() got bad arguments\"]}]\x1fdef f(x): pass\nf(1, 2)\x1e\
+    \"stopped\",\"outputs\":[{\"ename\":\"Stopped\",\"evalue\":\"step budget spent\",\"output_type\":\"error\",\"traceback\":[\"Stopped: step budget spent\"]}]\x1ftry: 1 // 0\nexcept Exception as e:\n    while True: pass\x1e\
+    \"stopped\",\"outputs\":[{\"ename\":\"Stopped\",\"evalue\":\"step budget spent\",\"output_type\":\"error\",\"traceback\":[\"Stopped: step budget spent\"]}]\x1fdef f(): return x\nx = 'a' * 4000000\nf()\x1e\
+    \"ok\",\"outputs\":[{\"data\":{\"text/plain\":\"(3, 3, 1, 0)\"},\"execution_count\":1,\"metadata\":{},\"output_type\":\"execute_result\"}]\x1fabs(-3), abs(3), abs(True), abs(0)\x1e\
+    \"error\",\"outputs\":[{\"ename\":\"TypeError\",\"evalue\":\"abs() got bad arguments\",\"output_type\":\"error\",\"traceback\":[\"TypeError: abs() got bad arguments\"]}]\x1fabs('a')\x1e\
+    \"error\",\"outputs\":[{\"ename\":\"TypeError\",\"evalue\":\"abs() got bad arguments\",\"output_type\":\"error\",\"traceback\":[\"TypeError: abs() got bad arguments\"]}]\x1fabs()\x1e\
+    \"error\",\"outputs\":[{\"ename\":\"TypeError\",\"evalue\":\"abs() got bad arguments\",\"output_type\":\"error\",\"traceback\":[\"TypeError: abs() got bad arguments\"]}]\x1fabs(1, 2)\x1e\
+    \"error\",\"outputs\":[{\"ename\":\"TypeError\",\"evalue\":\"abs() got bad arguments\",\"output_type\":\"error\",\"traceback\":[\"TypeError: abs() got bad arguments\"]}]\x1fabs(x=1)\x1e\
+    \"ok\",\"outputs\":[{\"data\":{\"text/plain\":\"(True, True, False, True, False, True)\"},\"execution_count\":1,\"metadata\":{},\"output_type\":\"execute_result\"}]\x1fall([]), all([1, 'a']), all([1, 0, 2]), all(''), all({0: 1}), all((1,))\x1e\
+    \"ok\",\"outputs\":[{\"data\":{\"text/plain\":\"(False, False)\"},\"execution_count\":1,\"metadata\":{},\"output_type\":\"execute_result\"}]\x1fany([]), any([0, ''])\x1e\
+    \"ok\",\"outputs\":[{\"data\":{\"text/plain\":\"(True, True)\"},\"execution_count\":1,\"metadata\":{},\"output_type\":\"execute_result\"}]\x1fany([0, 3, 0]), any({0: 1, 1: 2})\x1e\
+    \"error\",\"outputs\":[{\"ename\":\"TypeError\",\"evalue\":\"'int' object is not iterable\",\"output_type\":\"error\",\"traceback\":[\"TypeError: 'int' object is not iterable\"]}]\x1fall(5)\x1e\
+    \"error\",\"outputs\":[{\"ename\":\"TypeError\",\"evalue\":\"'NoneType' object is not iterable\",\"output_type\":\"error\",\"traceback\":[\"TypeError: 'NoneType' object is not iterable\"]}]\x1fany(None)\x1e\
+    \"error\",\"outputs\":[{\"ename\":\"TypeError\",\"evalue\":\"all() got bad arguments\",\"output_type\":\"error\",\"traceback\":[\"TypeError: all() got bad arguments\"]}]\x1fall([1], [2])\x1e\
+    \"ok\",\"outputs\":[{\"data\":{\"text/plain\":\"('a', '\u{1f600}', True)\"},\"execution_count\":1,\"metadata\":{},\"output_type\":\"execute_result\"}]\x1fchr(97), chr(0x1F600), chr(0) == '\\0'\x1e\
+    \"error\",\"outputs\":[{\"ename\":\"ValueError\",\"evalue\":\"not a character\",\"output_type\":\"error\",\"traceback\":[\"ValueError: not a character\"]}]\x1fchr(-1)\x1e\
+    \"error\",\"outputs\":[{\"ename\":\"ValueError\",\"evalue\":\"not a character\",\"output_type\":\"error\",\"traceback\":[\"ValueError: not a character\"]}]\x1fchr(0x110000)\x1e\
+    \"error\",\"outputs\":[{\"ename\":\"TypeError\",\"evalue\":\"chr() got bad arguments\",\"output_type\":\"error\",\"traceback\":[\"TypeError: chr() got bad arguments\"]}]\x1fchr('a')\x1e\
+    \"ok\",\"outputs\":[{\"data\":{\"text/plain\":\"(97, 233, 128512)\"},\"execution_count\":1,\"metadata\":{},\"output_type\":\"execute_result\"}]\x1ford('a'), ord('\u{e9}'), ord(chr(128512))\x1e\
+    \"error\",\"outputs\":[{\"ename\":\"TypeError\",\"evalue\":\"ord() got bad arguments\",\"output_type\":\"error\",\"traceback\":[\"TypeError: ord() got bad arguments\"]}]\x1ford('')\x1e\
+    \"error\",\"outputs\":[{\"ename\":\"TypeError\",\"evalue\":\"ord() got bad arguments\",\"output_type\":\"error\",\"traceback\":[\"TypeError: ord() got bad arguments\"]}]\x1ford('ab')\x1e\
+    \"error\",\"outputs\":[{\"ename\":\"TypeError\",\"evalue\":\"ord() got bad arguments\",\"output_type\":\"error\",\"traceback\":[\"TypeError: ord() got bad arguments\"]}]\x1ford(1)\x1e\
+    \"ok\",\"outputs\":[{\"data\":{\"text/plain\":\"((3, 1), (-4, 1), (-4, -1), (1, 0))\"},\"execution_count\":1,\"metadata\":{},\"output_type\":\"execute_result\"}]\x1fdivmod(7, 2), divmod(-7, 2), divmod(7, -2), divmod(True, 1)\x1e\
+    \"error\",\"outputs\":[{\"ename\":\"ZeroDivisionError\",\"evalue\":\"division by zero\",\"output_type\":\"error\",\"traceback\":[\"ZeroDivisionError: division by zero\"]}]\x1fdivmod(1, 0)\x1e\
+    \"error\",\"outputs\":[{\"ename\":\"TypeError\",\"evalue\":\"divmod() got bad arguments\",\"output_type\":\"error\",\"traceback\":[\"TypeError: divmod() got bad arguments\"]}]\x1fdivmod(1, 'a')\x1e\
+    \"error\",\"outputs\":[{\"ename\":\"TypeError\",\"evalue\":\"divmod() got bad arguments\",\"output_type\":\"error\",\"traceback\":[\"TypeError: divmod() got bad arguments\"]}]\x1fdivmod(1)\x1e\
+    \"ok\",\"outputs\":[{\"data\":{\"text/plain\":\"(True, True, True, False, True, True, True, True)\"},\"execution_count\":1,\"metadata\":{},\"output_type\":\"execute_result\"}]\x1fisinstance(1, int), isinstance(True, int), isinstance(True, bool), isinstance(1, bool), isinstance('a', str), isinstance([], list), isinstance((), tuple), isinstance({}, dict)\x1e\
+    \"ok\",\"outputs\":[{\"data\":{\"text/plain\":\"(True, False, False)\"},\"execution_count\":1,\"metadata\":{},\"output_type\":\"execute_result\"}]\x1fisinstance([], (int, list)), isinstance([], (int, str)), isinstance([], ())\x1e\
+    \"ok\",\"outputs\":[{\"data\":{\"text/plain\":\"(False, False, False, True)\"},\"execution_count\":1,\"metadata\":{},\"output_type\":\"execute_result\"}]\x1fisinstance(None, int), isinstance(len, int), isinstance(int, int), isinstance(range(1), range)\x1e\
+    \"ok\",\"outputs\":[{\"data\":{\"text/plain\":\"(True, True, False, True)\"},\"execution_count\":1,\"metadata\":{},\"output_type\":\"execute_result\"}]\x1fisinstance(KeyError('a'), LookupError), isinstance(KeyError('a'), Exception), isinstance(KeyError('a'), IndexError), isinstance(ZeroDivisionError(), ArithmeticError)\x1e\
+    \"ok\",\"outputs\":[{\"data\":{\"text/plain\":\"True\"},\"execution_count\":1,\"metadata\":{},\"output_type\":\"execute_result\"}]\x1fisinstance(SimpleNamespace(), SimpleNamespace)\x1e\
+    \"error\",\"outputs\":[{\"ename\":\"TypeError\",\"evalue\":\"isinstance() got bad arguments\",\"output_type\":\"error\",\"traceback\":[\"TypeError: isinstance() got bad arguments\"]}]\x1fisinstance(1, 1)\x1e\
+    \"error\",\"outputs\":[{\"ename\":\"TypeError\",\"evalue\":\"isinstance() got bad arguments\",\"output_type\":\"error\",\"traceback\":[\"TypeError: isinstance() got bad arguments\"]}]\x1fisinstance(1)\x1e\
+    \"error\",\"outputs\":[{\"ename\":\"TypeError\",\"evalue\":\"isinstance() got bad arguments\",\"output_type\":\"error\",\"traceback\":[\"TypeError: isinstance() got bad arguments\"]}]\x1fisinstance(1, [int])\x1e\
+    \"ok\",\"outputs\":[{\"data\":{\"text/plain\":\"False\"},\"execution_count\":1,\"metadata\":{},\"output_type\":\"execute_result\"}]\x1fdef f(): pass\nisinstance(f, dict)\x1e\
+    \"ok\",\"outputs\":[{\"data\":{\"text/plain\":\"(3, 1, 0, 1, 4, 2)\"},\"execution_count\":1,\"metadata\":{},\"output_type\":\"execute_result\"}]\x1flen('abc'), len([1]), len(()), len({1: 2}), len(range(0, 10, 3)), len('\u{e9}\u{1f600}')\x1e\
+    \"error\",\"outputs\":[{\"ename\":\"TypeError\",\"evalue\":\"len() got bad arguments\",\"output_type\":\"error\",\"traceback\":[\"TypeError: len() got bad arguments\"]}]\x1flen(5)\x1e\
+    \"error\",\"outputs\":[{\"ename\":\"TypeError\",\"evalue\":\"len() got bad arguments\",\"output_type\":\"error\",\"traceback\":[\"TypeError: len() got bad arguments\"]}]\x1flen(None)\x1e\
+    \"error\",\"outputs\":[{\"ename\":\"TypeError\",\"evalue\":\"len() got bad arguments\",\"output_type\":\"error\",\"traceback\":[\"TypeError: len() got bad arguments\"]}]\x1flen()\x1e\
+    \"ok\",\"outputs\":[{\"data\":{\"text/plain\":\"(2, 1, 3, 'a', 5)\"},\"execution_count\":1,\"metadata\":{},\"output_type\":\"execute_result\"}]\x1fmax(1, 2), min(1, 2), max([3, 1, 2]), min('bca'), max({1: 2, 5: 0})\x1e\
+    \"ok\",\"outputs\":[{\"data\":{\"text/plain\":\"(True, 1, True)\"},\"execution_count\":1,\"metadata\":{},\"output_type\":\"execute_result\"}]\x1fmax([True, 1]), max(1, True), min([True, 1])\x1e\
+    \"error\",\"outputs\":[{\"ename\":\"ValueError\",\"evalue\":\"empty argument\",\"output_type\":\"error\",\"traceback\":[\"ValueError: empty argument\"]}]\x1fmax([])\x1e\
+    \"error\",\"outputs\":[{\"ename\":\"ValueError\",\"evalue\":\"empty argument\",\"output_type\":\"error\",\"traceback\":[\"ValueError: empty argument\"]}]\x1fmin('')\x1e\
+    \"error\",\"outputs\":[{\"ename\":\"TypeError\",\"evalue\":\"max() got bad arguments\",\"output_type\":\"error\",\"traceback\":[\"TypeError: max() got bad arguments\"]}]\x1fmax()\x1e\
+    \"error\",\"outputs\":[{\"ename\":\"TypeError\",\"evalue\":\"'int' object is not iterable\",\"output_type\":\"error\",\"traceback\":[\"TypeError: 'int' object is not iterable\"]}]\x1fmax(5)\x1e\
+    \"error\",\"outputs\":[{\"ename\":\"TypeError\",\"evalue\":\"bad operand types for >: 'str' and 'int'\",\"output_type\":\"error\",\"traceback\":[\"TypeError: bad operand types for >: 'str' and 'int'\"]}]\x1fmax(1, 'a')\x1e\
+    \"error\",\"outputs\":[{\"ename\":\"TypeError\",\"evalue\":\"bad operand types for <: 'NoneType' and 'int'\",\"output_type\":\"error\",\"traceback\":[\"TypeError: bad operand types for <: 'NoneType' and 'int'\"]}]\x1fmin([1, None])\x1e\
+    \"ok\",\"outputs\":[{\"data\":{\"text/plain\":\"([1, 3], ())\"},\"execution_count\":1,\"metadata\":{},\"output_type\":\"execute_result\"}]\x1fmax([1, 2], [1, 3]), min((), (1,))\x1e\
+    \"ok\",\"outputs\":[{\"data\":{\"text/plain\":\"[1]\"},\"execution_count\":1,\"metadata\":{},\"output_type\":\"execute_result\"}]\x1fmax([[], [1]])\x1e\
+    \"ok\",\"outputs\":[{\"data\":{\"text/plain\":\"(\\\"'a'\\\", '1', \\\"[1, 'b']\\\", 'None')\"},\"execution_count\":1,\"metadata\":{},\"output_type\":\"execute_result\"}]\x1frepr('a'), repr(1), repr([1, 'b']), repr(None)\x1e\
+    \"error\",\"outputs\":[{\"ename\":\"TypeError\",\"evalue\":\"repr() got bad arguments\",\"output_type\":\"error\",\"traceback\":[\"TypeError: repr() got bad arguments\"]}]\x1frepr()\x1e\
+    \"ok\",\"outputs\":[{\"data\":{\"text/plain\":\"('<built-in function len>', \\\"<class 'int'>\\\", \\\"<class 'ValueError'>\\\")\"},\"execution_count\":1,\"metadata\":{},\"output_type\":\"execute_result\"}]\x1frepr(len), repr(int), repr(ValueError)\x1e\
+    \"ok\",\"outputs\":[{\"data\":{\"text/plain\":\"([1, 2, 3], ['a', 'b', 'c'], [], [1, 2], [1, 3])\"},\"execution_count\":1,\"metadata\":{},\"output_type\":\"execute_result\"}]\x1fsorted([3, 1, 2]), sorted('bca'), sorted([]), sorted((2, 1)), sorted({3: 0, 1: 0})\x1e\
+    \"ok\",\"outputs\":[{\"data\":{\"text/plain\":\"[True, 2, 3]\"},\"execution_count\":1,\"metadata\":{},\"output_type\":\"execute_result\"}]\x1fsorted([3, True, 2])\x1e\
+    \"ok\",\"outputs\":[{\"data\":{\"text/plain\":\"[0, False, 1, True]\"},\"execution_count\":1,\"metadata\":{},\"output_type\":\"execute_result\"}]\x1fsorted([1, True, 0, False])\x1e\
+    \"error\",\"outputs\":[{\"ename\":\"TypeError\",\"evalue\":\"sorted() got bad arguments\",\"output_type\":\"error\",\"traceback\":[\"TypeError: sorted() got bad arguments\"]}]\x1fsorted([1, 'a'])\x1e\
+    \"error\",\"outputs\":[{\"ename\":\"TypeError\",\"evalue\":\"'int' object is not iterable\",\"output_type\":\"error\",\"traceback\":[\"TypeError: 'int' object is not iterable\"]}]\x1fsorted(5)\x1e\
+    \"ok\",\"outputs\":[{\"data\":{\"text/plain\":\"[1, 3, 5]\"},\"execution_count\":1,\"metadata\":{},\"output_type\":\"execute_result\"}]\x1fsorted(range(5, 0, -2))\x1e\
+    \"ok\",\"outputs\":[{\"data\":{\"text/plain\":\"(False, [2, 1])\"},\"execution_count\":1,\"metadata\":{},\"output_type\":\"execute_result\"}]\x1fa = [2, 1]; sorted(a) is a, a\x1e\
+    \"ok\",\"outputs\":[{\"data\":{\"text/plain\":\"(6, 0, 2, 10, 1)\"},\"execution_count\":1,\"metadata\":{},\"output_type\":\"execute_result\"}]\x1fsum([1, 2, 3]), sum([]), sum((True, True)), sum(range(5)), sum({1: 2})\x1e\
+    \"error\",\"outputs\":[{\"ename\":\"TypeError\",\"evalue\":\"sum() got bad arguments\",\"output_type\":\"error\",\"traceback\":[\"TypeError: sum() got bad arguments\"]}]\x1fsum(['a'])\x1e\
+    \"error\",\"outputs\":[{\"ename\":\"TypeError\",\"evalue\":\"'int' object is not iterable\",\"output_type\":\"error\",\"traceback\":[\"TypeError: 'int' object is not iterable\"]}]\x1fsum(5)\x1e\
+    \"error\",\"outputs\":[{\"ename\":\"TypeError\",\"evalue\":\"sum() got bad arguments\",\"output_type\":\"error\",\"traceback\":[\"TypeError: sum() got bad arguments\"]}]\x1fsum([[]])\x1e\
+    \"ok\",\"outputs\":[{\"data\":{\"text/plain\":\"(False, False, True, False)\"},\"execution_count\":1,\"metadata\":{},\"output_type\":\"execute_result\"}]\x1fbool(), bool(0), bool([0]), bool('')\x1e\
+    \"error\",\"outputs\":[{\"ename\":\"TypeError\",\"evalue\":\"bool() got bad arguments\",\"output_type\":\"error\",\"traceback\":[\"TypeError: bool() got bad arguments\"]}]\x1fbool(1, 2)\x1e\
+    \"ok\",\"outputs\":[{\"data\":{\"text/plain\":\"({}, {1: 2})\"},\"execution_count\":1,\"metadata\":{},\"output_type\":\"execute_result\"}]\x1fdict(), dict({1: 2})\x1e\
+    \"ok\",\"outputs\":[{\"data\":{\"text/plain\":\"(False, True, True)\"},\"execution_count\":1,\"metadata\":{},\"output_type\":\"execute_result\"}]\x1fd = {1: []}; e = dict(d); e is d, e[1] is d[1], e == d\x1e\
+    \"error\",\"outputs\":[{\"ename\":\"TypeError\",\"evalue\":\"dict() got bad arguments\",\"output_type\":\"error\",\"traceback\":[\"TypeError: dict() got bad arguments\"]}]\x1fdict(1)\x1e\
+    \"ok\",\"outputs\":[{\"data\":{\"text/plain\":\"(0, 5, 1, 42, -7, 0, 7)\"},\"execution_count\":1,\"metadata\":{},\"output_type\":\"execute_result\"}]\x1fint(), int(5), int(True), int(' 42 '), int('-7'), int('+0'), int('007')\x1e\
+    \"error\",\"outputs\":[{\"ename\":\"ValueError\",\"evalue\":\"not a whole number\",\"output_type\":\"error\",\"traceback\":[\"ValueError: not a whole number\"]}]\x1fint('a')\x1e\
+    \"error\",\"outputs\":[{\"ename\":\"ValueError\",\"evalue\":\"not a whole number\",\"output_type\":\"error\",\"traceback\":[\"ValueError: not a whole number\"]}]\x1fint('')\x1e\
+    \"error\",\"outputs\":[{\"ename\":\"ValueError\",\"evalue\":\"not a whole number\",\"output_type\":\"error\",\"traceback\":[\"ValueError: not a whole number\"]}]\x1fint('1 2')\x1e\
+    \"error\",\"outputs\":[{\"ename\":\"TypeError\",\"evalue\":\"int() got bad arguments\",\"output_type\":\"error\",\"traceback\":[\"TypeError: int() got bad arguments\"]}]\x1fint([])\x1e\
+    \"error\",\"outputs\":[{\"ename\":\"TypeError\",\"evalue\":\"int() got bad arguments\",\"output_type\":\"error\",\"traceback\":[\"TypeError: int() got bad arguments\"]}]\x1fint(None)\x1e\
+    \"ok\",\"outputs\":[{\"data\":{\"text/plain\":\"([], ['a', 'b'], [1, 2], [1], [0, 1, 2])\"},\"execution_count\":1,\"metadata\":{},\"output_type\":\"execute_result\"}]\x1flist(), list('ab'), list((1, 2)), list({1: 2}), list(range(3))\x1e\
+    \"ok\",\"outputs\":[{\"data\":{\"text/plain\":\"(False, True)\"},\"execution_count\":1,\"metadata\":{},\"output_type\":\"execute_result\"}]\x1fa = [1]; list(a) is a, list(a) == a\x1e\
+    \"error\",\"outputs\":[{\"ename\":\"TypeError\",\"evalue\":\"'int' object is not iterable\",\"output_type\":\"error\",\"traceback\":[\"TypeError: 'int' object is not iterable\"]}]\x1flist(5)\x1e\
+    \"error\",\"outputs\":[{\"ename\":\"TypeError\",\"evalue\":\"list() got bad arguments\",\"output_type\":\"error\",\"traceback\":[\"TypeError: list() got bad arguments\"]}]\x1flist(1, 2)\x1e\
+    \"ok\",\"outputs\":[{\"name\":\"stdout\",\"output_type\":\"stream\",\"text\":\"(0, 1, 2) ['a', 'b'] 42 [1, 'x']\\n\"}]\x1fprint(tuple(range(3)), list('ab'), int(' 42 '), str([1, 'x']))\x1e\
+    \"ok\",\"outputs\":[{\"data\":{\"text/plain\":\"(range(0, 3), range(1, 5), range(0, 10, 3), range(5, 0, -1), range(0, 1))\"},\"execution_count\":1,\"metadata\":{},\"output_type\":\"execute_result\"}]\x1frange(3), range(1, 5), range(0, 10, 3), range(5, 0, -1), range(True)\x1e\
+    \"error\",\"outputs\":[{\"ename\":\"ValueError\",\"evalue\":\"step is zero\",\"output_type\":\"error\",\"traceback\":[\"ValueError: step is zero\"]}]\x1frange(1, 2, 0)\x1e\
+    \"error\",\"outputs\":[{\"ename\":\"TypeError\",\"evalue\":\"range() got bad arguments\",\"output_type\":\"error\",\"traceback\":[\"TypeError: range() got bad arguments\"]}]\x1frange('a')\x1e\
+    \"error\",\"outputs\":[{\"ename\":\"TypeError\",\"evalue\":\"range() got bad arguments\",\"output_type\":\"error\",\"traceback\":[\"TypeError: range() got bad arguments\"]}]\x1frange()\x1e\
+    \"ok\",\"outputs\":[{\"name\":\"stdout\",\"output_type\":\"stream\",\"text\":\"0\\n1\\n2\\n\"}]\x1ffor i in range(3): print(i)\x1e\
+    \"ok\",\"outputs\":[{\"data\":{\"text/plain\":\"(True, True, True)\"},\"execution_count\":1,\"metadata\":{},\"output_type\":\"execute_result\"}]\x1frange(3) == range(0, 3, 1), range(0) == range(5, 0), range(1, 10, 5) == range(1, 7, 5)\x1e\
+    \"ok\",\"outputs\":[{\"data\":{\"text/plain\":\"('', '1', 'a', \\\"[1, 'a']\\\", 'None')\"},\"execution_count\":1,\"metadata\":{},\"output_type\":\"execute_result\"}]\x1fstr(), str(1), str('a'), str([1, 'a']), str(None)\x1e\
+    \"ok\",\"outputs\":[{\"data\":{\"text/plain\":\"(\\\"'k'\\\", 'v', '<built-in function len>', \\\"<class 'int'>\\\")\"},\"execution_count\":1,\"metadata\":{},\"output_type\":\"execute_result\"}]\x1fstr(KeyError('k')), str(ValueError('v')), str(len), str(int)\x1e\
+    \"ok\",\"outputs\":[{\"data\":{\"text/plain\":\"((), (1,), ('a', 'b'))\"},\"execution_count\":1,\"metadata\":{},\"output_type\":\"execute_result\"}]\x1ftuple(), tuple([1]), tuple('ab')\x1e\
+    \"ok\",\"outputs\":[{\"data\":{\"text/plain\":\"True\"},\"execution_count\":1,\"metadata\":{},\"output_type\":\"execute_result\"}]\x1ft = (1,); tuple(t) is t\x1e\
+    \"error\",\"outputs\":[{\"ename\":\"TypeError\",\"evalue\":\"'int' object is not iterable\",\"output_type\":\"error\",\"traceback\":[\"TypeError: 'int' object is not iterable\"]}]\x1ftuple(5)\x1e\
+    \"error\",\"outputs\":[{\"ename\":\"TypeError\",\"evalue\":\"tuple() got bad arguments\",\"output_type\":\"error\",\"traceback\":[\"TypeError: tuple() got bad arguments\"]}]\x1ftuple(x=1)\x1e\
+    \"ok\",\"outputs\":[{\"data\":{\"text/plain\":\"(1, 2)\"},\"execution_count\":1,\"metadata\":{},\"output_type\":\"execute_result\"}]\x1flist({(1, 2): 3})[0]\x1e\
+    \"ok\",\"outputs\":[{\"data\":{\"text/plain\":\"(False, True)\"},\"execution_count\":1,\"metadata\":{},\"output_type\":\"execute_result\"}]\x1fall({(): 1}), any({(0,): 1})\x1e\
+    \"ok\",\"outputs\":[{\"data\":{\"text/plain\":\"(1, 3)\"},\"execution_count\":1,\"metadata\":{},\"output_type\":\"execute_result\"}]\x1fmax({(1, 2): 0, (1, 3): 0})\x1e\
+    \"ok\",\"outputs\":[{\"name\":\"stdout\",\"output_type\":\"stream\",\"text\":\"1024 (-4, 1) [True, 2, 3]\\n\"}]\x1fprint(2 ** 10, divmod(-7, 2), sorted([3, True, 2]))\x1e\
+    \"ok\",\"outputs\":[{\"data\":{\"text/plain\":\"5\"},\"execution_count\":1,\"metadata\":{},\"output_type\":\"execute_result\"}]\x1flen = 5; len\x1e\
+    \"ok\",\"outputs\":[{\"name\":\"stdout\",\"output_type\":\"stream\",\"text\":\"<built-in function len> <class 'int'> <built-in function print>\\n\"}]\x1fprint(len, int, print)\x1e\
+    \"ok\",\"outputs\":[{\"data\":{\"text/plain\":\"(True, True, False, False)\"},\"execution_count\":1,\"metadata\":{},\"output_type\":\"execute_result\"}]\x1flen is len, int is int, len == abs, int == bool\x1e\
+    \"error\",\"outputs\":[{\"ename\":\"TypeError\",\"evalue\":\"bad operand types for <: 'builtin' and 'builtin'\",\"output_type\":\"error\",\"traceback\":[\"TypeError: bad operand types for <: 'builtin' and 'builtin'\"]}]\x1flen < abs\x1e\
+    \"error\",\"outputs\":[{\"ename\":\"AttributeError\",\"evalue\":\"'builtin' object has no attribute 'a'\",\"output_type\":\"error\",\"traceback\":[\"AttributeError: 'builtin' object has no attribute 'a'\"]}]\x1flen.a\x1e\
+    \"error\",\"outputs\":[{\"ename\":\"AttributeError\",\"evalue\":\"'class' object has no attribute 'b'\",\"output_type\":\"error\",\"traceback\":[\"AttributeError: 'class' object has no attribute 'b'\"]}]\x1fint.b\x1e\
+    \"error\",\"outputs\":[{\"ename\":\"TypeError\",\"evalue\":\"'builtin' object is not subscriptable\",\"output_type\":\"error\",\"traceback\":[\"TypeError: 'builtin' object is not subscriptable\"]}]\x1flen[0]\x1e\
+    \"ok\",\"outputs\":[{\"data\":{\"text/plain\":\"2\"},\"execution_count\":1,\"metadata\":{},\"output_type\":\"execute_result\"}]\x1fx = len; x('ab')\x1e\
+    \"ok\",\"outputs\":[{\"data\":{\"text/plain\":\"3\"},\"execution_count\":1,\"metadata\":{},\"output_type\":\"execute_result\"}]\x1fdef f(a=len): return a('abc')\nf()\x1e\
+    \"error\",\"outputs\":[{\"ename\":\"NameError\",\"evalue\":\"name 'len' is not defined\",\"output_type\":\"error\",\"traceback\":[\"NameError: name 'len' is not defined\"]}]\x1fdel len\x1e\
+    \"ok\",\"outputs\":[{\"data\":{\"text/plain\":\"2\"},\"execution_count\":1,\"metadata\":{},\"output_type\":\"execute_result\"}]\x1f[len][0]('ab')\x1e\
+    \"ok\",\"outputs\":[{\"data\":{\"text/plain\":\"(False, False)\"},\"execution_count\":1,\"metadata\":{},\"output_type\":\"execute_result\"}]\x1fnot len, not int\x1e\
+    \"ok\",\"outputs\":[{\"data\":{\"text/plain\":\"(True, True)\"},\"execution_count\":1,\"metadata\":{},\"output_type\":\"execute_result\"}]\x1flen in [abs, len], int in (bool, int)\x1e\
+    \"error\",\"outputs\":[{\"ename\":\"TypeError\",\"evalue\":\"exceptions must be exception classes or objects\",\"output_type\":\"error\",\"traceback\":[\"TypeError: exceptions must be exception classes or objects\"]}]\x1fraise len\x1e\
+    \"ok\",\"outputs\":[{\"data\":{\"text/plain\":\"1\"},\"execution_count\":1,\"metadata\":{},\"output_type\":\"execute_result\"}]\x1fdef f(len): return len\nf(1)\x1e\
+    \"ok\",\"outputs\":[{\"data\":{\"text/plain\":\"(1, 1)\"},\"execution_count\":1,\"metadata\":{},\"output_type\":\"execute_result\"}]\x1fdef f():\n    len = 1\n    return len\nf(), len('a')\x1e\
+    \"error\",\"outputs\":[{\"ename\":\"TypeError\",\"evalue\":\"bad operand types for +: 'builtin' and 'int'\",\"output_type\":\"error\",\"traceback\":[\"TypeError: bad operand types for +: 'builtin' and 'int'\"]}]\x1flen + 1\x1e\
+    \"error\",\"outputs\":[{\"ename\":\"TypeError\",\"evalue\":\"bad operand type for -: 'builtin'\",\"output_type\":\"error\",\"traceback\":[\"TypeError: bad operand type for -: 'builtin'\"]}]\x1f-len\x1e\
+    \"error\",\"outputs\":[{\"ename\":\"TypeError\",\"evalue\":\"'builtin' object is not iterable\",\"output_type\":\"error\",\"traceback\":[\"TypeError: 'builtin' object is not iterable\"]}]\x1ffor x in len: pass\x1e\
+    \"error\",\"outputs\":[{\"ename\":\"TypeError\",\"evalue\":\"'class' object is not iterable\",\"output_type\":\"error\",\"traceback\":[\"TypeError: 'class' object is not iterable\"]}]\x1fa, b = int\x1e\
+    \"ok\",\"outputs\":[{\"data\":{\"text/plain\":\"['', 'a', 'ab', 'b']\"},\"execution_count\":1,\"metadata\":{},\"output_type\":\"execute_result\"}]\x1fsorted(['b', 'a', 'ab', ''])\x1e\
+    \"ok\",\"outputs\":[]\x1ftry: int('x')\nexcept ValueError as e: e.args[0] is e.args[0]\x1e\
+    \"ok\",\"outputs\":[{\"data\":{\"text/plain\":\"False\"},\"execution_count\":1,\"metadata\":{},\"output_type\":\"execute_result\"}]\x1fisinstance(isinstance, int)\x1e\
+    \"ok\",\"outputs\":[{\"data\":{\"text/plain\":\"170141183460469231731687303715884105726\"},\"execution_count\":1,\"metadata\":{},\"output_type\":\"execute_result\"}]\x1fsum([170141183460469231731687303715884105727]) - 1\x1e\
+    \"error\",\"outputs\":[{\"ename\":\"ValueError\",\"evalue\":\"not a character\",\"output_type\":\"error\",\"traceback\":[\"ValueError: not a character\"]}]\x1fchr(0xD800)\x1e\
+    \"error\",\"outputs\":[{\"ename\":\"ValueError\",\"evalue\":\"not a whole number\",\"output_type\":\"error\",\"traceback\":[\"ValueError: not a whole number\"]}]\x1fint('1_0')\x1e\
+    \"error\",\"outputs\":[{\"ename\":\"ValueError\",\"evalue\":\"not a whole number\",\"output_type\":\"error\",\"traceback\":[\"ValueError: not a whole number\"]}]\x1fint('\u{663}')\x1e\
+    \"error\",\"outputs\":[{\"ename\":\"TypeError\",\"evalue\":\"unhashable key: 'builtin'\",\"output_type\":\"error\",\"traceback\":[\"TypeError: unhashable key: 'builtin'\"]}]\x1f{len: 1}\x1e\
+    \"error\",\"outputs\":[{\"ename\":\"TypeError\",\"evalue\":\"unhashable key: 'class'\",\"output_type\":\"error\",\"traceback\":[\"TypeError: unhashable key: 'class'\"]}]\x1f{int: 1}\x1e\
+    \"error\",\"outputs\":[{\"ename\":\"TypeError\",\"evalue\":\"isinstance() got bad arguments\",\"output_type\":\"error\",\"traceback\":[\"TypeError: isinstance() got bad arguments\"]}]\x1fisinstance(1, (int, 5))\x1e\
+    \"error\",\"outputs\":[{\"ename\":\"OverflowError\",\"evalue\":\"whole number too large\",\"output_type\":\"error\",\"traceback\":[\"OverflowError: whole number too large\"]}]\x1fsum([170141183460469231731687303715884105727, 1])\x1e\
+    \"error\",\"outputs\":[{\"ename\":\"OverflowError\",\"evalue\":\"whole number too large\",\"output_type\":\"error\",\"traceback\":[\"OverflowError: whole number too large\"]}]\x1fsum([170141183460469231731687303715884105727, 1, -1])\x1e\
+    \"error\",\"outputs\":[{\"ename\":\"OverflowError\",\"evalue\":\"whole number too large\",\"output_type\":\"error\",\"traceback\":[\"OverflowError: whole number too large\"]}]\x1fabs(-170141183460469231731687303715884105727 - 1)\x1e\
+    \"error\",\"outputs\":[{\"ename\":\"ValueError\",\"evalue\":\"not a whole number\",\"output_type\":\"error\",\"traceback\":[\"ValueError: not a whole number\"]}]\x1fint('170141183460469231731687303715884105728')\x1e\
+    \"error\",\"outputs\":[{\"ename\":\"OverflowError\",\"evalue\":\"whole number too large\",\"output_type\":\"error\",\"traceback\":[\"OverflowError: whole number too large\"]}]\x1flen(range(-170141183460469231731687303715884105727, 170141183460469231731687303715884105727))\x1e\
+    \"error\",\"outputs\":[{\"ename\":\"TypeError\",\"evalue\":\"sorted() got bad arguments\",\"output_type\":\"error\",\"traceback\":[\"TypeError: sorted() got bad arguments\"]}]\x1fsorted([[1], [0]])\x1e\
+    \"ok\",\"outputs\":[{\"name\":\"stdout\",\"output_type\":\"stream\",\"text\":\"True False\\n\"}]\x1fprint('x' is 'x', [] is [])\x1e\
+    \"error\",\"outputs\":[{\"ename\":\"TypeError\",\"evalue\":\"sum() got bad arguments\",\"output_type\":\"error\",\"traceback\":[\"TypeError: sum() got bad arguments\"]}]\x1fsum([1], 2)\x1e\
+    \"error\",\"outputs\":[{\"ename\":\"TypeError\",\"evalue\":\"max() got bad arguments\",\"output_type\":\"error\",\"traceback\":[\"TypeError: max() got bad arguments\"]}]\x1fmax([1], key=len)\x1e\
+    \"stopped\",\"outputs\":[{\"ename\":\"Stopped\",\"evalue\":\"step budget spent\",\"output_type\":\"error\",\"traceback\":[\"Stopped: step budget spent\"]}]\x1flist(range(10 ** 30))\x1e\
+    \"stopped\",\"outputs\":[{\"ename\":\"Stopped\",\"evalue\":\"step budget spent\",\"output_type\":\"error\",\"traceback\":[\"Stopped: step budget spent\"]}]\x1fsorted(range(10 ** 30))\x1e\
+    \"stopped\",\"outputs\":[{\"ename\":\"Stopped\",\"evalue\":\"step budget spent\",\"output_type\":\"error\",\"traceback\":[\"Stopped: step budget spent\"]}]\x1fmax(range(10 ** 30))\x1e\
+    \"stopped\",\"outputs\":[{\"ename\":\"Stopped\",\"evalue\":\"step budget spent\",\"output_type\":\"error\",\"traceback\":[\"Stopped: step budget spent\"]}]\x1fall(range(1, 10 ** 30))\x1e\
+    \"error\",\"outputs\":[{\"ename\":\"OverflowError\",\"evalue\":\"whole number too large\",\"output_type\":\"error\",\"traceback\":[\"OverflowError: whole number too large\"]}]\x1fdivmod(-170141183460469231731687303715884105727 - 1, -1)\x1e\
+    \"error\",\"outputs\":[{\"ename\":\"TypeError\",\"evalue\":\"dict() got bad arguments\",\"output_type\":\"error\",\"traceback\":[\"TypeError: dict() got bad arguments\"]}]\x1fdict([(1, 2)])\x1e\
+    \"error\",\"outputs\":[{\"ename\":\"TypeError\",\"evalue\":\"dict() got bad arguments\",\"output_type\":\"error\",\"traceback\":[\"TypeError: dict() got bad arguments\"]}]\x1fdict(a=1)\x1e\
+    \"error\",\"outputs\":[{\"ename\":\"TypeError\",\"evalue\":\"int() got bad arguments\",\"output_type\":\"error\",\"traceback\":[\"TypeError: int() got bad arguments\"]}]\x1fint('12', 3)\x1e\
+    \"error\",\"outputs\":[{\"ename\":\"TypeError\",\"evalue\":\"str() got bad arguments\",\"output_type\":\"error\",\"traceback\":[\"TypeError: str() got bad arguments\"]}]\x1fstr(b=1)\x1e\
 ";

@@ -1,8 +1,16 @@
-use Rattle.std.proofs.Common.{◌≡◌, drop, map}
+use Rattle.std.proofs.Common.{◌≡◌, ◌≤◌, map, drop}
+use Rattle.kishu_model.specs.Height.{of_statements}
 use Rattle.kishu_model.specs.Tree.{statement_of}
-use Rattle.kishu_interp.specs.Machine.{moment_of}
-use Rattle.kishu_interp.specs.Unrecorded.{each}
+use Rattle.kishu_model.specs.Fits.{StatementsFit}
+use Rattle.kishu_calls.specs.Trees.{statements_of}
+use Rattle.kishu_machine.specs.Machine.{GrownBy, moment_of}
+use Rattle.kishu_interp.specs.Forms.{each}
 use Rattle.kishu_interp.proofs.cell.run_each.Given as goal
 
 abbrev pub invariant-loop-statement : goal.invariant-loop-statement
-invariant-loop-statement l = each (map statement_of l.statements) (moment_of l.fn.machine) ≡ each (map statement_of (drop l.statement-index l.statements)) (moment_of l.machine)
+invariant-loop-statement g l = record {
+  told : each (map statement_of l.statements) (moment_of l.fn.machine) ≡ each (map statement_of (drop l.statement-index l.statements)) (moment_of l.machine);
+  height : of_statements (statements_of (drop l.statement-index l.statements)) ≤ of_statements (statements_of l.statements);
+  fits : StatementsFit (statements_of (drop l.statement-index l.statements));
+  kept : GrownBy 0 l.fn.machine l.fn.steps l.machine l.steps;
+}

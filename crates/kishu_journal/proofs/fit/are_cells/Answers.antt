@@ -11,15 +11,15 @@ pub loop-cell-preserved : goal.loop-cell-preserved
 loop-cell-preserved c rest =
     let text = c.as_str.ensures.value ∙ ap rc_str_bytes c.cell-item.is in
     let inside : c.loop-cell.cell-index < length c.args.cells.now = omega arith in
-    let good : IsCell c.as_str.result.now = c.in_ok-is_cell.ensures.yes (cc (c.if-not-branch.false)) in
+    let good : IsCell c.as_str.result.now = c.is_cell.ensures.yes (cc (c.if-not-is_cell.false)) in
     c.loop-cell.invariant (cells-on c.args.cells.now c.loop-cell.cell-index c.cell-item.result inside (subst (λ (t : List ℕ). IsCell t) text good) rest)
 
-pub returns-then-not-branch-clause-no : goal.returns-then-not-branch-clause-no
-returns-then-not-branch-clause-no c err all =
+pub returns-then-not-is_cell-clause-no : goal.returns-then-not-is_cell-clause-no
+returns-then-not-is_cell-clause-no c err all =
     let text = c.as_str.ensures.value ∙ ap rc_str_bytes c.cell-item.is in
     let inside : c.loop-cell.cell-index < length c.args.cells.now = omega arith in
     let here = cell-there c.args.cells.now c.loop-cell.cell-index c.cell-item.result inside all in
-    c.in_ok-is_cell.ensures.no (cc (c.if-not-branch.true)) (subst (λ (t : List ℕ). IsCell t) (sym text) here)
+    c.is_cell.ensures.no (cc (c.if-not-is_cell.true)) (subst (λ (t : List ℕ). IsCell t) (sym text) here)
 
 pub returns-clause-yes : goal.returns-clause-yes
 returns-clause-yes c done = (let past : length c.args.cells.now ≤ c.loop-cell.cell-index = omega arith in c.loop-cell.invariant (cells-end c.args.cells.now c.loop-cell.cell-index past))

@@ -1,11 +1,10 @@
-use Rattle.std.proofs.Common.{arith, subst}
-use Rattle.std.specs.Str.{IsUtf8}
+use Rattle.std.proofs.Common.{◌≤◌, length, arith}
+use Rattle.std.proofs.lemmas.Bool.Decides.{nat_tests}
 use Rattle.std.proofs.lemmas.Str.{is_utf8-from_IsUtf8}
+use Rattle.kishu_model.specs.Record.{longest_cell}
 use Rattle.kishu_journal.proofs.fit.is_cell.Goals as goal
 
-pub returns-in-None-clause-yes : goal.returns-in-None-clause-yes
-returns-in-None-clause-yes c ok = record {
-  short = omega (arith, c.if-text-gt-LONGEST_CELL.false);
-  utf8 = is_utf8-from_IsUtf8 c.args.text.now (subst IsUtf8 c.as_bytes.ensures.value c.as_bytes.ensures.utf8);
-  plain = cc (c.in_ok-later_form.ensures.line, c.in-None.is, c.as_bytes.ensures.value);
-}
+pub returns-clause-yes : goal.returns-clause-yes
+returns-clause-yes c ok =
+    let short : length c.args.text.now ≤ longest_cell = grind (arith, nat_tests, ok) in
+    record { short = short; utf8 = is_utf8-from_IsUtf8 c.args.text.now c.utf8.text }

@@ -1,30 +1,49 @@
-use Rattle.std.proofs.Common.{◌+◌, ℕ, List, length, drop, sym, ◌∙◌, ap, subst, arith}
+use Rattle.std.proofs.Common.{inl, inr, ◌+◌, ℕ, List, length, drop, sym, ◌∙◌, ap, subst, arith}
+use Rattle.std.proofs.lemmas.Result.{err_from_is_err_and}
 use Rattle.std.specs.Rc.{rc_str_bytes}
 use Rattle.kishu_model.specs.declared.profile.Profile.TheVariants.{One}
-use Rattle.kishu_model.specs.PlainLater.{later_line}
 use Rattle.kishu_model.specs.Values.{State}
-use Rattle.kishu_model.specs.PlainMeaning.{run}
-use Rattle.kishu_model.specs.Replay.{after_cells}
+use Rattle.kishu_model.specs.Meaning.{run}
+use Rattle.kishu_model.specs.Replay.{after_cells, charge_in, FillsIn}
 use Rattle.kishu_model.specs.Record.{AreCells}
+use Rattle.kishu_serve.specs.Lives.{state_of}
 use Rattle.kishu_serve.specs.Texts.{texts_of}
 use Rattle.kishu_serve.proofs.Items.{drop-map}
 use Rattle.kishu_serve.proofs.session.run_all.Goals as goal
 
-pub run_plain-requires : goal.run_plain-requires
-run_plain-requires c =
+pub run-requires : goal.run-requires
+run-requires g c =
     let here = drop-map (λ text. rc_str_bytes text) c.args.texts.now c.loop-text.text-index c.text-item.result c.loop-text-test.true c.text-item.is in
     let cells = subst AreCells here c.loop-text.invariant.cells in
     omega (arith, ap length c.as_str.ensures.value, cells.0.short)
 
 pub loop-text-preserved : goal.loop-text-preserved
-loop-text-preserved c =
+loop-text-preserved g c =
     let here = drop-map (λ text. rc_str_bytes text) c.args.texts.now c.loop-text.text-index c.text-item.result c.loop-text-test.true c.text-item.is in
     let rest = drop (c.loop-text.text-index + 1) (texts_of c.args.texts.now) in
+    let before = state_of c.loop-text.live in
     let cells = subst AreCells here c.loop-text.invariant.cells in
+    let next = c.in_ok-run.ensures.state ∙ ap (λ (t : List ℕ). (run One t before).state) c.as_str.ensures.value in
     record {
       cells = cells.1;
       state =
-          ap (λ (x : State). after_cells One rest x) (c.in_ok-run_plain.ensures.state ∙ ap (λ (t : List ℕ). (run One t c.loop-text.state).state) c.as_str.ensures.value)
-          ∙ ap (λ (ts : List (List ℕ)). after_cells One ts c.loop-text.state) (sym here)
+          ap (λ (x : State). after_cells One rest x) next
+          ∙ ap (λ (ts : List (List ℕ)). after_cells One ts before) (sym here)
           ∙ c.loop-text.invariant.state;
+      least =
+          omega (
+            arith,
+            c.loop-text.invariant.least,
+            c.in_ok-run.ensures.least,
+            ap (λ (t : List ℕ). (run One t before).charge) c.as_str.ensures.value,
+            ap (λ (ts : List (List ℕ)). charge_in One ts before) here,
+            ap (λ (x : State). charge_in One rest x) next,
+          );
+      full = λ f. c.loop-text.invariant.full (subst (λ (ts : List (List ℕ)). FillsIn One ts before) (sym here) (inr (subst (λ (x : State). FillsIn One rest x) next f)));
     }
+
+pub returns-in_err-run-clause-full : goal.returns-in_err-run-clause-full
+returns-in_err-run-clause-full g c err =
+    let here = drop-map (λ text. rc_str_bytes text) c.args.texts.now c.loop-text.text-index c.text-item.result c.loop-text-test.true c.text-item.is in
+    let p = err_from_is_err_and c.from_residual.result c.from_residual.ensures.1 in
+    c.loop-text.invariant.full (subst (λ (ts : List (List ℕ)). FillsIn One ts (state_of c.loop-text.live)) (sym here) (inl (c.in_err-run.ensures.full (cc (err, p.1, p.2)))))

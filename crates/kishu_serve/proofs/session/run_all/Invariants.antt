@@ -1,12 +1,18 @@
-use Rattle.std.proofs.Common.{◌≡◌, drop}
+use Rattle.std.proofs.Common.{◌≡◌, ◌≤◌, ◌+◌, drop}
 use Rattle.kishu_model.specs.declared.profile.Profile.TheVariants.{One}
-use Rattle.kishu_model.specs.Replay.{after_cells}
+use Rattle.kishu_model.specs.Replay.{after_cells, charge_in, FillsIn}
 use Rattle.kishu_model.specs.Record.{AreCells}
+use Rattle.kishu_serve.specs.Lives.{state_of}
 use Rattle.kishu_serve.specs.Texts.{texts_of}
 use Rattle.kishu_serve.proofs.session.run_all.Given as goal
 
 abbrev pub invariant-loop-text : goal.invariant-loop-text
-invariant-loop-text l = record {
-  cells : AreCells (drop l.text-index (texts_of l.texts));
-  state : after_cells One (drop l.text-index (texts_of l.texts)) l.state ≡ after_cells One (texts_of l.texts) l.fn.state;
-}
+invariant-loop-text g l =
+    let rest = drop l.text-index (texts_of l.texts) in
+    let all = texts_of l.texts in
+    record {
+      cells : AreCells rest;
+      state : after_cells One rest (state_of l.live) ≡ after_cells One all (state_of l.fn.live);
+      least : l.fn.steps + charge_in One all (state_of l.fn.live) ≤ l.steps + charge_in One rest (state_of l.live);
+      full : FillsIn One rest (state_of l.live) → FillsIn One all (state_of l.fn.live);
+    }

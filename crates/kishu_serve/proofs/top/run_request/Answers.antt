@@ -1,9 +1,9 @@
-use Rattle.std.proofs.Common.{inl, inr, ⊎_elim, ℕ, List, [], ◌∷◌, sym, ◌∙◌, ap, subst, Err}
+use Rattle.std.proofs.Common.{arith, inl, inr, ⊎_elim, ℕ, List, [], ◌∷◌, sym, ◌∙◌, ap, subst, Err}
 use Rattle.kishu_host.specs.Host.{Told, Only}
 use Rattle.kishu_host.specs.Going.{now_has, now_each}
 use Rattle.kishu_model.specs.Holds.{Holds}
 use Rattle.kishu_model.specs.Laws.{broken-holds, foreign-holds}
-use Rattle.kishu_journal.specs.declared.journal.JournalFault.{JournalFault}
+use Rattle.kishu_serve.specs.declared.serving.OpenFault.{OpenFault}
 use Rattle.kishu_serve.specs.Headline.{IsPart}
 use Rattle.kishu_serve.specs.Requests.{request_of}
 use Rattle.kishu_serve.proofs.Parts.{part-none, part-now}
@@ -83,15 +83,34 @@ returns-in-Err-clause-settled g c told g' holds =
     c.open.ensures.durable
 
 pub returns-in-Err-clause-damaged : goal.returns-in-Err-clause-damaged
-returns-in-Err-clause-damaged g c at is told = c.open.ensures.damaged at (c.in-Err.is ∙ ap (λ (f : JournalFault). Err f) (c.unopened.ensures.damaged at is)) told
+returns-in-Err-clause-damaged g c at is told = c.open.ensures.damaged at (c.in-Err.is ∙ ap (λ (f : OpenFault). Err f) (c.unopened.ensures.damaged at is)) told
 
 pub returns-in-Err-clause-complete : goal.returns-in-Err-clause-complete
 returns-in-Err-clause-complete g c told g' holds =
     let file = (g.H.Host.state c.args.host.now).file in
     elim c.unopened.ensures.these [
-      | inl is ↦ absurd (foreign-holds file g' (c.open.ensures.foreign (c.in-Err.is ∙ ap (λ (f : JournalFault). Err f) (c.unopened.ensures.foreign is)) told) holds)
+      | inl is ↦ absurd (foreign-holds file g' (c.open.ensures.foreign (c.in-Err.is ∙ ap (λ (f : OpenFault). Err f) (c.unopened.ensures.foreign is)) told) holds)
       | inr rest ↦ elim rest [
-        | inl is ↦ absurd (broken-holds file is.0 g' (c.open.ensures.damaged is.0 (c.in-Err.is ∙ ap (λ (f : JournalFault). Err f) (c.unopened.ensures.damaged is.0 is.1)) told) holds)
-        | inr last ↦ elim last [ inl is ↦ inr (inr (inl is)) | inr is ↦ inr (inl is) ]
+        | inl is ↦ absurd (broken-holds file is.0 g' (c.open.ensures.damaged is.0 (c.in-Err.is ∙ ap (λ (f : OpenFault). Err f) (c.unopened.ensures.damaged is.0 is.1)) told) holds)
+        | inr last ↦ elim last [
+          | inl is ↦ inr (inr (inr (inl is)))
+          | inr none ↦ elim none [ inl is ↦ inr (inr (inl is)) | inr is ↦ inr (inl is) ]
+        ]
       ]
     ]
+
+pub returns-in-Ok-clause-full : goal.returns-in-Ok-clause-full
+returns-in-Ok-clause-full g c is told =
+    let told1 = c.open.ensures.tells ∙ told in
+    let good = c.in-Ok.ensures.good told in
+    let a = c.in-Ok.ensures.attached told good.0 good.1 in (good.0, good.1, inr (c.serve.ensures.full (c.served.ensures.full is) told1 good.0 a))
+
+pub returns-in-Err-clause-full : goal.returns-in-Err-clause-full
+returns-in-Err-clause-full g c is told = c.open.ensures.full (c.in-Err.is ∙ ap (λ (f : OpenFault). Err f) (c.unopened.ensures.full is)) told
+
+pub returns-in-Ok-clause-counted : goal.returns-in-Ok-clause-counted
+returns-in-Ok-clause-counted g c done told g' holds =
+    let told1 = c.open.ensures.tells ∙ told in
+    let a = c.in-Ok.ensures.attached told g' holds in
+    let ok = c.served.ensures.done done in
+    omega (arith, c.in-Ok.ensures.least told g' holds, succeeded c.serve.result ok c.serve.ensures.least told1 g' a)

@@ -1,7 +1,7 @@
 use Rattle.std.proofs.Common.{◌+◌, length, refl, ◌∙◌, ap, arith}
 use Rattle.kishu_model.specs.declared.profile.Profile.TheVariants.{One}
 use Rattle.kishu_serve.proofs.Bodies.{length-body_of}
-use Rattle.kishu_serve.proofs.Commits.{entry_for, cell-is, next-is, append-stop, put-stop, line-is, attached-after}
+use Rattle.kishu_serve.proofs.Commits.{entry_for, cell-is, next-is, append-stop, put-stop, line-is, charge-is, attached-after}
 use Rattle.kishu_serve.proofs.session.Session.commit_cell.Goals as goal
 
 pub append-requires-clause-short : goal.append-requires-clause-short
@@ -21,7 +21,7 @@ append-requires-clause-next g c told =
     let body = c.deref.ensures.value ∙ c.in-Ok.ensures.body in (
       attached.1.entries,
       entry_for self text,
-      next-is self (g.H.Host.state c.args.host.now) attached.0 text attached.1 c.requires.room _ _ (cell-is text c.requires.short c.utf8.text c.requires.plain) c.prepared.ensures.rest.0 body,
+      next-is self (g.H.Host.state c.args.host.now) attached.0 text attached.1 c.requires.room _ _ (cell-is text c.requires.short c.utf8.text) c.prepared.ensures.rest.0 body,
     )
 
 pub returns-in-Err-DiskFault-clause-stop : goal.returns-in-Err-DiskFault-clause-stop
@@ -32,18 +32,18 @@ returns-in-Err-DiskFault-clause-stop g c told g' a =
     let s0 = st c.args.host.now in
     let room = c.requires.room in
     let body = c.deref.ensures.value ∙ c.in-Ok.ensures.body in
-    let stop = c.append.ensures.stop told a.durable a.entries (entry_for self text) (next-is self s0 g' text a room _ _ (cell-is text c.requires.short c.utf8.text c.requires.plain) c.prepared.ensures.rest.0 body) in
+    let stop = c.append.ensures.stop told a.durable a.entries (entry_for self text) (next-is self s0 g' text a room _ _ (cell-is text c.requires.short c.utf8.text) c.prepared.ensures.rest.0 body) in
     append-stop self s0 g' text a room (st c.append.new.host) stop
 
-pub returns-in_default-put-clause-stop : goal.returns-in_default-put-clause-stop
-returns-in_default-put-clause-stop g c told g' a =
+pub returns-in_default-clause-stop : goal.returns-in_default-clause-stop
+returns-in_default-clause-stop g c told g' a =
     let st = g.H.Host.state in
     let self = c.args.self.now in
     let text = c.args.text.now in
     let s0 = st c.args.host.now in
     let room = c.requires.room in
     let body = c.deref.ensures.value ∙ c.in-Ok.ensures.body in
-    let next = next-is self s0 g' text a room _ _ (cell-is text c.requires.short c.utf8.text c.requires.plain) c.prepared.ensures.rest.0 body in
+    let next = next-is self s0 g' text a room _ _ (cell-is text c.requires.short c.utf8.text) c.prepared.ensures.rest.0 body in
     let stop = c.append.ensures.stop told a.durable a.entries (entry_for self text) next in
     let stands = c.in-Ok-append.ensures.stands told a.entries (entry_for self text) next in
     let line = line-is self s0 g' text a room _ (c.deref-2.ensures.value ∙ c.in-Ok.ensures.line) in
@@ -57,7 +57,7 @@ returns-clause-stop g c told g' a =
     let s0 = st c.args.host.now in
     let room = c.requires.room in
     let body = c.deref.ensures.value ∙ c.in-Ok.ensures.body in
-    let next = next-is self s0 g' text a room _ _ (cell-is text c.requires.short c.utf8.text c.requires.plain) c.prepared.ensures.rest.0 body in
+    let next = next-is self s0 g' text a room _ _ (cell-is text c.requires.short c.utf8.text) c.prepared.ensures.rest.0 body in
     let stop = c.append.ensures.stop told a.durable a.entries (entry_for self text) next in
     let stands = c.in-Ok-append.ensures.stands told a.entries (entry_for self text) next in
     let line = line-is self s0 g' text a room _ (c.deref-2.ensures.value ∙ c.in-Ok.ensures.line) in
@@ -71,8 +71,11 @@ returns-clause-attached g c told g' a =
     let s0 = st c.args.host.now in
     let room = c.requires.room in
     let body = c.deref.ensures.value ∙ c.in-Ok.ensures.body in
-    let next = next-is self s0 g' text a room _ _ (cell-is text c.requires.short c.utf8.text c.requires.plain) c.prepared.ensures.rest.0 body in
+    let next = next-is self s0 g' text a room _ _ (cell-is text c.requires.short c.utf8.text) c.prepared.ensures.rest.0 body in
     let stands = c.in-Ok-append.ensures.stands told a.entries (entry_for self text) next in
     let rest = c.prepared.ensures.rest in
     attached-after self s0 g' text a room _ (st c.append.new.host) stands (c.in-Ok-append.ensures.durable told) c.append.ensures.out _ (st c.put.new.self)
     refl (ap (λ n. n + 1) rest.1) (ap (λ n. n + 1) rest.2) c.in-Ok.ensures.state c.put.ensures.kept c.put.ensures.crash
+
+pub returns-clause-least : goal.returns-clause-least
+returns-clause-least g c told g' a = charge-is c.args.self.now (g.H.Host.state c.args.host.now) g' c.args.text.now a c.requires.room _ _ c.in-Ok.ensures.least

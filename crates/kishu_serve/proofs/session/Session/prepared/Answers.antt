@@ -5,5 +5,5 @@ use Rattle.kishu_serve.proofs.Bodies.{length-head_of}
 use Rattle.kishu_serve.proofs.session.Session.prepared.Goals as goal
 
 pub encode-requires : goal.encode-requires
-encode-requires c =
+encode-requires g c =
     omega (arith, ap (λ e. length (head_of e)) c.in_ok-entry.ensures, length-head_of c.args.self.now.commits One c.args.text.now, c.requires.short)
