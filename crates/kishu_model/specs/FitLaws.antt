@@ -1,6 +1,8 @@
--- A tree fits where its names are names and its codes read.
+-- A tree fits where its names are names, its targets are targets and its codes read.
+use Rattle.std.specs.List.{list_all}
 use Rattle.std.proofs.Common.{refl, inl, inr, IsTrue}
 use Rattle.kishu_model.specs.Names.{is_name}
+use Rattle.kishu_model.specs.Targets.{is_target}
 use Rattle.kishu_model.specs.Inside.{InStatement, InStatements, InArms, InHandlers}
 use Rattle.kishu_model.specs.Tree.{Text, Statement, Statements, Arms, Handlers, Definition}
 use Rattle.kishu_model.specs.Tree as t
@@ -18,10 +20,10 @@ abbrev mutual
   StatementNamed (t.global xs) = Unit {0}
   StatementNamed (t.import x) = TitleFits x
   StatementNamed (t.update e operator operand) = ExpressionFits e × ExpressionFits operand
-  StatementNamed (t.assign es e) = ListFits es × ExpressionFits e
+  StatementNamed (t.assign es e) = ListFits es × ExpressionFits e × IsTrue (list_all is_target es)
   StatementNamed (t.choose arms other) = ArmsNamed arms × StatementsNamed other
   StatementNamed (t.while e body) = ExpressionFits e × StatementsNamed body
-  StatementNamed (t.for e walked body) = ExpressionFits e × ExpressionFits walked × StatementsNamed body
+  StatementNamed (t.for e walked body) = ExpressionFits e × ExpressionFits walked × StatementsNamed body × IsTrue (is_target e)
   StatementNamed (t.try body hs other last) = StatementsNamed body × HandlersNamed hs × StatementsNamed other × StatementsNamed last
   StatementNamed (t.finally body last) = StatementsNamed body × StatementsNamed last
   StatementNamed (t.define x ps body code) = IsTrue (is_name x) × ParametersFit ps × StatementsNamed body
@@ -57,7 +59,7 @@ mutual
   fit_statement (t.assign es e) n c = n
   fit_statement (t.choose arms other) n c = (fit_arms arms n.0 (λ d code i. c d code (inl i)), fit_statements other n.1 (λ d code i. c d code (inr i)))
   fit_statement (t.while e body) n c = (n.0, fit_statements body n.1 c)
-  fit_statement (t.for e walked body) n c = (n.0, n.1, fit_statements body n.2 c)
+  fit_statement (t.for e walked body) n c = (n.0, n.1, fit_statements body n.2 c, n.3)
   fit_statement (t.try body hs other last) n c = (
     fit_statements body n.0 (λ d code i. c d code (inl i)),
     fit_handlers hs n.1 (λ d code i. c d code (inr (inl i))),

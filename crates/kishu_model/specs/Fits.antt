@@ -1,8 +1,10 @@
--- When a tree may run: its names are names, no keyword stands twice in a call, and the code of each function in it reads as that function. The tree of a text is so.
+-- When a tree may run: its names are names, its targets are targets, no keyword stands twice in a call, and the code of each function in it reads as that function. The tree of a text is so.
 use Rattle.std.specs.Prelude.{◌≤◌, IsTrue, List, [], ◌∷◌, length, Option, Some, None}
+use Rattle.std.specs.List.{list_all}
 use Rattle.kishu_model.specs.declared.profile.Profile.{Profile}
 use Rattle.kishu_model.specs.Names.{is_name}
 use Rattle.kishu_model.specs.Refusals.{all_differ}
+use Rattle.kishu_model.specs.Targets.{is_target}
 use Rattle.kishu_model.specs.Parse.{ParseDef}
 use Rattle.kishu_model.specs.Tree.{Text, Expression, Expressions, Operands, Links, Pairs, Trailers, Trailer, Bound, Arguments, Argument, Parameter, Statement, Statements, Arms, Handlers, Definition}
 use Rattle.kishu_model.specs.Tree as t
@@ -105,10 +107,10 @@ abbrev mutual
   StatementFits (t.global xs) = Unit {0}
   StatementFits (t.import x) = TitleFits x
   StatementFits (t.update e operator operand) = ExpressionFits e × ExpressionFits operand
-  StatementFits (t.assign es e) = ListFits es × ExpressionFits e
+  StatementFits (t.assign es e) = ListFits es × ExpressionFits e × IsTrue (list_all is_target es)
   StatementFits (t.choose arms other) = ArmsFit arms × StatementsFit other
   StatementFits (t.while e body) = ExpressionFits e × StatementsFit body
-  StatementFits (t.for e walked body) = ExpressionFits e × ExpressionFits walked × StatementsFit body
+  StatementFits (t.for e walked body) = ExpressionFits e × ExpressionFits walked × StatementsFit body × IsTrue (is_target e)
   StatementFits (t.try body hs other last) = StatementsFit body × HandlersFit hs × StatementsFit other × StatementsFit last
   StatementFits (t.finally body last) = StatementsFit body × StatementsFit last
   StatementFits (t.define x ps body code) = IsTrue (is_name x) × ParametersFit ps × StatementsFit body × CodeFits code (record { title = x; parameters = ps; body = body })

@@ -1,5 +1,5 @@
 -- The names in the tree of a phrase are names, where the names among its tokens are, and the keywords of a call differ.
-use Rattle.std.specs.Prelude.{◌≡◌, Bool, ℕ, zero, suc, List, [], ◌∷◌, ◌++◌, map, Option, Some, None}
+use Rattle.std.specs.Prelude.{◌≡◌, IsTrue, Bool, ℕ, zero, suc, List, [], ◌∷◌, ◌++◌, map, Option, Some, None}
 use Rattle.std.proofs.Common.{subst}
 use Rattle.kishu_model.specs.declared.token.Mark.{Mark}
 use Rattle.kishu_model.specs.declared.token.Mark.TheVariants as m
@@ -11,7 +11,9 @@ use Rattle.kishu_model.specs.Language.{Tokens, Language}
 use Rattle.kishu_model.specs.Language as l
 use Rattle.kishu_model.specs.Grammar.{Phrase, exprs, expr, negated, unary}
 use Rattle.kishu_model.specs.Grammar as g
+use Rattle.kishu_model.specs.Targets.{is_target}
 use Rattle.kishu_model.specs.Targets as a
+use Rattle.kishu_model.specs.TargetTrees.{targets_phrase}
 use Rattle.kishu_model.specs.Fits.{ExpressionFits, ExpressionsFit, OperandsFit, LinksFit, PairsFit, TrailersFit, TrailerFits, BoundFits, ArgumentsFit, ArgumentFits, ListFits}
 use Rattle.kishu_model.specs.Keywords.{keywords_differ}
 use Rattle.kishu_model.specs.Gives.{pure, none, ◌>>=◌, ◌>>◌, ◌or◌, Each, IfAny, one_longer, many, some, optional}
@@ -326,6 +328,14 @@ unfolding a.target
 target zero = none
 target (suc depth) = target_level (g.has_room depth) (phrases depth) (target depth)
 
-pub targets : (depth : ℕ) → Tells (a.targets depth) ExpressionFits
+targets_fit : (depth : ℕ) → Tells (a.targets depth) ExpressionFits
 unfolding a.targets
-targets depth = several (target depth)
+targets_fit depth = several (target depth)
+
+abbrev pub TargetFits : Expression → Type 0
+TargetFits e = ExpressionFits e × IsTrue (is_target e)
+
+pub targets : (depth : ℕ) → Tells (a.targets depth) TargetFits
+targets depth = record {
+  leads = λ ts us e i h. (let k = (targets_fit depth).leads ts us e i h in (k.0, (k.1, (targets_phrase depth ts us e h).1)));
+}

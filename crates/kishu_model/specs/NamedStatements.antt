@@ -1,6 +1,7 @@
--- The names in the tree of a statement are names, where the names among its tokens are.
-use Rattle.std.specs.Prelude.{ℕ, zero, suc, IsTrue, List, [], ◌∷◌, Option, Some, None}
-use Rattle.std.specs.List.{flat_map}
+-- The names in the tree of a statement are names, where the names among its tokens are, and its targets are targets.
+use Rattle.std.specs.Prelude.{ℕ, zero, suc, ◌&&◌, IsTrue, List, [], ◌∷◌, Option, Some, None}
+use Rattle.std.specs.List.{flat_map, list_all}
+use Rattle.std.proofs.Common.{refl}
 use Rattle.kishu_model.specs.declared.token.Mark.{Mark}
 use Rattle.kishu_model.specs.Names.{is_name}
 use Rattle.kishu_model.specs.Tree.{Text, Expression, Parameter, Statement, Statements, Arm, Handler, statements, arms, handlers}
@@ -8,18 +9,23 @@ use Rattle.kishu_model.specs.Language.{Language}
 use Rattle.kishu_model.specs.Language as l
 use Rattle.kishu_model.specs.Grammar.{exprs, expr, deepest}
 use Rattle.kishu_model.specs.Refusals.{Around, top, in_function, in_loop, in_handler}
+use Rattle.kishu_model.specs.Targets.{is_target}
 use Rattle.kishu_model.specs.Statements as s
-use Rattle.kishu_model.specs.Fits.{ExpressionFits, OptionalFits, TitleFits, ParametersFit}
+use Rattle.kishu_model.specs.Fits.{ExpressionFits, OptionalFits, ListFits, TitleFits, ParametersFit}
 use Rattle.kishu_model.specs.FitLaws.{StatementNamed, StatementsNamed, ArmsNamed, HandlersNamed}
 use Rattle.kishu_model.specs.Gives.{pure, none, ◌>>=◌, ◌>>◌, ◌or◌, Each, IfAny, in_parts, many, many_from, some, optional}
 use Rattle.kishu_model.specs.Named.{Tells, token, one_of, where_true, perhaps, separated, any_listed}
-use Rattle.kishu_model.specs.NamedPhrases.{list_fits, phrases, place, targets}
+use Rattle.kishu_model.specs.NamedPhrases.{TargetFits, list_fits, phrases, place, targets}
 
 -- ---- lists
 
 optional_fits : (o : Option Expression) → IfAny ExpressionFits o → OptionalFits o
 optional_fits None h = tt
 optional_fits (Some e) h = h
+
+all_targets : (es : List Expression) → Each TargetFits es → ListFits es × IsTrue (list_all is_target es)
+all_targets [] h = (tt, refl)
+all_targets (e ∷ es) h = let k = all_targets es h.1 in ((h.0.0, k.0), λ i. h.0.1 i && k.1 i)
 
 title_fits : (o : Option Text) → IfAny (λ x. IsTrue (is_name x)) o → TitleFits o
 title_fits None h = tt
@@ -149,7 +155,7 @@ module _ (around : Around) (depth : ℕ) where
       token
       pure so)
     (value, second) ← phrases depth exprs
-    pure (list_fits all first, second)
+    pure (let k = all_targets all first in (k.0, second, k.1))
 
   pub simple : Tells (s.simple around depth) StatementNamed
   unfolding s.simple
@@ -222,7 +228,7 @@ module _ (source : Text) (depth : ℕ) {inner : Around → Language (List Statem
     (walked, second) ← phrases (suc depth) exprs
     token
     (body, third) ← block (in_loop around)
-    pure (first, second, third)
+    pure (first.0, second, third, first.1)
 
   caught : Tells (s.caught source depth inner) CaughtNamed
   unfolding s.caught
