@@ -1,5 +1,5 @@
 // `max` and `min`.
-ghost use Rattle.std.specs.Prelude.{◌-◌, ◌≡◌, suc, Some, None, ◌∷◌, [], ◌+◌, ◌<◌, ◌≤◌, ◌^◌, List, IsTrue, IfOk, IfSome, OnOk, length, map, option_map};
+ghost use Rattle.std.specs.Prelude.{◌*◌, ◌-◌, ◌≡◌, suc, Some, None, ◌∷◌, [], ◌+◌, ◌<◌, ◌≤◌, ◌^◌, List, IsTrue, IfOk, IfSome, OnOk, length, map, option_map};
 ghost use Rattle.kishu_model.specs.Builtins.{folded, better, best_of, or_empty_argument};
 ghost use Rattle.kishu_model.specs.Comparing.{compare, comparison_sign};
 ghost use Rattle.kishu_model.specs.Counting.{Counted, ended_in};
@@ -66,6 +66,7 @@ fn bad_operands<L: Ledger>(
     requires best { IsTrue (is_sound (length heap.now) (value_of best.now)) }
     ensures gives { (b : Budget) → Gives (λ x. x) result (moment_of heap.now b) (bad_operands (comparison_sign (comparison_of which)) (value_of value.now) (value_of best.now) (moment_of heap.now b)) }
     ensures counted { steps.old ≤ steps.new }
+    ensures reads { steps.new ≤ steps.old + 2 }
 {
     raise(
         TYPE_ERROR,
@@ -86,6 +87,7 @@ fn less<L: Ledger>(
     ensures depth { budget.new.depth ≡ budget.old.depth }
     ensures left { budget.new.left ≤ budget.old.left }
     ensures least { budget.old.left + steps.old ≤ budget.new.left + steps.new }
+    ensures reads { 24 * budget.new.left + steps.new ≤ 24 * budget.old.left + steps.old + 8 }
 {
     match which {
         Extreme::Greatest => heap.less(best, value, budget, steps),
@@ -109,6 +111,7 @@ fn goes_before<L: Ledger>(
     ensures depth { budget.new.depth ≡ budget.old.depth }
     ensures left { budget.new.left ≤ budget.old.left }
     ensures least { budget.old.left + steps.old ≤ budget.new.left + steps.new }
+    ensures reads { 24 * budget.new.left + steps.new ≤ 24 * budget.old.left + steps.old + 10 }
 {
     match less(which, value, best, heap, budget, steps) {
         Ok(before) => Ok(before),
@@ -137,6 +140,7 @@ fn better<L: Ledger>(
     ensures depth { budget.new.depth ≡ budget.old.depth }
     ensures left { budget.new.left ≤ budget.old.left }
     ensures least { budget.old.left + steps.old ≤ budget.new.left + steps.new }
+    ensures reads { 24 * budget.new.left + steps.new ≤ 24 * budget.old.left + steps.old + 10 }
 {
     let Some(best) = best else {
         return Ok(value);
@@ -166,6 +170,7 @@ fn best_in<L: Ledger>(
     ensures depth { budget.new.depth ≡ budget.old.depth }
     ensures left { budget.new.left ≤ budget.old.left }
     ensures least { budget.old.left + steps.old ≤ budget.new.left + steps.new }
+    ensures reads { 24 * budget.new.left + steps.new ≤ 24 * budget.old.left + steps.old + 1 }
 {
     let mut best = None;
     for at in 0..budget.left + 1 {
@@ -194,6 +199,7 @@ fn best_of<L: Ledger>(
     ensures depth { budget.new.depth ≡ budget.old.depth }
     ensures left { budget.new.left ≤ budget.old.left }
     ensures least { budget.old.left + steps.old ≤ budget.new.left + steps.new }
+    ensures reads { 24 * budget.new.left + steps.new ≤ 24 * budget.old.left + steps.old + 1 }
 {
     match best_in(alloc, which, walk, heap, budget, steps)? {
         Some(best) => Ok(best),
@@ -219,6 +225,7 @@ pub(crate) fn best_of_items<L: Ledger>(
     ensures depth { budget.new.depth ≡ budget.old.depth }
     ensures left { budget.new.left ≤ budget.old.left }
     ensures least { budget.old.left + steps.old ≤ budget.new.left + steps.new }
+    ensures reads { 24 * budget.new.left + steps.new ≤ 24 * budget.old.left + steps.old + 3 }
 {
     let walk = walk_of(alloc, value, heap, steps)?;
     best_of(alloc, which, &walk, heap, budget, steps)
@@ -242,6 +249,7 @@ pub(crate) fn best_of_values<L: Ledger>(
     ensures depth { budget.new.depth ≡ budget.old.depth }
     ensures left { budget.new.left ≤ budget.old.left }
     ensures least { budget.old.left + steps.old ≤ budget.new.left + steps.new }
+    ensures reads { 24 * budget.new.left + steps.new ≤ 24 * budget.old.left + steps.old + 1 }
 {
     let walk = Walk::Values(copied_all(alloc, values)?);
     best_of(alloc, which, &walk, heap, budget, steps)

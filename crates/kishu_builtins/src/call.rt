@@ -1,5 +1,5 @@
 // Calls of builtin functions.
-ghost use Rattle.std.specs.Prelude.{◌-◌, ◌≡◌, ◌≢◌, ◌∷◌, [], ◌+◌, ◌<◌, ◌≤◌, ◌^◌, List, IsTrue, IfOk, codes, length, map};
+ghost use Rattle.std.specs.Prelude.{◌*◌, ◌-◌, ◌≡◌, ◌≢◌, ◌∷◌, [], ◌+◌, ◌<◌, ◌≤◌, ◌^◌, List, IsTrue, IfOk, codes, length, map};
 ghost use Rattle.kishu_model.specs.declared.budget.Budget.{Budget};
 ghost use Rattle.kishu_model.specs.Builtins as builtins;
 ghost use Rattle.kishu_model.specs.Builtins.{of_two, divided_by, is_instance};
@@ -48,6 +48,7 @@ fn with_one<L: Ledger>(
     ensures depth { budget.new.depth ≡ budget.old.depth }
     ensures left { budget.new.left ≤ budget.old.left }
     ensures least { budget.old.left + steps.old ≤ budget.new.left + steps.new }
+    ensures reads { 24 * budget.new.left + steps.new ≤ 24 * budget.old.left + steps.old + 3 }
 {
     match which.0 {
         0 => abs(alloc, value),
@@ -104,6 +105,7 @@ fn single<L: Ledger>(
     ensures depth { budget.new.depth ≡ budget.old.depth }
     ensures left { budget.new.left ≤ budget.old.left }
     ensures least { budget.old.left + steps.old ≤ budget.new.left + steps.new }
+    ensures reads { 24 * budget.new.left + steps.new ≤ 24 * budget.old.left + steps.old + 3 }
 {
     if args.len() != 1 {
         return refused(alloc, which);
@@ -136,6 +138,7 @@ fn instance<L: Ledger>(
     requires sound { IsTrue (are_sound (length heap.now) (map value_of args.now)) }
     ensures gives { (b : Budget) → Gives value_of result (moment_of heap.now b) (of_two (codes "isinstance") is_instance (map value_of args.now) (moment_of heap.now b)) }
     ensures counted { steps.old ≤ steps.new }
+    ensures reads { steps.new ≤ steps.old + 2 }
 {
     if args.len() != 2 {
         return bad_arguments(alloc, "isinstance");
@@ -160,6 +163,7 @@ fn best<L: Ledger>(
     ensures depth { budget.new.depth ≡ budget.old.depth }
     ensures left { budget.new.left ≤ budget.old.left }
     ensures least { budget.old.left + steps.old ≤ budget.new.left + steps.new }
+    ensures reads { 24 * budget.new.left + steps.new ≤ 24 * budget.old.left + steps.old + 3 }
 {
     if args.is_empty() {
         return bad_arguments(alloc, which.name());
@@ -191,6 +195,7 @@ fn called<L: Ledger>(
     ensures depth { budget.new.depth ≡ budget.old.depth }
     ensures left { budget.new.left ≤ budget.old.left }
     ensures least { budget.old.left + steps.old ≤ budget.new.left + steps.new }
+    ensures reads { 24 * budget.new.left + steps.new ≤ 24 * budget.old.left + steps.old + 3 }
 {
     match which.0 {
         4 => quotient_and_remainder(alloc, args, heap),
@@ -227,6 +232,7 @@ pub fn call_builtin<L: Ledger>(
     ensures depth { budget.new.depth ≡ budget.old.depth }
     ensures left { budget.new.left ≤ budget.old.left }
     ensures least { budget.old.left + steps.old ≤ budget.new.left + steps.new }
+    ensures reads { 24 * budget.new.left + steps.new ≤ 24 * budget.old.left + steps.old + 3 }
 {
     called(alloc, which, args, heap, budget, steps)
 }

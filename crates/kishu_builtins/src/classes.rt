@@ -1,5 +1,5 @@
 // Calls of classes.
-ghost use Rattle.std.specs.Prelude.{◌-◌, ◌≡◌, ◌≢◌, ◌∷◌, [], ◌+◌, ◌<◌, ◌≤◌, ◌^◌, List, IsTrue, IfOk, length, map};
+ghost use Rattle.std.specs.Prelude.{◌*◌, ◌-◌, ◌≡◌, ◌≢◌, ◌∷◌, [], ◌+◌, ◌<◌, ◌≤◌, ◌^◌, List, IsTrue, IfOk, length, map};
 ghost use Rattle.kishu_model.specs.declared.budget.Budget.{Budget};
 ghost use Rattle.kishu_model.specs.Builtins.{range_from};
 ghost use Rattle.kishu_model.specs.Callees.{construct, empty_object};
@@ -61,6 +61,7 @@ fn of_value<L: Ledger>(
     ensures depth { budget.new.depth ≡ budget.old.depth }
     ensures left { budget.new.left ≤ budget.old.left }
     ensures least { budget.old.left + steps.old ≤ budget.new.left + steps.new }
+    ensures reads { 24 * budget.new.left + steps.new ≤ 24 * budget.old.left + steps.old + 3 }
 {
     match class.0 {
         0 => bool_of(value, heap, steps),
@@ -109,6 +110,7 @@ fn of_at_most_one<L: Ledger>(
     ensures depth { budget.new.depth ≡ budget.old.depth }
     ensures left { budget.new.left ≤ budget.old.left }
     ensures least { budget.old.left + steps.old ≤ budget.new.left + steps.new }
+    ensures reads { 24 * budget.new.left + steps.new ≤ 24 * budget.old.left + steps.old + 3 }
 {
     if args.is_empty() {
         return empty(alloc, class, heap);
@@ -165,6 +167,7 @@ fn value_of_class<L: Ledger>(
     ensures depth { budget.new.depth ≡ budget.old.depth }
     ensures left { budget.new.left ≤ budget.old.left }
     ensures least { budget.old.left + steps.old ≤ budget.new.left + steps.new }
+    ensures reads { 24 * budget.new.left + steps.new ≤ 24 * budget.old.left + steps.old + 3 }
 {
     match class.0 {
         4 => range(alloc, args),
@@ -210,6 +213,7 @@ fn constructed<L: Ledger>(
     ensures depth { budget.new.depth ≡ budget.old.depth }
     ensures left { budget.new.left ≤ budget.old.left }
     ensures least { budget.old.left + steps.old ≤ budget.new.left + steps.new }
+    ensures reads { 24 * budget.new.left + steps.new ≤ 24 * budget.old.left + steps.old + 3 }
 {
     if class.0 < 8 {
         value_of_class(alloc, class, args, heap, budget, steps)
@@ -243,6 +247,7 @@ pub fn construct<L: Ledger>(
     ensures depth { budget.new.depth ≡ budget.old.depth }
     ensures left { budget.new.left ≤ budget.old.left }
     ensures least { budget.old.left + steps.old ≤ budget.new.left + steps.new }
+    ensures reads { 24 * budget.new.left + steps.new ≤ 24 * budget.old.left + steps.old + 3 }
 {
     constructed(alloc, class, args, heap, budget, steps)
 }

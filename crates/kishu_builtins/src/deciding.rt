@@ -1,5 +1,5 @@
 // `all` and `any`.
-ghost use Rattle.std.specs.Prelude.{◌-◌, ◌≡◌, suc, ◌+◌, ◌<◌, ◌≤◌, ◌^◌, IsTrue, length};
+ghost use Rattle.std.specs.Prelude.{◌*◌, ◌-◌, ◌≡◌, suc, ◌+◌, ◌<◌, ◌≤◌, ◌^◌, IsTrue, length};
 ghost use Rattle.kishu_model.specs.Builtins.{decided, decide};
 ghost use Rattle.kishu_model.specs.Sound.{is_sound};
 ghost use Rattle.kishu_model.specs.Values.{value_of};
@@ -30,6 +30,7 @@ fn decided<L: Ledger>(
     ensures depth { budget.new.depth ≡ budget.old.depth }
     ensures left { budget.new.left ≤ budget.old.left }
     ensures least { budget.old.left + steps.old ≤ budget.new.left + steps.new }
+    ensures reads { 24 * budget.new.left + steps.new ≤ 24 * budget.old.left + steps.old + 1 }
 {
     for at in 0..budget.left + 1 {
         let Some(item) = visited(alloc, walk, at, heap, budget, steps)? else {
@@ -59,6 +60,7 @@ pub(crate) fn decide<L: Ledger>(
     ensures depth { budget.new.depth ≡ budget.old.depth }
     ensures left { budget.new.left ≤ budget.old.left }
     ensures least { budget.old.left + steps.old ≤ budget.new.left + steps.new }
+    ensures reads { 24 * budget.new.left + steps.new ≤ 24 * budget.old.left + steps.old + 3 }
 {
     let walk = walk_of(alloc, value, heap, steps)?;
     decided(alloc, which, &walk, heap, budget, steps)

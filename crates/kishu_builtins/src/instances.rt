@@ -1,5 +1,5 @@
 // `isinstance`.
-ghost use Rattle.std.specs.Prelude.{◌≡◌, ◌<◌, ◌≤◌, Some, IsTrue, is_some, length, map};
+ghost use Rattle.std.specs.Prelude.{◌≡◌, ◌+◌, ◌<◌, ◌≤◌, Some, IsTrue, is_some, length, map, option_map};
 ghost use Rattle.std.specs.List.{list_all, list_any};
 ghost use Rattle.kishu_model.specs.declared.budget.Budget.{Budget};
 ghost use Rattle.kishu_model.specs.Builtins.{is_instance, is_of, is_of_class, is_of_one, node_is_of, class_in};
@@ -56,18 +56,44 @@ fn node_is_of(node: &Node, class: u8) -> bool
     }
 }
 
-// Whether a value is of a class.
-fn is_of<L: Ledger>(value: &Value, class: u8, heap: &Heap, steps: &mut Steps<L>) -> bool
+// The node that a value is.
+fn node_in<'a, L: Ledger>(value: &Value, heap: &'a Heap, steps: &mut Steps<L>) -> Option<&'a Node>
     requires sound { IsTrue (is_sound (length heap.now) (value_of value.now)) }
-    ensures is { result ≡ is_of (value_of value.now) (node_at heap.now (value_of value.now)) class }
+    ensures node { option_map (λ n. node_of n.now) result ≡ node_at heap.now (value_of value.now) }
     ensures counted { steps.old ≤ steps.new }
+    ensures reads { steps.new ≤ steps.old + 1 }
+{
+    match value {
+        Value::Node(id) => Some(heap.node(*id, steps)),
+        Value::None => None,
+        Value::Bool(_) => None,
+        Value::Int(_) => None,
+        Value::Text(_) => None,
+        Value::Range(..) => None,
+        Value::Builtin(_) => None,
+        Value::Class(_) => None,
+    }
+}
+
+fn found_is_of(found: Option<&Node>, class: u8) -> bool
+    ensures { result ≡ node_is_of class (option_map (λ n. node_of n.now) found.entry) }
+{
+    match found {
+        Some(node) => node_is_of(node, class),
+        None => false,
+    }
+}
+
+// Whether a value, or the node that it is, is of a class.
+fn is_of(value: &Value, found: Option<&Node>, class: u8) -> bool
+    ensures { result ≡ is_of (value_of value.now) (option_map (λ n. node_of n.now) found.entry) class }
 {
     match value {
         Value::Bool(_) => class == 0 || class == 2,
         Value::Int(_) => class == 2,
         Value::Range(..) => class == 4,
         Value::Text(_) => class == 6,
-        Value::Node(id) => node_is_of(heap.node(*id, steps), class),
+        Value::Node(_) => found_is_of(found, class),
         Value::None => false,
         Value::Builtin(_) => false,
         Value::Class(_) => false,
@@ -96,13 +122,11 @@ fn are_classes(values: &[Value]) -> bool
 }
 
 // Whether a value is of a class that another value is.
-fn is_of_class<L: Ledger>(value: &Value, class: &Value, heap: &Heap, steps: &mut Steps<L>) -> bool
-    requires sound { IsTrue (is_sound (length heap.now) (value_of value.now)) }
-    ensures is { result ≡ is_of_class (value_of value.now) (node_at heap.now (value_of value.now)) (value_of class.now) }
-    ensures counted { steps.old ≤ steps.new }
+fn is_of_class(value: &Value, found: Option<&Node>, class: &Value) -> bool
+    ensures { result ≡ is_of_class (value_of value.now) (option_map (λ n. node_of n.now) found.entry) (value_of class.now) }
 {
     match class {
-        Value::Class(class) => is_of(value, class.0, heap, steps),
+        Value::Class(class) => is_of(value, found, class.0),
         Value::None => false,
         Value::Bool(_) => false,
         Value::Int(_) => false,
@@ -114,13 +138,11 @@ fn is_of_class<L: Ledger>(value: &Value, class: &Value, heap: &Heap, steps: &mut
 }
 
 // Whether a value is of any of these classes.
-fn is_of_any<L: Ledger>(value: &Value, classes: &[Value], heap: &Heap, steps: &mut Steps<L>) -> bool
-    requires sound { IsTrue (is_sound (length heap.now) (value_of value.now)) }
-    ensures is { result ≡ list_any (λ c. is_of_class (value_of value.now) (node_at heap.now (value_of value.now)) (value_of c)) classes.now }
-    ensures counted { steps.old ≤ steps.new }
+fn is_of_any(value: &Value, found: Option<&Node>, classes: &[Value]) -> bool
+    ensures { result ≡ list_any (λ c. is_of_class (value_of value.now) (option_map (λ n. node_of n.now) found.entry) (value_of c)) classes.now }
 {
     for class in classes {
-        if is_of_class(value, class, heap, steps) {
+        if is_of_class(value, found, class) {
             return true;
         }
     }
@@ -138,9 +160,11 @@ fn is_of_one<L: Ledger>(
     requires sound { IsTrue (is_sound (length heap.now) (value_of value.now)) }
     ensures gives { (b : Budget) → Gives value_of result (moment_of heap.now b) (is_of_one (value_of value.now) (map value_of classes.now) (moment_of heap.now b)) }
     ensures counted { steps.old ≤ steps.new }
+    ensures reads { steps.new ≤ steps.old + 1 }
 {
     if are_classes(classes) {
-        Ok(Value::Bool(is_of_any(value, classes, heap, steps)))
+        let found = node_in(value, heap, steps);
+        Ok(Value::Bool(is_of_any(value, found, classes)))
     } else {
         bad_arguments(alloc, "isinstance")
     }
@@ -158,6 +182,7 @@ fn is_of_tuple<L: Ledger>(
     requires id { id.0 < length heap.now }
     ensures gives { (b : Budget) → Gives value_of result (moment_of heap.now b) (is_instance (value_of value.now) (node id.0) (moment_of heap.now b)) }
     ensures counted { steps.old ≤ steps.new }
+    ensures reads { steps.new ≤ steps.old + 2 }
 {
     match heap.node(id, steps) {
         Node::Tuple(classes) => is_of_one(alloc, value, classes.as_slice(), heap, steps),
@@ -178,8 +203,10 @@ fn is_of_single<L: Ledger>(
     requires sound { IsTrue (is_sound (length heap.now) (value_of value.now)) }
     ensures gives { (b : Budget) → Gives value_of result (moment_of heap.now b) (is_instance (value_of value.now) (model.class class.0) (moment_of heap.now b)) }
     ensures counted { steps.old ≤ steps.new }
+    ensures reads { steps.new ≤ steps.old + 1 }
 {
-    Ok(Value::Bool(is_of(value, class.0, heap, steps)))
+    let found = node_in(value, heap, steps);
+    Ok(Value::Bool(is_of(value, found, class.0)))
 }
 
 /// Whether a value is of a class, or of one of a tuple of classes.
@@ -194,6 +221,7 @@ pub(crate) fn is_instance<L: Ledger>(
     requires class { IsTrue (is_sound (length heap.now) (value_of class.now)) }
     ensures gives { (b : Budget) → Gives value_of result (moment_of heap.now b) (is_instance (value_of value.now) (value_of class.now) (moment_of heap.now b)) }
     ensures counted { steps.old ≤ steps.new }
+    ensures reads { steps.new ≤ steps.old + 2 }
 {
     match class {
         Value::Class(class) => is_of_single(value, *class, heap, steps),

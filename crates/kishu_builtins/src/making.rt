@@ -1,5 +1,5 @@
 // Classes that make a node: `dict`, `list`, `tuple`, objects and exceptions.
-ghost use Rattle.std.specs.Prelude.{◌-◌, ◌≡◌, [], ◌+◌, ◌<◌, ◌≤◌, ◌^◌, IsTrue, length, map, slice_get};
+ghost use Rattle.std.specs.Prelude.{◌*◌, ◌-◌, ◌≡◌, [], ◌+◌, ◌<◌, ◌≤◌, ◌^◌, IsTrue, length, map, slice_get};
 ghost use Rattle.std.specs.List.{list_all};
 ghost use Rattle.kishu_model.specs.declared.budget.Budget.{Budget};
 ghost use Rattle.kishu_model.specs.Builtins.{copied_dict, all_items, tuple_of};
@@ -75,6 +75,7 @@ pub(crate) fn list_of<L: Ledger>(
     ensures depth { budget.new.depth ≡ budget.old.depth }
     ensures left { budget.new.left ≤ budget.old.left }
     ensures least { budget.old.left + steps.old ≤ budget.new.left + steps.new }
+    ensures reads { 24 * budget.new.left + steps.new ≤ 24 * budget.old.left + steps.old + 2 }
 {
     let items = walked(alloc, value, heap, budget, steps)?;
     new_list(items, heap)
@@ -95,6 +96,7 @@ fn tuple_of_items<L: Ledger>(
     ensures depth { budget.new.depth ≡ budget.old.depth }
     ensures left { budget.new.left ≤ budget.old.left }
     ensures least { budget.old.left + steps.old ≤ budget.new.left + steps.new }
+    ensures reads { 24 * budget.new.left + steps.new ≤ 24 * budget.old.left + steps.old + 2 }
 {
     let items = walked(alloc, value, heap, budget, steps)?;
     new_tuple(items, heap)
@@ -115,6 +117,7 @@ fn tuple_of_node<L: Ledger>(
     ensures depth { budget.new.depth ≡ budget.old.depth }
     ensures left { budget.new.left ≤ budget.old.left }
     ensures least { budget.old.left + steps.old ≤ budget.new.left + steps.new }
+    ensures reads { 24 * budget.new.left + steps.new ≤ 24 * budget.old.left + steps.old + 3 }
 {
     match heap.node(id, steps) {
         Node::Tuple(_) => Ok(Value::Node(id)),
@@ -142,6 +145,7 @@ pub(crate) fn tuple_of<L: Ledger>(
     ensures depth { budget.new.depth ≡ budget.old.depth }
     ensures left { budget.new.left ≤ budget.old.left }
     ensures least { budget.old.left + steps.old ≤ budget.new.left + steps.new }
+    ensures reads { 24 * budget.new.left + steps.new ≤ 24 * budget.old.left + steps.old + 3 }
 {
     match value {
         Value::Node(id) => tuple_of_node(alloc, *id, heap, budget, steps),
@@ -191,6 +195,7 @@ fn dict_of_node<L: Ledger>(
     ensures depth { budget.new.depth ≡ budget.old.depth }
     ensures left { budget.new.left ≤ budget.old.left }
     ensures least { budget.old.left + steps.old ≤ budget.new.left + steps.new }
+    ensures reads { 24 * budget.new.left + steps.new ≤ 24 * budget.old.left + steps.old + 1 }
 {
     let Some(entries) = heap.node(id, steps).dict() else {
         return bad_arguments(alloc, "dict");
@@ -216,6 +221,7 @@ pub(crate) fn dict_of<L: Ledger>(
     ensures depth { budget.new.depth ≡ budget.old.depth }
     ensures left { budget.new.left ≤ budget.old.left }
     ensures least { budget.old.left + steps.old ≤ budget.new.left + steps.new }
+    ensures reads { 24 * budget.new.left + steps.new ≤ 24 * budget.old.left + steps.old + 1 }
 {
     match value {
         Value::Node(id) => dict_of_node(alloc, *id, heap, budget, steps),

@@ -1,5 +1,5 @@
 // Classes of plain values: `bool`, `int` and `range`.
-ghost use Rattle.std.specs.Prelude.{◌≡◌, ◌∷◌, [], ◌+◌, ◌≤◌, List, IsTrue, length};
+ghost use Rattle.std.specs.Prelude.{◌*◌, ◌≡◌, ◌∷◌, [], ◌+◌, ◌≤◌, List, IsTrue, length};
 ghost use Rattle.std.specs.Str.{chars};
 ghost use Rattle.kishu_model.specs.declared.budget.Budget.{Budget};
 ghost use Rattle.kishu_model.specs.Builtins.{number_from, range_from, checked_range};
@@ -28,6 +28,7 @@ pub(crate) fn bool_of<L: Ledger>(
     requires sound { IsTrue (is_sound (length heap.now) (value_of value.now)) }
     ensures gives { (b : Budget) → Gives value_of result (moment_of heap.now b) (and_then (truth (value_of value.now) (moment_of heap.now b)) (λ holds. give (bool holds))) }
     ensures counted { steps.old ≤ steps.new }
+    ensures reads { steps.new ≤ steps.old + 1 }
 {
     Ok(Value::Bool(is_true(value, heap, steps)))
 }
@@ -43,6 +44,7 @@ fn number_written<L: Ledger>(
     ensures depth { budget.new.depth ≡ budget.old.depth }
     ensures left { budget.new.left ≤ budget.old.left }
     ensures least { budget.old.left + steps.old ≤ budget.new.left + steps.new }
+    ensures reads { 24 * budget.new.left + steps.new ≤ 24 * budget.old.left + steps.old }
 {
     spend(count(text) as u128, budget, steps)?;
     match read_int(text) {
@@ -62,6 +64,7 @@ pub(crate) fn number_from<L: Ledger>(
     ensures depth { budget.new.depth ≡ budget.old.depth }
     ensures left { budget.new.left ≤ budget.old.left }
     ensures least { budget.old.left + steps.old ≤ budget.new.left + steps.new }
+    ensures reads { 24 * budget.new.left + steps.new ≤ 24 * budget.old.left + steps.old }
 {
     match value {
         Value::Text(text) => number_written(alloc, text.as_str(), budget, steps),

@@ -1,5 +1,5 @@
 // `sorted`.
-ghost use Rattle.std.specs.Prelude.{List, ◌≡◌, ◌+◌, ◌-◌, ◌<◌, ◌≤◌, ◌^◌, IsTrue, OnOk, codes, length, map, unwrap_or};
+ghost use Rattle.std.specs.Prelude.{◌*◌, List, ◌≡◌, ◌+◌, ◌-◌, ◌<◌, ◌≤◌, ◌^◌, IsTrue, OnOk, codes, length, map, unwrap_or};
 ghost use Rattle.kishu_model.specs.Builtins.{sorted};
 ghost use Rattle.kishu_model.specs.Kinds.{bad_arguments};
 ghost use Rattle.kishu_model.specs.Moment.{and_then, or_else, spend};
@@ -70,6 +70,7 @@ pub(crate) fn sorted_items<L: Ledger>(
     ensures depth { budget.new.depth ≡ budget.old.depth }
     ensures left { budget.new.left ≤ budget.old.left }
     ensures least { budget.old.left + steps.old ≤ budget.new.left + steps.new }
+    ensures reads { 24 * budget.new.left + steps.new ≤ 24 * budget.old.left + steps.old + 3 }
 {
     let Some(count) = count_in(value, heap, steps) else {
         return not_iterable_value(alloc, value, heap, steps);

@@ -1,5 +1,5 @@
 // `sum`.
-ghost use Rattle.std.specs.Prelude.{◌-◌, ◌≡◌, pos, suc, ◌+◌, ◌<◌, ◌≤◌, ◌^◌, IsTrue, length};
+ghost use Rattle.std.specs.Prelude.{◌*◌, ◌-◌, ◌≡◌, pos, suc, ◌+◌, ◌<◌, ◌≤◌, ◌^◌, IsTrue, length};
 ghost use Rattle.kishu_model.specs.Builtins.{folded, fold, added};
 ghost use Rattle.kishu_model.specs.Moment.{Moment, and_then};
 ghost use Rattle.kishu_model.specs.Sound.{is_sound};
@@ -42,6 +42,7 @@ fn total<L: Ledger>(
     ensures depth { budget.new.depth ≡ budget.old.depth }
     ensures left { budget.new.left ≤ budget.old.left }
     ensures least { budget.old.left + steps.old ≤ budget.new.left + steps.new }
+    ensures reads { 24 * budget.new.left + steps.new ≤ 24 * budget.old.left + steps.old + 1 }
 {
     let mut sum = 0;
     for at in 0..budget.left + 1 {
@@ -69,6 +70,7 @@ pub(crate) fn sum_of<L: Ledger>(
     ensures depth { budget.new.depth ≡ budget.old.depth }
     ensures left { budget.new.left ≤ budget.old.left }
     ensures least { budget.old.left + steps.old ≤ budget.new.left + steps.new }
+    ensures reads { 24 * budget.new.left + steps.new ≤ 24 * budget.old.left + steps.old + 3 }
 {
     let walk = walk_of(alloc, value, heap, steps)?;
     total(alloc, &walk, heap, budget, steps)

@@ -1,5 +1,5 @@
 // Sequences that are visited item by item.
-ghost use Rattle.std.specs.Prelude.{◌≡◌, ℕ, ◌∷◌, [], ◌+◌, ◌-◌, ◌*ℤ◌, ◌+ℤ◌, ◌-ℤ◌, ◌<ℤ◌, ◌≤ℤ◌, pos, negsuc, ◌<◌, ◌≤◌, ◌^◌, IsTrue, IfOk, IfSome, OnOk, map, option_map, length, slice_get};
+ghost use Rattle.std.specs.Prelude.{◌*◌, ◌≡◌, ℕ, ◌∷◌, [], ◌+◌, ◌-◌, ◌*ℤ◌, ◌+ℤ◌, ◌-ℤ◌, ◌<ℤ◌, ◌≤ℤ◌, pos, negsuc, ◌<◌, ◌≤◌, ◌^◌, IsTrue, IfOk, IfSome, OnOk, map, option_map, length, slice_get};
 ghost use Rattle.std.specs.Str.{chars};
 ghost use Rattle.kishu_model.specs.declared.budget.Budget.{Budget};
 ghost use Rattle.kishu_model.specs.Equal.{range_length};
@@ -44,6 +44,7 @@ fn not_walked<L: Ledger>(
     ensures gives { (b : Budget) → Gives (walk_in heap.now) result (moment_of heap.now b) (not_iterable (value_of value.now) (moment_of heap.now b)) }
     ensures there { IfOk result (λ w. IsTrue (is_there (length heap.now) w)) }
     ensures counted { steps.old ≤ steps.new }
+    ensures reads { steps.new ≤ steps.old + 1 }
 {
     raise(TYPE_ERROR, not_iterable_text(alloc, value, heap, steps)?)
 }
@@ -58,6 +59,7 @@ fn node_walk<L: Ledger>(
     ensures gives { (b : Budget) → Gives (walk_in heap.now) result (moment_of heap.now b) (walk_of (node id.0) (moment_of heap.now b)) }
     ensures there { IfOk result (λ w. IsTrue (is_there (length heap.now) w)) }
     ensures counted { steps.old ≤ steps.new }
+    ensures reads { steps.new ≤ steps.old + 2 }
 {
     match heap.node(id, steps) {
         Node::List(_) => Ok(Walk::Node(id)),
@@ -80,6 +82,7 @@ pub(crate) fn walk_of<L: Ledger>(
     ensures gives { (b : Budget) → Gives (walk_in heap.now) result (moment_of heap.now b) (walk_of (value_of value.now) (moment_of heap.now b)) }
     ensures there { IfOk result (λ w. IsTrue (is_there (length heap.now) w)) }
     ensures counted { steps.old ≤ steps.new }
+    ensures reads { steps.new ≤ steps.old + 2 }
 {
     match value {
         Value::Text(text) => Ok(Walk::Text(characters(alloc, text.as_str())?)),
@@ -194,6 +197,7 @@ fn seen<L: Ledger>(
     ensures most { length heap.new + budget.new.left ≤ length heap.old + budget.old.left + 1 }
     ensures depth { budget.new.depth ≡ budget.old.depth }
     ensures least { budget.old.left + steps.old ≤ budget.new.left + steps.new }
+    ensures reads { 24 * budget.new.left + steps.new ≤ 24 * budget.old.left + steps.old }
 {
     match key {
         Some(key) => Ok(Some(value_of_key(alloc, &key, heap, budget, steps)?)),
@@ -220,6 +224,7 @@ fn node_item<L: Ledger>(
     ensures most { length heap.new + budget.new.left ≤ length heap.old + budget.old.left + 1 }
     ensures depth { budget.new.depth ≡ budget.old.depth }
     ensures least { budget.old.left + steps.old ≤ budget.new.left + steps.new }
+    ensures reads { 24 * budget.new.left + steps.new ≤ 24 * budget.old.left + steps.old + 1 }
 {
     match heap.node(id, steps) {
         Node::List(items) => Ok(value_at(items.as_slice(), at)?),
@@ -253,6 +258,7 @@ fn item_for<L: Ledger>(
     ensures most { length heap.new + budget.new.left ≤ length heap.old + budget.old.left + 1 }
     ensures depth { budget.new.depth ≡ budget.old.depth }
     ensures least { budget.old.left + steps.old ≤ budget.new.left + steps.new }
+    ensures reads { 24 * budget.new.left + steps.new ≤ 24 * budget.old.left + steps.old + 1 }
 {
     match walk {
         Walk::Node(id) => node_item(alloc, *id, at, heap, budget, steps),
@@ -278,11 +284,13 @@ pub(crate) fn visited<L: Ledger>(
     ensures same { IfOk result (λ o. IfSome o (λ _. walk_in heap.new walk.now ≡ walk_in heap.old walk.now)) }
     ensures there { IfOk result (λ o. IfSome o (λ _. IsTrue (is_there (length heap.new) walk.now))) }
     ensures room { IfOk result (λ o. IfSome o (λ _. length heap.new + budget.new.left ≤ length heap.old + budget.old.left)) }
+    ensures paid { IfOk result (λ o. IfSome o (λ _. 24 * budget.new.left + steps.new + 22 ≤ 24 * budget.old.left + steps.old)) }
     ensures heap { length heap.old ≤ length heap.new }
     ensures most { length heap.new + budget.new.left ≤ length heap.old + budget.old.left + 1 }
     ensures depth { budget.new.depth ≡ budget.old.depth }
     ensures left { budget.new.left ≤ budget.old.left }
     ensures least { budget.old.left + steps.old ≤ budget.new.left + steps.new }
+    ensures reads { 24 * budget.new.left + steps.new ≤ 24 * budget.old.left + steps.old + 1 }
 {
     let Some(item) = item_for(alloc, walk, at, heap, budget, steps)? else {
         return Ok(None);

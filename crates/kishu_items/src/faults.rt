@@ -1,5 +1,5 @@
 // Exceptions, with their texts.
-ghost use Rattle.std.specs.Prelude.{◌≡◌, ◌++◌, ◌≤◌, IfOk, IsTrue, Err, codes, length, nat_lt};
+ghost use Rattle.std.specs.Prelude.{◌≡◌, ◌+◌, ◌++◌, ◌≤◌, IfOk, IsTrue, Err, codes, length, nat_lt};
 ghost use Rattle.std.specs.List.{list_all};
 ghost use Rattle.std.specs.Rc.{rc_str_bytes};
 ghost use Rattle.std.specs.Str.{chars};
@@ -98,6 +98,7 @@ pub fn not_iterable_text<L: Ledger>(
     requires sound { IsTrue (is_sound (length heap.now) (value_of value.now)) }
     ensures text { IfOk result (λ t. chars (rc_str_bytes t) ≡ quoted_kind heap.now (value_of value.now) ++ codes " object is not iterable") }
     ensures counted { steps.old ≤ steps.new }
+    ensures reads { steps.new ≤ steps.old + 1 }
 {
     let kind = kind_name(value, heap, steps);
     RcStr::from_string(quoted(alloc, "", kind, " object is not iterable")?)
@@ -124,6 +125,7 @@ pub fn bad_operands_text<L: Ledger>(
     requires right { IsTrue (is_sound (length heap.now) (value_of right.now)) }
     ensures text { IfOk result (λ t. chars (rc_str_bytes t) ≡ codes "bad operand types for " ++ sign.now ++ codes ": " ++ quoted_kind heap.now (value_of left.now) ++ codes " and " ++ quoted_kind heap.now (value_of right.now)) }
     ensures counted { steps.old ≤ steps.new }
+    ensures reads { steps.new ≤ steps.old + 2 }
 {
     let left = kind_name(left, heap, steps);
     let right = kind_name(right, heap, steps);
@@ -140,6 +142,7 @@ pub fn bad_index_text<L: Ledger>(
     requires sound { IsTrue (is_sound (length heap.now) (value_of value.now)) }
     ensures text { IfOk result (λ t. chars (rc_str_bytes t) ≡ codes "bad index type: " ++ quoted_kind heap.now (value_of value.now)) }
     ensures counted { steps.old ≤ steps.new }
+    ensures reads { steps.new ≤ steps.old + 1 }
 {
     let kind = kind_name(value, heap, steps);
     RcStr::from_string(quoted(alloc, "bad index type: ", kind, "")?)
@@ -155,6 +158,7 @@ pub fn unhashable_text<L: Ledger>(
     requires sound { IsTrue (is_sound (length heap.now) (value_of value.now)) }
     ensures text { IfOk result (λ t. chars (rc_str_bytes t) ≡ codes "unhashable key: " ++ quoted_kind heap.now (value_of value.now)) }
     ensures counted { steps.old ≤ steps.new }
+    ensures reads { steps.new ≤ steps.old + 1 }
 {
     let kind = kind_name(value, heap, steps);
     RcStr::from_string(quoted(alloc, "unhashable key: ", kind, "")?)

@@ -1,5 +1,5 @@
 // Places that whole numbers say.
-ghost use Rattle.std.specs.Prelude.{◌≡◌, ◌<◌, ◌≤◌, IsTrue, OnOk, IfOk, length};
+ghost use Rattle.std.specs.Prelude.{◌≡◌, ◌+◌, ◌<◌, ◌≤◌, IsTrue, OnOk, IfOk, length};
 ghost use Rattle.kishu_model.specs.Equal.{number_in};
 ghost use Rattle.kishu_model.specs.Indexes.{index_of, place_in, place_of, bound_in};
 ghost use Rattle.kishu_model.specs.Moment.{Moment};
@@ -40,6 +40,7 @@ pub fn index_of<L: Ledger>(
     requires sound { IsTrue (is_sound (length heap.now) (value_of value.now)) }
     ensures gives { (b : Budget) → Gives (λ z. z) result (moment_of heap.now b) (index_of (value_of value.now) (moment_of heap.now b)) }
     ensures counted { steps.old ≤ steps.new }
+    ensures reads { steps.new ≤ steps.old + 1 }
 {
     match number_in(value) {
         Some(number) => Ok(number),

@@ -1,5 +1,5 @@
 // A value as a key of a dict, and a key as a value.
-ghost use Rattle.std.specs.Prelude.{◌≡◌, ℕ, ◌+◌, ◌<◌, ◌≤◌, ◌^◌, ◌++◌, List, IsTrue, IfOk, Some, map, option_map, length};
+ghost use Rattle.std.specs.Prelude.{◌≡◌, ℕ, ◌+◌, ◌*◌, ◌<◌, ◌≤◌, ◌^◌, ◌++◌, List, IsTrue, IfOk, OnOk, Some, map, option_map, length};
 ghost use Rattle.kishu_model.specs.declared.budget.Budget.{Budget};
 ghost use Rattle.kishu_model.specs.Keys as keys;
 ghost use Rattle.kishu_model.specs.Keys.{key_of, part_of};
@@ -45,6 +45,8 @@ fn part_of<L: Ledger>(
     requires sound { IsTrue (is_sound (length heap.now) (value_of value.now)) }
     ensures gives { (b : Budget) → Gives part_of result (moment_of heap.now b) (or_else (unhashable (value_of value.now)) (part_in (value_of value.now)) (moment_of heap.now b)) }
     ensures counted { steps.old ≤ steps.new }
+    ensures reads { steps.new ≤ steps.old + 1 }
+    ensures unread { OnOk result (steps.new ≤ steps.old) }
 {
     match part_in(value)? {
         Some(part) => Ok(part),
@@ -62,6 +64,7 @@ fn parts_of<L: Ledger>(
     requires sound { IsTrue (are_sound (length heap.now) (map value_of values.now)) }
     ensures gives { (b : Budget) → Gives (λ v. map part_of v.items) result (moment_of heap.now b) (parts_of (map value_of values.now) (moment_of heap.now b)) }
     ensures counted { steps.old ≤ steps.new }
+    ensures reads { steps.new ≤ steps.old + length values.now }
 {
     let mut parts = Vec::new(alloc);
     for i in 0..values.len() {
@@ -83,6 +86,7 @@ fn tuple_key<L: Ledger>(
     ensures left { budget.new.left ≤ budget.old.left }
     ensures depth { budget.new.depth ≡ budget.old.depth }
     ensures least { budget.old.left + steps.old ≤ budget.new.left + steps.new }
+    ensures reads { 24 * budget.new.left + steps.new ≤ 24 * budget.old.left + steps.old }
 {
     spend(values.len() as u128, budget, steps)?;
     Ok(Key::Tuple(parts_of(alloc, values, heap, steps)?))
@@ -97,6 +101,7 @@ fn unhashable<L: Ledger>(
     requires sound { IsTrue (is_sound (length heap.now) (value_of value.now)) }
     ensures gives { (b : Budget) → Gives key_of result (moment_of heap.now b) (unhashable (value_of value.now) (moment_of heap.now b)) }
     ensures counted { steps.old ≤ steps.new }
+    ensures reads { steps.new ≤ steps.old + 1 }
 {
     raise(TYPE_ERROR, unhashable_text(alloc, value, heap, steps)?)
 }
@@ -114,6 +119,7 @@ fn node_key<L: Ledger>(
     ensures left { budget.new.left ≤ budget.old.left }
     ensures depth { budget.new.depth ≡ budget.old.depth }
     ensures least { budget.old.left + steps.old ≤ budget.new.left + steps.new }
+    ensures reads { 24 * budget.new.left + steps.new ≤ 24 * budget.old.left + steps.old + 2 }
 {
     match heap.node(id, steps) {
         Node::Tuple(items) => tuple_key(alloc, items.as_slice(), heap, budget, steps),
@@ -135,6 +141,7 @@ pub fn key_of<L: Ledger>(
     ensures left { budget.new.left ≤ budget.old.left }
     ensures depth { budget.new.depth ≡ budget.old.depth }
     ensures least { budget.old.left + steps.old ≤ budget.new.left + steps.new }
+    ensures reads { 24 * budget.new.left + steps.new ≤ 24 * budget.old.left + steps.old + 2 }
 {
     match value {
         Value::None => Ok(Key::None),
@@ -232,6 +239,7 @@ pub fn value_of_key<L: Ledger>(
     ensures left { budget.new.left ≤ budget.old.left }
     ensures depth { budget.new.depth ≡ budget.old.depth }
     ensures least { budget.old.left + steps.old ≤ budget.new.left + steps.new }
+    ensures reads { 24 * budget.new.left + steps.new ≤ 24 * budget.old.left + steps.old }
 {
     match key {
         Key::None => Ok(Value::None),
@@ -257,6 +265,7 @@ fn new_tuple<L: Ledger>(
     ensures left { budget.new.left ≤ budget.old.left }
     ensures depth { budget.new.depth ≡ budget.old.depth }
     ensures least { budget.old.left + steps.old ≤ budget.new.left + steps.new }
+    ensures reads { 24 * budget.new.left + steps.new ≤ 24 * budget.old.left + steps.old }
 {
     spend(parts.len() as u128, budget, steps)?;
     let values = values_of_parts(alloc, parts)?;
@@ -278,6 +287,7 @@ pub fn values_of_keys<L: Ledger>(
     ensures left { budget.new.left ≤ budget.old.left }
     ensures depth { budget.new.depth ≡ budget.old.depth }
     ensures least { budget.old.left + steps.old ≤ budget.new.left + steps.new }
+    ensures reads { 24 * budget.new.left + steps.new ≤ 24 * budget.old.left + steps.old }
 {
     let mut values = Vec::new(alloc);
     for i in 0..keys.len() {

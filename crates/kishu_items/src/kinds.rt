@@ -1,5 +1,5 @@
 // What messages call the kinds of values.
-ghost use Rattle.std.specs.Prelude.{◌≡◌, ◌≤◌, IsTrue, length};
+ghost use Rattle.std.specs.Prelude.{◌≡◌, ◌+◌, ◌≤◌, IsTrue, length};
 ghost use Rattle.std.specs.Str.{chars};
 ghost use Rattle.kishu_model.specs.Kinds.{node_kind, kind_in};
 ghost use Rattle.kishu_model.specs.Sound.{is_sound};
@@ -28,6 +28,7 @@ pub fn kind_name<L: Ledger>(value: &Value, heap: &Heap, steps: &mut Steps<L>) ->
     requires sound { IsTrue (is_sound (length heap.now) (value_of value.now)) }
     ensures kind { chars result.now ≡ kind_in heap.now (value_of value.now) }
     ensures counted { steps.old ≤ steps.new }
+    ensures reads { steps.new ≤ steps.old + 1 }
 {
     match value {
         Value::None => "NoneType",

@@ -1,5 +1,5 @@
 // The items by which a sequence is walked.
-ghost use Rattle.std.specs.Prelude.{◌≡◌, ℕ, ◌∷◌, [], ◌+◌, ◌-◌, ◌<◌, ◌≤◌, ◌^◌, ◌++◌, ◌+ℤ◌, List, IsTrue, IfOk, OnOk, Some, map, length, slice_get, unwrap_or, option_and_then};
+ghost use Rattle.std.specs.Prelude.{◌≡◌, ℕ, ◌∷◌, [], ◌+◌, ◌-◌, ◌*◌, ◌<◌, ◌≤◌, ◌^◌, ◌++◌, ◌+ℤ◌, List, IsTrue, IfOk, OnOk, Some, map, length, slice_get, unwrap_or, option_and_then};
 ghost use Rattle.std.specs.Str.{chars};
 ghost use Rattle.std.specs.String.{string_bytes};
 ghost use Rattle.kishu_model.specs.declared.budget.Budget.{Budget};
@@ -51,6 +51,7 @@ pub fn count_in<L: Ledger>(value: &Value, heap: &Heap, steps: &mut Steps<L>) -> 
     requires sound { IsTrue (is_sound (length heap.now) (value_of value.now)) }
     ensures count { result ≡ count_in heap.now (value_of value.now) }
     ensures counted { steps.old ≤ steps.new }
+    ensures reads { steps.new ≤ steps.old + 1 }
 {
     match value {
         Value::Text(text) => Some(count(text.as_str()) as u128),
@@ -140,6 +141,8 @@ fn node_items<L: Ledger>(
     ensures left { budget.new.left ≤ budget.old.left }
     ensures depth { budget.new.depth ≡ budget.old.depth }
     ensures least { budget.old.left + steps.old ≤ budget.new.left + steps.new }
+    ensures reads { 24 * budget.new.left + steps.new ≤ 24 * budget.old.left + steps.old + 2 }
+    ensures sequence { (n : ℕ) → count_in heap.old (node id.0) ≡ Some n → 24 * budget.new.left + steps.new ≤ 24 * budget.old.left + steps.old + 1 }
 {
     match heap.node(id, steps) {
         Node::List(items) => Ok(copied_all(alloc, items.as_slice())?),
@@ -165,6 +168,7 @@ pub fn not_iterable<L: Ledger>(
     ensures gives { (b : Budget) → Gives (λ v. map value_of v.items) result (moment_of heap.now b) (not_iterable (value_of value.now) (moment_of heap.now b)) }
     ensures sound { IfOk result (λ v. IsTrue (are_sound (length heap.now) (map value_of v.items))) }
     ensures counted { steps.old ≤ steps.new }
+    ensures reads { steps.new ≤ steps.old + 1 }
 {
     raise(TYPE_ERROR, not_iterable_text(alloc, value, heap, steps)?)
 }
@@ -185,6 +189,8 @@ pub fn items_of<L: Ledger>(
     ensures left { budget.new.left ≤ budget.old.left }
     ensures depth { budget.new.depth ≡ budget.old.depth }
     ensures least { budget.old.left + steps.old ≤ budget.new.left + steps.new }
+    ensures reads { 24 * budget.new.left + steps.new ≤ 24 * budget.old.left + steps.old + 2 }
+    ensures sequence { (n : ℕ) → count_in heap.old (value_of value.now) ≡ Some n → 24 * budget.new.left + steps.new ≤ 24 * budget.old.left + steps.old + 1 }
 {
     match value {
         Value::Text(text) => Ok(text_items(alloc, text.as_str())?),
@@ -214,6 +220,7 @@ pub fn walked<L: Ledger>(
     ensures left { budget.new.left ≤ budget.old.left }
     ensures depth { budget.new.depth ≡ budget.old.depth }
     ensures least { budget.old.left + steps.old ≤ budget.new.left + steps.new }
+    ensures reads { 24 * budget.new.left + steps.new ≤ 24 * budget.old.left + steps.old + 2 }
 {
     let Some(count) = count_in(value, heap, steps) else {
         return not_iterable(alloc, value, heap, steps);
@@ -232,6 +239,7 @@ pub fn not_iterable_value<L: Ledger>(
     requires sound { IsTrue (is_sound (length heap.now) (value_of value.now)) }
     ensures gives { (b : Budget) → Gives value_of result (moment_of heap.now b) (not_iterable (value_of value.now) (moment_of heap.now b)) }
     ensures counted { steps.old ≤ steps.new }
+    ensures reads { steps.new ≤ steps.old + 1 }
 {
     raise(TYPE_ERROR, not_iterable_text(alloc, value, heap, steps)?)
 }

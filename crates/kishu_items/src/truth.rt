@@ -1,5 +1,5 @@
 // The truth of values.
-ghost use Rattle.std.specs.Prelude.{◌≡◌, ◌≤◌, IsTrue, length, slice_get};
+ghost use Rattle.std.specs.Prelude.{◌≡◌, ◌+◌, ◌≤◌, IsTrue, length, slice_get};
 ghost use Rattle.std.specs.Str.{chars};
 ghost use Rattle.kishu_model.specs.declared.budget.Budget.{Budget};
 ghost use Rattle.kishu_model.specs.Moment.{Moment, fine};
@@ -38,6 +38,7 @@ pub fn is_true<L: Ledger>(value: &Value, heap: &Heap, steps: &mut Steps<L>) -> b
     requires sound { IsTrue (is_sound (length heap.now) (value_of value.now)) }
     ensures is { (b : Budget) → truth (value_of value.now) (moment_of heap.now b) ≡ fine result (moment_of heap.now b) }
     ensures counted { steps.old ≤ steps.new }
+    ensures reads { steps.new ≤ steps.old + 1 }
 {
     match value {
         Value::None => false,

@@ -1,5 +1,5 @@
 // Calls of methods.
-ghost use Rattle.std.specs.Prelude.{◌≡◌, ◌+◌, ◌-◌, ◌<◌, ◌≤◌, ◌^◌, IsTrue, map, length, slice_get};
+ghost use Rattle.std.specs.Prelude.{◌≡◌, ◌+◌, ◌-◌, ◌*◌, ◌<◌, ◌≤◌, ◌^◌, IsTrue, map, length, slice_get};
 ghost use Rattle.kishu_model.specs.Values.{value_of};
 ghost use Rattle.kishu_model.specs.Methods.{has_method, node_row, call_method};
 ghost use Rattle.kishu_model.specs.Sound.{is_sound, are_sound};
@@ -26,6 +26,7 @@ pub fn has_method<L: Ledger>(
     requires sound { IsTrue (is_sound (length heap.now) (value_of receiver.now)) }
     ensures has { result ≡ has_method heap.now (value_of receiver.now) name.now }
     ensures counted { steps.old ≤ steps.new }
+    ensures reads { steps.new ≤ steps.old + 1 }
 {
     method_of(receiver, name, heap, steps).is_some()
 }
@@ -49,6 +50,7 @@ fn node_method<L: Ledger>(
     ensures left { budget.new.left ≤ budget.old.left }
     ensures depth { budget.new.depth ≡ budget.old.depth }
     ensures least { budget.old.left + steps.old ≤ budget.new.left + steps.new }
+    ensures reads { 24 * budget.new.left + steps.new ≤ 24 * budget.old.left + steps.old + 4 }
 {
     match heap.node(id, steps) {
         Node::List(_) => list_method(alloc, method, id, args, heap, budget, steps),
@@ -82,6 +84,7 @@ pub fn call_method<L: Ledger>(
     ensures left { budget.new.left ≤ budget.old.left }
     ensures depth { budget.new.depth ≡ budget.old.depth }
     ensures least { budget.old.left + steps.old ≤ budget.new.left + steps.new }
+    ensures reads { 24 * budget.new.left + steps.new ≤ 24 * budget.old.left + steps.old + 5 }
 {
     let Some(method) = method_of(receiver, name, heap, steps) else {
         unreachable!()

@@ -1,5 +1,5 @@
 // The entries of a dict node, read and changed.
-ghost use Rattle.std.specs.Prelude.{◌≡◌, ◌<◌, ◌≤◌, List, IsTrue, IfOk, IfSome, OnOk, option_map, option_and_then, length};
+ghost use Rattle.std.specs.Prelude.{◌≡◌, ◌+◌, ◌<◌, ◌≤◌, List, IsTrue, IfOk, IfSome, OnOk, option_map, option_and_then, length};
 ghost use Rattle.std.specs.List.{list_all};
 ghost use Rattle.kishu_model.specs.Keys.{key_of, is_one};
 ghost use Rattle.kishu_model.specs.Methods.{with_entries};
@@ -29,6 +29,7 @@ pub(crate) fn dict_entries<'a, L: Ledger>(
     ensures entries { entries_of result.now.entries ≡ entries_at heap.now id.0 }
     ensures sound { IsTrue (list_all (λ e. is_sound (length heap.now) e.1) (entries_at heap.now id.0)) }
     ensures counted { steps.old ≤ steps.new }
+    ensures reads { steps.new ≤ steps.old + 1 }
 {
     match heap.node(id, steps).dict() {
         Some(entries) => entries,
@@ -42,6 +43,7 @@ pub(crate) fn dict_len<L: Ledger>(heap: &Heap, id: NodeId, steps: &mut Steps<L>)
     requires dict { IsDict heap.now id.0 }
     ensures len { result ≡ length (entries_at heap.now id.0) }
     ensures counted { steps.old ≤ steps.new }
+    ensures reads { steps.new ≤ steps.old + 1 }
 {
     dict_entries(heap, id, steps).len()
 }
@@ -63,6 +65,7 @@ pub(crate) fn value_under<L: Ledger>(
     requires dict { IsDict heap.now id.0 }
     ensures value { IfOk result (λ o. option_map value_of o ≡ value_at is_one (key_of key.now) (entries_at heap.now id.0)) }
     ensures counted { steps.old ≤ steps.new }
+    ensures reads { steps.new ≤ steps.old + 1 }
 {
     match found(dict_entries(heap, id, steps), key) {
         Some(value) => Ok(Some(value.copied()?)),
@@ -77,6 +80,7 @@ pub(crate) fn dict_in<L: Ledger>(value: &Value, heap: &Heap, steps: &mut Steps<L
     ensures id { IfSome result (λ id. id.0 < length heap.now) }
     ensures dict { IfSome result (λ id. IsDict heap.now id.0) }
     ensures counted { steps.old ≤ steps.new }
+    ensures reads { steps.new ≤ steps.old + 1 }
 {
     let Value::Node(id) = value else {
         return None;

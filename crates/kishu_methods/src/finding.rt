@@ -1,5 +1,5 @@
 // Items that are equal to a value.
-ghost use Rattle.std.specs.Prelude.{◌≡◌, ℕ, suc, ◌+◌, ◌<◌, ◌≤◌, ◌^◌, if◌then◌else◌, IfOk, IfSome, map, length};
+ghost use Rattle.std.specs.Prelude.{◌≡◌, ℕ, suc, ◌+◌, ◌*◌, ◌<◌, ◌≤◌, ◌^◌, if◌then◌else◌, IfOk, IfSome, map, length};
 ghost use Rattle.kishu_model.specs.Finding.{place_from, count_from, place_among, count_among};
 ghost use Rattle.kishu_model.specs.Methods.{place_of_equal, place_number, count_number};
 ghost use Rattle.kishu_model.specs.Values.{value_of};
@@ -25,6 +25,7 @@ fn first_equal<L: Ledger>(
     ensures left { budget.new.left ≤ budget.old.left }
     ensures depth { budget.new.depth ≡ budget.old.depth }
     ensures least { budget.old.left + steps.old ≤ budget.new.left + steps.new }
+    ensures reads { 24 * budget.new.left + steps.new ≤ 24 * budget.old.left + steps.old }
 {
     for i in 0..items.len() {
         if heap.is_item(&items[i], value, budget, steps)? {
@@ -53,6 +54,7 @@ fn all_equal<L: Ledger>(
     ensures left { budget.new.left ≤ budget.old.left }
     ensures depth { budget.new.depth ≡ budget.old.depth }
     ensures least { budget.old.left + steps.old ≤ budget.new.left + steps.new }
+    ensures reads { 24 * budget.new.left + steps.new ≤ 24 * budget.old.left + steps.old }
 {
     let mut found = 0;
     for i in 0..items.len() {
@@ -75,6 +77,7 @@ fn place_among<L: Ledger>(
     ensures left { budget.new.left ≤ budget.old.left }
     ensures depth { budget.new.depth ≡ budget.old.depth }
     ensures least { budget.old.left + steps.old ≤ budget.new.left + steps.new }
+    ensures reads { 24 * budget.new.left + steps.new ≤ 24 * budget.old.left + steps.old }
 {
     compared(alloc, first_equal(value, items, heap, budget, steps))
 }
@@ -93,6 +96,7 @@ pub(crate) fn place_of_equal<L: Ledger>(
     ensures left { budget.new.left ≤ budget.old.left }
     ensures depth { budget.new.depth ≡ budget.old.depth }
     ensures least { budget.old.left + steps.old ≤ budget.new.left + steps.new }
+    ensures reads { 24 * budget.new.left + steps.new ≤ 24 * budget.old.left + steps.old }
 {
     match place_among(alloc, value, items, heap, budget, steps)? {
         Some(place) => Ok(place),
@@ -113,6 +117,7 @@ pub(crate) fn count_among<L: Ledger>(
     ensures left { budget.new.left ≤ budget.old.left }
     ensures depth { budget.new.depth ≡ budget.old.depth }
     ensures least { budget.old.left + steps.old ≤ budget.new.left + steps.new }
+    ensures reads { 24 * budget.new.left + steps.new ≤ 24 * budget.old.left + steps.old }
 {
     compared(alloc, all_equal(value, items, heap, budget, steps))
 }
@@ -130,6 +135,7 @@ pub(crate) fn place_number<L: Ledger>(
     ensures left { budget.new.left ≤ budget.old.left }
     ensures depth { budget.new.depth ≡ budget.old.depth }
     ensures least { budget.old.left + steps.old ≤ budget.new.left + steps.new }
+    ensures reads { 24 * budget.new.left + steps.new ≤ 24 * budget.old.left + steps.old }
 {
     let place = place_of_equal(alloc, value, items, heap, budget, steps)?;
     Ok(Value::Int(place as i128))
@@ -148,6 +154,7 @@ pub(crate) fn count_number<L: Ledger>(
     ensures left { budget.new.left ≤ budget.old.left }
     ensures depth { budget.new.depth ≡ budget.old.depth }
     ensures least { budget.old.left + steps.old ≤ budget.new.left + steps.new }
+    ensures reads { 24 * budget.new.left + steps.new ≤ 24 * budget.old.left + steps.old }
 {
     let count = count_among(alloc, value, items, heap, budget, steps)?;
     Ok(Value::Int(count as i128))

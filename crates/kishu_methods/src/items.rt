@@ -24,6 +24,7 @@ pub(crate) fn list_items<'a, L: Ledger>(
     ensures items { map value_of result.now ≡ items_at heap.now id.0 }
     ensures sound { IsTrue (are_sound (length heap.now) (items_at heap.now id.0)) }
     ensures counted { steps.old ≤ steps.new }
+    ensures reads { steps.new ≤ steps.old + 1 }
 {
     match heap.node(id, steps).list() {
         Some(items) => items,
@@ -37,6 +38,7 @@ pub(crate) fn list_len<L: Ledger>(heap: &Heap, id: NodeId, steps: &mut Steps<L>)
     requires list { IsList heap.now id.0 }
     ensures len { result ≡ length (items_at heap.now id.0) }
     ensures counted { steps.old ≤ steps.new }
+    ensures reads { steps.new ≤ steps.old + 1 }
 {
     list_items(heap, id, steps).len()
 }
@@ -53,6 +55,7 @@ pub(crate) fn copied_list<L: Ledger>(
     ensures items { IfOk result (λ v. map value_of v.items ≡ items_at heap.now id.0) }
     ensures sound { IsTrue (are_sound (length heap.now) (items_at heap.now id.0)) }
     ensures counted { steps.old ≤ steps.new }
+    ensures reads { steps.new ≤ steps.old + 1 }
 {
     let items = copied_all(alloc, list_items(heap, id, steps))?;
     Ok(items)
@@ -72,6 +75,7 @@ pub(crate) fn without_place<L: Ledger>(
     ensures value { IfOk result (λ v. value_of v ≡ slice_index_or (items_at heap.old id.0) place none) }
     ensures nodes { OnOk result (heap.new ≡ changed (without_place place) id.0 heap.old) }
     ensures counted { steps.old ≤ steps.new }
+    ensures reads { steps.new ≤ steps.old + 1 }
     ensures long { length heap.new ≡ length heap.old }
 {
     let mut items = copied_list(alloc, heap, id, steps)?;
@@ -95,6 +99,7 @@ pub(crate) fn with_place<L: Ledger>(
     requires sound { IsTrue (is_sound (length heap.old) (value_of value.now)) }
     ensures nodes { OnOk result (heap.new ≡ changed (on_list (λ items. insert items place (value_of value.now))) id.0 heap.old) }
     ensures counted { steps.old ≤ steps.new }
+    ensures reads { steps.new ≤ steps.old + 1 }
     ensures long { length heap.new ≡ length heap.old }
 {
     let mut items = copied_list(alloc, heap, id, steps)?;
@@ -114,6 +119,7 @@ pub(crate) fn reverse<L: Ledger>(
     requires list { IsList heap.old id.0 }
     ensures nodes { OnOk result (heap.new ≡ changed (on_list reverse) id.0 heap.old) }
     ensures counted { steps.old ≤ steps.new }
+    ensures reads { steps.new ≤ steps.old + 1 }
     ensures long { length heap.new ≡ length heap.old }
 {
     let mut items = copied_list(alloc, heap, id, steps)?;

@@ -1,5 +1,5 @@
 // The methods of lists.
-ghost use Rattle.std.specs.Prelude.{◌≡◌, ◌+◌, ◌-◌, ◌<◌, ◌≤◌, ◌^◌, ◌∷◌, [], IsTrue, map, length};
+ghost use Rattle.std.specs.Prelude.{◌≡◌, ◌+◌, ◌-◌, ◌*◌, ◌<◌, ◌≤◌, ◌^◌, ◌∷◌, [], IsTrue, map, length};
 ghost use Rattle.kishu_model.specs.declared.budget.Budget.{Budget};
 ghost use Rattle.kishu_model.specs.Methods as m;
 ghost use Rattle.kishu_model.specs.Nodes.{push, replace_list};
@@ -71,6 +71,7 @@ fn take_out<L: Ledger>(
     ensures left { budget.new.left ≤ budget.old.left }
     ensures depth { budget.new.depth ≡ budget.old.depth }
     ensures least { budget.old.left + steps.old ≤ budget.new.left + steps.new }
+    ensures reads { 24 * budget.new.left + steps.new ≤ 24 * budget.old.left + steps.old + 1 }
 {
     spend(list_len(heap, id, steps) as u128, budget, steps)?;
     Ok(without_place(alloc, id, place, heap, steps)?)
@@ -93,6 +94,7 @@ fn pop_at<L: Ledger>(
     ensures left { budget.new.left ≤ budget.old.left }
     ensures depth { budget.new.depth ≡ budget.old.depth }
     ensures least { budget.old.left + steps.old ≤ budget.new.left + steps.new }
+    ensures reads { 24 * budget.new.left + steps.new ≤ 24 * budget.old.left + steps.old + 3 }
 {
     let index = index_of(alloc, at, heap, steps)?;
     let len = list_len(heap, id, steps);
@@ -121,6 +123,7 @@ fn put_in<L: Ledger>(
     ensures left { budget.new.left ≤ budget.old.left }
     ensures depth { budget.new.depth ≡ budget.old.depth }
     ensures least { budget.old.left + steps.old ≤ budget.new.left + steps.new }
+    ensures reads { 24 * budget.new.left + steps.new ≤ 24 * budget.old.left + steps.old + 2 }
 {
     let len = list_len(heap, id, steps);
     spend(len as u128, budget, steps)?;
@@ -147,6 +150,7 @@ fn insert_at<L: Ledger>(
     ensures left { budget.new.left ≤ budget.old.left }
     ensures depth { budget.new.depth ≡ budget.old.depth }
     ensures least { budget.old.left + steps.old ≤ budget.new.left + steps.new }
+    ensures reads { 24 * budget.new.left + steps.new ≤ 24 * budget.old.left + steps.old + 3 }
 {
     let index = index_of(alloc, at, heap, steps)?;
     put_in(alloc, id, index, x, heap, budget, steps)
@@ -170,6 +174,7 @@ fn extend<L: Ledger>(
     ensures left { budget.new.left ≤ budget.old.left }
     ensures depth { budget.new.depth ≡ budget.old.depth }
     ensures least { budget.old.left + steps.old ≤ budget.new.left + steps.new }
+    ensures reads { 24 * budget.new.left + steps.new ≤ 24 * budget.old.left + steps.old + 2 }
 {
     let items = walked(alloc, sequence, heap, budget, steps)?;
     push_all(id, items.as_slice(), heap)?;
@@ -192,6 +197,7 @@ fn remove<L: Ledger>(
     ensures left { budget.new.left ≤ budget.old.left }
     ensures depth { budget.new.depth ≡ budget.old.depth }
     ensures least { budget.old.left + steps.old ≤ budget.new.left + steps.new }
+    ensures reads { 24 * budget.new.left + steps.new ≤ 24 * budget.old.left + steps.old + 2 }
 {
     let items = list_items(heap, id, steps);
     let place = place_of_equal(alloc, x, items, heap, budget, steps)?;
@@ -214,6 +220,7 @@ fn turn_round<L: Ledger>(
     ensures left { budget.new.left ≤ budget.old.left }
     ensures depth { budget.new.depth ≡ budget.old.depth }
     ensures least { budget.old.left + steps.old ≤ budget.new.left + steps.new }
+    ensures reads { 24 * budget.new.left + steps.new ≤ 24 * budget.old.left + steps.old + 2 }
 {
     spend(list_len(heap, id, steps) as u128, budget, steps)?;
     reverse(alloc, id, heap, steps)?;
@@ -236,6 +243,7 @@ fn copy<L: Ledger>(
     ensures left { budget.new.left ≤ budget.old.left }
     ensures depth { budget.new.depth ≡ budget.old.depth }
     ensures least { budget.old.left + steps.old ≤ budget.new.left + steps.new }
+    ensures reads { 24 * budget.new.left + steps.new ≤ 24 * budget.old.left + steps.old + 2 }
 {
     spend(list_len(heap, id, steps) as u128, budget, steps)?;
     let items = copied_list(alloc, heap, id, steps)?;
@@ -257,6 +265,7 @@ fn sort<L: Ledger>(
     ensures left { budget.new.left ≤ budget.old.left }
     ensures depth { budget.new.depth ≡ budget.old.depth }
     ensures least { budget.old.left + steps.old ≤ budget.new.left + steps.new }
+    ensures reads { 24 * budget.new.left + steps.new ≤ 24 * budget.old.left + steps.old + 2 }
 {
     spend(sort_steps(list_len(heap, id, steps) as u64), budget, steps)?;
     let items = copied_list(alloc, heap, id, steps)?;
@@ -286,6 +295,7 @@ fn without_argument<L: Ledger>(
     ensures left { budget.new.left ≤ budget.old.left }
     ensures depth { budget.new.depth ≡ budget.old.depth }
     ensures least { budget.old.left + steps.old ≤ budget.new.left + steps.new }
+    ensures reads { 24 * budget.new.left + steps.new ≤ 24 * budget.old.left + steps.old + 2 }
 {
     match method {
         Method::Pop => pop_last(alloc, id, heap),
@@ -332,6 +342,7 @@ fn with_argument<L: Ledger>(
     ensures left { budget.new.left ≤ budget.old.left }
     ensures depth { budget.new.depth ≡ budget.old.depth }
     ensures least { budget.old.left + steps.old ≤ budget.new.left + steps.new }
+    ensures reads { 24 * budget.new.left + steps.new ≤ 24 * budget.old.left + steps.old + 3 }
 {
     match method {
         Method::Append => append(id, x, heap),
@@ -380,6 +391,7 @@ fn with_arguments<L: Ledger>(
     ensures left { budget.new.left ≤ budget.old.left }
     ensures depth { budget.new.depth ≡ budget.old.depth }
     ensures least { budget.old.left + steps.old ≤ budget.new.left + steps.new }
+    ensures reads { 24 * budget.new.left + steps.new ≤ 24 * budget.old.left + steps.old + 3 }
 {
     match method {
         Method::Insert => insert_at(alloc, id, at, x, heap, budget, steps),
@@ -427,6 +439,7 @@ pub(crate) fn list_method<L: Ledger>(
     ensures left { budget.new.left ≤ budget.old.left }
     ensures depth { budget.new.depth ≡ budget.old.depth }
     ensures least { budget.old.left + steps.old ≤ budget.new.left + steps.new }
+    ensures reads { 24 * budget.new.left + steps.new ≤ 24 * budget.old.left + steps.old + 3 }
 {
     match args {
         [] => without_argument(alloc, method, id, heap, budget, steps),

@@ -1,5 +1,5 @@
 // The methods that there are.
-ghost use Rattle.std.specs.Prelude.{◌≡◌, ◌≤◌, IsTrue, List, map, option_map, length};
+ghost use Rattle.std.specs.Prelude.{◌≡◌, ◌+◌, ◌≤◌, IsTrue, List, map, option_map, length};
 ghost use Rattle.kishu_model.specs.Methods.{method_name, method_named, text_methods, list_methods, tuple_methods, dict_methods, node_methods, methods_in};
 ghost use Rattle.kishu_model.specs.Sound.{is_sound};
 ghost use Rattle.kishu_model.specs.Values.{value_of};
@@ -167,6 +167,7 @@ pub(crate) fn method_of<L: Ledger>(
     requires sound { IsTrue (is_sound (length heap.now) (value_of value.now)) }
     ensures method { option_map method_of result ≡ method_named name.now (methods_in heap.now (value_of value.now)) }
     ensures counted { steps.old ≤ steps.new }
+    ensures reads { steps.new ≤ steps.old + 1 }
 {
     match value {
         Value::Text(_) => of_text(name),

@@ -1,5 +1,5 @@
 // The methods of texts.
-ghost use Rattle.std.specs.Prelude.{◌≡◌, ◌+◌, ◌-◌, ◌<◌, ◌≤◌, ◌^◌, ◌∷◌, [], IsTrue, OnOk, List, map, option_map, length};
+ghost use Rattle.std.specs.Prelude.{◌≡◌, ◌+◌, ◌-◌, ◌*◌, ◌<◌, ◌≤◌, ◌^◌, ◌∷◌, [], IsTrue, OnOk, List, map, option_map, length};
 ghost use Rattle.std.specs.Str.{chars};
 ghost use Rattle.kishu_model.specs.Values.{Node, value_of};
 ghost use Rattle.kishu_model.specs.Methods as m;
@@ -61,6 +61,7 @@ pub(crate) fn spend_search<L: Ledger>(
     ensures depth { budget.new.depth ≡ budget.old.depth }
     ensures left { budget.new.left ≤ budget.old.left }
     ensures least { budget.old.left + steps.old ≤ budget.new.left + steps.new }
+    ensures reads { 24 * budget.new.left + steps.new ≤ 24 * budget.old.left + steps.old }
 {
     spend(search_steps(text, part), budget, steps)
 }
@@ -77,6 +78,7 @@ fn starts_with<L: Ledger>(
     ensures left { budget.new.left ≤ budget.old.left }
     ensures depth { budget.new.depth ≡ budget.old.depth }
     ensures least { budget.old.left + steps.old ≤ budget.new.left + steps.new }
+    ensures reads { 24 * budget.new.left + steps.new ≤ 24 * budget.old.left + steps.old }
 {
     let Some(part) = text_in(argument) else {
         return bad_arguments(alloc, Method::StartsWith);
@@ -97,6 +99,7 @@ fn ends_with<L: Ledger>(
     ensures left { budget.new.left ≤ budget.old.left }
     ensures depth { budget.new.depth ≡ budget.old.depth }
     ensures least { budget.old.left + steps.old ≤ budget.new.left + steps.new }
+    ensures reads { 24 * budget.new.left + steps.new ≤ 24 * budget.old.left + steps.old }
 {
     let Some(part) = text_in(argument) else {
         return bad_arguments(alloc, Method::EndsWith);
@@ -116,6 +119,7 @@ fn strip<L: Ledger>(
     ensures left { budget.new.left ≤ budget.old.left }
     ensures depth { budget.new.depth ≡ budget.old.depth }
     ensures least { budget.old.left + steps.old ≤ budget.new.left + steps.new }
+    ensures reads { 24 * budget.new.left + steps.new ≤ 24 * budget.old.left + steps.old }
 {
     spend(count(text) as u128, budget, steps)?;
     Ok(Value::Text(RcStr::from_str(alloc, kishu_text::strip(text))?))
@@ -132,6 +136,7 @@ fn is_digit<L: Ledger>(
     ensures left { budget.new.left ≤ budget.old.left }
     ensures depth { budget.new.depth ≡ budget.old.depth }
     ensures least { budget.old.left + steps.old ≤ budget.new.left + steps.new }
+    ensures reads { 24 * budget.new.left + steps.new ≤ 24 * budget.old.left + steps.old }
 {
     spend(count(text) as u128, budget, steps)?;
     Ok(Value::Bool(is_digits(text)))
@@ -166,6 +171,7 @@ fn find<L: Ledger>(
     ensures left { budget.new.left ≤ budget.old.left }
     ensures depth { budget.new.depth ≡ budget.old.depth }
     ensures least { budget.old.left + steps.old ≤ budget.new.left + steps.new }
+    ensures reads { 24 * budget.new.left + steps.new ≤ 24 * budget.old.left + steps.old }
 {
     let Some(part) = text_in(argument) else {
         return bad_arguments(alloc, Method::Find);
@@ -187,6 +193,7 @@ fn occurrences<L: Ledger>(
     ensures left { budget.new.left ≤ budget.old.left }
     ensures depth { budget.new.depth ≡ budget.old.depth }
     ensures least { budget.old.left + steps.old ≤ budget.new.left + steps.new }
+    ensures reads { 24 * budget.new.left + steps.new ≤ 24 * budget.old.left + steps.old }
 {
     let Some(part) = text_in(argument) else {
         return bad_arguments(alloc, Method::Count);
@@ -210,6 +217,7 @@ fn replace<L: Ledger>(
     ensures left { budget.new.left ≤ budget.old.left }
     ensures depth { budget.new.depth ≡ budget.old.depth }
     ensures least { budget.old.left + steps.old ≤ budget.new.left + steps.new }
+    ensures reads { 24 * budget.new.left + steps.new ≤ 24 * budget.old.left + steps.old }
 {
     let (Some(part), Some(by)) = (text_in(first), text_in(second)) else {
         return bad_arguments(alloc, Method::Replace);
@@ -237,6 +245,7 @@ fn without_arguments<L: Ledger>(
     ensures left { budget.new.left ≤ budget.old.left }
     ensures depth { budget.new.depth ≡ budget.old.depth }
     ensures least { budget.old.left + steps.old ≤ budget.new.left + steps.new }
+    ensures reads { 24 * budget.new.left + steps.new ≤ 24 * budget.old.left + steps.old }
 {
     match method {
         Method::Strip => strip(alloc, text, budget, steps),
@@ -264,6 +273,7 @@ fn with_argument<L: Ledger>(
     ensures left { budget.new.left ≤ budget.old.left }
     ensures depth { budget.new.depth ≡ budget.old.depth }
     ensures least { budget.old.left + steps.old ≤ budget.new.left + steps.new }
+    ensures reads { 24 * budget.new.left + steps.new ≤ 24 * budget.old.left + steps.old + 2 }
 {
     match method {
         Method::StartsWith => starts_with(alloc, text, argument, budget, steps),
@@ -290,6 +300,7 @@ fn with_two<L: Ledger>(
     ensures left { budget.new.left ≤ budget.old.left }
     ensures depth { budget.new.depth ≡ budget.old.depth }
     ensures least { budget.old.left + steps.old ≤ budget.new.left + steps.new }
+    ensures reads { 24 * budget.new.left + steps.new ≤ 24 * budget.old.left + steps.old }
 {
     match method {
         Method::Replace => replace(alloc, text, first, second, budget, steps),
@@ -315,6 +326,7 @@ pub(crate) fn text_method<L: Ledger>(
     ensures left { budget.new.left ≤ budget.old.left }
     ensures depth { budget.new.depth ≡ budget.old.depth }
     ensures least { budget.old.left + steps.old ≤ budget.new.left + steps.new }
+    ensures reads { 24 * budget.new.left + steps.new ≤ 24 * budget.old.left + steps.old + 2 }
 {
     match args {
         [] => without_arguments(alloc, method, text, heap, budget, steps),

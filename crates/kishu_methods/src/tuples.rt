@@ -1,5 +1,5 @@
 // The methods of tuples.
-ghost use Rattle.std.specs.Prelude.{◌≡◌, ◌+◌, ◌≤◌, ◌∷◌, [], map};
+ghost use Rattle.std.specs.Prelude.{◌≡◌, ◌+◌, ◌*◌, ◌≤◌, ◌∷◌, [], map};
 ghost use Rattle.kishu_model.specs.Methods.{tuple_row};
 ghost use Rattle.kishu_model.specs.Values.{value_of};
 ghost use Rattle.kishu_methods.specs.Called.{moment_of, method_of, Gives};
@@ -25,6 +25,7 @@ fn with_argument<L: Ledger>(
     ensures left { budget.new.left ≤ budget.old.left }
     ensures depth { budget.new.depth ≡ budget.old.depth }
     ensures least { budget.old.left + steps.old ≤ budget.new.left + steps.new }
+    ensures reads { 24 * budget.new.left + steps.new ≤ 24 * budget.old.left + steps.old }
 {
     match method {
         Method::Index => place_number(alloc, value, items, heap, budget, steps),
@@ -66,6 +67,7 @@ pub(crate) fn tuple_method<L: Ledger>(
     ensures left { budget.new.left ≤ budget.old.left }
     ensures depth { budget.new.depth ≡ budget.old.depth }
     ensures least { budget.old.left + steps.old ≤ budget.new.left + steps.new }
+    ensures reads { 24 * budget.new.left + steps.new ≤ 24 * budget.old.left + steps.old }
 {
     match args {
         [] => bad_arguments(alloc, method),

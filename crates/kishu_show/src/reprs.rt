@@ -1,6 +1,6 @@
 // The repr of values over the nodes to which they lead (Library Reference, "Built-in Functions":
 // repr).
-ghost use Rattle.std.specs.Prelude.{◌≡◌, ◌==◌, ◌+◌, ◌∷◌, ◌≤◌, map, option_map, slice_get};
+ghost use Rattle.std.specs.Prelude.{◌≡◌, ◌==◌, ◌*◌, ◌+◌, ◌∷◌, ◌≤◌, OnOk, map, min, option_map, slice_get};
 ghost use Rattle.std.specs.List.{list_any};
 ghost use Rattle.std.specs.Rc.{rc_str_bytes};
 ghost use Rattle.std.specs.Str.{chars};
@@ -52,6 +52,7 @@ pub(crate) fn push_plain<L: Ledger>(
     ensures gives { Makes result draft.new (onto draft.old (made (repr_text (value_of value.now)))) }
     ensures left { draft.new.left ≤ draft.old.left }
     ensures least { draft.old.left + steps.old ≤ draft.new.left + steps.new }
+    ensures reads { 24 * draft.new.left + steps.new ≤ 24 * draft.old.left + steps.old }
 {
     let text = plain_text(draft.alloc, value)?;
     push_made(text.as_str(), draft, steps)
@@ -66,6 +67,7 @@ fn push_class<L: Ledger>(
     ensures gives { Makes result draft.new (onto draft.old (made (class_name class.0))) }
     ensures left { draft.new.left ≤ draft.old.left }
     ensures least { draft.old.left + steps.old ≤ draft.new.left + steps.new }
+    ensures reads { 24 * draft.new.left + steps.new ≤ 24 * draft.old.left + steps.old }
 {
     push_mark(class_name(class), draft, steps)
 }
@@ -79,6 +81,7 @@ fn push_again<L: Ledger>(
     ensures gives { Makes result draft.new (onto draft.old (made (again (node_of node.now)))) }
     ensures left { draft.new.left ≤ draft.old.left }
     ensures least { draft.old.left + steps.old ≤ draft.new.left + steps.new }
+    ensures reads { 24 * draft.new.left + steps.new ≤ 24 * draft.old.left + steps.old }
 {
     let text = again_text(draft.alloc, node)?;
     push_made(text.as_str(), draft, steps)
@@ -93,6 +96,7 @@ fn push_function<L: Ledger>(
     ensures gives { Makes result draft.new (onto draft.old (made (function_text function.now.profile (rc_str_bytes function.now.code)))) }
     ensures left { draft.new.left ≤ draft.old.left }
     ensures least { draft.old.left + steps.old ≤ draft.new.left + steps.new }
+    ensures reads { 24 * draft.new.left + steps.new ≤ 24 * draft.old.left + steps.old }
 {
     let text = function_text(draft.alloc, function)?;
     push_made(text.as_str(), draft, steps)
@@ -103,6 +107,7 @@ fn push_key<L: Ledger>(key: &Key, draft: &mut Draft, steps: &mut Steps<L>) -> Re
     ensures gives { Makes result draft.new (onto draft.old (made (key_text (key_of key.now)))) }
     ensures left { draft.new.left ≤ draft.old.left }
     ensures least { draft.old.left + steps.old ≤ draft.new.left + steps.new }
+    ensures reads { 24 * draft.new.left + steps.new ≤ 24 * draft.old.left + steps.old }
 {
     let text = key_text(draft.alloc, key)?;
     push_made(text.as_str(), draft, steps)
@@ -117,6 +122,8 @@ fn push_comma<L: Ledger>(
     ensures gives { Makes result draft.new (onto draft.old (comma place)) }
     ensures left { draft.new.left ≤ draft.old.left }
     ensures least { draft.old.left + steps.old ≤ draft.new.left + steps.new }
+    ensures counted { steps.new + draft.new.left ≡ steps.old + draft.old.left }
+    ensures taken { OnOk result (draft.new.left + min place 1 ≤ draft.old.left) }
 {
     if place == 0 {
         return Ok(());
@@ -133,6 +140,7 @@ fn push_tuple_end<L: Ledger>(
     ensures gives { Makes result draft.new (onto draft.old (made (tuple_end (map value_of items.now)))) }
     ensures left { draft.new.left ≤ draft.old.left }
     ensures least { draft.old.left + steps.old ≤ draft.new.left + steps.new }
+    ensures reads { 24 * draft.new.left + steps.new ≤ 24 * draft.old.left + steps.old }
 {
     push_mark(tuple_end(items.len()), draft, steps)
 }
@@ -151,6 +159,7 @@ pub(crate) fn push_value<L: Ledger>(
     ensures gives { Makes result draft.new (onto draft.old (repr_by (repr_nodes heap.now room (around_of around.now)) (value_of value.now))) }
     ensures left { draft.new.left ≤ draft.old.left }
     ensures least { draft.old.left + steps.old ≤ draft.new.left + steps.new }
+    ensures reads { 24 * draft.new.left + steps.new ≤ 24 * draft.old.left + steps.old + 1 }
 {
     let Some(id) = node_in(value) else {
         return push_plain(value, draft, steps);
@@ -174,6 +183,7 @@ pub(crate) fn push_node<L: Ledger>(
     ensures gives { Makes result draft.new (onto draft.old (repr_at (repr_nodes heap.now room (id.0 ∷ around_of around.now)) (list_any (λ j. id.0 == j) (around_of around.now)) (slice_get heap.now id.0))) }
     ensures left { draft.new.left ≤ draft.old.left }
     ensures least { draft.old.left + steps.old ≤ draft.new.left + steps.new }
+    ensures reads { 24 * draft.new.left + steps.new ≤ 24 * draft.old.left + steps.old + 1 }
 {
     let Some(node) = node_at(heap, id, steps) else {
         return Ok(());
@@ -198,6 +208,7 @@ fn push_inside<L: Ledger>(
     ensures gives { Makes result draft.new (onto draft.old (contents_repr (repr_nodes heap.now room (id.0 ∷ around_of around.now)) (node_of node.now))) }
     ensures left { draft.new.left ≤ draft.old.left }
     ensures least { draft.old.left + steps.old ≤ draft.new.left + steps.new }
+    ensures reads { 24 * draft.new.left + steps.new ≤ 24 * draft.old.left + steps.old }
 {
     let inner = Around::Inside(id.0, &*around);
     push_contents(heap, node, room, &inner, draft, steps)
@@ -216,6 +227,7 @@ fn push_contents<L: Ledger>(
     ensures gives { Makes result draft.new (onto draft.old (contents_repr (repr_nodes heap.now room (around_of around.now)) (node_of node.now))) }
     ensures left { draft.new.left ≤ draft.old.left }
     ensures least { draft.old.left + steps.old ≤ draft.new.left + steps.new }
+    ensures reads { 24 * draft.new.left + steps.new ≤ 24 * draft.old.left + steps.old }
 {
     match node {
         Node::List(items) => push_list(heap, items.as_slice(), room, around, draft, steps),
@@ -249,6 +261,7 @@ fn push_list<L: Ledger>(
     ensures gives { Makes result draft.new (onto draft.old (contents_repr (repr_nodes heap.now room (around_of around.now)) (list (map value_of items.now)))) }
     ensures left { draft.new.left ≤ draft.old.left }
     ensures least { draft.old.left + steps.old ≤ draft.new.left + steps.new }
+    ensures reads { 24 * draft.new.left + steps.new ≤ 24 * draft.old.left + steps.old }
 {
     push_mark("[", draft, steps)?;
     push_values(heap, items, room, around, draft, steps)?;
@@ -268,6 +281,7 @@ pub(crate) fn push_tuple<L: Ledger>(
     ensures gives { Makes result draft.new (onto draft.old (tuple_repr (repr_nodes heap.now room (around_of around.now)) (map value_of items.now))) }
     ensures left { draft.new.left ≤ draft.old.left }
     ensures least { draft.old.left + steps.old ≤ draft.new.left + steps.new }
+    ensures reads { 24 * draft.new.left + steps.new ≤ 24 * draft.old.left + steps.old }
 {
     push_mark("(", draft, steps)?;
     push_values(heap, items, room, around, draft, steps)?;
@@ -286,6 +300,7 @@ fn push_dict<L: Ledger>(
     ensures gives { Makes result draft.new (onto draft.old (contents_repr (repr_nodes heap.now room (around_of around.now)) (dict (entries_of entries.now.entries)))) }
     ensures left { draft.new.left ≤ draft.old.left }
     ensures least { draft.old.left + steps.old ≤ draft.new.left + steps.new }
+    ensures reads { 24 * draft.new.left + steps.new ≤ 24 * draft.old.left + steps.old }
 {
     push_mark("{", draft, steps)?;
     push_entries(heap, entries, room, around, draft, steps)?;
@@ -304,6 +319,7 @@ fn push_object<L: Ledger>(
     ensures gives { Makes result draft.new (onto draft.old (contents_repr (repr_nodes heap.now room (around_of around.now)) (object (attributes_of attributes.now.entries)))) }
     ensures left { draft.new.left ≤ draft.old.left }
     ensures least { draft.old.left + steps.old ≤ draft.new.left + steps.new }
+    ensures reads { 24 * draft.new.left + steps.new ≤ 24 * draft.old.left + steps.old }
 {
     push_mark("namespace(", draft, steps)?;
     push_attributes(heap, attributes, room, around, draft, steps)?;
@@ -323,6 +339,7 @@ fn push_exception<L: Ledger>(
     ensures gives { Makes result draft.new (onto draft.old (contents_repr (repr_nodes heap.now room (around_of around.now)) (exception class.0 (map value_of arguments.now)))) }
     ensures left { draft.new.left ≤ draft.old.left }
     ensures least { draft.old.left + steps.old ≤ draft.new.left + steps.new }
+    ensures reads { 24 * draft.new.left + steps.new ≤ 24 * draft.old.left + steps.old }
 {
     push_class(class, draft, steps)?;
     push_mark("(", draft, steps)?;
@@ -343,6 +360,7 @@ fn push_values<L: Ledger>(
     ensures gives { Makes result draft.new (onto draft.old (listed (repr_by (repr_nodes heap.now room (around_of around.now))) (map value_of values.now))) }
     ensures left { draft.new.left ≤ draft.old.left }
     ensures least { draft.old.left + steps.old ≤ draft.new.left + steps.new }
+    ensures reads { 24 * draft.new.left + steps.new ≤ 24 * draft.old.left + steps.old + 1 }
 {
     for i in 0..values.len() {
         push_comma(i, draft, steps)?;
@@ -364,6 +382,7 @@ fn push_entries<L: Ledger>(
     ensures gives { Makes result draft.new (onto draft.old (listed (entry_repr (repr_nodes heap.now room (around_of around.now))) (entries_of entries.now.entries))) }
     ensures left { draft.new.left ≤ draft.old.left }
     ensures least { draft.old.left + steps.old ≤ draft.new.left + steps.new }
+    ensures reads { 24 * draft.new.left + steps.new ≤ 24 * draft.old.left + steps.old }
 {
     for i in 0..entries.len() {
         let Some((key, value)) = entries.get_index(i) else {
@@ -388,6 +407,7 @@ fn push_entry<L: Ledger>(
     ensures gives { Makes result draft.new (onto draft.old (entry_repr (repr_nodes heap.now room (around_of around.now)) (key_of key.now, value_of value.now))) }
     ensures left { draft.new.left ≤ draft.old.left }
     ensures least { draft.old.left + steps.old ≤ draft.new.left + steps.new }
+    ensures reads { 24 * draft.new.left + steps.new ≤ 24 * draft.old.left + steps.old }
 {
     push_key(key, draft, steps)?;
     push_mark(": ", draft, steps)?;
@@ -407,6 +427,7 @@ fn push_attributes<L: Ledger>(
     ensures gives { Makes result draft.new (onto draft.old (listed (attribute_repr (repr_nodes heap.now room (around_of around.now))) (attributes_of attributes.now.entries))) }
     ensures left { draft.new.left ≤ draft.old.left }
     ensures least { draft.old.left + steps.old ≤ draft.new.left + steps.new }
+    ensures reads { 24 * draft.new.left + steps.new ≤ 24 * draft.old.left + steps.old }
 {
     for i in 0..attributes.len() {
         let Some((name, value)) = attributes.get_index(i) else {
@@ -431,6 +452,7 @@ fn push_attribute<L: Ledger>(
     ensures gives { Makes result draft.new (onto draft.old (attribute_repr (repr_nodes heap.now room (around_of around.now)) (name.now, value_of value.now))) }
     ensures left { draft.new.left ≤ draft.old.left }
     ensures least { draft.old.left + steps.old ≤ draft.new.left + steps.new }
+    ensures reads { 24 * draft.new.left + steps.new ≤ 24 * draft.old.left + steps.old }
 {
     push_made(name, draft, steps)?;
     push_mark("=", draft, steps)?;
@@ -453,6 +475,7 @@ pub fn repr_of<L: Ledger>(
     ensures depth { budget.new.depth ≡ budget.old.depth }
     ensures left { budget.new.left ≤ budget.old.left }
     ensures least { budget.old.left + steps.old ≤ budget.new.left + steps.new }
+    ensures reads { 24 * budget.new.left + steps.new ≤ 24 * budget.old.left + steps.old + 1 }
 {
     let mut draft = Draft::new(alloc, budget.left);
     let room = room_at(budget.depth);

@@ -1,5 +1,5 @@
 // The str of values (Library Reference, "Text Sequence Type": str).
-ghost use Rattle.std.specs.Prelude.{◌≡◌, ◌+◌, ◌∷◌, ◌≤◌, [], IfOk, false, map, slice_get};
+ghost use Rattle.std.specs.Prelude.{◌≡◌, ◌*◌, ◌+◌, ◌∷◌, ◌≤◌, [], IfOk, false, map, slice_get};
 ghost use Rattle.std.specs.Str.{chars};
 ghost use Rattle.std.specs.String.{string_bytes};
 ghost use Rattle.kishu_model.specs.Values.{value_of};
@@ -45,6 +45,7 @@ fn push_plain_shown<L: Ledger>(
     ensures gives { Makes result draft.new (onto draft.old (made (plain_shown (value_of value.now)))) }
     ensures left { draft.new.left ≤ draft.old.left }
     ensures least { draft.old.left + steps.old ≤ draft.new.left + steps.new }
+    ensures reads { 24 * draft.new.left + steps.new ≤ 24 * draft.old.left + steps.old }
 {
     let text = shown_text(draft.alloc, value)?;
     push_made(text.as_str(), draft, steps)
@@ -62,6 +63,7 @@ fn push_shown<L: Ledger>(
     ensures gives { Makes result draft.new (onto draft.old (show_by (show_nodes heap.now room) (value_of value.now))) }
     ensures left { draft.new.left ≤ draft.old.left }
     ensures least { draft.old.left + steps.old ≤ draft.new.left + steps.new }
+    ensures reads { 24 * draft.new.left + steps.new ≤ 24 * draft.old.left + steps.old + 2 }
 {
     let Some(id) = node_in(value) else {
         return push_plain_shown(value, draft, steps);
@@ -84,6 +86,7 @@ fn push_shown_node<L: Ledger>(
     ensures gives { Makes result draft.new (onto draft.old (show_at (exception_text (repr_nodes heap.now room []) (show_nodes heap.now room)) (repr_at (repr_nodes heap.now room (id.0 ∷ [])) false (slice_get heap.now id.0)) (slice_get heap.now id.0))) }
     ensures left { draft.new.left ≤ draft.old.left }
     ensures least { draft.old.left + steps.old ≤ draft.new.left + steps.new }
+    ensures reads { 24 * draft.new.left + steps.new ≤ 24 * draft.old.left + steps.old + 2 }
 {
     let Some(node) = node_at(heap, id, steps) else {
         return Ok(());
@@ -112,6 +115,7 @@ fn push_exception_shown<L: Ledger>(
     ensures gives { Makes result draft.new (onto draft.old (exception_text (repr_nodes heap.now room []) (show_nodes heap.now room) class.0 (map value_of arguments.now))) }
     ensures left { draft.new.left ≤ draft.old.left }
     ensures least { draft.old.left + steps.old ≤ draft.new.left + steps.new }
+    ensures reads { 24 * draft.new.left + steps.new ≤ 24 * draft.old.left + steps.old }
 {
     let Some((argument, others)) = arguments.split_first() else {
         return Ok(());
@@ -136,6 +140,7 @@ fn push_argument<L: Ledger>(
     ensures gives { Makes result draft.new (onto draft.old (argument_text (repr_nodes heap.now room []) (show_nodes heap.now room) class.0 (value_of argument.now))) }
     ensures left { draft.new.left ≤ draft.old.left }
     ensures least { draft.old.left + steps.old ≤ draft.new.left + steps.new }
+    ensures reads { 24 * draft.new.left + steps.new ≤ 24 * draft.old.left + steps.old + 2 }
 {
     if class.0 == KEY_ERROR {
         return push_value(heap, argument, room, &Around::Nothing, draft, steps);
@@ -158,6 +163,7 @@ pub fn show<L: Ledger>(
     ensures depth { budget.new.depth ≡ budget.old.depth }
     ensures left { budget.new.left ≤ budget.old.left }
     ensures least { budget.old.left + steps.old ≤ budget.new.left + steps.new }
+    ensures reads { 24 * budget.new.left + steps.new ≤ 24 * budget.old.left + steps.old + 2 }
 {
     let mut draft = Draft::new(alloc, budget.left);
     let room = room_at(budget.depth);

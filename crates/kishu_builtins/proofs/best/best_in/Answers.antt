@@ -21,6 +21,7 @@ loop-at-init g c = record {
   depth = refl;
   left = omega arith;
   least = omega arith;
+  reads = omega arith;
 }
 
 pub returns-in_err-item-clause-gives : goal.returns-in_err-item-clause-gives
@@ -79,6 +80,7 @@ loop-at-preserved g c =
     let h = rw (i.walk, c.in-Some.is) at c.in_ok-item.ensures.gives in
     let same = rw c.in-Some.is at c.in_ok-item.ensures.same in
     let room = rw c.in-Some.is at c.in_ok-item.ensures.room in
+    let paid = rw c.in-Some.is at c.in_ok-item.ensures.paid in
     record {
       told = i.told ∙ folded_further (better (comparison_of c.args.which)) (walk_in c.args.heap.now c.args.walk.now) (n - at) (n - (at + 1)) at (at + 1) (fuel c.args.budget.now.left at c.loop-at-test.true) (next at) (option_map value_of c.loop-at.best) s t
           (value_of c.in-Some.item) (Some (value_of c.in_ok-better.field-0)) u h c.in_ok-better.ensures.gives;
@@ -90,4 +92,5 @@ loop-at-preserved g c =
       depth = c.in_ok-better.ensures.depth ∙ (c.in_ok-item.ensures.depth ∙ i.depth);
       left = omega (arith, c.in_ok-better.ensures.left, c.in_ok-item.ensures.left, i.left);
       least = omega (arith, c.in_ok-better.ensures.least, c.in_ok-item.ensures.least, i.least);
+      reads = omega (arith, paid, i.reads, c.in_ok-better.ensures.reads);
     }

@@ -1,4 +1,4 @@
-use Rattle.std.proofs.Common.{◌≡◌, suc, ◌+◌, ◌-◌, ◌≤◌, IsTrue, length, None}
+use Rattle.std.proofs.Common.{◌≡◌, suc, ◌+◌, ◌-◌, ◌*◌, ◌≤◌, IsTrue, length, None}
 use Rattle.std.specs.Prelude.{IfSome, option_map}
 use Rattle.kishu_model.specs.Builtins.{folded, better}
 use Rattle.kishu_model.specs.Sound.{is_sound}
@@ -19,4 +19,5 @@ invariant-loop-at g l = record {
   depth : l.budget.depth ≡ l.fn.budget.depth;
   left : l.budget.left ≤ l.fn.budget.left;
   least : l.fn.budget.left + l.fn.steps ≤ l.budget.left + l.steps;
+  reads : 24 * l.budget.left + l.steps ≤ 24 * l.fn.budget.left + l.fn.steps;
 }

@@ -17,6 +17,7 @@ loop-at-init g c = record {
   depth = refl;
   left = omega arith;
   least = omega arith;
+  reads = omega arith;
 }
 
 pub returns-in_err-item-clause-gives : goal.returns-in_err-item-clause-gives
@@ -62,6 +63,7 @@ loop-at-preserved g c =
     let h = rw (i.walk, c.in-Some.is) at c.in_ok-item.ensures.gives in
     let same = rw c.in-Some.is at c.in_ok-item.ensures.same in
     let room = rw c.in-Some.is at c.in_ok-item.ensures.room in
+    let paid = rw c.in-Some.is at c.in_ok-item.ensures.paid in
     record {
       told = i.told ∙ decided_further c.args.which (walk_in c.args.heap.now c.args.walk.now) (n - at) (n - (at + 1)) at (at + 1) (fuel c.args.budget.now.left at c.loop-at-test.true) (next at) s t
           (value_of c.in-Some.item) c.is_true.result h (c.is_true.ensures.is c.visited.new.budget) c.if-is_true-which.false;
@@ -72,4 +74,5 @@ loop-at-preserved g c =
       depth = c.in_ok-item.ensures.depth ∙ i.depth;
       left = omega (arith, c.in_ok-item.ensures.left, i.left);
       least = omega (arith, c.in_ok-item.ensures.least, i.least, c.is_true.ensures.counted);
+      reads = omega (arith, paid, i.reads, c.is_true.ensures.reads);
     }

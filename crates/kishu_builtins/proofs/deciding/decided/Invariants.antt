@@ -1,4 +1,4 @@
-use Rattle.std.proofs.Common.{◌≡◌, suc, ◌+◌, ◌-◌, ◌≤◌, IsTrue, length}
+use Rattle.std.proofs.Common.{◌≡◌, suc, ◌+◌, ◌-◌, ◌*◌, ◌≤◌, IsTrue, length}
 use Rattle.kishu_model.specs.Builtins.{decided}
 use Rattle.kishu_builtins.specs.Called.{moment_of}
 use Rattle.kishu_builtins.specs.Walking.{walk_in, is_there}
@@ -14,4 +14,5 @@ invariant-loop-at g l = record {
   depth : l.budget.depth ≡ l.fn.budget.depth;
   left : l.budget.left ≤ l.fn.budget.left;
   least : l.fn.budget.left + l.fn.steps ≤ l.budget.left + l.steps;
+  reads : 24 * l.budget.left + l.steps ≤ 24 * l.fn.budget.left + l.fn.steps;
 }

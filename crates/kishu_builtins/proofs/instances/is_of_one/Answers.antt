@@ -6,7 +6,7 @@ use Rattle.kishu_builtins.proofs.instances.is_of_one.Goals as goal
 
 pub returns-then-are_classes-clause-gives : goal.returns-then-are_classes-clause-gives
 returns-then-are_classes-clause-gives g c = λ b.
-    all_classes (value_of c.args.value.now) c.args.classes.now (moment_of c.args.heap.now b) c.is_of_any.result (sym c.if-are_classes.ensures) c.is_of_any.ensures.is
+    all_classes (value_of c.args.value.now) c.args.classes.now (moment_of c.args.heap.now b) c.is_of_any.result (sym c.if-are_classes.ensures) (rw c.node_in-found.ensures.node at c.is_of_any.ensures)
 
 pub returns-else-are_classes-clause-gives : goal.returns-else-are_classes-clause-gives
 returns-else-are_classes-clause-gives g c = λ b.

@@ -20,6 +20,7 @@ loop-at-init g c = record {
   depth = refl;
   left = omega arith;
   least = omega arith;
+  reads = omega arith;
 }
 
 pub returns-in_err-item-clause-gives : goal.returns-in_err-item-clause-gives
@@ -72,6 +73,7 @@ loop-at-preserved g c =
     let h = rw (i.walk, c.in-Some.is) at c.in_ok-item.ensures.gives in
     let same = rw c.in-Some.is at c.in_ok-item.ensures.same in
     let room = rw c.in-Some.is at c.in_ok-item.ensures.room in
+    let paid = rw c.in-Some.is at c.in_ok-item.ensures.paid in
     let whole : SFits w128 c.in_ok-sum.sum = search rules in
     let bits = ap (λ z. folded added (n - (at + 1)) walk (at + 1) (integer z) t) (sym (to_z-of_z w128 c.in_ok-sum.sum whole)) in
     record {
@@ -84,4 +86,5 @@ loop-at-preserved g c =
       depth = c.in_ok-item.ensures.depth ∙ i.depth;
       left = omega (arith, c.in_ok-item.ensures.left, i.left);
       least = omega (arith, c.in_ok-item.ensures.least, i.least);
+      reads = omega (arith, paid, i.reads);
     }

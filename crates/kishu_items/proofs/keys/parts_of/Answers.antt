@@ -32,4 +32,5 @@ loop-i-preserved g c = record {
       ∙ each_further (or_else (unhashable v) (part_in v)) (parts_of (map value_of (drop (c.loop-i.i + 1) c.args.values.now))) (map part_of c.loop-i.parts.items) s s (part_of c.in_ok-part_of.field-0) (c.in_ok-part_of.ensures.gives b)
       ∙ ap (λ ps. and_then (parts_of (map value_of (drop (c.loop-i.i + 1) c.args.values.now)) s) (behind ps)) (sym (map-append part_of c.loop-i.parts.items (c.in_ok-part_of.field-0 ∷ []))));
   counted = omega arith;
+  unread = omega (arith, c.in_ok-part_of.ensures.unread);
 }

@@ -12,4 +12,5 @@ abbrev pub invariant-loop-i : goal.invariant-loop-i
 invariant-loop-i g l = record {
   told : (b : Budget) → parts_of (map value_of l.values) (moment_of l.heap b) ≡ and_then (parts_of (map value_of (drop l.i l.values)) (moment_of l.heap b)) (behind (map part_of l.parts.items));
   counted : l.fn.steps ≤ l.steps;
+  unread : l.steps ≤ l.fn.steps;
 }

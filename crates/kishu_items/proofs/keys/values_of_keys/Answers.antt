@@ -30,4 +30,5 @@ loop-i-preserved g c =
       left = omega arith;
       depth = c.value_of_key.ensures.depth ∙ c.loop-i.invariant.depth;
       least = omega arith;
+      reads = omega arith;
     }

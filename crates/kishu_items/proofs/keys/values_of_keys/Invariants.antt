@@ -1,4 +1,4 @@
-use Rattle.std.proofs.Common.{◌≡◌, ◌+◌, ◌≤◌, IsTrue, length, map, drop}
+use Rattle.std.proofs.Common.{◌≡◌, ◌+◌, ◌*◌, ◌≤◌, IsTrue, length, map, drop}
 use Rattle.kishu_model.specs.Keys.{key_of}
 use Rattle.kishu_model.specs.KeyOf.{values_of_keys}
 use Rattle.kishu_model.specs.Moment.{and_then}
@@ -17,4 +17,5 @@ invariant-loop-i g l = record {
   left : l.budget.left ≤ l.fn.budget.left;
   depth : l.budget.depth ≡ l.fn.budget.depth;
   least : l.fn.budget.left + l.fn.steps ≤ l.budget.left + l.steps;
+  reads : 24 * l.budget.left + l.steps ≤ 24 * l.fn.budget.left + l.fn.steps;
 }

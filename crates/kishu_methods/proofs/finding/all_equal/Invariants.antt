@@ -1,4 +1,4 @@
-use Rattle.std.proofs.Common.{◌≡◌, ◌+◌, ◌≤◌, drop, map}
+use Rattle.std.proofs.Common.{◌≡◌, ◌+◌, ◌*◌, ◌≤◌, drop, map}
 use Rattle.kishu_model.specs.Values.{value_of}
 use Rattle.kishu_model.specs.Finding.{count_from}
 use Rattle.kishu_methods.proofs.finding.all_equal.Given as goal
@@ -10,4 +10,5 @@ invariant-loop-i g l = record {
   depth : l.budget.depth ≡ l.fn.budget.depth;
   left : l.budget.left ≤ l.fn.budget.left;
   least : l.fn.budget.left + l.fn.steps ≤ l.budget.left + l.steps;
+  reads : 24 * l.budget.left + l.steps ≤ 24 * l.fn.budget.left + l.fn.steps;
 }

@@ -20,4 +20,5 @@ loop-i-preserved g c = record {
   depth = c.is_item.ensures.depth ∙ c.loop-i.invariant.depth;
   left = omega arith;
   least = omega arith;
+  reads = omega arith;
 }
