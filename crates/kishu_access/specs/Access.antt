@@ -59,6 +59,12 @@ is_sound_place n (named x) = is_name x
 is_sound_place n (attribute_of v x) = is_name x && is_sound n v
 is_sound_place n (item_of v i) = is_sound n v && is_sound n i
 
+-- how many nodes may be read for a place without a step
+abbrev pub place_reads : Place → ℕ
+place_reads (named x) = 0
+place_reads (attribute_of v x) = 24
+place_reads (item_of v i) = 24
+
 -- items, where there are any
 abbrev pub are_sound_maybe : ℕ → Option (Vec rust.Value Global) → Bool
 are_sound_maybe n None = true

@@ -1,5 +1,5 @@
 // Attributes: read, stored and deleted (Python Language Reference 3, "Attribute references").
-ghost use Rattle.std.specs.Prelude.{IfOk, IfSome, IsTrue, None, is_some, length, map, option_and_then, option_map, true, ◌<◌, ◌≡◌, ◌≤◌};
+ghost use Rattle.std.specs.Prelude.{IfOk, IfSome, IsTrue, None, is_some, length, map, option_and_then, option_map, true, ◌+◌, ◌<◌, ◌≡◌, ◌≤◌};
 ghost use Rattle.std.specs.Rc.{rc_str_bytes};
 ghost use Rattle.std.specs.Str.{bytes_eq};
 ghost use Rattle.kishu_model.specs.Moment.{node_at, node_now, ◌>>=◌ as ◌⊳◌};
@@ -11,7 +11,7 @@ ghost use Rattle.kishu_model.specs.Values.{node, value_of};
 ghost use Rattle.kishu_access.specs.Forms.{arguments_at, arguments_in, is_object};
 ghost use Rattle.kishu_heap.specs.Cells.{attributes_of, node_of};
 ghost use Rattle.kishu_machine.specs.Lists.{items_in};
-ghost use Rattle.kishu_machine.specs.Machine.{Gives, GrownBy, HasRoomBy, IsSound, moment_of};
+ghost use Rattle.kishu_machine.specs.Machine.{Gives, GrownBy, HasRoomBy, IsSound, ReadsBy, moment_of};
 ghost use Rattle.kishu_model.specs.Nodes as nodes;
 
 use indexmap::IndexMap;
@@ -50,6 +50,7 @@ fn object_attribute<L: Ledger>(
     ensures found { IfOk result (λ o. option_map value_of o ≡ option_and_then (nodes.attribute name.now) (node_at heap.now (value_of value.now))) }
     ensures sound { IfOk result (λ o. IfSome o (λ v. IsTrue (is_sound (length heap.now) (value_of v)))) }
     ensures counted { steps.old ≤ steps.new }
+    ensures reads { steps.new ≤ steps.old + 1 }
 {
     let Some(node) = node_at(heap, value, steps) else {
         return Ok(None);
@@ -82,6 +83,7 @@ fn exception_arguments<L: Ledger>(
     ensures found { IfOk result (λ o. items_in o ≡ arguments_at name.now (node_at heap.now (value_of value.now))) }
     ensures sound { IfOk result (λ o. IfSome o (λ v. IsTrue (are_sound (length heap.now) (map value_of v.items)))) }
     ensures counted { steps.old ≤ steps.new }
+    ensures reads { steps.new ≤ steps.old + 1 }
 {
     if !is_same_text(name, "args") {
         return Ok(None);
@@ -108,6 +110,7 @@ fn other_attribute<L: Ledger>(
     ensures gives { Gives value_of result (moment_of machine.new) (attribute (value_of value.now) name.now (moment_of machine.old)) }
     ensures sound { IsSound (λ v. is_sound (length machine.new.heap) (value_of v)) (length machine.new.heap) result }
     ensures kept { GrownBy 1 machine.old steps.old machine.new steps.new }
+    ensures reads { ReadsBy 3 machine.old steps.old machine.new steps.new }
 {
     let items = exception_arguments(machine.alloc, &machine.heap, value, name, steps)?;
     match items {
@@ -128,6 +131,7 @@ pub fn attribute<L: Ledger>(
     ensures gives { Gives value_of result (moment_of machine.new) (attribute (value_of value.now) name.now (moment_of machine.old)) }
     ensures sound { IsSound (λ v. is_sound (length machine.new.heap) (value_of v)) (length machine.new.heap) result }
     ensures kept { GrownBy 1 machine.old steps.old machine.new steps.new }
+    ensures reads { ReadsBy 8 machine.old steps.old machine.new steps.new }
 {
     let found = object_attribute(&machine.heap, value, name, steps)?;
     match found {
@@ -140,6 +144,7 @@ pub fn attribute<L: Ledger>(
 pub fn is_object<L: Ledger>(heap: &Heap, value: &Value, steps: &mut Steps<L>) -> bool
     ensures is { result ≡ is_object (node_at heap.now (value_of value.now)) }
     ensures counted { steps.old ≤ steps.new }
+    ensures reads { steps.new ≤ steps.old + 2 }
 {
     match node_at(heap, value, steps) {
         Some(Node::Object(_)) => true,
@@ -165,6 +170,7 @@ fn store_on_node<L: Ledger>(
     ensures gives { Gives (λ u. u) result (moment_of machine.new) ((node_now (node id.0) ⊳ store_on_node id.0 (rc_str_bytes name.now) (value_of value)) (moment_of machine.old)) }
     ensures sound { IsSound (λ _. true) (length machine.new.heap) result }
     ensures kept { GrownBy 0 machine.old steps.old machine.new steps.new }
+    ensures reads { ReadsBy 4 machine.old steps.old machine.new steps.new }
 {
     let object = Value::Node(id);
     if is_object(&machine.heap, &object, steps) {
@@ -188,6 +194,7 @@ pub(crate) fn store_attribute<L: Ledger>(
     ensures gives { Gives (λ u. u) result (moment_of machine.new) (store_attribute (value_of object.now) (rc_str_bytes name.now) (value_of value) (moment_of machine.old)) }
     ensures sound { IsSound (λ _. true) (length machine.new.heap) result }
     ensures kept { GrownBy 0 machine.old steps.old machine.new steps.new }
+    ensures reads { ReadsBy 4 machine.old steps.old machine.new steps.new }
 {
     if let Value::Node(id) = object {
         return store_on_node(machine, *id, name, value, steps);
@@ -198,6 +205,7 @@ pub(crate) fn store_attribute<L: Ledger>(
 fn has_attribute<L: Ledger>(heap: &Heap, value: &Value, name: &str, steps: &mut Steps<L>) -> bool
     ensures is { result ≡ is_some (option_and_then (nodes.attribute name.now) (node_at heap.now (value_of value.now))) }
     ensures counted { steps.old ≤ steps.new }
+    ensures reads { steps.new ≤ steps.old + 1 }
 {
     let Some(node) = node_at(heap, value, steps) else {
         return false;
@@ -218,6 +226,7 @@ fn delete_on_node<L: Ledger>(
     ensures gives { Gives (λ u. u) result (moment_of machine.new) ((node_now (node id.0) ⊳ delete_on_node id.0 name.now) (moment_of machine.old)) }
     ensures sound { IsSound (λ _. true) (length machine.new.heap) result }
     ensures kept { GrownBy 0 machine.old steps.old machine.new steps.new }
+    ensures reads { ReadsBy 3 machine.old steps.old machine.new steps.new }
 {
     let object = Value::Node(id);
     if has_attribute(&machine.heap, &object, name, steps) {
@@ -238,6 +247,7 @@ pub(crate) fn delete_attribute<L: Ledger>(
     ensures gives { Gives (λ u. u) result (moment_of machine.new) (delete_attribute (value_of object.now) name.now (moment_of machine.old)) }
     ensures sound { IsSound (λ _. true) (length machine.new.heap) result }
     ensures kept { GrownBy 0 machine.old steps.old machine.new steps.new }
+    ensures reads { ReadsBy 3 machine.old steps.old machine.new steps.new }
 {
     if let Value::Node(id) = object {
         return delete_on_node(machine, *id, name, steps);

@@ -3,8 +3,8 @@ ghost use Rattle.std.specs.Prelude.{IsTrue, length, true};
 ghost use Rattle.kishu_model.specs.Meaning.{delete_place, read_place, store_in};
 ghost use Rattle.kishu_model.specs.Sound.{is_sound};
 ghost use Rattle.kishu_model.specs.Values.{value_of};
-ghost use Rattle.kishu_access.specs.Access.{is_sound_place, place_of};
-ghost use Rattle.kishu_machine.specs.Machine.{Gives, GrownBy, HasRoomBy, IsSound, moment_of};
+ghost use Rattle.kishu_access.specs.Access.{is_sound_place, place_of, place_reads};
+ghost use Rattle.kishu_machine.specs.Machine.{Gives, GrownBy, HasRoomBy, IsSound, ReadsBy, moment_of};
 
 use crate::attributes::{attribute, delete_attribute, store_attribute};
 use crate::subscripts::{delete_item, item, store_item};
@@ -21,6 +21,7 @@ pub enum Place {
     Item(Value, Value),
 }
 
+#[inline(never)]
 pub fn read_place<L: Ledger>(
     machine: &mut Machine,
     place: &Place,
@@ -31,6 +32,7 @@ pub fn read_place<L: Ledger>(
     ensures gives { Gives value_of result (moment_of machine.new) (read_place (place_of place.now) (moment_of machine.old)) }
     ensures sound { IsSound (λ v. is_sound (length machine.new.heap) (value_of v)) (length machine.new.heap) result }
     ensures kept { GrownBy 1 machine.old steps.old machine.new steps.new }
+    ensures reads { ReadsBy 24 machine.old steps.old machine.new steps.new }
 {
     match place {
         Place::Named(name) => read(machine, name.as_str()),
@@ -39,6 +41,7 @@ pub fn read_place<L: Ledger>(
     }
 }
 
+#[inline(never)]
 pub fn store_in<L: Ledger>(
     machine: &mut Machine,
     place: &Place,
@@ -50,6 +53,7 @@ pub fn store_in<L: Ledger>(
     ensures gives { Gives (λ u. u) result (moment_of machine.new) (store_in (place_of place.now) (value_of value) (moment_of machine.old)) }
     ensures sound { IsSound (λ _. true) (length machine.new.heap) result }
     ensures kept { GrownBy 0 machine.old steps.old machine.new steps.new }
+    ensures reads { ReadsBy (place_reads (place_of place.now)) machine.old steps.old machine.new steps.new }
 {
     match place {
         Place::Named(name) => assign(machine, name, value),
@@ -58,6 +62,7 @@ pub fn store_in<L: Ledger>(
     }
 }
 
+#[inline(never)]
 pub fn delete_place<L: Ledger>(
     machine: &mut Machine,
     place: &Place,
@@ -67,6 +72,7 @@ pub fn delete_place<L: Ledger>(
     ensures gives { Gives (λ u. u) result (moment_of machine.new) (delete_place (place_of place.now) (moment_of machine.old)) }
     ensures sound { IsSound (λ _. true) (length machine.new.heap) result }
     ensures kept { GrownBy 0 machine.old steps.old machine.new steps.new }
+    ensures reads { ReadsBy (place_reads (place_of place.now)) machine.old steps.old machine.new steps.new }
 {
     match place {
         Place::Named(name) => delete(machine, name.as_str()),

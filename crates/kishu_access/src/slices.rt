@@ -1,6 +1,6 @@
 // Slices (Python Language Reference 3, "Slicings").
 ghost use Rattle.std.specs.List.{filter_map};
-ghost use Rattle.std.specs.Prelude.{IfOk, IfSome, IsTrue, length, map, option_map, pos, true, ℕ, ◌+ℤ◌, ◌<ℤ◌, ◌^◌, ◌≡◌, ◌≤ℤ◌, ◌≤◌};
+ghost use Rattle.std.specs.Prelude.{IfOk, IfSome, IsTrue, length, map, option_map, pos, true, ℕ, ◌+ℤ◌, ◌+◌, ◌<ℤ◌, ◌^◌, ◌≡◌, ◌≤ℤ◌, ◌≤◌};
 ghost use Rattle.std.specs.Str.{chars};
 ghost use Rattle.kishu_model.specs.Moment.{Moment, node_at, node_now, ◌>>=◌ as ◌⊳◌};
 ghost use Rattle.kishu_model.specs.Sound.{are_sound, is_sound};
@@ -11,7 +11,7 @@ ghost use Rattle.kishu_model.specs.Walks.{or_none_there};
 ghost use Rattle.kishu_access.specs.Access.{AreWithin, are_sound_maybe, places_of};
 ghost use Rattle.kishu_access.specs.Forms.{items_from, maybe_picked};
 ghost use Rattle.kishu_machine.specs.Lists.{items_in};
-ghost use Rattle.kishu_machine.specs.Machine.{Gives, GrownBy, HasRoomBy, IsSound, moment_of};
+ghost use Rattle.kishu_machine.specs.Machine.{Gives, GrownBy, HasRoomBy, IsSound, ReadsBy, moment_of};
 ghost use Rattle.kishu_model.specs.Values as model;
 
 use crate::subscripts::{index_of, is_list, items_at};
@@ -49,6 +49,7 @@ fn bound_of<L: Ledger>(
     ensures gives { Gives (λ z. z) result (moment_of machine.now) (bound_of (value_of bound.now) (moment_of machine.now)) }
     ensures sound { IsSound (λ _. true) (length machine.now.heap) result }
     ensures counted { steps.old ≤ steps.new }
+    ensures reads { steps.new ≤ steps.old + 1 }
 {
     if let Value::None = bound {
         return Ok(None);
@@ -171,6 +172,7 @@ fn slice_places<L: Ledger>(
     ensures sound { IsSound (λ _. true) (length machine.now.heap) result }
     ensures within { IfOk result (λ p. AreWithin len p) }
     ensures counted { steps.old ≤ steps.new }
+    ensures reads { steps.new ≤ steps.old + 3 }
 {
     let asked = bound_of(machine, bounds.step, steps)?;
     let step = step_from(machine.alloc, asked)?;
@@ -223,6 +225,7 @@ fn picked(alloc: Global, items: &[Value], places: Places) -> Result<Vec<Value>, 
 fn items_len<L: Ledger>(heap: &Heap, value: &Value, steps: &mut Steps<L>) -> Option<usize>
     ensures len { result ≡ option_map (λ vs. length vs) (items_from (node_at heap.now (value_of value.now))) }
     ensures counted { steps.old ≤ steps.new }
+    ensures reads { steps.new ≤ steps.old + 1 }
 {
     Some(items_at(heap, value, steps)?.len())
 }
@@ -238,6 +241,7 @@ fn items_there<L: Ledger>(
     ensures items { IfOk result (λ v. map value_of v.items ≡ filter_map (at_place (or_none_there (items_from (node_at machine.now.heap (value_of value.now))))) (places_of places)) }
     ensures sound { IfOk result (λ v. IsTrue (are_sound (length machine.now.heap) (map value_of v.items))) }
     ensures counted { steps.old ≤ steps.new }
+    ensures reads { steps.new ≤ steps.old + 1 }
 {
     match items_at(&machine.heap, value, steps) {
         Some(items) => picked(machine.alloc, items, places),
@@ -255,6 +259,7 @@ fn text_slice<L: Ledger>(
     ensures gives { Gives value_of result (moment_of machine.new) (slice (model.text (chars text.now)) (value_of bounds.now.start.now) (value_of bounds.now.stop.now) (value_of bounds.now.step.now) (moment_of machine.old)) }
     ensures sound { IsSound (λ v. is_sound (length machine.new.heap) (value_of v)) (length machine.new.heap) result }
     ensures kept { GrownBy 0 machine.old steps.old machine.new steps.new }
+    ensures reads { ReadsBy 3 machine.old steps.old machine.new steps.new }
 {
     let places = slice_places(machine, count(text), bounds, steps)?;
     spend(machine, places.len as u128, steps)?;
@@ -274,6 +279,7 @@ fn items_slice<L: Ledger>(
     ensures sound { IsSound (are_sound_maybe (length machine.new.heap)) (length machine.new.heap) result }
     ensures heap { machine.new.heap ≡ machine.old.heap }
     ensures kept { GrownBy 0 machine.old steps.old machine.new steps.new }
+    ensures reads { ReadsBy 5 machine.old steps.old machine.new steps.new }
 {
     let Some(len) = items_len(&machine.heap, value, steps) else {
         return Ok(None);
@@ -296,6 +302,7 @@ fn node_slice<L: Ledger>(
     ensures gives { Gives value_of result (moment_of machine.new) ((node_now (value_of value.now) ⊳ node_slice (value_of value.now) (value_of bounds.now.start.now) (value_of bounds.now.stop.now) (value_of bounds.now.step.now)) (moment_of machine.old)) }
     ensures sound { IsSound (λ v. is_sound (length machine.new.heap) (value_of v)) (length machine.new.heap) result }
     ensures kept { GrownBy 1 machine.old steps.old machine.new steps.new }
+    ensures reads { ReadsBy 7 machine.old steps.old machine.new steps.new }
 {
     let Some(items) = items_slice(machine, value, bounds, steps)? else {
         return not_subscriptable(machine, value, steps);
@@ -308,6 +315,7 @@ fn node_slice<L: Ledger>(
 }
 
 /// `value[start:stop:step]`.
+#[inline(never)]
 pub fn slice<L: Ledger>(
     machine: &mut Machine,
     value: &Value,
@@ -320,6 +328,7 @@ pub fn slice<L: Ledger>(
     ensures gives { Gives value_of result (moment_of machine.new) (slice (value_of value.now) (value_of bounds.now.start.now) (value_of bounds.now.stop.now) (value_of bounds.now.step.now) (moment_of machine.old)) }
     ensures sound { IsSound (λ v. is_sound (length machine.new.heap) (value_of v)) (length machine.new.heap) result }
     ensures kept { GrownBy 1 machine.old steps.old machine.new steps.new }
+    ensures reads { ReadsBy 16 machine.old steps.old machine.new steps.new }
 {
     match value {
         Value::Text(text) => text_slice(machine, text.as_str(), bounds, steps),

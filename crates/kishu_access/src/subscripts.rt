@@ -1,5 +1,5 @@
 // Items: read, stored and deleted (Python Language Reference 3, "Subscriptions").
-ghost use Rattle.std.specs.Prelude.{IfOk, IfSome, IsTrue, OnOk, Some, [], is_some, length, map, negsuc, option_and_then, option_map, pos, slice_get, true, ℕ, ◌*ℤ◌, ◌+ℤ◌, ◌-ℤ◌, ◌-◌, ◌<ℤ◌, ◌<◌, ◌^◌, ◌∷◌, ◌≡◌, ◌≤ℤ◌, ◌≤◌};
+ghost use Rattle.std.specs.Prelude.{IfOk, IfSome, IsTrue, OnOk, Some, [], is_some, length, map, negsuc, option_and_then, option_map, pos, slice_get, true, ℕ, ◌*ℤ◌, ◌+ℤ◌, ◌+◌, ◌-ℤ◌, ◌-◌, ◌<ℤ◌, ◌<◌, ◌^◌, ◌∷◌, ◌≡◌, ◌≤ℤ◌, ◌≤◌};
 ghost use Rattle.std.specs.Str.{chars};
 ghost use Rattle.kishu_model.specs.Equal.{range_length};
 ghost use Rattle.kishu_model.specs.Indexes.{index_of, place_in, place_of};
@@ -15,7 +15,7 @@ ghost use Rattle.kishu_model.specs.Walks.{or_none_there};
 ghost use Rattle.kishu_access.specs.Access.{container_of};
 ghost use Rattle.kishu_access.specs.Forms.{is_dict, items_from};
 ghost use Rattle.kishu_heap.specs.Cells.{entries_of};
-ghost use Rattle.kishu_machine.specs.Machine.{Gives, GrownBy, IsSound, moment_of};
+ghost use Rattle.kishu_machine.specs.Machine.{Gives, GrownBy, IsSound, ReadsBy, moment_of};
 ghost use Rattle.kishu_model.specs.Values as model;
 
 use indexmap::IndexMap;
@@ -38,6 +38,7 @@ pub(crate) fn index_of<L: Ledger>(
     ensures gives { Gives (λ z. z) result (moment_of machine.now) (index_of (value_of index.now) (moment_of machine.now)) }
     ensures sound { IsSound (λ _. true) (length machine.now.heap) result }
     ensures counted { steps.old ≤ steps.new }
+    ensures reads { steps.new ≤ steps.old + 1 }
 {
     let number = kishu_items::index_of(machine.alloc, index, &machine.heap, steps);
     passed(number)
@@ -65,6 +66,7 @@ fn position<L: Ledger>(
     ensures sound { IsSound (λ _. true) (length machine.now.heap) result }
     ensures within { IfOk result (λ k. k < len) }
     ensures counted { steps.old ≤ steps.new }
+    ensures reads { steps.new ≤ steps.old + 1 }
 {
     let number = index_of(machine, index, steps)?;
     place_of(machine.alloc, len, number)
@@ -82,6 +84,7 @@ fn taken<L: Ledger>(
     ensures gives { Gives value_of result (moment_of machine.now) (taken (map value_of items.now) (value_of index.now) (moment_of machine.now)) }
     ensures sound { IsSound (λ v. is_sound (length machine.now.heap) (value_of v)) (length machine.now.heap) result }
     ensures counted { steps.old ≤ steps.new }
+    ensures reads { steps.new ≤ steps.old + 1 }
 {
     let place = position(machine, items.len(), index, steps)?;
     let item = items[place].copied()?;
@@ -108,6 +111,7 @@ fn text_item<L: Ledger>(
     ensures gives { Gives value_of result (moment_of machine.now) (item (model.text (chars text.now)) (value_of index.now) (moment_of machine.now)) }
     ensures sound { IsSound (λ v. is_sound (length machine.now.heap) (value_of v)) (length machine.now.heap) result }
     ensures counted { steps.old ≤ steps.new }
+    ensures reads { steps.new ≤ steps.old + 1 }
 {
     let place = position(machine, kishu_text::count(text), index, steps)?;
     let item = character(machine.alloc, text, place)?;
@@ -174,6 +178,7 @@ fn range_item<L: Ledger>(
     ensures gives { Gives value_of result (moment_of machine.now) (item (model.range start stop step) (value_of index.now) (moment_of machine.now)) }
     ensures sound { IsSound (λ v. is_sound (length machine.now.heap) (value_of v)) (length machine.now.heap) result }
     ensures counted { steps.old ≤ steps.new }
+    ensures reads { steps.new ≤ steps.old + 1 }
 {
     let number = index_of(machine, index, steps)?;
     match range_place(range_length(start, stop, step), number) {
@@ -191,6 +196,7 @@ pub(crate) fn items_at<'a, L: Ledger>(
     ensures items { option_map (λ s. map value_of s.now) result ≡ items_from (node_at heap.now (value_of value.now)) }
     ensures sound { IfSome result (λ s. IsTrue (are_sound (length heap.now) (map value_of s.now))) }
     ensures counted { steps.old ≤ steps.new }
+    ensures reads { steps.new ≤ steps.old + 1 }
 {
     match node_at(heap, value, steps)? {
         Node::List(items) => Some(items.as_slice()),
@@ -205,6 +211,7 @@ pub(crate) fn items_at<'a, L: Ledger>(
 fn is_dict<L: Ledger>(heap: &Heap, value: &Value, steps: &mut Steps<L>) -> bool
     ensures is { result ≡ is_dict (node_at heap.now (value_of value.now)) }
     ensures counted { steps.old ≤ steps.new }
+    ensures reads { steps.new ≤ steps.old + 1 }
 {
     match node_at(heap, value, steps) {
         Some(Node::Dict(_)) => true,
@@ -220,6 +227,7 @@ fn is_dict<L: Ledger>(heap: &Heap, value: &Value, steps: &mut Steps<L>) -> bool
 pub(crate) fn is_list<L: Ledger>(heap: &Heap, value: &Value, steps: &mut Steps<L>) -> bool
     ensures is { result ≡ is_some (list_from (node_at heap.now (value_of value.now))) }
     ensures counted { steps.old ≤ steps.new }
+    ensures reads { steps.new ≤ steps.old + 1 }
 {
     list_at(heap, value, steps).is_some()
 }
@@ -249,6 +257,7 @@ fn value_under<L: Ledger>(
     ensures value { IfOk result (λ o. option_map value_of o ≡ option_and_then (value_under (key_of key.now)) (node_at heap.now (value_of dict.now))) }
     ensures sound { IfOk result (λ o. IfSome o (λ v. IsTrue (is_sound (length heap.now) (value_of v)))) }
     ensures counted { steps.old ≤ steps.new }
+    ensures reads { steps.new ≤ steps.old + 1 }
 {
     let Some(node) = node_at(heap, dict, steps) else {
         return Ok(None);
@@ -270,6 +279,7 @@ fn dict_item<L: Ledger>(
     ensures gives { Gives value_of result (moment_of machine.new) ((node_now (value_of value.now) ⊳ node_item (value_of value.now) (value_of index.now)) (moment_of machine.old)) }
     ensures sound { IsSound (λ v. is_sound (length machine.new.heap) (value_of v)) (length machine.new.heap) result }
     ensures kept { GrownBy 0 machine.old steps.old machine.new steps.new }
+    ensures reads { ReadsBy 5 machine.old steps.old machine.new steps.new }
     ensures heap { machine.new.heap ≡ machine.old.heap }
 {
     let key = key_of(machine, index, steps)?;
@@ -291,6 +301,7 @@ fn node_item<L: Ledger>(
     ensures gives { Gives value_of result (moment_of machine.new) ((node_now (value_of value.now) ⊳ node_item (value_of value.now) (value_of index.now)) (moment_of machine.old)) }
     ensures sound { IsSound (λ v. is_sound (length machine.new.heap) (value_of v)) (length machine.new.heap) result }
     ensures kept { GrownBy 0 machine.old steps.old machine.new steps.new }
+    ensures reads { ReadsBy 7 machine.old steps.old machine.new steps.new }
     ensures heap { machine.new.heap ≡ machine.old.heap }
 {
     if let Some(items) = items_at(&machine.heap, value, steps) {
@@ -303,6 +314,7 @@ fn node_item<L: Ledger>(
 }
 
 /// `value[index]`.
+#[inline(never)]
 pub fn item<L: Ledger>(
     machine: &mut Machine,
     value: &Value,
@@ -314,6 +326,7 @@ pub fn item<L: Ledger>(
     ensures gives { Gives value_of result (moment_of machine.new) (item (value_of value.now) (value_of index.now) (moment_of machine.old)) }
     ensures sound { IsSound (λ v. is_sound (length machine.new.heap) (value_of v)) (length machine.new.heap) result }
     ensures kept { GrownBy 0 machine.old steps.old machine.new steps.new }
+    ensures reads { ReadsBy 16 machine.old steps.old machine.new steps.new }
     ensures heap { machine.new.heap ≡ machine.old.heap }
 {
     match value {
@@ -339,6 +352,7 @@ pub(crate) enum Container {
 fn container_at<L: Ledger>(heap: &Heap, id: NodeId, steps: &mut Steps<L>) -> Container
     ensures container { result ≡ container_of (slice_get heap.now id.0) }
     ensures counted { steps.old ≤ steps.new }
+    ensures reads { steps.new ≤ steps.old + 1 }
 {
     match node_at(heap, &Value::Node(id), steps) {
         Some(Node::List(items)) => Container::List(items.len()),
@@ -366,6 +380,7 @@ fn store_in_node<L: Ledger>(
     ensures gives { Gives (λ u. u) result (moment_of machine.new) ((node_now (node id.0) ⊳ store_in_node id.0 (value_of index.now) (value_of value)) (moment_of machine.old)) }
     ensures sound { IsSound (λ _. true) (length machine.new.heap) result }
     ensures kept { GrownBy 0 machine.old steps.old machine.new steps.new }
+    ensures reads { ReadsBy 5 machine.old steps.old machine.new steps.new }
 {
     match container_at(&machine.heap, id, steps) {
         Container::List(len) => {
@@ -396,6 +411,7 @@ pub(crate) fn store_item<L: Ledger>(
     ensures gives { Gives (λ u. u) result (moment_of machine.new) (store_item (value_of container.now) (value_of index.now) (value_of value) (moment_of machine.old)) }
     ensures sound { IsSound (λ _. true) (length machine.new.heap) result }
     ensures kept { GrownBy 0 machine.old steps.old machine.new steps.new }
+    ensures reads { ReadsBy 5 machine.old steps.old machine.new steps.new }
 {
     if let Value::Node(id) = container {
         return store_in_node(machine, *id, index, value, steps);
@@ -415,6 +431,7 @@ fn copied_list<L: Ledger>(
     ensures items { IfOk result (λ v. map value_of v.items ≡ or_none_there (list_from (slice_get heap.now id.0))) }
     ensures sound { IsTrue (are_sound (length heap.now) (or_none_there (list_from (slice_get heap.now id.0)))) }
     ensures counted { steps.old ≤ steps.new }
+    ensures reads { steps.new ≤ steps.old + 1 }
 {
     match list_at(heap, &Value::Node(id), steps) {
         Some(items) => kishu_items::copied_all(alloc, items),
@@ -435,6 +452,7 @@ fn remove_place<L: Ledger>(
     ensures heap { OnOk result (heap.new ≡ changed (on_list (without_place place)) id.0 heap.old) }
     ensures long { length heap.new ≡ length heap.old }
     ensures counted { steps.old ≤ steps.new }
+    ensures reads { steps.new ≤ steps.old + 1 }
 {
     let mut items = copied_list(alloc, heap, id, steps)?;
     items.remove(place);
@@ -445,6 +463,7 @@ fn remove_place<L: Ledger>(
 fn has_key<L: Ledger>(heap: &Heap, dict: &Value, key: &Key, steps: &mut Steps<L>) -> bool
     ensures is { result ≡ is_some (option_and_then (value_under (key_of key.now)) (node_at heap.now (value_of dict.now))) }
     ensures counted { steps.old ≤ steps.new }
+    ensures reads { steps.new ≤ steps.old + 1 }
 {
     let Some(node) = node_at(heap, dict, steps) else {
         return false;
@@ -468,6 +487,7 @@ fn remove_entry<L: Ledger>(
     ensures gives { Gives (λ u. u) result (moment_of machine.new) (where_found (no_key (value_of index.now)) (option_and_then (value_under (key_of key.now)) (slice_get machine.old.heap id.0)) (change id.0 (remove (key_of key.now))) (moment_of machine.old)) }
     ensures sound { IsSound (λ _. true) (length machine.new.heap) result }
     ensures kept { GrownBy 0 machine.old steps.old machine.new steps.new }
+    ensures reads { ReadsBy 1 machine.old steps.old machine.new steps.new }
 {
     if has_key(&machine.heap, &Value::Node(id), key, steps) {
         let _gone = machine.heap.remove(id, key);
@@ -487,6 +507,7 @@ fn delete_in_node<L: Ledger>(
     ensures gives { Gives (λ u. u) result (moment_of machine.new) ((node_now (node id.0) ⊳ delete_in_node id.0 (value_of index.now)) (moment_of machine.old)) }
     ensures sound { IsSound (λ _. true) (length machine.new.heap) result }
     ensures kept { GrownBy 0 machine.old steps.old machine.new steps.new }
+    ensures reads { ReadsBy 6 machine.old steps.old machine.new steps.new }
 {
     match container_at(&machine.heap, id, steps) {
         Container::List(len) => {
@@ -513,6 +534,7 @@ pub(crate) fn delete_item<L: Ledger>(
     ensures gives { Gives (λ u. u) result (moment_of machine.new) (delete_item (value_of container.now) (value_of index.now) (moment_of machine.old)) }
     ensures sound { IsSound (λ _. true) (length machine.new.heap) result }
     ensures kept { GrownBy 0 machine.old steps.old machine.new steps.new }
+    ensures reads { ReadsBy 6 machine.old steps.old machine.new steps.new }
 {
     if let Value::Node(id) = container {
         return delete_in_node(machine, *id, index, steps);

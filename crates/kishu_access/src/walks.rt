@@ -1,6 +1,6 @@
 // Sequences that are walked (Python Language Reference 3, "The for statement" and "Assignment
 // statements").
-ghost use Rattle.std.specs.Prelude.{IfOk, IfSome, IsTrue, None, OnOk, Some, [], codes, decimal, if◌then◌else◌, length, map, nat_lt, option_and_then, option_map, pos, slice_get, true, ℕ, ◌*ℤ◌, ◌++◌, ◌+ℤ◌, ◌<◌, ◌∷◌, ◌≡◌, ◌≤◌};
+ghost use Rattle.std.specs.Prelude.{IfOk, IfSome, IsTrue, None, OnOk, Some, [], codes, decimal, if◌then◌else◌, length, map, nat_lt, option_and_then, option_map, pos, slice_get, true, ℕ, ◌*ℤ◌, ◌*◌, ◌++◌, ◌+ℤ◌, ◌+◌, ◌<◌, ◌∷◌, ◌≡◌, ◌≤◌};
 ghost use Rattle.std.specs.Str.{chars};
 ghost use Rattle.std.specs.String.{string_bytes};
 ghost use Rattle.kishu_heap.specs.Cells.{entries_of};
@@ -15,7 +15,7 @@ ghost use Rattle.kishu_model.specs.Values.{node, value_of};
 ghost use Rattle.kishu_model.specs.Walks.{along_dict, along_text, item_for, node_walk, or_none_there, seen, unpacked, walk_view};
 ghost use Rattle.kishu_access.specs.Access.{is_sound_maybe, is_sound_walk, view_of, walk_of};
 ghost use Rattle.kishu_machine.specs.Lists.{values_in};
-ghost use Rattle.kishu_machine.specs.Machine.{Gives, GrownBy, HasRoom, HasRoomBy, IsRaised, IsSound, moment_of};
+ghost use Rattle.kishu_machine.specs.Machine.{Gives, GrownBy, HasRoom, HasRoomBy, IsRaised, IsSound, ReadsBy, moment_of};
 ghost use Rattle.kishu_model.specs.Values as model;
 ghost use Rattle.kishu_model.specs.Walks as walks;
 
@@ -87,6 +87,7 @@ fn bad_count<T>(alloc: Global, count: usize) -> Result<T, Fault>
 
 /// The items for a pattern of so many targets. As many steps are taken as there are items, and only
 /// then are they walked.
+#[inline(never)]
 pub fn unpacked<L: Ledger>(
     machine: &mut Machine,
     targets: usize,
@@ -98,6 +99,8 @@ pub fn unpacked<L: Ledger>(
     ensures gives { Gives (λ v. map value_of v.items) result (moment_of machine.new) (unpacked targets (value_of value.now) (moment_of machine.old)) }
     ensures sound { IsSound (λ v. are_sound (length machine.new.heap) (map value_of v.items)) (length machine.new.heap) result }
     ensures kept { GrownBy 0 machine.old steps.old machine.new steps.new }
+    ensures reads { ReadsBy 24 machine.old steps.old machine.new steps.new }
+    ensures taken { OnOk result (steps.new + 128 * machine.new.budget.left + 127 * targets ≤ steps.old + 128 * machine.old.budget.left + 24) }
 {
     let Some(count) = kishu_items::count_in(value, &machine.heap, steps) else {
         return not_iterable(machine, value, steps);
@@ -136,6 +139,7 @@ pub(crate) fn extend<L: Ledger>(
     ensures gives { Gives (λ u. u) result (moment_of machine.new) (extended id.0 (value_of value.now) (moment_of machine.old)) }
     ensures sound { IsSound (λ _. true) (length machine.new.heap) result }
     ensures kept { GrownBy 0 machine.old steps.old machine.new steps.new }
+    ensures reads { ReadsBy 4 machine.old steps.old machine.new steps.new }
 {
     let more = walked(machine, value, steps)?;
     push_all(&mut machine.heap, id, more.as_slice())?;
@@ -153,6 +157,7 @@ fn tuple_walk<L: Ledger>(
     ensures walk { IfOk result (λ o. option_map walk_of o ≡ option_map walks.along_tuple (tuple_from (slice_get machine.now.heap id.0))) }
     ensures sound { IfOk result (λ o. IfSome o (λ w. IsTrue (is_sound_walk (length machine.now.heap) (walk_of w)))) }
     ensures counted { steps.old ≤ steps.new }
+    ensures reads { steps.new ≤ steps.old + 1 }
 {
     match tuple_at(&machine.heap, &Value::Node(id), steps) {
         Some(items) => {
@@ -167,6 +172,7 @@ fn tuple_walk<L: Ledger>(
 fn dict_size<L: Ledger>(heap: &Heap, id: NodeId, steps: &mut Steps<L>) -> Option<usize>
     ensures is { result ≡ option_map (λ es. length es) (option_and_then dict_in (slice_get heap.now id.0)) }
     ensures counted { steps.old ≤ steps.new }
+    ensures reads { steps.new ≤ steps.old + 1 }
 {
     Some(node_at(heap, &Value::Node(id), steps)?.dict()?.len())
 }
@@ -176,6 +182,7 @@ fn node_walk<L: Ledger>(machine: &Machine, id: NodeId, steps: &mut Steps<L>) -> 
     ensures gives { Gives walk_of result (moment_of machine.now) ((node_now (node id.0) ⊳ node_walk id.0) (moment_of machine.now)) }
     ensures sound { IsSound (λ w. is_sound_walk (length machine.now.heap) (walk_of w)) (length machine.now.heap) result }
     ensures counted { steps.old ≤ steps.new }
+    ensures reads { steps.new ≤ steps.old + 5 }
 {
     let value = Value::Node(id);
     if is_list(&machine.heap, &value, steps) {
@@ -207,6 +214,7 @@ pub fn walk_of<L: Ledger>(
     ensures gives { Gives walk_of result (moment_of machine.now) (walks.walk_of (value_of value.now) (moment_of machine.now)) }
     ensures sound { IsSound (λ w. is_sound_walk (length machine.now.heap) (walk_of w)) (length machine.now.heap) result }
     ensures counted { steps.old ≤ steps.new }
+    ensures reads { steps.new ≤ steps.old + 8 }
 {
     match value {
         Value::Text(text) => Ok(text_walk(machine.alloc, text.as_str())?),
@@ -220,6 +228,7 @@ pub fn walk_of<L: Ledger>(
 fn entry_count<L: Ledger>(heap: &Heap, id: NodeId, steps: &mut Steps<L>) -> usize
     ensures is { result ≡ length (or_none_there (option_and_then dict_in (slice_get heap.now id.0))) }
     ensures counted { steps.old ≤ steps.new }
+    ensures reads { steps.new ≤ steps.old + 1 }
 {
     dict_size(heap, id, steps).unwrap_or(0)
 }
@@ -228,6 +237,7 @@ fn entry_count<L: Ledger>(heap: &Heap, id: NodeId, steps: &mut Steps<L>) -> usiz
 pub fn walk_view<L: Ledger>(machine: &Machine, id: NodeId, view: View, steps: &mut Steps<L>) -> Walk
     ensures gives { walk_view id.0 (view_of view) (moment_of machine.now) ≡ fine (walk_of result) (moment_of machine.now) }
     ensures counted { steps.old ≤ steps.new }
+    ensures reads { steps.new ≤ steps.old + 8 }
 {
     Walk::Dict(id, entry_count(&machine.heap, id, steps), view)
 }
@@ -241,6 +251,7 @@ fn list_item<L: Ledger>(
     ensures item { IfOk result (λ o. values_in o ≡ slice_get (or_none_there (list_from (slice_get heap.now id.0))) k) }
     ensures sound { IfOk result (λ o. IsTrue (is_sound_maybe (length heap.now) o)) }
     ensures counted { steps.old ≤ steps.new }
+    ensures reads { steps.new ≤ steps.old + 1 }
 {
     match list_at(heap, &Value::Node(id), steps) {
         Some(items) => item_at(items, k),
@@ -285,6 +296,7 @@ fn entry_at<L: Ledger>(
     ensures entry { IfOk result (λ o. option_map (λ e. (key_of e.0, value_of e.1)) o ≡ slice_get (or_none_there (option_and_then dict_in (slice_get heap.now id.0))) k) }
     ensures sound { IfOk result (λ o. IfSome o (λ e. IsTrue (is_sound (length heap.now) (value_of e.1)))) }
     ensures counted { steps.old ≤ steps.new }
+    ensures reads { steps.new ≤ steps.old + 1 }
 {
     let Some(node) = node_at(heap, &Value::Node(id), steps) else {
         return Ok(None);
@@ -308,6 +320,7 @@ fn seen<L: Ledger>(
     ensures gives { Gives value_of result (moment_of machine.new) (seen (view_of view) (key_of key.now, value_of value) (moment_of machine.old)) }
     ensures sound { IsSound (λ v. is_sound (length machine.new.heap) (value_of v)) (length machine.new.heap) result }
     ensures kept { GrownBy 2 machine.old steps.old machine.new steps.new }
+    ensures reads { ReadsBy 0 machine.old steps.old machine.new steps.new }
 {
     match view {
         View::Keys => value_of_key(machine, key, steps),
@@ -340,6 +353,7 @@ fn dict_item<L: Ledger>(
     ensures gives { Gives values_in result (moment_of machine.new) (item_for (along_dict id.0 start (view_of view)) k (moment_of machine.old)) }
     ensures sound { IsSound (is_sound_maybe (length machine.new.heap)) (length machine.new.heap) result }
     ensures kept { GrownBy 2 machine.old steps.old machine.new steps.new }
+    ensures reads { ReadsBy 2 machine.old steps.old machine.new steps.new }
 {
     let size = entry_count(&machine.heap, id, steps);
     if size != start {
@@ -375,6 +389,7 @@ fn number_at(start: i128, stop: i128, step: i128, k: usize) -> Option<Value>
 }
 
 /// The item for this turn, where there is one more.
+#[inline(never)]
 pub fn item_for<L: Ledger>(
     machine: &mut Machine,
     walk: &Walk,
@@ -386,6 +401,7 @@ pub fn item_for<L: Ledger>(
     ensures gives { Gives values_in result (moment_of machine.new) (item_for (walk_of walk.now) k (moment_of machine.old)) }
     ensures sound { IsSound (is_sound_maybe (length machine.new.heap)) (length machine.new.heap) result }
     ensures kept { GrownBy 2 machine.old steps.old machine.new steps.new }
+    ensures reads { ReadsBy 16 machine.old steps.old machine.new steps.new }
 {
     match walk {
         Walk::List(id) => Ok(list_item(&machine.heap, *id, k, steps)?),

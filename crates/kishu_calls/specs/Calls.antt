@@ -86,6 +86,11 @@ abbrev pub Owing : ℕ → Machine → Result rust_part.Part Fault → Machine �
 Owing k old (Ok p) new = length new.heap + 4 * new.budget.left + owed (part_of p) ≤ length old.heap + 4 * old.budget.left + k
 Owing k old (Err f) new = length new.heap + 4 * new.budget.left ≤ length old.heap + 4 * old.budget.left + k
 
+-- With eight reads for what the part owes, the counter rose by at most so many more than the steps pay for.
+abbrev pub OwesReads : ℕ → Machine → ℕ → Result rust_part.Part Fault → Machine → ℕ → Type 0
+OwesReads k old a (Ok p) new b = b + 128 * new.budget.left + 8 * owed (part_of p) ≤ a + 128 * old.budget.left + k
+OwesReads k old a (Err f) new b = b + 128 * new.budget.left ≤ a + 128 * old.budget.left + k
+
 -- The node is a function with this tree and these defaults, and its code is short.
 abbrev pub IsFunction : Option Node → rust_function.Function → Type 0
 IsFunction (Some (function profile code vs)) f = ∥ ParseDef profile code (definition_of f.def.value) ∥₁ × IsUtf8 code × (length code ≤ 1048576) × (vs ≡ map value_of f.defaults.items)

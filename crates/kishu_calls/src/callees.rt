@@ -1,5 +1,5 @@
 // What is called, and what it is given (Python Language Reference 3, "Calls").
-ghost use Rattle.std.specs.Prelude.{IfOk, IsTrue, List, [], codes, length, map, option_map, slice_get, true, ◌+◌, ◌<◌, ◌^◌, ◌∷◌, ◌≡◌, ◌≢◌, ◌≤◌};
+ghost use Rattle.std.specs.Prelude.{IfOk, IsTrue, List, [], codes, length, map, option_map, slice_get, true, ◌*◌, ◌+◌, ◌<◌, ◌^◌, ◌∷◌, ◌≡◌, ◌≢◌, ◌≤◌};
 ghost use Rattle.std.specs.Rc.{rc_str_bytes};
 ghost use Rattle.kishu_model.specs.Builtins.{builtin_calls, of_none_or_one, of_one};
 ghost use Rattle.kishu_model.specs.Callees.{by_plain, call_builtin, callee, construct, dotted_callee, method_of, new_object, or_no_call, print_by, print_plain, view_in, view_named};
@@ -18,7 +18,7 @@ ghost use Rattle.kishu_access.specs.Forms.{dict_number};
 ghost use Rattle.kishu_calls.specs.Calls.{PrintsBy, callee_of, given_of, is_sound_callee, is_sound_given, is_sound_part, named_of, owed, part_of};
 ghost use Rattle.kishu_calls.specs.Forms.{plain_construct, view_at, viewed_or};
 ghost use Rattle.kishu_calls.specs.Trees.{arguments_of};
-ghost use Rattle.kishu_machine.specs.Machine.{Gives, GrownBy, HasRoomBy, IsSound, moment_of};
+ghost use Rattle.kishu_machine.specs.Machine.{Gives, GrownBy, HasRoomBy, IsSound, ReadsBy, moment_of};
 ghost use Rattle.kishu_model.specs.Callees as c;
 ghost use Rattle.kishu_model.specs.Values as model;
 
@@ -93,6 +93,7 @@ fn method_of<L: Ledger>(
     ensures gives { Gives callee_of result (moment_of machine.now) (method_of (value_of value) (rc_str_bytes name) (moment_of machine.now)) }
     ensures sound { IsSound (λ c. is_sound_callee (length machine.now.heap) (callee_of c)) (length machine.now.heap) result }
     ensures counted { steps.old ≤ steps.new }
+    ensures reads { steps.new ≤ steps.old + 3 }
 {
     let title = name.as_str();
     if kishu_methods::has_method(&value, title, &machine.heap, steps) {
@@ -105,6 +106,7 @@ fn method_of<L: Ledger>(
 fn dict_id<L: Ledger>(heap: &Heap, value: &Value, steps: &mut Steps<L>) -> Option<NodeId>
     ensures is { option_map (λ id. id.0) result ≡ dict_number heap.now (value_of value.now) }
     ensures counted { steps.old ≤ steps.new }
+    ensures reads { steps.new ≤ steps.old + 1 }
 {
     if let Value::Node(id) = value {
         if let Some(Node::Dict(_)) = node_at(heap, value, steps) {
@@ -123,6 +125,7 @@ fn dict_view<L: Ledger>(
 ) -> Option<(NodeId, View)>
     ensures is { option_map (λ p. (p.0.0, view_of p.1)) result ≡ view_at (dict_number heap.now (value_of value.now)) (option_map view_of view) }
     ensures counted { steps.old ≤ steps.new }
+    ensures reads { steps.new ≤ steps.old + 1 }
 {
     let view = view?;
     Some((dict_id(heap, value, steps)?, view))
@@ -140,6 +143,7 @@ fn other_callee<L: Ledger>(
     ensures gives { Gives callee_of result (moment_of machine.now) (viewed_or (view_at (dict_number machine.now.heap (value_of value)) (option_map view_of view)) (method_of (value_of value) (rc_str_bytes name)) (moment_of machine.now)) }
     ensures sound { IsSound (λ c. is_sound_callee (length machine.now.heap) (callee_of c)) (length machine.now.heap) result }
     ensures counted { steps.old ≤ steps.new }
+    ensures reads { steps.new ≤ steps.old + 4 }
 {
     match dict_view(&machine.heap, &value, view, steps) {
         Some((id, view)) => Ok(Callee::View(id, view)),
@@ -159,6 +163,7 @@ fn object_callee<L: Ledger>(
     ensures gives { Gives callee_of result (moment_of machine.new) ((attribute (value_of value.now) name.now ⊳ λ v. give (c.function v)) (moment_of machine.old)) }
     ensures sound { IsSound (λ c. is_sound_callee (length machine.new.heap) (callee_of c)) (length machine.new.heap) result }
     ensures kept { GrownBy 1 machine.old steps.old machine.new steps.new }
+    ensures reads { ReadsBy 8 machine.old steps.old machine.new steps.new }
 {
     let function = attribute(machine, value, name, steps)?;
     Ok(Callee::Function(function))
@@ -178,6 +183,7 @@ fn dotted_callee<L: Ledger>(
     ensures gives { Gives callee_of result (moment_of machine.new) (dotted_callee (value_of value) (rc_str_bytes name) (option_map view_of view) (moment_of machine.old)) }
     ensures sound { IsSound (λ c. is_sound_callee (length machine.new.heap) (callee_of c)) (length machine.new.heap) result }
     ensures kept { GrownBy 1 machine.old steps.old machine.new steps.new }
+    ensures reads { ReadsBy 10 machine.old steps.old machine.new steps.new }
 {
     if is_object(&machine.heap, &value, steps) {
         object_callee(machine, &value, name.as_str(), steps)
@@ -187,6 +193,7 @@ fn dotted_callee<L: Ledger>(
 }
 
 /// What a part of a primary calls.
+#[inline(never)]
 pub fn callee_in<L: Ledger>(
     machine: &mut Machine,
     part: Part,
@@ -198,6 +205,7 @@ pub fn callee_in<L: Ledger>(
     ensures gives { Gives callee_of result (moment_of machine.new) (callee (part_of part) (arguments_of arguments.now) (moment_of machine.old)) }
     ensures sound { IsSound (λ c. is_sound_callee (length machine.new.heap) (callee_of c)) (length machine.new.heap) result }
     ensures kept { GrownBy (owed (part_of part)) machine.old steps.old machine.new steps.new }
+    ensures reads { ReadsBy 64 machine.old steps.old machine.new steps.new }
 {
     match part {
         Part::Whole(value) => Ok(Callee::Function(value)),
@@ -250,6 +258,7 @@ fn print_by<L: Ledger>(
     ensures gives { Gives value_of result (moment_of machine.new) (print_by (named_of given.now.named.items) (codes " ") (line_feed ∷ []) (map value_of given.now.plain.items) (moment_of machine.old)) }
     ensures sound { IsSound (λ _. true) (length machine.new.heap) result }
     ensures kept { GrownBy 0 machine.old steps.old machine.new steps.new }
+    ensures reads { ReadsBy (2 * length given.now.plain.items) machine.old steps.old machine.new steps.new }
     ensures heap { machine.new.heap ≡ machine.old.heap }
 {
     let marks = marks_in(machine.alloc, given.named.as_slice())?;
@@ -268,6 +277,7 @@ fn repr_call<L: Ledger>(
     ensures gives { Gives value_of result (moment_of machine.new) (of_one (codes "repr") (λ v. repr_of v ⊳ λ cs. give (model.text cs)) (map value_of values.now) (moment_of machine.old)) }
     ensures sound { IsSound (λ _. true) (length machine.new.heap) result }
     ensures kept { GrownBy 0 machine.old steps.old machine.new steps.new }
+    ensures reads { ReadsBy 8 machine.old steps.old machine.new steps.new }
     ensures heap { machine.new.heap ≡ machine.old.heap }
 {
     let [value] = values else {
@@ -292,6 +302,7 @@ fn other_builtin<L: Ledger>(
     ensures gives { Gives value_of result (moment_of machine.new) (or_no_call (slice_get (builtin_calls print_plain) builtin.0) (map value_of values.now) (moment_of machine.old)) }
     ensures sound { IsSound (λ v. is_sound (length machine.new.heap) (value_of v)) (length machine.new.heap) result }
     ensures kept { GrownBy 1 machine.old steps.old machine.new steps.new }
+    ensures reads { ReadsBy 3 machine.old steps.old machine.new steps.new }
 {
     // The heap tells that each of its nodes is sound.
     let _size = machine.heap.len();
@@ -319,6 +330,7 @@ fn plain_builtin<L: Ledger>(
     ensures gives { Gives value_of result (moment_of machine.new) (or_no_call (slice_get (builtin_calls print_plain) builtin.0) (map value_of values.now) (moment_of machine.old)) }
     ensures sound { IsSound (λ v. is_sound (length machine.new.heap) (value_of v)) (length machine.new.heap) result }
     ensures kept { GrownBy 1 machine.old steps.old machine.new steps.new }
+    ensures reads { ReadsBy 8 machine.old steps.old machine.new steps.new }
 {
     if builtin.0 == REPR {
         return repr_call(machine, values, steps);
@@ -327,6 +339,7 @@ fn plain_builtin<L: Ledger>(
 }
 
 /// What a builtin function gives.
+#[inline(never)]
 pub fn call_builtin<L: Ledger>(
     machine: &mut Machine,
     builtin: Builtin,
@@ -339,6 +352,7 @@ pub fn call_builtin<L: Ledger>(
     ensures gives { Gives value_of result (moment_of machine.new) (call_builtin builtin.0 (given_of given.now) (moment_of machine.old)) }
     ensures sound { IsSound (λ v. is_sound (length machine.new.heap) (value_of v)) (length machine.new.heap) result }
     ensures kept { GrownBy 1 machine.old steps.old machine.new steps.new }
+    ensures reads { ReadsBy (32 + 2 * length given.now.plain.items) machine.old steps.old machine.new steps.new }
 {
     if builtin.0 == PRINT {
         return print_by(machine, given, steps);
@@ -392,6 +406,7 @@ fn text_call<L: Ledger>(
     ensures gives { Gives value_of result (moment_of machine.new) (of_none_or_one (codes "str") (give (model.text [])) (λ v. show v ⊳ λ cs. give (model.text cs)) (map value_of values.now) (moment_of machine.old)) }
     ensures sound { IsSound (λ _. true) (length machine.new.heap) result }
     ensures kept { GrownBy 0 machine.old steps.old machine.new steps.new }
+    ensures reads { ReadsBy 8 machine.old steps.old machine.new steps.new }
     ensures heap { machine.new.heap ≡ machine.old.heap }
 {
     match values {
@@ -419,6 +434,7 @@ fn other_class<L: Ledger>(
     ensures gives { Gives value_of result (moment_of machine.new) (plain_construct class.0 (map value_of values.now) (moment_of machine.old)) }
     ensures sound { IsSound (λ v. is_sound (length machine.new.heap) (value_of v)) (length machine.new.heap) result }
     ensures kept { GrownBy 1 machine.old steps.old machine.new steps.new }
+    ensures reads { ReadsBy 3 machine.old steps.old machine.new steps.new }
 {
     // The heap tells that each of its nodes is sound.
     let _size = machine.heap.len();
@@ -446,6 +462,7 @@ fn plain_class<L: Ledger>(
     ensures gives { Gives value_of result (moment_of machine.new) (plain_construct class.0 (map value_of values.now) (moment_of machine.old)) }
     ensures sound { IsSound (λ v. is_sound (length machine.new.heap) (value_of v)) (length machine.new.heap) result }
     ensures kept { GrownBy 1 machine.old steps.old machine.new steps.new }
+    ensures reads { ReadsBy 8 machine.old steps.old machine.new steps.new }
 {
     if class.0 == TEXT.0 {
         return text_call(machine, values, steps);
@@ -454,6 +471,7 @@ fn plain_class<L: Ledger>(
 }
 
 /// What a class gives that is called.
+#[inline(never)]
 pub fn construct<L: Ledger>(
     machine: &mut Machine,
     class: ClassId,
@@ -466,6 +484,7 @@ pub fn construct<L: Ledger>(
     ensures gives { Gives value_of result (moment_of machine.new) (construct class.0 (given_of given) (moment_of machine.old)) }
     ensures sound { IsSound (λ v. is_sound (length machine.new.heap) (value_of v)) (length machine.new.heap) result }
     ensures kept { GrownBy 1 machine.old steps.old machine.new steps.new }
+    ensures reads { ReadsBy 32 machine.old steps.old machine.new steps.new }
 {
     if class.0 == NAMESPACE.0 {
         return new_object(machine, given);
@@ -493,6 +512,7 @@ fn known_method<L: Ledger>(
     ensures gives { Gives value_of result (moment_of machine.new) (call_method (value_of receiver.now) name.now (map value_of values.now) (moment_of machine.old)) }
     ensures sound { IsSound (λ v. is_sound (length machine.new.heap) (value_of v)) (length machine.new.heap) result }
     ensures kept { GrownBy 1 machine.old steps.old machine.new steps.new }
+    ensures reads { ReadsBy 5 machine.old steps.old machine.new steps.new }
 {
     // The heap tells that each of its nodes is sound.
     let _size = machine.heap.len();
@@ -521,6 +541,7 @@ fn plain_method<L: Ledger>(
     ensures gives { Gives value_of result (moment_of machine.new) (call_method (value_of receiver.now) name.now (map value_of values.now) (moment_of machine.old)) }
     ensures sound { IsSound (λ v. is_sound (length machine.new.heap) (value_of v)) (length machine.new.heap) result }
     ensures kept { GrownBy 1 machine.old steps.old machine.new steps.new }
+    ensures reads { ReadsBy 6 machine.old steps.old machine.new steps.new }
 {
     if !kishu_methods::has_method(receiver, name, &machine.heap, steps) {
         return no_attribute(machine, receiver, name, steps);
@@ -529,6 +550,7 @@ fn plain_method<L: Ledger>(
 }
 
 /// What a method of a value gives. The names of methods are ASCII.
+#[inline(never)]
 pub fn call_method<L: Ledger>(
     machine: &mut Machine,
     receiver: &Value,
@@ -543,6 +565,7 @@ pub fn call_method<L: Ledger>(
     ensures gives { Gives value_of result (moment_of machine.new) (by_plain name.now (named_of given.now.named.items) (call_method (value_of receiver.now) name.now (map value_of given.now.plain.items)) (moment_of machine.old)) }
     ensures sound { IsSound (λ v. is_sound (length machine.new.heap) (value_of v)) (length machine.new.heap) result }
     ensures kept { GrownBy 1 machine.old steps.old machine.new steps.new }
+    ensures reads { ReadsBy 32 machine.old steps.old machine.new steps.new }
 {
     if !given.named.is_empty() {
         return bad_arguments(machine.alloc, name);

@@ -1,7 +1,7 @@
 // Functions: which names are local to a body, and what a call binds (Python Language Reference 3,
 // "Function definitions", "Calls" and "Naming and binding").
 ghost use Rattle.std.specs.List.{filter, list_all};
-ghost use Rattle.std.specs.Prelude.{IfOk, IfSome, IsTrue, MatchOption, OnOk, [], drop, length, map, not, option_map, slice_get, ◌++◌, ◌∷◌, ◌≡◌, ◌≤◌};
+ghost use Rattle.std.specs.Prelude.{IfOk, IfSome, IsTrue, MatchOption, OnOk, [], drop, length, map, not, option_map, slice_get, ◌++◌, ◌+◌, ◌∷◌, ◌≡◌, ◌≤◌};
 ghost use Rattle.std.specs.Rc.{rc_str_bytes};
 ghost use Rattle.kishu_model.specs.Functions.{all_bound_by, arguments_fit, bound_by, bound_in, bound_in_arms, bound_in_block, bound_in_handlers, bound_values, declared_in, declared_in_arms, declared_in_block, declared_in_handlers, names_in, or_class_name, own_names, values_for, with_defaults};
 ghost use Rattle.kishu_model.specs.Names.{is_among};
@@ -32,6 +32,7 @@ pub struct Function {
 }
 
 /// The function that a node is.
+#[inline(never)]
 pub fn function_at<L: Ledger>(
     machine: &Machine,
     id: NodeId,
@@ -40,6 +41,7 @@ pub fn function_at<L: Ledger>(
     ensures found { IfOk result (λ o. MatchOption o (IsTrue (not (is_function (slice_get machine.now.heap id.0)))) (λ f. IsFunction (slice_get machine.now.heap id.0) f)) }
     ensures sound { IfOk result (λ o. IfSome o (λ f. IsTrue (are_sound (length machine.now.heap) (map value_of f.defaults.items)))) }
     ensures counted { steps.old ≤ steps.new }
+    ensures reads { steps.new ≤ steps.old + 4 }
 {
     match node_at(&machine.heap, &Value::Node(id), steps) {
         Some(Node::Function(function)) => {
@@ -321,6 +323,7 @@ fn push_titles(own: &mut Vec<RcStr>, params: &[(RcStr, Option<Expr>)]) -> Result
 
 /// The names that are local to a function's body: its parameters, and the names that the body binds,
 /// unless they are declared global.
+#[inline(never)]
 #[tactic(auto, using(crate::specs::StatementRows::parameters_at, crate::specs::StatementRows::body_at))]
 pub fn own_names(alloc: Global, def: &Def) -> Result<Vec<RcStr>, AllocError>
     ensures { IfOk result (λ v. texts_of v.items ≡ own_names (definition_of def.now)) }
@@ -494,6 +497,7 @@ fn values_for(
 }
 
 /// What a call binds; none where an argument is missing, repeated or unknown.
+#[inline(never)]
 #[tactic(auto, using(crate::specs::StatementRows::parameters_at))]
 pub fn bound_values(
     alloc: Global,

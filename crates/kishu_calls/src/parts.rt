@@ -1,5 +1,5 @@
 // Parts of primaries (Python Language Reference 3, "Primaries").
-ghost use Rattle.std.specs.Prelude.{IsTrue, length, ◌+◌};
+ghost use Rattle.std.specs.Prelude.{IsTrue, length, ◌*◌, ◌+◌};
 ghost use Rattle.std.specs.Rc.{rc_str_bytes};
 ghost use Rattle.kishu_model.specs.Callees.{settled};
 ghost use Rattle.kishu_model.specs.Meaning.{Calls, walked_by};
@@ -7,8 +7,8 @@ ghost use Rattle.kishu_model.specs.Moment.{give, ◌>>=◌ as ◌⊳◌, ◌>>�
 ghost use Rattle.kishu_model.specs.Sound.{is_sound};
 ghost use Rattle.kishu_model.specs.Values.{value_of};
 ghost use Rattle.kishu_access.specs.Access.{is_sound_walk, walk_of};
-ghost use Rattle.kishu_calls.specs.Calls.{Owing, is_sound_part, owed, part_of};
-ghost use Rattle.kishu_machine.specs.Machine.{Gives, GrownBy, HasRoomBy, IsSound, moment_of};
+ghost use Rattle.kishu_calls.specs.Calls.{OwesReads, Owing, is_sound_part, owed, part_of};
+ghost use Rattle.kishu_machine.specs.Machine.{Gives, GrownBy, HasRoomBy, IsSound, ReadsBy, moment_of};
 ghost use Rattle.kishu_model.specs.Callees as c;
 
 use kishu_access::{View, Walk, attribute, walk_of, walk_view};
@@ -28,6 +28,7 @@ pub enum Part {
 }
 
 /// A method is no value, and neither is a view of a dict.
+#[inline(never)]
 pub fn settled<L: Ledger>(
     machine: &mut Machine,
     part: Part,
@@ -38,6 +39,7 @@ pub fn settled<L: Ledger>(
     ensures gives { Gives value_of result (moment_of machine.new) (settled (part_of part) (moment_of machine.old)) }
     ensures sound { IsSound (λ v. is_sound (length machine.new.heap) (value_of v)) (length machine.new.heap) result }
     ensures kept { GrownBy (owed (part_of part)) machine.old steps.old machine.new steps.new }
+    ensures reads { ReadsBy (8 * owed (part_of part)) machine.old steps.old machine.new steps.new }
 {
     match part {
         Part::Whole(value) => Ok(value),
@@ -47,6 +49,7 @@ pub fn settled<L: Ledger>(
 }
 
 /// An attribute of what a part is.
+#[inline(never)]
 pub fn dotted_part<L: Ledger>(
     machine: &mut Machine,
     part: Part,
@@ -58,6 +61,7 @@ pub fn dotted_part<L: Ledger>(
     ensures gives { Gives part_of result (moment_of machine.new) ((settled (part_of part) ⊳ λ v. give (c.dotted v (rc_str_bytes name.now))) (moment_of machine.old)) }
     ensures sound { IsSound (λ v. is_sound_part (length machine.new.heap) (part_of v)) (length machine.new.heap) result }
     ensures kept { GrownBy (1 + owed (part_of part)) machine.old steps.old machine.new steps.new }
+    ensures reads { OwesReads (8 + 8 * owed (part_of part)) machine.old steps.old result machine.new steps.new }
     ensures owes { Owing (1 + owed (part_of part)) machine.old result machine.new }
 {
     let value = settled(machine, part, steps)?;
@@ -75,6 +79,7 @@ pub fn walked_by<L: Ledger>(
     ensures gives { (calls : Calls) → Gives walk_of result (moment_of machine.new) (walked_by calls (part_of part) (moment_of machine.old)) }
     ensures sound { IsSound (λ w. is_sound_walk (length machine.new.heap) (walk_of w)) (length machine.new.heap) result }
     ensures kept { GrownBy (owed (part_of part)) machine.old steps.old machine.new steps.new }
+    ensures reads { ReadsBy 32 machine.old steps.old machine.new steps.new }
 {
     match part {
         Part::Viewed(id, view) => Ok(walk_view(machine, id, view, steps)),

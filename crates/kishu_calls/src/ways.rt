@@ -7,7 +7,7 @@ ghost use Rattle.kishu_model.specs.Moment.{node_at};
 ghost use Rattle.kishu_model.specs.Sound.{is_exception_class, is_sound};
 ghost use Rattle.kishu_model.specs.Values.{node, value_of};
 ghost use Rattle.kishu_model.specs.Ways.{is_caught, is_caught_by, is_class_of_exceptions, is_exception, kind_of_thrown, object_of, throw_again, throw_object, throw_value};
-ghost use Rattle.kishu_machine.specs.Machine.{Gives, GrownBy, HasRoomBy, IsSound, is_sound_thrown, moment_of, thrown_of};
+ghost use Rattle.kishu_machine.specs.Machine.{Gives, GrownBy, HasRoomBy, IsSound, ReadsBy, is_sound_thrown, moment_of, thrown_of};
 
 use kishu_heap::{Heap, Node};
 use kishu_machine::{ANY_EXCEPTION, Fault, Machine, Thrown, make, no_exception, node_at, tuple_at};
@@ -60,6 +60,7 @@ pub(crate) fn kind_of_thrown<L: Ledger>(
 ) -> ClassId
     ensures is { result.0 ≡ kind_of_thrown heap.now (thrown_of thrown.now) }
     ensures counted { steps.old ≤ steps.new }
+    ensures reads { steps.new ≤ steps.old + 1 }
 {
     match thrown {
         Thrown::With(class, _) => *class,
@@ -76,6 +77,7 @@ pub(crate) fn kind_of_thrown<L: Ledger>(
 fn is_exception<L: Ledger>(heap: &Heap, value: &Value, steps: &mut Steps<L>) -> bool
     ensures is { result ≡ is_exception (node_at heap.now (value_of value.now)) }
     ensures counted { steps.old ≤ steps.new }
+    ensures reads { steps.new ≤ steps.old + 1 }
 {
     match node_at(heap, value, steps) {
         Some(Node::Exception(..)) => true,
@@ -99,6 +101,7 @@ pub(crate) fn throw_object<T, L: Ledger>(
     ensures gives { Gives (λ x. x) result (moment_of machine.now) (throw_object (value_of value.now) (moment_of machine.now)) }
     ensures sound { IsSound (λ _. true) (length machine.now.heap) result }
     ensures counted { steps.old ≤ steps.new }
+    ensures reads { steps.new ≤ steps.old + 1 }
 {
     if let Value::Node(id) = value {
         if is_exception(&machine.heap, value, steps) {
@@ -109,6 +112,7 @@ pub(crate) fn throw_object<T, L: Ledger>(
 }
 
 /// Raises an exception object, or one of a class, without arguments.
+#[inline(never)]
 #[tactic(auto, using(crate::proofs::Thrown::throw_rules))]
 pub fn throw_value<T, L: Ledger>(
     machine: &mut Machine,
@@ -120,6 +124,7 @@ pub fn throw_value<T, L: Ledger>(
     ensures gives { Gives (λ x. x) result (moment_of machine.new) (throw_value (value_of value.now) (moment_of machine.old)) }
     ensures sound { IsSound (λ _. true) (length machine.new.heap) result }
     ensures kept { GrownBy 1 machine.old steps.old machine.new steps.new }
+    ensures reads { ReadsBy 16 machine.old steps.old machine.new steps.new }
 {
     let Value::Class(class) = value else {
         return throw_object(machine, value, steps);
@@ -138,6 +143,7 @@ pub fn throw_again<T, L: Ledger>(machine: &Machine, steps: &mut Steps<L>) -> Res
     ensures gives { Gives (λ x. x) result (moment_of machine.now) (throw_again (moment_of machine.now)) }
     ensures sound { IsSound (λ _. true) (length machine.now.heap) result }
     ensures counted { steps.old ≤ steps.new }
+    ensures reads { steps.new ≤ steps.old + 8 }
 {
     match &machine.handled {
         Some(value) => throw_object(machine, value, steps),
@@ -224,6 +230,7 @@ fn is_caught_by_one(class: ClassId, values: &[Value]) -> bool
 }
 
 /// Whether a class or a tuple of classes catches an exception.
+#[inline(never)]
 #[tactic(auto, using(crate::proofs::Caught::caught_rules))]
 pub fn is_caught<L: Ledger>(
     machine: &Machine,
@@ -234,6 +241,7 @@ pub fn is_caught<L: Ledger>(
     ensures gives { Gives (λ b. b) result (moment_of machine.now) (is_caught (thrown_of thrown.now) (value_of classes.now) (moment_of machine.now)) }
     ensures sound { IsSound (λ _. true) (length machine.now.heap) result }
     ensures counted { steps.old ≤ steps.new }
+    ensures reads { steps.new ≤ steps.old + 16 }
 {
     let class = kind_of_thrown(&machine.heap, thrown, steps);
     if is_class_of_exceptions(classes) {

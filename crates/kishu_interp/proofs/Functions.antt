@@ -158,10 +158,10 @@ mutual
   statement_prop (t.global xs) = Unit-prop
   statement_prop (t.import x) = title_prop x
   statement_prop (t.update e operator operand) = ×_prop (expression_prop e) (expression_prop operand)
-  statement_prop (t.assign es e) = ×_prop (list_prop es) (expression_prop e)
+  statement_prop (t.assign es e) = three_prop (list_prop es) (expression_prop e) (Bool-set _ _)
   statement_prop (t.choose as' other) = ×_prop (arms_prop as') (statements_prop other)
   statement_prop (t.while e body) = ×_prop (expression_prop e) (statements_prop body)
-  statement_prop (t.for e walked body) = three_prop (expression_prop e) (expression_prop walked) (statements_prop body)
+  statement_prop (t.for e walked body) = four_prop (expression_prop e) (expression_prop walked) (statements_prop body) (Bool-set _ _)
   statement_prop (t.try body hs other last) = four_prop (statements_prop body) (handlers_prop hs) (statements_prop other) (statements_prop last)
   statement_prop (t.finally body last) = ×_prop (statements_prop body) (statements_prop last)
   statement_prop (t.define x ps body code) = four_prop (Bool-set _ _) (parameters_prop ps) (statements_prop body) (code_prop code _)

@@ -1,10 +1,8 @@
 -- Lists of values that grow at their end.
-use Rattle.std.proofs.Common.{◌≡◌, ◌∙◌, refl, ap, sym, subst, arith, ℕ, ◌<◌, ◌≤◌, length, Result, Bool, IsTrue, List, [], ◌∷◌, ◌++◌, map, append_assoc}
+use Rattle.std.proofs.Common.{◌≡◌, ◌∙◌, refl, ap, sym, arith, ℕ, ◌<◌, ◌≤◌, length, Bool, IsTrue, List, [], ◌∷◌, ◌++◌, map, append_assoc}
 use Rattle.kishu_model.specs.declared.value.Value as rust
 use Rattle.kishu_model.specs.declared.tree.Link.{Link}
 use Rattle.kishu_model.specs.Tree as tree
-use Rattle.kishu_machine.specs.declared.fault.Fault.{Fault}
-use Rattle.kishu_machine.specs.Machine.{Gives}
 use Rattle.kishu_calls.specs.Trees.{links_of, link_of}
 use Rattle.std.specs.Prelude.{true, false, if◌then◌else◌}
 use Rattle.kishu_model.specs.declared.tree.Comparison.{Comparison}
@@ -64,10 +62,8 @@ module _ (calls : Calls) where
       (λ b. if b then links calls w (more_links d f ls) else give (bool false)) (λ b. if b then linked calls w (more_links d f ls) else give (bool false))
       (λ b s2. linked_ends b (links calls w (more_links d f ls)) (linked calls w (more_links d f ls)) s2 (linked_is w d f ls s2)))
 
-pub compared_gives : {X : Type 0} (view : X → Value) (calls : Calls) (e : Expression) (ls : List Link) (v : Value) (s t u : Moment) (r : Result X Fault) → 0 < length ls → expr calls e s ≡ fine v t
-    → Gives view r u (linked calls v (links_of ls) t) → Gives view r u (expr calls (tree.compared e (links_of ls)) s)
-compared_gives view calls e [] v s t u r p h k = absurd (omega arith)
-compared_gives {X = X} view calls e (l ∷ ls) v s t u r p h k =
+pub compared_linked : (calls : Calls) (e : Expression) (ls : List Link) (v : Value) (s t : Moment) → 0 < length ls → expr calls e s ≡ fine v t → expr calls (tree.compared e (links_of ls)) s ≡ linked calls v (links_of ls) t
+compared_linked calls e [] v s t p h = absurd (omega arith)
+compared_linked calls e (l ∷ ls) v s t p h =
     let o = link_of l in
-    subst (λ (x : Ends Value). Gives view r u (and_then x (λ w. links calls w (links_of (l ∷ ls))))) (sym h)
-    (subst (λ (x : Ends Value). Gives view r u x) (sym (linked_is calls v o.0 o.1 (links_of ls) t)) k)
+    ap (λ (x : Ends Value). and_then x (λ w. links calls w (links_of (l ∷ ls)))) h ∙ linked_is calls v o.0 o.1 (links_of ls) t

@@ -1,5 +1,5 @@
 -- What is left of the lists of a tree: the first, and the rest.
-use Rattle.std.proofs.Common.{◌≡◌, ◌∙◌, refl, ap, sym, subst, arith, ℕ, zero, suc, ◌+◌, ◌≤◌, ◌<◌, List, [], ◌∷◌, ◌++◌, map, length, drop, get_or, add-one, Option, Some, None, Result}
+use Rattle.std.proofs.Common.{◌≡◌, ◌∙◌, refl, ap, sym, subst, arith, ℕ, zero, suc, ◌+◌, ◌≤◌, ◌<◌, List, [], ◌∷◌, ◌++◌, map, length, drop, get_or, add-one, Option, Some, None, Result, IsTrue}
 use Rattle.std.proofs.Math.Nat.{le-max_left, le-max_right}
 use Rattle.std.proofs.lemmas.List.{append-nil, drop_all}
 use Rattle.std.specs.Prelude.{if◌then◌else◌, is_some}
@@ -13,6 +13,9 @@ use Rattle.kishu_model.specs.Tree as tree
 use Rattle.kishu_model.specs.Walks.{unpacked}
 use Rattle.kishu_model.specs.Height.{of_expression, of_expressions, of_optional, of_parameters}
 use Rattle.kishu_model.specs.Fits.{ExpressionFits, ExpressionsFit, OptionalFits, ParametersFit}
+use Rattle.std.specs.List.{list_all}
+use Rattle.kishu_model.specs.Targets.{is_target, are_targets}
+use Rattle.kishu_items.specs.Holding.{both, first, second}
 use Rattle.kishu_model.specs.Sound.{with_default}
 use Rattle.kishu_model.specs.Values.{Value, value_of}
 use Rattle.kishu_model.specs.declared.value.Value as rust
@@ -120,6 +123,27 @@ rest_low es i = rw add-one (down es i)
 
 pub rest_fits : (es : List Expr) (i : ℕ) → ExpressionsFit (expressions_of (drop i es)) → ExpressionsFit (expressions_of (drop (i + 1) es))
 rest_fits es i f = rw add-one (fit_down es i f)
+
+-- ---- targets
+
+module _ (es : List Expr) (i : ℕ) (e : Expr) (h : i < length es) (is : e ≡ get_or es i e) where
+  pub targets_here : IsTrue (list_all is_target (map expression_of (drop i es))) → IsTrue (is_target (expression_of e)) × IsTrue (list_all is_target (map expression_of (drop (i + 1) es)))
+  targets_here f = let found = subst (λ (x : List Expr). IsTrue (list_all is_target (map expression_of x))) (dropped es i e h is) f in (first (is_target (expression_of e)) _ found, second (is_target (expression_of e)) _ found)
+
+targets_down : (es : List Expr) (i : ℕ) → IsTrue (list_all is_target (map expression_of (drop i es))) → IsTrue (list_all is_target (map expression_of (drop (suc i) es)))
+targets_down [] zero f = f
+targets_down [] (suc i) f = f
+targets_down (e ∷ es) zero f = second (is_target (expression_of e)) _ f
+targets_down (e ∷ es) (suc i) f = targets_down es i f
+
+pub targets_rest : (es : List Expr) (i : ℕ) → IsTrue (list_all is_target (map expression_of (drop i es))) → IsTrue (list_all is_target (map expression_of (drop (i + 1) es)))
+targets_rest es i f = rw add-one (targets_down es i f)
+
+-- each of several targets is one, and there is one
+pub targets_are : (es : List Expr) → IsTrue (are_targets (expressions_of es)) → IsTrue (list_all is_target (map expression_of es)) × (1 ≤ length es)
+targets_are [] f = absurd cc
+targets_are (e ∷ []) f = (both (is_target (expression_of e)) _ f refl, omega arith)
+targets_are (e ∷ d ∷ es) f = let rest = targets_are (d ∷ es) (second (is_target (expression_of e)) _ f) in (both (is_target (expression_of e)) _ (first (is_target (expression_of e)) _ f) rest.0, omega arith)
 
 -- ---- parameters
 

@@ -17,7 +17,7 @@ use Rattle.kishu_lexer.specs.declared.fault.SyntaxFault.TheVariants.{Syntax}
 use Rattle.kishu_parser.specs.Statements.{FaultOf}
 use Rattle.kishu_machine.specs.declared.fault.Fault.{Fault}
 use Rattle.kishu_machine.specs.declared.machine.Machine.{Machine}
-use Rattle.kishu_machine.specs.Machine.{Gives, GrownBy, outputs_in, shown_of}
+use Rattle.kishu_machine.specs.Machine.{Gives, GrownBy, ReadsBy, outputs_in, shown_of}
 
 -- ---- a text and its tree
 
@@ -71,3 +71,6 @@ module _ (profile : Profile) (nodes nodes' : List Node) (bound bound' : Names) (
 -- A run whose heap grew by what its steps pay for took no more steps than were counted.
 pub charged : (m2 m3 : Machine) (n a b c charge : ℕ) → n ≤ length m2.heap → length m2.heap + 4 * m2.budget.left ≤ n + 4 * 4000000 → 4000000 + a ≤ m2.budget.left + b → GrownBy 0 m2 b m3 c → charge ≡ 4000000 - m3.budget.left → a + charge ≤ c
 charged m2 m3 n a b c charge p q r h e = omega (arith, p, q, r, h.0, h.1, h.2, e)
+
+pub charged_most : (m2 m3 : Machine) (n a b c charge : ℕ) → n ≤ length m2.heap → length m2.heap + 4 * m2.budget.left ≤ n + 4 * 4000000 → b + 128 * m2.budget.left ≤ a + 128 * 4000000 → GrownBy 0 m2 b m3 c → ReadsBy 32 m2 b m3 c → charge ≡ 4000000 - m3.budget.left → c ≤ a + 128 * charge + 128
+charged_most m2 m3 n a b c charge p q r h k e = omega (arith, p, q, r, h.0, h.1, k, e)

@@ -1,5 +1,5 @@
 -- Forms that the code's functions have, where they cut a rule of the language into parts.
-use Rattle.std.specs.Prelude.{ℕ, zero, suc, true, false, if◌then◌else◌, List, [], ◌∷◌, Option, None}
+use Rattle.std.specs.Prelude.{ℕ, zero, suc, ◌+◌, ◌*◌, ◌≤◌, true, false, if◌then◌else◌, List, [], ◌∷◌, Option, None, Result, Ok, Err}
 use Rattle.kishu_model.specs.Tree.{Links, Bound, Statement, Definition, no_links, more_links}
 use Rattle.kishu_model.specs.Values.{Value, bool}
 use Rattle.kishu_model.specs.Moment.{M, ◌>>=◌, ◌>>◌, give, tick, recursion_error}
@@ -8,6 +8,12 @@ use Rattle.kishu_model.specs.Subscripts.{slice}
 use Rattle.kishu_model.specs.Callees.{Given, Part, whole}
 use Rattle.kishu_model.specs.Functions.{bound_values}
 use Rattle.kishu_model.specs.Meaning.{Calls, expr, bound_value, act, enter, all_calls, call}
+use Rattle.kishu_machine.specs.declared.fault.Fault.{Fault}
+use Rattle.kishu_machine.specs.declared.machine.Machine.{Machine}
+use Rattle.kishu_access.specs.declared.places.Place as rust_place
+use Rattle.kishu_access.specs.Access.{place_of, place_reads}
+use Rattle.kishu_calls.specs.declared.parts.Part as rust_part
+use Rattle.kishu_calls.specs.Calls.{owed, part_of}
 
 abbrev pub silent_act : Statement → M (Option (List ℕ))
 silent_act s = act all_calls s >> give None
@@ -30,3 +36,13 @@ module _ (calls : Calls) where
 abbrev pub called : ℕ → Definition → List Value → Given → M Value
 called zero d vs given = recursion_error
 called (suc n) d vs given = enter (call n) d (bound_values d vs given)
+
+-- A part leaves 64 reads over, and eight more for what it owes; k were lent.
+abbrev pub LeavesPart : ℕ → Machine → ℕ → Result rust_part.Part Fault → Machine → ℕ → Type 0
+LeavesPart k old a (Ok p) new b = b + 128 * new.budget.left + 64 + 8 * owed (part_of p) ≤ a + 128 * old.budget.left + k
+LeavesPart k old a (Err f) new b = b + 128 * new.budget.left ≤ a + 128 * old.budget.left + k
+
+-- A place leaves the reads that it may cost; k were lent.
+abbrev pub PlaceReads : ℕ → Machine → ℕ → Result rust_place.Place Fault → Machine → ℕ → Type 0
+PlaceReads k old a (Ok p) new b = b + 128 * new.budget.left + place_reads (place_of p) ≤ a + 128 * old.budget.left + k
+PlaceReads k old a (Err f) new b = b + 128 * new.budget.left ≤ a + 128 * old.budget.left + k

@@ -12,7 +12,7 @@ ghost use Rattle.kishu_calls.specs.Calls.{flow_of, given_of, is_sound_given};
 ghost use Rattle.kishu_model.specs.Fits.{FunctionFits, StatementsFit};
 ghost use Rattle.kishu_interp.specs.Forms.{called};
 ghost use Rattle.kishu_machine.specs.Frames.{frame_of, is_sound_frame};
-ghost use Rattle.kishu_machine.specs.Machine.{Gives, GrownBy, HasRoom, IsSound, moment_of};
+ghost use Rattle.kishu_machine.specs.Machine.{Gives, GrownBy, HasRoom, IsSound, ReadsBy, moment_of};
 
 use crate::statements::block;
 use kishu_calls::{Flow, Function, Given, bound_values, own_names};
@@ -23,6 +23,7 @@ use std::sync::ledger::Ledger;
 
 /// What a function gives for arguments (Python Language Reference 3, "Calls").
 #[cycle(run)]
+#[inline(never)]
 pub(crate) fn called<L: Ledger>(
     machine: &mut Machine,
     function: &Function,
@@ -39,6 +40,7 @@ pub(crate) fn called<L: Ledger>(
     ensures gives { Gives value_of result (moment_of machine.new) (called room (definition_of function.now.def.value) (map value_of function.now.defaults.items) (given_of given.now) (moment_of machine.old)) }
     ensures sound { IsSound (λ v. is_sound (length machine.new.heap) (value_of v)) (length machine.new.heap) result }
     ensures kept { GrownBy 0 machine.old steps.old machine.new steps.new }
+    ensures reads { ReadsBy 0 machine.old steps.old machine.new steps.new }
 {
     if room == 0 {
         return too_deep(machine.alloc);
@@ -57,6 +59,7 @@ pub(crate) fn called<L: Ledger>(
 
 // The body of a function, with these locals. One level is for the call, and one for the block.
 #[cycle(run)]
+#[inline(never)]
 fn entered<L: Ledger>(
     machine: &mut Machine,
     def: &Def,
@@ -71,6 +74,7 @@ fn entered<L: Ledger>(
     ensures gives { Gives value_of result (moment_of machine.new) ((deeper (in_frame (frame_of frame) (in_block (definition_of def.now).body (acts (call room) (definition_of def.now).body))) ⊳ λ f. give (result_of f)) (moment_of machine.old)) }
     ensures sound { IsSound (λ v. is_sound (length machine.new.heap) (value_of v)) (length machine.new.heap) result }
     ensures kept { GrownBy 0 machine.old steps.old machine.new steps.new }
+    ensures reads { ReadsBy 0 machine.old steps.old machine.new steps.new }
 {
     let depth = machine.budget.depth;
     if depth >= MOST_DEPTH {

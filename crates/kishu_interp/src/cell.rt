@@ -7,7 +7,7 @@ ghost use Rattle.kishu_model.specs.Values.{value_of};
 ghost use Rattle.kishu_calls.specs.Trees.{statements_of};
 ghost use Rattle.kishu_model.specs.Fits.{StatementFits, StatementsFit};
 ghost use Rattle.kishu_interp.specs.Forms.{each, silent_act};
-ghost use Rattle.kishu_machine.specs.Machine.{Gives, GrownBy, HasRoom, HasRoomBy, IsSound, moment_of, shown_of};
+ghost use Rattle.kishu_machine.specs.Machine.{Gives, GrownBy, HasRoom, HasRoomBy, IsSound, ReadsBy, moment_of, shown_of};
 ghost use Rattle.kishu_model.specs.Tree as t;
 
 use crate::expressions::evaluate;
@@ -28,6 +28,7 @@ fn shown_value<L: Ledger>(
     ensures gives { Gives shown_of result (moment_of machine.new) (shown_text (value_of value.now) (moment_of machine.old)) }
     ensures sound { IsSound (λ _. true) (length machine.new.heap) result }
     ensures kept { GrownBy 0 machine.old steps.old machine.new steps.new }
+    ensures reads { ReadsBy 8 machine.old steps.old machine.new steps.new }
 {
     if let Value::None = value {
         return Ok(None);
@@ -48,6 +49,7 @@ fn run_last_statement<L: Ledger>(
     ensures gives { Gives shown_of result (moment_of machine.new) (last_act (statement_of statement.now) (moment_of machine.old)) }
     ensures sound { IsSound (λ _. true) (length machine.new.heap) result }
     ensures kept { GrownBy 3 machine.old steps.old machine.new steps.new }
+    ensures reads { ReadsBy 16 machine.old steps.old machine.new steps.new }
 {
     if let Some(value) = shown_expression(statement) {
         let value = evaluate(machine, value, MOST_CALLS, steps)?;
@@ -101,6 +103,7 @@ pub(crate) fn run_statements<L: Ledger>(
     ensures gives { Gives shown_of result (moment_of machine.new) (cell (map statement_of statements.now) (moment_of machine.old)) }
     ensures sound { IsSound (λ _. true) (length machine.new.heap) result }
     ensures kept { GrownBy 0 machine.old steps.old machine.new steps.new }
+    ensures reads { ReadsBy 0 machine.old steps.old machine.new steps.new }
 {
     let Some((last, before)) = statements.split_last() else {
         return Ok(None);
@@ -122,6 +125,7 @@ fn run_each<L: Ledger>(
     ensures gives { Gives (λ u. u) result (moment_of machine.new) (each (map statement_of statements.now) (moment_of machine.old)) }
     ensures sound { IsSound (λ _. true) (length machine.new.heap) result }
     ensures kept { GrownBy 0 machine.old steps.old machine.new steps.new }
+    ensures reads { ReadsBy 0 machine.old steps.old machine.new steps.new }
 {
     for statement in statements {
         tick(machine, steps)?;

@@ -1,22 +1,22 @@
 // Expressions.
-ghost use Rattle.std.specs.Prelude.{[], IsTrue, OnOk, length, map, true, ◌+◌, ◌<◌, ◌^◌, ◌≡◌};
+ghost use Rattle.std.specs.Prelude.{IfOk, IsTrue, OnOk, length, map, true, [], ◌*◌, ◌+◌, ◌<◌, ◌^◌, ◌≡◌, ◌≤◌};
 ghost use Rattle.std.specs.List.{list_all};
 ghost use Rattle.std.specs.Rc.{rc_str_bytes};
 ghost use Rattle.std.specs.Str.{chars};
-ghost use Rattle.kishu_model.specs.Height.{of_arguments, of_bound, of_expression, of_expressions, of_links, of_operands, of_pairs, of_trailer, of_trailers};
+ghost use Rattle.kishu_model.specs.Height.{of_arguments, of_bound, of_expression, of_expressions, of_links, of_operands, of_pairs, of_trailers};
 ghost use Rattle.kishu_model.specs.Meaning.{apply, bound_value, call, call_value, expr, first_that, inner_values, new_dict, nodes, part, values, with_pairs};
 ghost use Rattle.kishu_model.specs.Moment.{deeper, give, read, tick, ◌>>=◌ as ◌⊳◌, ◌>>◌ as ◌▹◌};
 ghost use Rattle.kishu_model.specs.Refusals.{all_differ};
 ghost use Rattle.kishu_model.specs.Sound.{are_sound, is_sound};
 ghost use Rattle.kishu_model.specs.Tree.{expression_of, value_of as tree_value};
 ghost use Rattle.kishu_model.specs.Values.{node, value_of};
-ghost use Rattle.kishu_calls.specs.Calls.{Owing, callee_of, given_of, is_sound_callee, is_sound_given, is_sound_part, owed, part_of};
-ghost use Rattle.kishu_calls.specs.Trees.{arguments_of, expressions_of, links_of, operands_of, pairs_of, trailer_of, trailers_of};
+ghost use Rattle.kishu_calls.specs.Calls.{OwesReads, Owing, callee_of, given_of, is_sound_callee, is_sound_given, is_sound_part, owed, part_of};
+ghost use Rattle.kishu_calls.specs.Trees.{arguments_of, expressions_of, links_of, operands_of, pairs_of, trailers_of};
 ghost use Rattle.kishu_heap.specs.Cells.{entries_of};
-ghost use Rattle.kishu_model.specs.Fits.{ArgumentsFit, BoundFits, ExpressionFits, ExpressionsFit, LinksFit, OperandsFit, PairsFit, TrailerFits, TrailersFit, keywords};
-ghost use Rattle.kishu_interp.specs.Forms.{linked, slice_part};
+ghost use Rattle.kishu_model.specs.Fits.{ArgumentsFit, BoundFits, ExpressionFits, ExpressionsFit, LinksFit, OperandsFit, PairsFit, TrailersFit, keywords};
+ghost use Rattle.kishu_interp.specs.Forms.{LeavesPart, slice_part};
 ghost use Rattle.kishu_machine.specs.Lists.{are_sound_pairs, value_pairs};
-ghost use Rattle.kishu_machine.specs.Machine.{Gives, GrownBy, HasRoom, HasRoomBy, IsSound, moment_of};
+ghost use Rattle.kishu_machine.specs.Machine.{Gives, GrownBy, HasRoom, HasRoomBy, IsSound, LeavesReads, ReadsBy, moment_of};
 ghost use Rattle.kishu_model.specs.Callees as c;
 ghost use Rattle.kishu_model.specs.Meaning as m;
 ghost use Rattle.kishu_model.specs.Tree as t;
@@ -43,6 +43,7 @@ use std::sync::ledger::Ledger;
 /// The value of an expression (Python Language Reference 3, "Expressions"). `room` is how many calls
 /// may still be entered.
 #[cycle(run)]
+#[inline(never)]
 #[tactic(auto, using(kishu_calls::specs::Rows::tree_rows))]
 pub(crate) fn evaluate<L: Ledger>(
     machine: &mut Machine,
@@ -56,14 +57,15 @@ pub(crate) fn evaluate<L: Ledger>(
     ensures gives { Gives value_of result (moment_of machine.new) (expr (call room) (expression_of e.now) (moment_of machine.old)) }
     ensures sound { IsSound (λ v. is_sound (length machine.new.heap) (value_of v)) (length machine.new.heap) result }
     ensures kept { GrownBy 0 machine.old steps.old machine.new steps.new }
+    ensures reads { LeavesReads 64 machine.old steps.old result machine.new steps.new }
 {
     match e {
         Expr::Name(name) => name_value(machine, name.as_str(), steps),
-        Expr::Int(number) => constant(machine, Value::Int(*number), steps),
+        Expr::Int(number) => integer(machine, *number, steps),
         Expr::Text(text) => text_value(machine, text, steps),
-        Expr::None => constant(machine, Value::None, steps),
-        Expr::True => constant(machine, Value::Bool(true), steps),
-        Expr::False => constant(machine, Value::Bool(false), steps),
+        Expr::None => none_value(machine, steps),
+        Expr::True => truth_value(machine, true, steps),
+        Expr::False => truth_value(machine, false, steps),
         Expr::Paren(e) => deeper_value(machine, e, room, steps),
         Expr::Tuple(items) => tuple_value(machine, items, room, steps),
         Expr::List(items) => list_value(machine, items, room, steps),
@@ -83,6 +85,7 @@ pub(crate) fn evaluate<L: Ledger>(
     }
 }
 
+#[inline(never)]
 fn name_value<L: Ledger>(
     machine: &mut Machine,
     name: &str,
@@ -91,9 +94,48 @@ fn name_value<L: Ledger>(
     ensures gives { Gives value_of result (moment_of machine.new) ((tick ▹ read name.now) (moment_of machine.old)) }
     ensures sound { IsSound (λ v. is_sound (length machine.new.heap) (value_of v)) (length machine.new.heap) result }
     ensures kept { GrownBy 0 machine.old steps.old machine.new steps.new }
+    ensures reads { LeavesReads 64 machine.old steps.old result machine.new steps.new }
 {
     tick(machine, steps)?;
     read(machine, name)
+}
+
+#[inline(never)]
+fn integer<L: Ledger>(
+    machine: &mut Machine,
+    number: i128,
+    steps: &mut Steps<L>,
+) -> Result<Value, Fault>
+    ensures gives { Gives value_of result (moment_of machine.new) ((tick ▹ give (model.integer number)) (moment_of machine.old)) }
+    ensures sound { IsSound (λ v. is_sound (length machine.new.heap) (value_of v)) (length machine.new.heap) result }
+    ensures kept { GrownBy 0 machine.old steps.old machine.new steps.new }
+    ensures reads { LeavesReads 64 machine.old steps.old result machine.new steps.new }
+{
+    constant(machine, Value::Int(number), steps)
+}
+
+#[inline(never)]
+fn truth_value<L: Ledger>(
+    machine: &mut Machine,
+    holds: bool,
+    steps: &mut Steps<L>,
+) -> Result<Value, Fault>
+    ensures gives { Gives value_of result (moment_of machine.new) ((tick ▹ give (model.bool holds)) (moment_of machine.old)) }
+    ensures sound { IsSound (λ v. is_sound (length machine.new.heap) (value_of v)) (length machine.new.heap) result }
+    ensures kept { GrownBy 0 machine.old steps.old machine.new steps.new }
+    ensures reads { LeavesReads 64 machine.old steps.old result machine.new steps.new }
+{
+    constant(machine, Value::Bool(holds), steps)
+}
+
+#[inline(never)]
+fn none_value<L: Ledger>(machine: &mut Machine, steps: &mut Steps<L>) -> Result<Value, Fault>
+    ensures gives { Gives value_of result (moment_of machine.new) ((tick ▹ give model.none) (moment_of machine.old)) }
+    ensures sound { IsSound (λ v. is_sound (length machine.new.heap) (value_of v)) (length machine.new.heap) result }
+    ensures kept { GrownBy 0 machine.old steps.old machine.new steps.new }
+    ensures reads { LeavesReads 64 machine.old steps.old result machine.new steps.new }
+{
+    constant(machine, Value::None, steps)
 }
 
 fn constant<L: Ledger>(
@@ -105,11 +147,13 @@ fn constant<L: Ledger>(
     ensures gives { Gives value_of result (moment_of machine.new) ((tick ▹ give (value_of value)) (moment_of machine.old)) }
     ensures sound { IsSound (λ v. is_sound (length machine.new.heap) (value_of v)) (length machine.new.heap) result }
     ensures kept { GrownBy 0 machine.old steps.old machine.new steps.new }
+    ensures reads { LeavesReads 64 machine.old steps.old result machine.new steps.new }
 {
     tick(machine, steps)?;
     Ok(value)
 }
 
+#[inline(never)]
 fn text_value<L: Ledger>(
     machine: &mut Machine,
     text: &RcStr,
@@ -118,6 +162,7 @@ fn text_value<L: Ledger>(
     ensures gives { Gives value_of result (moment_of machine.new) ((tick ▹ give (model.text (chars (rc_str_bytes text.now)))) (moment_of machine.old)) }
     ensures sound { IsSound (λ v. is_sound (length machine.new.heap) (value_of v)) (length machine.new.heap) result }
     ensures kept { GrownBy 0 machine.old steps.old machine.new steps.new }
+    ensures reads { LeavesReads 64 machine.old steps.old result machine.new steps.new }
 {
     tick(machine, steps)?;
     Ok(Value::Text(text.clone()?))
@@ -125,6 +170,7 @@ fn text_value<L: Ledger>(
 
 /// The value of an expression that lies one level deeper.
 #[cycle(run)]
+#[inline(never)]
 pub(crate) fn deeper_value<L: Ledger>(
     machine: &mut Machine,
     e: &Expr,
@@ -137,6 +183,7 @@ pub(crate) fn deeper_value<L: Ledger>(
     ensures gives { Gives value_of result (moment_of machine.new) (deeper (expr (call room) (expression_of e.now)) (moment_of machine.old)) }
     ensures sound { IsSound (λ v. is_sound (length machine.new.heap) (value_of v)) (length machine.new.heap) result }
     ensures kept { GrownBy 0 machine.old steps.old machine.new steps.new }
+    ensures reads { LeavesReads 64 machine.old steps.old result machine.new steps.new }
 {
     let depth = machine.budget.depth;
     if depth >= MOST_DEPTH {
@@ -151,6 +198,7 @@ pub(crate) fn deeper_value<L: Ledger>(
 // ---- displays
 
 #[cycle(run)]
+#[inline(never)]
 fn tuple_value<L: Ledger>(
     machine: &mut Machine,
     items: &[Expr],
@@ -163,6 +211,7 @@ fn tuple_value<L: Ledger>(
     ensures gives { Gives value_of result (moment_of machine.new) (expr (call room) (t.tuple (expressions_of items.now)) (moment_of machine.old)) }
     ensures sound { IsSound (λ v. is_sound (length machine.new.heap) (value_of v)) (length machine.new.heap) result }
     ensures kept { GrownBy 0 machine.old steps.old machine.new steps.new }
+    ensures reads { LeavesReads 64 machine.old steps.old result machine.new steps.new }
 {
     tick(machine, steps)?;
     let values = values_of(machine, items, room, steps)?;
@@ -170,6 +219,7 @@ fn tuple_value<L: Ledger>(
 }
 
 #[cycle(run)]
+#[inline(never)]
 fn values_of<L: Ledger>(
     machine: &mut Machine,
     items: &[Expr],
@@ -182,6 +232,7 @@ fn values_of<L: Ledger>(
     ensures gives { Gives (λ v. map value_of v.items) result (moment_of machine.new) (values (call room) (expressions_of items.now) (moment_of machine.old)) }
     ensures sound { IsSound (λ v. are_sound (length machine.new.heap) (map value_of v.items)) (length machine.new.heap) result }
     ensures kept { GrownBy 0 machine.old steps.old machine.new steps.new }
+    ensures reads { ReadsBy 0 machine.old steps.old machine.new steps.new }
 {
     let mut values = Vec::new(machine.alloc);
     for item in items {
@@ -191,6 +242,7 @@ fn values_of<L: Ledger>(
 }
 
 #[cycle(run)]
+#[inline(never)]
 fn list_value<L: Ledger>(
     machine: &mut Machine,
     items: &[Expr],
@@ -203,6 +255,7 @@ fn list_value<L: Ledger>(
     ensures gives { Gives value_of result (moment_of machine.new) (expr (call room) (t.list (expressions_of items.now)) (moment_of machine.old)) }
     ensures sound { IsSound (λ v. is_sound (length machine.new.heap) (value_of v)) (length machine.new.heap) result }
     ensures kept { GrownBy 0 machine.old steps.old machine.new steps.new }
+    ensures reads { LeavesReads 64 machine.old steps.old result machine.new steps.new }
 {
     tick(machine, steps)?;
     let values = inner_values(machine, items, room, steps)?;
@@ -211,6 +264,7 @@ fn list_value<L: Ledger>(
 
 // In brackets.
 #[cycle(run)]
+#[inline(never)]
 fn inner_values<L: Ledger>(
     machine: &mut Machine,
     items: &[Expr],
@@ -223,6 +277,7 @@ fn inner_values<L: Ledger>(
     ensures gives { Gives (λ v. map value_of v.items) result (moment_of machine.new) (inner_values (call room) (expressions_of items.now) (moment_of machine.old)) }
     ensures sound { IsSound (λ v. are_sound (length machine.new.heap) (map value_of v.items)) (length machine.new.heap) result }
     ensures kept { GrownBy 0 machine.old steps.old machine.new steps.new }
+    ensures reads { ReadsBy 0 machine.old steps.old machine.new steps.new }
 {
     let mut values = Vec::new(machine.alloc);
     for item in items {
@@ -232,6 +287,7 @@ fn inner_values<L: Ledger>(
 }
 
 #[cycle(run)]
+#[inline(never)]
 fn dict_value<L: Ledger>(
     machine: &mut Machine,
     pairs: &[Pair],
@@ -244,6 +300,7 @@ fn dict_value<L: Ledger>(
     ensures gives { Gives value_of result (moment_of machine.new) (expr (call room) (t.dict (pairs_of pairs.now)) (moment_of machine.old)) }
     ensures sound { IsSound (λ v. is_sound (length machine.new.heap) (value_of v)) (length machine.new.heap) result }
     ensures kept { GrownBy 0 machine.old steps.old machine.new steps.new }
+    ensures reads { LeavesReads 64 machine.old steps.old result machine.new steps.new }
 {
     tick(machine, steps)?;
     let entries = pair_values(machine, pairs, room, steps)?;
@@ -252,6 +309,7 @@ fn dict_value<L: Ledger>(
 
 // All keys and values, from left to right.
 #[cycle(run)]
+#[inline(never)]
 fn pair_values<L: Ledger>(
     machine: &mut Machine,
     pairs: &[Pair],
@@ -264,6 +322,8 @@ fn pair_values<L: Ledger>(
     ensures gives { Gives value_pairs result (moment_of machine.new) (m.pairs (call room) (pairs_of pairs.now) (moment_of machine.old)) }
     ensures sound { IsSound (λ v. are_sound_pairs (length machine.new.heap) (value_pairs v)) (length machine.new.heap) result }
     ensures kept { GrownBy 0 machine.old steps.old machine.new steps.new }
+    ensures reads { ReadsBy 0 machine.old steps.old machine.new steps.new }
+    ensures paid { IfOk result (λ v. steps.new + 128 * machine.new.budget.left + 4 * length v.items ≤ steps.old + 128 * machine.old.budget.left) }
 {
     let mut entries = Vec::new(machine.alloc);
     for pair in pairs {
@@ -275,6 +335,7 @@ fn pair_values<L: Ledger>(
 }
 
 // A dict with these entries.
+#[inline(never)]
 fn new_dict<L: Ledger>(
     machine: &mut Machine,
     pairs: Vec<(Value, Value)>,
@@ -285,6 +346,7 @@ fn new_dict<L: Ledger>(
     ensures gives { Gives value_of result (moment_of machine.new) (new_dict (value_pairs pairs) (moment_of machine.old)) }
     ensures sound { IsSound (λ v. is_sound (length machine.new.heap) (value_of v)) (length machine.new.heap) result }
     ensures kept { GrownBy 1 machine.old steps.old machine.new steps.new }
+    ensures reads { ReadsBy (4 * length pairs.items) machine.old steps.old machine.new steps.new }
 {
     let entries = entries_from(machine, pairs, steps)?;
     Ok(Value::Node(make(machine, Node::Dict(entries))?))
@@ -300,6 +362,7 @@ fn entries_from<L: Ledger>(
     ensures gives { Gives (λ es. entries_of es.entries) result (moment_of machine.new) (with_pairs (value_pairs pairs) [] (moment_of machine.old)) }
     ensures sound { IsSound (λ es. list_all (λ e. is_sound (length machine.new.heap) e.1) (entries_of es.entries)) (length machine.new.heap) result }
     ensures kept { GrownBy 0 machine.old steps.old machine.new steps.new }
+    ensures reads { ReadsBy (4 * length pairs.items) machine.old steps.old machine.new steps.new }
     ensures heap { machine.new.heap ≡ machine.old.heap }
 {
     let mut entries = IndexMap::new(machine.alloc);
@@ -313,6 +376,7 @@ fn entries_from<L: Ledger>(
 // ---- operators
 
 #[cycle(run)]
+#[inline(never)]
 fn chosen_value<L: Ledger>(
     machine: &mut Machine,
     value: &Expr,
@@ -331,18 +395,22 @@ fn chosen_value<L: Ledger>(
     ensures gives { Gives value_of result (moment_of machine.new) (expr (call room) (t.conditional (expression_of value.now) (expression_of test.now) (expression_of other.now)) (moment_of machine.old)) }
     ensures sound { IsSound (λ v. is_sound (length machine.new.heap) (value_of v)) (length machine.new.heap) result }
     ensures kept { GrownBy 0 machine.old steps.old machine.new steps.new }
+    ensures reads { LeavesReads 64 machine.old steps.old result machine.new steps.new }
 {
     tick(machine, steps)?;
-    let decision = evaluate(machine, test, room, steps)?;
+    let decision = match evaluate(machine, test, room, steps) {
+        Ok(decision) => decision,
+        Err(fault) => return Err(fault),
+    };
     if truth(machine, &decision, steps) {
-        evaluate(machine, value, room, steps)
-    } else {
-        deeper_value(machine, other, room, steps)
+        return evaluate(machine, value, room, steps);
     }
+    deeper_value(machine, other, room, steps)
 }
 
 // The operand that decides: the first of this truth, or the last.
 #[cycle(run)]
+#[inline(never)]
 fn deciding_value<L: Ledger>(
     machine: &mut Machine,
     which: bool,
@@ -356,10 +424,14 @@ fn deciding_value<L: Ledger>(
     ensures gives { Gives value_of result (moment_of machine.new) ((tick ▹ first_that (call room) which (expressions_of operands.now)) (moment_of machine.old)) }
     ensures sound { IsSound (λ v. is_sound (length machine.new.heap) (value_of v)) (length machine.new.heap) result }
     ensures kept { GrownBy 0 machine.old steps.old machine.new steps.new }
+    ensures reads { LeavesReads 64 machine.old steps.old result machine.new steps.new }
 {
     tick(machine, steps)?;
     for i in 0..operands.len() {
-        let value = evaluate(machine, &operands[i], room, steps)?;
+        let value = match evaluate(machine, &operands[i], room, steps) {
+            Ok(value) => value,
+            Err(fault) => return Err(fault),
+        };
         if i + 1 == operands.len() || truth(machine, &value, steps) == which {
             return Ok(value);
         }
@@ -368,6 +440,7 @@ fn deciding_value<L: Ledger>(
 }
 
 #[cycle(run)]
+#[inline(never)]
 fn negated_value<L: Ledger>(
     machine: &mut Machine,
     e: &Expr,
@@ -380,6 +453,7 @@ fn negated_value<L: Ledger>(
     ensures gives { Gives value_of result (moment_of machine.new) (expr (call room) (t.not (expression_of e.now)) (moment_of machine.old)) }
     ensures sound { IsSound (λ v. is_sound (length machine.new.heap) (value_of v)) (length machine.new.heap) result }
     ensures kept { GrownBy 0 machine.old steps.old machine.new steps.new }
+    ensures reads { LeavesReads 64 machine.old steps.old result machine.new steps.new }
 {
     let value = deeper_value(machine, e, room, steps)?;
     tick(machine, steps)?;
@@ -387,6 +461,7 @@ fn negated_value<L: Ledger>(
 }
 
 #[cycle(run)]
+#[inline(never)]
 fn value_with_sign<L: Ledger>(
     machine: &mut Machine,
     sign: Sign,
@@ -400,6 +475,7 @@ fn value_with_sign<L: Ledger>(
     ensures gives { Gives value_of result (moment_of machine.new) (expr (call room) (t.signed sign (expression_of e.now)) (moment_of machine.old)) }
     ensures sound { IsSound (λ v. is_sound (length machine.new.heap) (value_of v)) (length machine.new.heap) result }
     ensures kept { GrownBy 0 machine.old steps.old machine.new steps.new }
+    ensures reads { LeavesReads 64 machine.old steps.old result machine.new steps.new }
 {
     let value = deeper_value(machine, e, room, steps)?;
     tick(machine, steps)?;
@@ -407,6 +483,7 @@ fn value_with_sign<L: Ledger>(
 }
 
 #[cycle(run)]
+#[inline(never)]
 fn power_value<L: Ledger>(
     machine: &mut Machine,
     base: &Expr,
@@ -422,15 +499,23 @@ fn power_value<L: Ledger>(
     ensures gives { Gives value_of result (moment_of machine.new) (expr (call room) (t.power (expression_of base.now) (expression_of exponent.now)) (moment_of machine.old)) }
     ensures sound { IsSound (λ v. is_sound (length machine.new.heap) (value_of v)) (length machine.new.heap) result }
     ensures kept { GrownBy 0 machine.old steps.old machine.new steps.new }
+    ensures reads { LeavesReads 64 machine.old steps.old result machine.new steps.new }
 {
-    let base = evaluate(machine, base, room, steps)?;
-    let exponent = deeper_value(machine, exponent, room, steps)?;
+    let base = match evaluate(machine, base, room, steps) {
+        Ok(base) => base,
+        Err(fault) => return Err(fault),
+    };
+    let exponent = match deeper_value(machine, exponent, room, steps) {
+        Ok(exponent) => exponent,
+        Err(fault) => return Err(fault),
+    };
     tick(machine, steps)?;
     operate(machine, Operator::Power, &base, &exponent, steps)
 }
 
 // A term or a factor, and the operators on it from left to right.
 #[cycle(run)]
+#[inline(never)]
 #[tactic(auto, using(kishu_calls::specs::Rows::part_rows))]
 fn combined_value<L: Ledger>(
     machine: &mut Machine,
@@ -447,17 +532,30 @@ fn combined_value<L: Ledger>(
     ensures gives { Gives value_of result (moment_of machine.new) (expr (call room) (t.sum (expression_of first.now) (operands_of others.now)) (moment_of machine.old)) }
     ensures sound { IsSound (λ v. is_sound (length machine.new.heap) (value_of v)) (length machine.new.heap) result }
     ensures kept { GrownBy 0 machine.old steps.old machine.new steps.new }
+    ensures reads { LeavesReads 64 machine.old steps.old result machine.new steps.new }
 {
-    let mut value = evaluate(machine, first, room, steps)?;
+    let mut value = match evaluate(machine, first, room, steps) {
+        Ok(value) => value,
+        Err(fault) => return Err(fault),
+    };
     for other in others {
-        let right = evaluate(machine, &other.value, room, steps)?;
+        let right = match evaluate(machine, &other.value, room, steps) {
+            Ok(right) => right,
+            Err(fault) => return Err(fault),
+        };
         tick(machine, steps)?;
-        value = operate(machine, other.operator, &value, &right, steps)?;
+        value = match operate(machine, other.operator, &value, &right, steps) {
+            Ok(result) => result,
+            Err(fault) => return Err(fault),
+        };
     }
     Ok(value)
 }
 
+// Each operand once, up to the first comparison that is false.
 #[cycle(run)]
+#[inline(never)]
+#[tactic(auto, using(kishu_calls::specs::Rows::part_rows))]
 fn compared_value<L: Ledger>(
     machine: &mut Machine,
     first: &Expr,
@@ -473,40 +571,26 @@ fn compared_value<L: Ledger>(
     ensures gives { Gives value_of result (moment_of machine.new) (expr (call room) (t.compared (expression_of first.now) (links_of links.now)) (moment_of machine.old)) }
     ensures sound { IsSound (λ v. is_sound (length machine.new.heap) (value_of v)) (length machine.new.heap) result }
     ensures kept { GrownBy 0 machine.old steps.old machine.new steps.new }
+    ensures reads { LeavesReads 64 machine.old steps.old result machine.new steps.new }
 {
-    let value = evaluate(machine, first, room, steps)?;
+    let mut left = match evaluate(machine, first, room, steps) {
+        Ok(value) => value,
+        Err(fault) => return Err(fault),
+    };
     if links.is_empty() {
-        return Ok(value);
+        return Ok(left);
     }
-    linked_value(machine, value, links, room, steps)
-}
-
-// Each operand once, up to the first comparison that is false.
-#[cycle(run)]
-#[tactic(auto, using(kishu_calls::specs::Rows::part_rows))]
-fn linked_value<L: Ledger>(
-    machine: &mut Machine,
-    first: Value,
-    links: &[Link],
-    room: u32,
-    steps: &mut Steps<L>,
-) -> Result<Value, Fault>
-    requires sound_first { IsTrue (is_sound (length machine.old.heap) (value_of first)) }
-    requires small { of_links (links_of links.now) < 2 ^ 20 }
-    requires fits { LinksFit (links_of links.now) }
-    requires room { HasRoom machine.old }
-    ensures gives { Gives value_of result (moment_of machine.new) (linked (call room) (value_of first) (links_of links.now) (moment_of machine.old)) }
-    ensures sound { IsSound (λ v. is_sound (length machine.new.heap) (value_of v)) (length machine.new.heap) result }
-    ensures kept { GrownBy 0 machine.old steps.old machine.new steps.new }
-{
-    let mut left = first;
     for link in links {
-        let right = evaluate(machine, &link.value, room, steps)?;
+        let right = match evaluate(machine, &link.value, room, steps) {
+            Ok(right) => right,
+            Err(fault) => return Err(fault),
+        };
         tick(machine, steps)?;
-        if !compare(machine, link.comparison, &left, &right, steps)? {
-            return Ok(Value::Bool(false));
+        match compare(machine, link.comparison, &left, &right, steps) {
+            Ok(true) => left = right,
+            Ok(false) => return Ok(Value::Bool(false)),
+            Err(fault) => return Err(fault),
         }
-        left = right;
     }
     Ok(Value::Bool(true))
 }
@@ -522,6 +606,7 @@ fn take_nodes<L: Ledger>(
     ensures gives { Gives (λ u. u) result (moment_of machine.new) (nodes (trailers_of trailers.now) (moment_of machine.old)) }
     ensures sound { IsSound (λ _. true) (length machine.new.heap) result }
     ensures kept { GrownBy 0 machine.old steps.old machine.new steps.new }
+    ensures counted { steps.new + machine.new.budget.left ≡ steps.old + machine.old.budget.left }
     ensures taken { OnOk result (machine.new.budget.left + length trailers.now ≡ machine.old.budget.left) }
     ensures heap { machine.new.heap ≡ machine.old.heap }
 {
@@ -532,6 +617,7 @@ fn take_nodes<L: Ledger>(
 }
 
 #[cycle(run)]
+#[inline(never)]
 #[tactic(auto, using(crate::proofs::Chains::in_turn))]
 fn primary_value<L: Ledger>(
     machine: &mut Machine,
@@ -548,12 +634,17 @@ fn primary_value<L: Ledger>(
     ensures gives { Gives value_of result (moment_of machine.new) (expr (call room) (t.primary (expression_of atom.now) (trailers_of trailers.now)) (moment_of machine.old)) }
     ensures sound { IsSound (λ v. is_sound (length machine.new.heap) (value_of v)) (length machine.new.heap) result }
     ensures kept { GrownBy 0 machine.old steps.old machine.new steps.new }
+    ensures reads { LeavesReads 64 machine.old steps.old result machine.new steps.new }
 {
-    let part = primary_part(machine, atom, trailers, room, steps)?;
-    settled(machine, part, steps)
+    take_nodes(machine, trailers, steps)?;
+    match part_behind(machine, atom, trailers, room, steps) {
+        Ok(part) => settled(machine, part, steps),
+        Err(fault) => Err(fault),
+    }
 }
 
 #[cycle(run)]
+#[inline(never)]
 fn primary_part<L: Ledger>(
     machine: &mut Machine,
     atom: &Expr,
@@ -569,6 +660,7 @@ fn primary_part<L: Ledger>(
     ensures gives { Gives part_of result (moment_of machine.new) ((nodes (trailers_of trailers.now) ▹ part (call room) (expression_of atom.now) (expr (call room) (expression_of atom.now)) ⊳ λ p. m.trailers (call room) p (trailers_of trailers.now)) (moment_of machine.old)) }
     ensures sound { IsSound (λ v. is_sound_part (length machine.new.heap) (part_of v)) (length machine.new.heap) result }
     ensures kept { GrownBy 0 machine.old steps.old machine.new steps.new }
+    ensures reads { LeavesPart 0 machine.old steps.old result machine.new steps.new }
     ensures owes { Owing 0 machine.old result machine.new }
 {
     take_nodes(machine, trailers, steps)?;
@@ -577,6 +669,8 @@ fn primary_part<L: Ledger>(
 
 /// What the trailers behind an atom make of it, whose steps were taken.
 #[cycle(run)]
+#[inline(never)]
+#[tactic(auto, using(kishu_calls::specs::Rows::tree_rows))]
 pub(crate) fn part_behind<L: Ledger>(
     machine: &mut Machine,
     atom: &Expr,
@@ -592,17 +686,31 @@ pub(crate) fn part_behind<L: Ledger>(
     ensures gives { Gives part_of result (moment_of machine.new) ((part (call room) (expression_of atom.now) (expr (call room) (expression_of atom.now)) ⊳ λ p. m.trailers (call room) p (trailers_of trailers.now)) (moment_of machine.old)) }
     ensures sound { IsSound (λ v. is_sound_part (length machine.new.heap) (part_of v)) (length machine.new.heap) result }
     ensures kept { GrownBy (length trailers.now) machine.old steps.old machine.new steps.new }
+    ensures reads { LeavesPart (120 * length trailers.now) machine.old steps.old result machine.new steps.new }
     ensures owes { Owing (length trailers.now) machine.old result machine.new }
 {
-    let mut found = part(machine, atom, room, steps)?;
+    let mut found = part(machine, atom, room, steps);
     for trailer in trailers {
-        found = trailer_part(machine, found, trailer, room, steps)?;
+        match found {
+            Ok(part) => {
+                found = match trailer {
+                    Trailer::Attribute(name) => dotted_part(machine, part, name, steps),
+                    Trailer::Call(arguments) => called_part(machine, part, arguments, room, steps),
+                    Trailer::Index(index) => item_part(machine, part, index, room, steps),
+                    Trailer::Slice { start, stop, step } => {
+                        sliced_part(machine, part, start, stop, step, room, steps)
+                    }
+                }
+            }
+            Err(fault) => return Err(fault),
+        }
     }
-    Ok(found)
+    found
 }
 
 /// A primary, in parentheses too, may be what a call or a walk asks for; all else is its value.
 #[cycle(run)]
+#[inline(never)]
 #[tactic(auto, using(kishu_calls::specs::Rows::tree_rows))]
 pub(crate) fn part<L: Ledger>(
     machine: &mut Machine,
@@ -616,6 +724,7 @@ pub(crate) fn part<L: Ledger>(
     ensures gives { Gives part_of result (moment_of machine.new) (part (call room) (expression_of e.now) (expr (call room) (expression_of e.now)) (moment_of machine.old)) }
     ensures sound { IsSound (λ v. is_sound_part (length machine.new.heap) (part_of v)) (length machine.new.heap) result }
     ensures kept { GrownBy 0 machine.old steps.old machine.new steps.new }
+    ensures reads { LeavesPart 0 machine.old steps.old result machine.new steps.new }
     ensures owes { Owing 0 machine.old result machine.new }
 {
     match e {
@@ -643,6 +752,7 @@ pub(crate) fn part<L: Ledger>(
 }
 
 #[cycle(run)]
+#[inline(never)]
 fn whole_part<L: Ledger>(
     machine: &mut Machine,
     e: &Expr,
@@ -655,12 +765,14 @@ fn whole_part<L: Ledger>(
     ensures gives { Gives part_of result (moment_of machine.new) ((expr (call room) (expression_of e.now) ⊳ λ v. give (c.whole v)) (moment_of machine.old)) }
     ensures sound { IsSound (λ v. is_sound_part (length machine.new.heap) (part_of v)) (length machine.new.heap) result }
     ensures kept { GrownBy 0 machine.old steps.old machine.new steps.new }
+    ensures reads { LeavesPart 0 machine.old steps.old result machine.new steps.new }
     ensures owes { Owing 0 machine.old result machine.new }
 {
     Ok(Part::Whole(evaluate(machine, e, room, steps)?))
 }
 
 #[cycle(run)]
+#[inline(never)]
 fn deeper_part<L: Ledger>(
     machine: &mut Machine,
     e: &Expr,
@@ -673,6 +785,7 @@ fn deeper_part<L: Ledger>(
     ensures gives { Gives part_of result (moment_of machine.new) (deeper (part (call room) (expression_of e.now) (expr (call room) (expression_of e.now))) (moment_of machine.old)) }
     ensures sound { IsSound (λ v. is_sound_part (length machine.new.heap) (part_of v)) (length machine.new.heap) result }
     ensures kept { GrownBy 0 machine.old steps.old machine.new steps.new }
+    ensures reads { LeavesPart 0 machine.old steps.old result machine.new steps.new }
     ensures owes { Owing 0 machine.old result machine.new }
 {
     let depth = machine.budget.depth;
@@ -685,38 +798,41 @@ fn deeper_part<L: Ledger>(
     result
 }
 
-/// What is done with a part.
 #[cycle(run)]
-#[tactic(auto, using(kishu_calls::specs::Rows::tree_rows))]
-pub(crate) fn trailer_part<L: Ledger>(
+#[inline(never)]
+fn sliced_part<L: Ledger>(
     machine: &mut Machine,
     part: Part,
-    trailer: &Trailer,
+    start: &Option<Expr>,
+    stop: &Option<Expr>,
+    step: &Option<Expr>,
     room: u32,
     steps: &mut Steps<L>,
 ) -> Result<Part, Fault>
     requires sound_part { IsTrue (is_sound_part (length machine.old.heap) (part_of part)) }
-    requires small { of_trailer (trailer_of trailer.now) < 2 ^ 20 }
-    requires fits { TrailerFits (trailer_of trailer.now) }
+    requires small_start { of_bound (t.bound_of (tree_value start.now)) < 2 ^ 20 }
+    requires fit_start { BoundFits (t.bound_of (tree_value start.now)) }
+    requires small_stop { of_bound (t.bound_of (tree_value stop.now)) < 2 ^ 20 }
+    requires fit_stop { BoundFits (t.bound_of (tree_value stop.now)) }
+    requires small_step { of_bound (t.bound_of (tree_value step.now)) < 2 ^ 20 }
+    requires fit_step { BoundFits (t.bound_of (tree_value step.now)) }
     requires room { HasRoomBy (1 + owed (part_of part)) machine.old }
-    ensures gives { Gives part_of result (moment_of machine.new) (m.trailer (call room) (part_of part) (trailer_of trailer.now) (moment_of machine.old)) }
+    ensures gives { Gives part_of result (moment_of machine.new) ((c.settled (part_of part) ⊳ λ v. slice_part (call room) v (t.bound_of (tree_value start.now)) (t.bound_of (tree_value stop.now)) (t.bound_of (tree_value step.now))) (moment_of machine.old)) }
     ensures sound { IsSound (λ v. is_sound_part (length machine.new.heap) (part_of v)) (length machine.new.heap) result }
     ensures kept { GrownBy (1 + owed (part_of part)) machine.old steps.old machine.new steps.new }
+    ensures reads { OwesReads (16 + 8 * owed (part_of part)) machine.old steps.old result machine.new steps.new }
     ensures owes { Owing (1 + owed (part_of part)) machine.old result machine.new }
 {
-    match trailer {
-        Trailer::Attribute(name) => dotted_part(machine, part, name, steps),
-        Trailer::Call(arguments) => called_part(machine, part, arguments, room, steps),
-        Trailer::Index(index) => item_part(machine, part, index, room, steps),
-        Trailer::Slice { start, stop, step } => {
-            let value = settled(machine, part, steps)?;
-            slice_part(machine, &value, start, stop, step, room, steps)
-        }
-    }
+    let value = match settled(machine, part, steps) {
+        Ok(value) => value,
+        Err(fault) => return Err(fault),
+    };
+    slice_part(machine, &value, start, stop, step, room, steps)
 }
 
 // A callee, or a method, is found before the arguments are evaluated.
 #[cycle(run)]
+#[inline(never)]
 fn called_part<L: Ledger>(
     machine: &mut Machine,
     part: Part,
@@ -732,14 +848,21 @@ fn called_part<L: Ledger>(
     ensures gives { Gives part_of result (moment_of machine.new) (m.trailer (call room) (part_of part) (t.call (arguments_of arguments.now)) (moment_of machine.old)) }
     ensures sound { IsSound (λ v. is_sound_part (length machine.new.heap) (part_of v)) (length machine.new.heap) result }
     ensures kept { GrownBy (1 + owed (part_of part)) machine.old steps.old machine.new steps.new }
+    ensures reads { OwesReads 104 machine.old steps.old result machine.new steps.new }
     ensures owes { Owing (1 + owed (part_of part)) machine.old result machine.new }
 {
-    let found = callee_in(machine, part, arguments, steps)?;
-    let given = arguments_given(machine, arguments, room, steps)?;
-    apply(machine, found, given, room, steps)
+    let found = match callee_in(machine, part, arguments, steps) {
+        Ok(found) => found,
+        Err(fault) => return Err(fault),
+    };
+    match arguments_given(machine, arguments, room, steps) {
+        Ok(given) => apply(machine, found, given, room, steps),
+        Err(fault) => Err(fault),
+    }
 }
 
 #[cycle(run)]
+#[inline(never)]
 fn item_part<L: Ledger>(
     machine: &mut Machine,
     part: Part,
@@ -754,15 +877,25 @@ fn item_part<L: Ledger>(
     ensures gives { Gives part_of result (moment_of machine.new) (m.trailer (call room) (part_of part) (t.index (expression_of index.now)) (moment_of machine.old)) }
     ensures sound { IsSound (λ v. is_sound_part (length machine.new.heap) (part_of v)) (length machine.new.heap) result }
     ensures kept { GrownBy (1 + owed (part_of part)) machine.old steps.old machine.new steps.new }
+    ensures reads { OwesReads (16 + 8 * owed (part_of part)) machine.old steps.old result machine.new steps.new }
     ensures owes { Owing (1 + owed (part_of part)) machine.old result machine.new }
 {
-    let value = settled(machine, part, steps)?;
-    let index = deeper_value(machine, index, room, steps)?;
-    Ok(Part::Whole(item(machine, &value, &index, steps)?))
+    let value = match settled(machine, part, steps) {
+        Ok(value) => value,
+        Err(fault) => return Err(fault),
+    };
+    match deeper_value(machine, index, room, steps) {
+        Ok(index) => match item(machine, &value, &index, steps) {
+            Ok(found) => Ok(Part::Whole(found)),
+            Err(fault) => Err(fault),
+        },
+        Err(fault) => Err(fault),
+    }
 }
 
 // An absent bound is None.
 #[cycle(run)]
+#[inline(never)]
 fn bound_value<L: Ledger>(
     machine: &mut Machine,
     bound: &Option<Expr>,
@@ -775,6 +908,7 @@ fn bound_value<L: Ledger>(
     ensures gives { Gives value_of result (moment_of machine.new) (bound_value (call room) (t.bound_of (tree_value bound.now)) (moment_of machine.old)) }
     ensures sound { IsSound (λ v. is_sound (length machine.new.heap) (value_of v)) (length machine.new.heap) result }
     ensures kept { GrownBy 0 machine.old steps.old machine.new steps.new }
+    ensures reads { ReadsBy 0 machine.old steps.old machine.new steps.new }
 {
     match bound {
         Some(e) => deeper_value(machine, e, room, steps),
@@ -783,6 +917,7 @@ fn bound_value<L: Ledger>(
 }
 
 #[cycle(run)]
+#[inline(never)]
 fn slice_part<L: Ledger>(
     machine: &mut Machine,
     value: &Value,
@@ -803,22 +938,36 @@ fn slice_part<L: Ledger>(
     ensures gives { Gives part_of result (moment_of machine.new) (slice_part (call room) (value_of value.now) (t.bound_of (tree_value start.now)) (t.bound_of (tree_value stop.now)) (t.bound_of (tree_value step.now)) (moment_of machine.old)) }
     ensures sound { IsSound (λ v. is_sound_part (length machine.new.heap) (part_of v)) (length machine.new.heap) result }
     ensures kept { GrownBy 1 machine.old steps.old machine.new steps.new }
+    ensures reads { OwesReads 16 machine.old steps.old result machine.new steps.new }
     ensures owes { Owing 1 machine.old result machine.new }
 {
-    let start = bound_value(machine, start, room, steps)?;
-    let stop = bound_value(machine, stop, room, steps)?;
-    let step = bound_value(machine, step, room, steps)?;
+    let start = match bound_value(machine, start, room, steps) {
+        Ok(start) => start,
+        Err(fault) => return Err(fault),
+    };
+    let stop = match bound_value(machine, stop, room, steps) {
+        Ok(stop) => stop,
+        Err(fault) => return Err(fault),
+    };
+    let step = match bound_value(machine, step, room, steps) {
+        Ok(step) => step,
+        Err(fault) => return Err(fault),
+    };
     let bounds = Bounds {
         start: &start,
         stop: &stop,
         step: &step,
     };
-    Ok(Part::Whole(slice(machine, value, &bounds, steps)?))
+    match slice(machine, value, &bounds, steps) {
+        Ok(found) => Ok(Part::Whole(found)),
+        Err(fault) => Err(fault),
+    }
 }
 
 // ---- calls
 
 #[cycle(run)]
+#[inline(never)]
 #[tactic(auto, using(kishu_calls::specs::Rows::part_rows))]
 fn arguments_given<L: Ledger>(
     machine: &mut Machine,
@@ -833,6 +982,8 @@ fn arguments_given<L: Ledger>(
     ensures gives { Gives given_of result (moment_of machine.new) (m.arguments (call room) (arguments_of arguments.now) (moment_of machine.old)) }
     ensures sound { IsSound (λ g. is_sound_given (length machine.new.heap) (given_of g)) (length machine.new.heap) result }
     ensures kept { GrownBy 0 machine.old steps.old machine.new steps.new }
+    ensures reads { ReadsBy 0 machine.old steps.old machine.new steps.new }
+    ensures paid { IfOk result (λ v. steps.new + 128 * machine.new.budget.left + 2 * length v.plain.items ≤ steps.old + 128 * machine.old.budget.left) }
 {
     let mut plain = Vec::new(machine.alloc);
     let mut named = Vec::new(machine.alloc);
@@ -849,6 +1000,7 @@ fn arguments_given<L: Ledger>(
 }
 
 #[cycle(run)]
+#[inline(never)]
 fn apply<L: Ledger>(
     machine: &mut Machine,
     callee: Callee,
@@ -862,6 +1014,7 @@ fn apply<L: Ledger>(
     ensures gives { Gives part_of result (moment_of machine.new) (apply (call room) (callee_of callee) (given_of given) (moment_of machine.old)) }
     ensures sound { IsSound (λ v. is_sound_part (length machine.new.heap) (part_of v)) (length machine.new.heap) result }
     ensures kept { GrownBy 1 machine.old steps.old machine.new steps.new }
+    ensures reads { OwesReads (40 + 2 * length given.plain.items) machine.old steps.old result machine.new steps.new }
     ensures owes { Owing 1 machine.old result machine.new }
 {
     match callee {
@@ -877,6 +1030,7 @@ fn apply<L: Ledger>(
 }
 
 #[cycle(run)]
+#[inline(never)]
 fn call_value<L: Ledger>(
     machine: &mut Machine,
     function: &Value,
@@ -890,6 +1044,7 @@ fn call_value<L: Ledger>(
     ensures gives { Gives value_of result (moment_of machine.new) (call_value (call room) (value_of function.now) (given_of given) (moment_of machine.old)) }
     ensures sound { IsSound (λ v. is_sound (length machine.new.heap) (value_of v)) (length machine.new.heap) result }
     ensures kept { GrownBy 1 machine.old steps.old machine.new steps.new }
+    ensures reads { ReadsBy (32 + 2 * length given.plain.items) machine.old steps.old machine.new steps.new }
 {
     match function {
         Value::Builtin(builtin) => call_builtin(machine, *builtin, &given, steps),
@@ -904,6 +1059,7 @@ fn call_value<L: Ledger>(
 }
 
 #[cycle(run)]
+#[inline(never)]
 fn call_node<L: Ledger>(
     machine: &mut Machine,
     id: NodeId,
@@ -917,6 +1073,7 @@ fn call_node<L: Ledger>(
     ensures gives { Gives value_of result (moment_of machine.new) (call_value (call room) (node id.0) (given_of given.now) (moment_of machine.old)) }
     ensures sound { IsSound (λ v. is_sound (length machine.new.heap) (value_of v)) (length machine.new.heap) result }
     ensures kept { GrownBy 1 machine.old steps.old machine.new steps.new }
+    ensures reads { ReadsBy 32 machine.old steps.old machine.new steps.new }
 {
     match function_at(machine, id, steps)? {
         Some(function) => called(machine, &function, given, room, steps),

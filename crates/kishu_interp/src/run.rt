@@ -1,5 +1,5 @@
 // Texts that run.
-ghost use Rattle.std.specs.Prelude.{IfOk, IsTrue, Ok, OnOk, length, ◌+◌, ◌<◌, ◌^◌, ◌≡◌, ◌≤◌};
+ghost use Rattle.std.specs.Prelude.{IfOk, IsTrue, Ok, OnOk, length, ◌+◌, ◌<◌, ◌^◌, ◌≡◌, ◌≤◌, ◌*◌};
 ghost use Rattle.kishu_model.specs.Accesses.{with_accesses};
 ghost use Rattle.kishu_model.specs.Height.{of_statements};
 ghost use Rattle.kishu_model.specs.Meaning.{run, run_tree, unread};
@@ -39,6 +39,7 @@ fn run_program<L: Ledger>(
     ensures accessed { OnOk result (names.new.accessed ≡ with_accesses (run_tree profile (Ok (program_of program.now)) (state_in heap.old names.old)).accessed names.old.accessed) }
     ensures sound { IsTrue (are_sound_names (length heap.new) names.new.bound) }
     ensures least { OnOk result (steps.old + (run_tree profile (Ok (program_of program.now)) (state_in heap.old names.old)).charge ≤ steps.new) }
+    ensures most { OnOk result (steps.new ≤ steps.old + 128 * (run_tree profile (Ok (program_of program.now)) (state_in heap.old names.old)).charge + 128) }
 {
     let earlier = names.take_record();
     let mut machine = Machine {
@@ -97,6 +98,7 @@ pub fn run_cell<L: Ledger>(
     ensures accessed { OnOk result (names.new.accessed ≡ with_accesses (run profile text.now (state_in heap.old names.old)).accessed names.old.accessed) }
     ensures sound { IsTrue (are_sound_names (length heap.new) names.new.bound) }
     ensures least { OnOk result (steps.old + (run profile text.now (state_in heap.old names.old)).charge ≤ steps.new) }
+    ensures most { OnOk result (steps.new ≤ steps.old + 128 * (run profile text.now (state_in heap.old names.old)).charge + 128) }
 {
     match parse(alloc, profile, text) {
         Ok(program) => run_program(alloc, profile, &program, heap, names, steps),

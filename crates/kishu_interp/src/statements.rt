@@ -1,6 +1,8 @@
 // Statements.
 ghost use Rattle.std.specs.Prelude.{IfOk, IsTrue, Some, length, map, true, ◌<◌, ◌^◌, ◌≡◌, ◌≤◌};
 ghost use Rattle.std.specs.Rc.{rc_str_bytes};
+ghost use Rattle.std.specs.List.{list_all};
+ghost use Rattle.kishu_model.specs.Targets.{is_target};
 ghost use Rattle.kishu_model.specs.Classes.{namespace_number};
 ghost use Rattle.kishu_model.specs.Functions.{or_class_name};
 ghost use Rattle.kishu_model.specs.Height.{of_arms, of_expression, of_handlers, of_list, of_optional, of_parameters, of_statement, of_statements};
@@ -16,7 +18,7 @@ ghost use Rattle.kishu_access.specs.Access.{is_sound_walk, walk_of};
 ghost use Rattle.kishu_calls.specs.Calls.{flow_of, is_sound_flow, is_sound_way};
 ghost use Rattle.kishu_calls.specs.Trees.{arms_of, handlers_of, statements_of};
 ghost use Rattle.kishu_model.specs.Fits.{ArmsFit, ExpressionFits, HandlersFit, ListFits, OptionalFits, ParametersFit, StatementFits, StatementsFit, TitleFits};
-ghost use Rattle.kishu_machine.specs.Machine.{Gives, GrownBy, HasRoom, HasRoomBy, IsSound, is_sound_thrown, moment_of, thrown_of};
+ghost use Rattle.kishu_machine.specs.Machine.{Gives, GrownBy, HasRoom, HasRoomBy, IsSound, ReadsBy, is_sound_thrown, moment_of, thrown_of};
 ghost use Rattle.kishu_model.specs.Meaning as m;
 ghost use Rattle.kishu_model.specs.Tree as t;
 ghost use Rattle.kishu_model.specs.Ways as w;
@@ -38,6 +40,7 @@ use std::sync::ledger::Ledger;
 /// Runs a statement (Python Language Reference 3, "Simple statements" and "Compound statements").
 /// `room` is how many calls may still be entered.
 #[cycle(run)]
+#[inline(never)]
 #[tactic(auto, using(kishu_calls::specs::StatementRows::statement_rows))]
 pub(crate) fn run_statement<L: Ledger>(
     machine: &mut Machine,
@@ -51,6 +54,7 @@ pub(crate) fn run_statement<L: Ledger>(
     ensures gives { Gives flow_of result (moment_of machine.new) (act (call room) (statement_of statement.now) (moment_of machine.old)) }
     ensures sound { IsSound (λ v. is_sound_flow (length machine.new.heap) (flow_of v)) (length machine.new.heap) result }
     ensures kept { GrownBy 3 machine.old steps.old machine.new steps.new }
+    ensures reads { ReadsBy 16 machine.old steps.old machine.new steps.new }
 {
     match statement {
         Stmt::Pass => Ok(Flow::Onward),
@@ -83,6 +87,7 @@ pub(crate) fn run_statement<L: Ledger>(
 // ---- simple statements
 
 #[cycle(run)]
+#[inline(never)]
 fn run_return<L: Ledger>(
     machine: &mut Machine,
     value: &Option<Expr>,
@@ -95,6 +100,7 @@ fn run_return<L: Ledger>(
     ensures gives { Gives flow_of result (moment_of machine.new) (returned_by (call room) (tree_value value.now) (moment_of machine.old)) }
     ensures sound { IsSound (λ v. is_sound_flow (length machine.new.heap) (flow_of v)) (length machine.new.heap) result }
     ensures kept { GrownBy 3 machine.old steps.old machine.new steps.new }
+    ensures reads { ReadsBy 0 machine.old steps.old machine.new steps.new }
 {
     match value {
         Some(e) => Ok(Flow::Returned(evaluate(machine, e, room, steps)?)),
@@ -103,6 +109,7 @@ fn run_return<L: Ledger>(
 }
 
 #[cycle(run)]
+#[inline(never)]
 fn run_raise<L: Ledger>(
     machine: &mut Machine,
     value: &Option<Expr>,
@@ -115,6 +122,7 @@ fn run_raise<L: Ledger>(
     ensures gives { Gives flow_of result (moment_of machine.new) (raise_by (call room) (tree_value value.now) (moment_of machine.old)) }
     ensures sound { IsSound (λ v. is_sound_flow (length machine.new.heap) (flow_of v)) (length machine.new.heap) result }
     ensures kept { GrownBy 3 machine.old steps.old machine.new steps.new }
+    ensures reads { ReadsBy 8 machine.old steps.old machine.new steps.new }
 {
     match value {
         Some(e) => {
@@ -126,6 +134,7 @@ fn run_raise<L: Ledger>(
 }
 
 #[cycle(run)]
+#[inline(never)]
 fn run_assert<L: Ledger>(
     machine: &mut Machine,
     test: &Expr,
@@ -141,6 +150,7 @@ fn run_assert<L: Ledger>(
     ensures gives { Gives flow_of result (moment_of machine.new) (act (call room) (t.assert (expression_of test.now) (tree_value message.now)) (moment_of machine.old)) }
     ensures sound { IsSound (λ v. is_sound_flow (length machine.new.heap) (flow_of v)) (length machine.new.heap) result }
     ensures kept { GrownBy 3 machine.old steps.old machine.new steps.new }
+    ensures reads { ReadsBy 0 machine.old steps.old machine.new steps.new }
 {
     let value = evaluate(machine, test, room, steps)?;
     if truth(machine, &value, steps) {
@@ -156,6 +166,7 @@ fn run_assert<L: Ledger>(
 }
 
 #[cycle(run)]
+#[inline(never)]
 fn run_delete<L: Ledger>(
     machine: &mut Machine,
     places: &[Expr],
@@ -168,6 +179,7 @@ fn run_delete<L: Ledger>(
     ensures gives { Gives flow_of result (moment_of machine.new) (act (call room) (t.delete (map expression_of places.now)) (moment_of machine.old)) }
     ensures sound { IsSound (λ v. is_sound_flow (length machine.new.heap) (flow_of v)) (length machine.new.heap) result }
     ensures kept { GrownBy 3 machine.old steps.old machine.new steps.new }
+    ensures reads { ReadsBy 0 machine.old steps.old machine.new steps.new }
 {
     for e in places {
         let found = place_at(machine, e, room, steps)?;
@@ -177,6 +189,7 @@ fn run_delete<L: Ledger>(
 }
 
 // An import binds the class SimpleNamespace.
+#[inline(never)]
 fn run_import(machine: &mut Machine, name: &Option<RcStr>) -> Result<Flow, Fault>
     requires fit_name { TitleFits (text_of name.now) }
     ensures gives { Gives flow_of result (moment_of machine.new) ((assign (or_class_name (text_of name.now)) (class namespace_number) ▹ give onward) (moment_of machine.old)) }
@@ -197,6 +210,7 @@ fn run_import(machine: &mut Machine, name: &Option<RcStr>) -> Result<Flow, Fault
 
 // The value once, and then the targets from left to right.
 #[cycle(run)]
+#[inline(never)]
 fn run_assignment<L: Ledger>(
     machine: &mut Machine,
     targets: &[Expr],
@@ -209,9 +223,11 @@ fn run_assignment<L: Ledger>(
     requires small_value { of_expression (expression_of value.now) < 2 ^ 20 }
     requires fit_value { ExpressionFits (expression_of value.now) }
     requires room { HasRoomBy 4 machine.old }
+    requires targets { IsTrue (list_all is_target (map expression_of targets.now)) }
     ensures gives { Gives flow_of result (moment_of machine.new) (act (call room) (t.assign (map expression_of targets.now) (expression_of value.now)) (moment_of machine.old)) }
     ensures sound { IsSound (λ v. is_sound_flow (length machine.new.heap) (flow_of v)) (length machine.new.heap) result }
     ensures kept { GrownBy 3 machine.old steps.old machine.new steps.new }
+    ensures reads { ReadsBy 0 machine.old steps.old machine.new steps.new }
 {
     let value = evaluate(machine, value, room, steps)?;
     store_all(machine, targets, &value, room, steps)?;
@@ -220,6 +236,7 @@ fn run_assignment<L: Ledger>(
 
 // The place is found and read, the operand evaluated, and the result stored.
 #[cycle(run)]
+#[inline(never)]
 fn run_update<L: Ledger>(
     machine: &mut Machine,
     target: &Expr,
@@ -236,6 +253,7 @@ fn run_update<L: Ledger>(
     ensures gives { Gives flow_of result (moment_of machine.new) (act (call room) (t.update (expression_of target.now) operator (expression_of operand.now)) (moment_of machine.old)) }
     ensures sound { IsSound (λ v. is_sound_flow (length machine.new.heap) (flow_of v)) (length machine.new.heap) result }
     ensures kept { GrownBy 3 machine.old steps.old machine.new steps.new }
+    ensures reads { ReadsBy 0 machine.old steps.old machine.new steps.new }
 {
     let found = place_at(machine, target, room, steps)?;
     tick(machine, steps)?;
@@ -251,6 +269,7 @@ fn run_update<L: Ledger>(
 
 /// Statements one level deeper; none do nothing.
 #[cycle(run)]
+#[inline(never)]
 pub(crate) fn block<L: Ledger>(
     machine: &mut Machine,
     body: &[Stmt],
@@ -263,6 +282,7 @@ pub(crate) fn block<L: Ledger>(
     ensures gives { Gives flow_of result (moment_of machine.new) (in_block (statements_of body.now) (acts (call room) (statements_of body.now)) (moment_of machine.old)) }
     ensures sound { IsSound (λ v. is_sound_flow (length machine.new.heap) (flow_of v)) (length machine.new.heap) result }
     ensures kept { GrownBy 0 machine.old steps.old machine.new steps.new }
+    ensures reads { ReadsBy 0 machine.old steps.old machine.new steps.new }
 {
     if body.is_empty() {
         return Ok(Flow::Onward);
@@ -279,6 +299,7 @@ pub(crate) fn block<L: Ledger>(
 
 // In order, as far as the flow goes on.
 #[cycle(run)]
+#[inline(never)]
 fn run_all<L: Ledger>(
     machine: &mut Machine,
     body: &[Stmt],
@@ -291,6 +312,7 @@ fn run_all<L: Ledger>(
     ensures gives { Gives flow_of result (moment_of machine.new) (acts (call room) (statements_of body.now) (moment_of machine.old)) }
     ensures sound { IsSound (λ v. is_sound_flow (length machine.new.heap) (flow_of v)) (length machine.new.heap) result }
     ensures kept { GrownBy 0 machine.old steps.old machine.new steps.new }
+    ensures reads { ReadsBy 0 machine.old steps.old machine.new steps.new }
 {
     for statement in body {
         tick(machine, steps)?;
@@ -306,6 +328,7 @@ fn run_all<L: Ledger>(
 
 // The first block whose condition holds.
 #[cycle(run)]
+#[inline(never)]
 #[tactic(auto, using(kishu_calls::specs::StatementRows::statement_rows))]
 fn run_choice<L: Ledger>(
     machine: &mut Machine,
@@ -322,6 +345,7 @@ fn run_choice<L: Ledger>(
     ensures gives { Gives flow_of result (moment_of machine.new) (act (call room) (t.choose (arms_of arms.now) (statements_of other.now)) (moment_of machine.old)) }
     ensures sound { IsSound (λ v. is_sound_flow (length machine.new.heap) (flow_of v)) (length machine.new.heap) result }
     ensures kept { GrownBy 3 machine.old steps.old machine.new steps.new }
+    ensures reads { ReadsBy 0 machine.old steps.old machine.new steps.new }
 {
     for arm in arms {
         let value = evaluate(machine, &arm.test, room, steps)?;
@@ -335,6 +359,7 @@ fn run_choice<L: Ledger>(
 // ---- loops
 
 #[cycle(run)]
+#[inline(never)]
 fn run_while<L: Ledger>(
     machine: &mut Machine,
     test: &Expr,
@@ -350,6 +375,7 @@ fn run_while<L: Ledger>(
     ensures gives { Gives flow_of result (moment_of machine.new) (act (call room) (t.while (expression_of test.now) (statements_of body.now)) (moment_of machine.old)) }
     ensures sound { IsSound (λ v. is_sound_flow (length machine.new.heap) (flow_of v)) (length machine.new.heap) result }
     ensures kept { GrownBy 3 machine.old steps.old machine.new steps.new }
+    ensures reads { ReadsBy 0 machine.old steps.old machine.new steps.new }
 {
     loop {
         let value = evaluate(machine, test, room, steps)?;
@@ -367,6 +393,7 @@ fn run_while<L: Ledger>(
 }
 
 #[cycle(run)]
+#[inline(never)]
 fn run_for<L: Ledger>(
     machine: &mut Machine,
     target: &Expr,
@@ -382,9 +409,11 @@ fn run_for<L: Ledger>(
     requires small_body { of_statements (statements_of body.now) < 2 ^ 20 }
     requires fit_body { StatementsFit (statements_of body.now) }
     requires room { HasRoomBy 4 machine.old }
+    requires target { IsTrue (is_target (expression_of target.now)) }
     ensures gives { Gives flow_of result (moment_of machine.new) (act (call room) (t.for (expression_of target.now) (expression_of walked.now) (statements_of body.now)) (moment_of machine.old)) }
     ensures sound { IsSound (λ v. is_sound_flow (length machine.new.heap) (flow_of v)) (length machine.new.heap) result }
     ensures kept { GrownBy 3 machine.old steps.old machine.new steps.new }
+    ensures reads { ReadsBy 0 machine.old steps.old machine.new steps.new }
 {
     let walked = part(machine, walked, room, steps)?;
     let walk = walked_by(machine, walked, steps)?;
@@ -392,6 +421,7 @@ fn run_for<L: Ledger>(
 }
 
 #[cycle(run)]
+#[inline(never)]
 fn run_turns<L: Ledger>(
     machine: &mut Machine,
     target: &Expr,
@@ -406,9 +436,11 @@ fn run_turns<L: Ledger>(
     requires small_body { of_statements (statements_of body.now) < 2 ^ 20 }
     requires fit_body { StatementsFit (statements_of body.now) }
     requires room { HasRoomBy 2 machine.old }
+    requires target { IsTrue (is_target (expression_of target.now)) }
     ensures gives { Gives flow_of result (moment_of machine.new) (walk_along (walk_of walk.now) (λ v. store (call room) (expression_of target.now) v ▹ in_block (statements_of body.now) (acts (call room) (statements_of body.now))) (moment_of machine.old)) }
     ensures sound { IsSound (λ v. is_sound_flow (length machine.new.heap) (flow_of v)) (length machine.new.heap) result }
     ensures kept { GrownBy 2 machine.old steps.old machine.new steps.new }
+    ensures reads { ReadsBy 16 machine.old steps.old machine.new steps.new }
 {
     let mut place = 0;
     loop {
@@ -430,6 +462,7 @@ fn run_turns<L: Ledger>(
 // ---- exceptions
 
 #[cycle(run)]
+#[inline(never)]
 fn run_try<L: Ledger>(
     machine: &mut Machine,
     body: &[Stmt],
@@ -451,6 +484,7 @@ fn run_try<L: Ledger>(
     ensures gives { Gives flow_of result (moment_of machine.new) (act (call room) (t.try (statements_of body.now) (handlers_of handlers.now) (statements_of other.now) (statements_of last.now)) (moment_of machine.old)) }
     ensures sound { IsSound (λ v. is_sound_flow (length machine.new.heap) (flow_of v)) (length machine.new.heap) result }
     ensures kept { GrownBy 3 machine.old steps.old machine.new steps.new }
+    ensures reads { ReadsBy 0 machine.old steps.old machine.new steps.new }
 {
     let way = run_attempt(machine, body, handlers, other, room, steps);
     run_last(machine, way, last, room, steps)
@@ -458,6 +492,7 @@ fn run_try<L: Ledger>(
 
 // The handlers are for what the body raises, and the block of `else` for where it ends plainly.
 #[cycle(run)]
+#[inline(never)]
 fn run_attempt<L: Ledger>(
     machine: &mut Machine,
     body: &[Stmt],
@@ -476,6 +511,7 @@ fn run_attempt<L: Ledger>(
     ensures gives { Gives flow_of result (moment_of machine.new) (attempt (in_block (statements_of body.now) (acts (call room) (statements_of body.now))) (m.handlers (call room) (handlers_of handlers.now)) (in_block (statements_of other.now) (acts (call room) (statements_of other.now))) (moment_of machine.old)) }
     ensures sound { IsSound (λ v. is_sound_flow (length machine.new.heap) (flow_of v)) (length machine.new.heap) result }
     ensures kept { GrownBy 1 machine.old steps.old machine.new steps.new }
+    ensures reads { ReadsBy 0 machine.old steps.old machine.new steps.new }
 {
     match block(machine, body, room, steps) {
         Ok(Flow::Onward) => block(machine, other, room, steps),
@@ -490,6 +526,7 @@ fn run_attempt<L: Ledger>(
 
 // The handlers are tried in order.
 #[cycle(run)]
+#[inline(never)]
 #[tactic(auto, using(kishu_calls::specs::StatementRows::statement_rows))]
 fn run_handlers<L: Ledger>(
     machine: &mut Machine,
@@ -505,6 +542,7 @@ fn run_handlers<L: Ledger>(
     ensures gives { Gives flow_of result (moment_of machine.new) (m.handlers (call room) (handlers_of handlers.now) (thrown_of thrown) (moment_of machine.old)) }
     ensures sound { IsSound (λ v. is_sound_flow (length machine.new.heap) (flow_of v)) (length machine.new.heap) result }
     ensures kept { GrownBy 1 machine.old steps.old machine.new steps.new }
+    ensures reads { ReadsBy 0 machine.old steps.old machine.new steps.new }
 {
     for handler in handlers {
         if is_for(machine, &handler.class, &thrown, room, steps)? {
@@ -516,6 +554,7 @@ fn run_handlers<L: Ledger>(
 
 // A handler without a class is for each exception.
 #[cycle(run)]
+#[inline(never)]
 fn is_for<L: Ledger>(
     machine: &mut Machine,
     class: &Option<Expr>,
@@ -529,6 +568,7 @@ fn is_for<L: Ledger>(
     ensures gives { Gives (λ b. b) result (moment_of machine.new) (is_for (call room) (tree_value class.now) (thrown_of thrown.now) (moment_of machine.old)) }
     ensures sound { IsSound (λ _. true) (length machine.new.heap) result }
     ensures kept { GrownBy 0 machine.old steps.old machine.new steps.new }
+    ensures reads { ReadsBy 0 machine.old steps.old machine.new steps.new }
 {
     match class {
         Some(e) => {
@@ -541,6 +581,7 @@ fn is_for<L: Ledger>(
 
 // The exception is bound for the block, and its name unbound on each way out.
 #[cycle(run)]
+#[inline(never)]
 fn handle<L: Ledger>(
     machine: &mut Machine,
     name: &Option<RcStr>,
@@ -557,6 +598,7 @@ fn handle<L: Ledger>(
     ensures gives { Gives flow_of result (moment_of machine.new) (handle (text_of name.now) (in_block (statements_of body.now) (acts (call room) (statements_of body.now))) (thrown_of thrown) (moment_of machine.old)) }
     ensures sound { IsSound (λ v. is_sound_flow (length machine.new.heap) (flow_of v)) (length machine.new.heap) result }
     ensures kept { GrownBy 1 machine.old steps.old machine.new steps.new }
+    ensures reads { ReadsBy 0 machine.old steps.old machine.new steps.new }
 {
     let id = object_of(machine, thrown)?;
     let Some(name) = name else {
@@ -568,6 +610,7 @@ fn handle<L: Ledger>(
 }
 
 // A spent budget leaves the name.
+#[inline(never)]
 fn forgotten(machine: &mut Machine, way: Result<Flow, Fault>, name: &str) -> Result<Flow, Fault>
     requires sound_way { IsTrue (is_sound_way (length machine.old.heap) way) }
     ensures gives { (e : Ends w.Flow) → Gives flow_of way (moment_of machine.old) e → Gives flow_of result (moment_of machine.new) (and_last e (forget_caught (Some name.now) ▹ give onward)) }
@@ -591,6 +634,7 @@ fn forgotten(machine: &mut Machine, way: Result<Flow, Fault>, name: &str) -> Res
 
 // While this object is handled.
 #[cycle(run)]
+#[inline(never)]
 fn handling<L: Ledger>(
     machine: &mut Machine,
     id: NodeId,
@@ -605,6 +649,7 @@ fn handling<L: Ledger>(
     ensures gives { Gives flow_of result (moment_of machine.new) (handling (node id.0) (in_block (statements_of body.now) (acts (call room) (statements_of body.now))) (moment_of machine.old)) }
     ensures sound { IsSound (λ v. is_sound_flow (length machine.new.heap) (flow_of v)) (length machine.new.heap) result }
     ensures kept { GrownBy 0 machine.old steps.old machine.new steps.new }
+    ensures reads { ReadsBy 0 machine.old steps.old machine.new steps.new }
 {
     let outer = mem::replace(&mut machine.handled, Some(Value::Node(id)));
     let way = block(machine, body, room, steps);
@@ -613,6 +658,7 @@ fn handling<L: Ledger>(
 }
 
 #[cycle(run)]
+#[inline(never)]
 fn run_finally<L: Ledger>(
     machine: &mut Machine,
     body: &[Stmt],
@@ -628,6 +674,7 @@ fn run_finally<L: Ledger>(
     ensures gives { Gives flow_of result (moment_of machine.new) (act (call room) (t.finally (statements_of body.now) (statements_of last.now)) (moment_of machine.old)) }
     ensures sound { IsSound (λ v. is_sound_flow (length machine.new.heap) (flow_of v)) (length machine.new.heap) result }
     ensures kept { GrownBy 3 machine.old steps.old machine.new steps.new }
+    ensures reads { ReadsBy 0 machine.old steps.old machine.new steps.new }
 {
     let way = block(machine, body, room, steps);
     run_last(machine, way, last, room, steps)
@@ -636,6 +683,7 @@ fn run_finally<L: Ledger>(
 // The last block runs on each way out, but for a spent budget; where it leaves by itself, that takes
 // the place of the way out.
 #[cycle(run)]
+#[inline(never)]
 fn run_last<L: Ledger>(
     machine: &mut Machine,
     way: Result<Flow, Fault>,
@@ -650,6 +698,7 @@ fn run_last<L: Ledger>(
     ensures gives { (e : Ends w.Flow) → Gives flow_of way (moment_of machine.old) e → Gives flow_of result (moment_of machine.new) (and_last e (in_block (statements_of last.now) (acts (call room) (statements_of last.now)))) }
     ensures sound { IsSound (λ v. is_sound_flow (length machine.new.heap) (flow_of v)) (length machine.new.heap) result }
     ensures kept { GrownBy 0 machine.old steps.old machine.new steps.new }
+    ensures reads { ReadsBy 0 machine.old steps.old machine.new steps.new }
 {
     if let Err(Fault::Stopped) = &way {
         return way;
@@ -669,6 +718,7 @@ fn run_last<L: Ledger>(
 
 // The defaults from left to right, in parentheses.
 #[cycle(run)]
+#[inline(never)]
 fn default_values<L: Ledger>(
     machine: &mut Machine,
     params: &[(RcStr, Option<Expr>)],
@@ -682,6 +732,7 @@ fn default_values<L: Ledger>(
     ensures sound { IsSound (λ v. are_sound (length machine.new.heap) (map value_of v.items)) (length machine.new.heap) result }
     ensures count { IfOk result (λ v. length v.items ≡ with_default (map parameter_of params.now)) }
     ensures kept { GrownBy 0 machine.old steps.old machine.new steps.new }
+    ensures reads { ReadsBy 0 machine.old steps.old machine.new steps.new }
 {
     let mut values = Vec::new(machine.alloc);
     for (_, default) in params {
@@ -694,6 +745,7 @@ fn default_values<L: Ledger>(
 
 // The defaults, and then a new function is bound.
 #[cycle(run)]
+#[inline(never)]
 fn run_def<L: Ledger>(
     machine: &mut Machine,
     def: &Rc<Def>,
@@ -710,6 +762,7 @@ fn run_def<L: Ledger>(
     ensures gives { Gives flow_of result (moment_of machine.new) (act (call room) (t.define (definition_of def.now.value).title (definition_of def.now.value).parameters (definition_of def.now.value).body (rc_str_bytes code.now)) (moment_of machine.old)) }
     ensures sound { IsSound (λ v. is_sound_flow (length machine.new.heap) (flow_of v)) (length machine.new.heap) result }
     ensures kept { GrownBy 3 machine.old steps.old machine.new steps.new }
+    ensures reads { ReadsBy 0 machine.old steps.old machine.new steps.new }
 {
     let defaults = default_values(machine, def.params.as_slice(), room, steps)?;
     let function = FunctionNode {

@@ -1,5 +1,8 @@
 // Places and targets (Python Language Reference 3, "Assignment statements").
-ghost use Rattle.std.specs.Prelude.{IsTrue, OnOk, length, map, true, ◌+◌, ◌<◌, ◌^◌, ◌≡◌, ◌≤◌};
+ghost use Rattle.std.specs.Prelude.{IsTrue, OnOk, length, map, true, ◌*◌, ◌+◌, ◌<◌, ◌^◌, ◌≡◌, ◌≤◌};
+ghost use Rattle.std.specs.List.{list_all};
+ghost use Rattle.kishu_interp.specs.Forms.{PlaceReads};
+ghost use Rattle.kishu_model.specs.Targets.{is_target, are_targets};
 ghost use Rattle.kishu_model.specs.Callees.{settled};
 ghost use Rattle.kishu_model.specs.Height.{of_expression, of_expressions, of_list, of_trailer, of_trailers};
 ghost use Rattle.kishu_model.specs.Meaning.{call, nodes_before_last, place, place_by, store, store_all, store_each, store_in};
@@ -11,7 +14,7 @@ ghost use Rattle.kishu_access.specs.Access.{is_sound_place, place_of};
 ghost use Rattle.kishu_calls.specs.Calls.{is_sound_part, owed, part_of};
 ghost use Rattle.kishu_calls.specs.Trees.{expressions_of, trailer_of, trailers_of};
 ghost use Rattle.kishu_model.specs.Fits.{ExpressionFits, ExpressionsFit, ListFits, TrailerFits, TrailersFit};
-ghost use Rattle.kishu_machine.specs.Machine.{Gives, GrownBy, HasRoom, HasRoomBy, IsSound, moment_of};
+ghost use Rattle.kishu_machine.specs.Machine.{Gives, GrownBy, HasRoom, HasRoomBy, IsSound, ReadsBy, moment_of};
 ghost use Rattle.kishu_model.specs.Tree as t;
 
 use crate::expressions::{deeper_value, part_behind};
@@ -25,6 +28,7 @@ use std::sync::ledger::Ledger;
 
 /// The place that an expression is: its container is evaluated, and then the index.
 #[cycle(run)]
+#[inline(never)]
 #[tactic(auto, using(kishu_calls::specs::Rows::tree_rows))]
 pub(crate) fn place_at<L: Ledger>(
     machine: &mut Machine,
@@ -38,6 +42,7 @@ pub(crate) fn place_at<L: Ledger>(
     ensures gives { Gives place_of result (moment_of machine.new) (place (call room) (expression_of e.now) (moment_of machine.old)) }
     ensures sound { IsSound (λ v. is_sound_place (length machine.new.heap) (place_of v)) (length machine.new.heap) result }
     ensures kept { GrownBy 0 machine.old steps.old machine.new steps.new }
+    ensures reads { PlaceReads 0 machine.old steps.old result machine.new steps.new }
 {
     match e {
         Expr::Name(name) => Ok(Place::Named(name.clone()?)),
@@ -72,6 +77,7 @@ fn take_container_nodes<L: Ledger>(
     ensures gives { Gives (λ u. u) result (moment_of machine.new) (nodes_before_last (trailers_of trailers.now) (moment_of machine.old)) }
     ensures sound { IsSound (λ _. true) (length machine.new.heap) result }
     ensures kept { GrownBy 0 machine.old steps.old machine.new steps.new }
+    ensures counted { steps.new + machine.new.budget.left ≡ steps.old + machine.old.budget.left }
     ensures taken { OnOk result (machine.new.budget.left + length trailers.now ≤ machine.old.budget.left + 1) }
     ensures heap { machine.new.heap ≡ machine.old.heap }
 {
@@ -82,6 +88,7 @@ fn take_container_nodes<L: Ledger>(
 }
 
 #[cycle(run)]
+#[inline(never)]
 fn primary_place<L: Ledger>(
     machine: &mut Machine,
     atom: &Expr,
@@ -97,6 +104,7 @@ fn primary_place<L: Ledger>(
     ensures gives { Gives place_of result (moment_of machine.new) (place (call room) (t.primary (expression_of atom.now) (trailers_of trailers.now)) (moment_of machine.old)) }
     ensures sound { IsSound (λ v. is_sound_place (length machine.new.heap) (place_of v)) (length machine.new.heap) result }
     ensures kept { GrownBy 0 machine.old steps.old machine.new steps.new }
+    ensures reads { PlaceReads 0 machine.old steps.old result machine.new steps.new }
 {
     take_container_nodes(machine, trailers, steps)?;
     let Some((last, before)) = trailers.split_last() else {
@@ -109,6 +117,7 @@ fn primary_place<L: Ledger>(
 
 // What is done with a container last.
 #[cycle(run)]
+#[inline(never)]
 #[tactic(auto, using(kishu_calls::specs::Rows::tree_rows))]
 fn last_place<L: Ledger>(
     machine: &mut Machine,
@@ -124,6 +133,7 @@ fn last_place<L: Ledger>(
     ensures gives { Gives place_of result (moment_of machine.new) ((settled (part_of part) ⊳ λ v. place_by (call room) v (trailer_of last.now)) (moment_of machine.old)) }
     ensures sound { IsSound (λ v. is_sound_place (length machine.new.heap) (place_of v)) (length machine.new.heap) result }
     ensures kept { GrownBy (owed (part_of part)) machine.old steps.old machine.new steps.new }
+    ensures reads { PlaceReads (24 + 8 * owed (part_of part)) machine.old steps.old result machine.new steps.new }
 {
     let value = settled(machine, part, steps)?;
     match last {
@@ -141,6 +151,7 @@ fn last_place<L: Ledger>(
 
 /// Puts a value into a target. A pattern takes the items first.
 #[cycle(run)]
+#[inline(never)]
 #[tactic(auto, using(kishu_calls::specs::Rows::tree_rows))]
 pub(crate) fn store<L: Ledger>(
     machine: &mut Machine,
@@ -153,9 +164,12 @@ pub(crate) fn store<L: Ledger>(
     requires fit_target { ExpressionFits (expression_of target.now) }
     requires sound_value { IsTrue (is_sound (length machine.old.heap) (value_of value.now)) }
     requires room { HasRoom machine.old }
+    requires target { IsTrue (is_target (expression_of target.now)) }
     ensures gives { Gives (λ u. u) result (moment_of machine.new) (store (call room) (expression_of target.now) (value_of value.now) (moment_of machine.old)) }
     ensures sound { IsSound (λ _. true) (length machine.new.heap) result }
     ensures kept { GrownBy 0 machine.old steps.old machine.new steps.new }
+    ensures reads { ReadsBy 24 machine.old steps.old machine.new steps.new }
+    ensures stored { OnOk result (ReadsBy 0 machine.old steps.old machine.new steps.new) }
 {
     match target {
         Expr::Name(_) => store_place(machine, target, value, room, steps),
@@ -182,6 +196,7 @@ pub(crate) fn store<L: Ledger>(
 }
 
 #[cycle(run)]
+#[inline(never)]
 fn store_place<L: Ledger>(
     machine: &mut Machine,
     target: &Expr,
@@ -196,12 +211,15 @@ fn store_place<L: Ledger>(
     ensures gives { Gives (λ u. u) result (moment_of machine.new) ((place (call room) (expression_of target.now) ⊳ λ p. store_in p (value_of value.now)) (moment_of machine.old)) }
     ensures sound { IsSound (λ _. true) (length machine.new.heap) result }
     ensures kept { GrownBy 0 machine.old steps.old machine.new steps.new }
+    ensures reads { ReadsBy 24 machine.old steps.old machine.new steps.new }
+    ensures stored { OnOk result (ReadsBy 0 machine.old steps.old machine.new steps.new) }
 {
     let found = place_at(machine, target, room, steps)?;
     store_in(machine, &found, value.copied()?, steps)
 }
 
 #[cycle(run)]
+#[inline(never)]
 fn store_deeper<L: Ledger>(
     machine: &mut Machine,
     target: &Expr,
@@ -213,9 +231,12 @@ fn store_deeper<L: Ledger>(
     requires fit_target { ExpressionFits (expression_of target.now) }
     requires sound_value { IsTrue (is_sound (length machine.old.heap) (value_of value.now)) }
     requires room { HasRoom machine.old }
+    requires target { IsTrue (is_target (expression_of target.now)) }
     ensures gives { Gives (λ u. u) result (moment_of machine.new) (deeper (store (call room) (expression_of target.now) (value_of value.now)) (moment_of machine.old)) }
     ensures sound { IsSound (λ _. true) (length machine.new.heap) result }
     ensures kept { GrownBy 0 machine.old steps.old machine.new steps.new }
+    ensures reads { ReadsBy 24 machine.old steps.old machine.new steps.new }
+    ensures stored { OnOk result (ReadsBy 0 machine.old steps.old machine.new steps.new) }
 {
     let depth = machine.budget.depth;
     if depth >= MOST_DEPTH {
@@ -228,6 +249,7 @@ fn store_deeper<L: Ledger>(
 }
 
 #[cycle(run)]
+#[inline(never)]
 fn store_pattern<L: Ledger>(
     machine: &mut Machine,
     targets: &[Expr],
@@ -239,15 +261,19 @@ fn store_pattern<L: Ledger>(
     requires fit_targets { ExpressionsFit (expressions_of targets.now) }
     requires sound_value { IsTrue (is_sound (length machine.old.heap) (value_of value.now)) }
     requires room { HasRoom machine.old }
+    requires targets { IsTrue (are_targets (expressions_of targets.now)) }
     ensures gives { Gives (λ u. u) result (moment_of machine.new) (store (call room) (t.tuple (expressions_of targets.now)) (value_of value.now) (moment_of machine.old)) }
     ensures sound { IsSound (λ _. true) (length machine.new.heap) result }
     ensures kept { GrownBy 0 machine.old steps.old machine.new steps.new }
+    ensures reads { ReadsBy 24 machine.old steps.old machine.new steps.new }
+    ensures stored { OnOk result (ReadsBy 0 machine.old steps.old machine.new steps.new) }
 {
     let items = unpacked(machine, targets.len(), value, steps)?;
     store_each(machine, targets, items.as_slice(), room, steps)
 }
 
 #[cycle(run)]
+#[inline(never)]
 fn store_deeper_pattern<L: Ledger>(
     machine: &mut Machine,
     targets: &[Expr],
@@ -259,9 +285,12 @@ fn store_deeper_pattern<L: Ledger>(
     requires fit_targets { ExpressionsFit (expressions_of targets.now) }
     requires sound_value { IsTrue (is_sound (length machine.old.heap) (value_of value.now)) }
     requires room { HasRoom machine.old }
+    requires targets { IsTrue (are_targets (expressions_of targets.now)) }
     ensures gives { Gives (λ u. u) result (moment_of machine.new) (store (call room) (t.list (expressions_of targets.now)) (value_of value.now) (moment_of machine.old)) }
     ensures sound { IsSound (λ _. true) (length machine.new.heap) result }
     ensures kept { GrownBy 0 machine.old steps.old machine.new steps.new }
+    ensures reads { ReadsBy 24 machine.old steps.old machine.new steps.new }
+    ensures stored { OnOk result (ReadsBy 0 machine.old steps.old machine.new steps.new) }
 {
     let depth = machine.budget.depth;
     if depth >= MOST_DEPTH {
@@ -275,6 +304,7 @@ fn store_deeper_pattern<L: Ledger>(
 
 // From left to right.
 #[cycle(run)]
+#[inline(never)]
 fn store_each<L: Ledger>(
     machine: &mut Machine,
     targets: &[Expr],
@@ -286,9 +316,12 @@ fn store_each<L: Ledger>(
     requires fit_targets { ExpressionsFit (expressions_of targets.now) }
     requires sound_items { IsTrue (are_sound (length machine.old.heap) (map value_of items.now)) }
     requires room { HasRoom machine.old }
+    requires targets { IsTrue (list_all is_target (map expression_of targets.now)) }
     ensures gives { Gives (λ u. u) result (moment_of machine.new) (store_each (call room) (expressions_of targets.now) (map value_of items.now) (moment_of machine.old)) }
     ensures sound { IsSound (λ _. true) (length machine.new.heap) result }
     ensures kept { GrownBy 0 machine.old steps.old machine.new steps.new }
+    ensures reads { ReadsBy 24 machine.old steps.old machine.new steps.new }
+    ensures stored { OnOk result (ReadsBy 0 machine.old steps.old machine.new steps.new) }
 {
     for i in 0..targets.len() {
         if i < items.len() {
@@ -300,6 +333,7 @@ fn store_each<L: Ledger>(
 
 /// Puts a value into targets, from left to right.
 #[cycle(run)]
+#[inline(never)]
 pub(crate) fn store_all<L: Ledger>(
     machine: &mut Machine,
     targets: &[Expr],
@@ -311,9 +345,12 @@ pub(crate) fn store_all<L: Ledger>(
     requires fits { ListFits (map expression_of targets.now) }
     requires sound_value { IsTrue (is_sound (length machine.old.heap) (value_of value.now)) }
     requires room { HasRoom machine.old }
+    requires targets { IsTrue (list_all is_target (map expression_of targets.now)) }
     ensures gives { Gives (λ u. u) result (moment_of machine.new) (store_all (call room) (map expression_of targets.now) (value_of value.now) (moment_of machine.old)) }
     ensures sound { IsSound (λ _. true) (length machine.new.heap) result }
     ensures kept { GrownBy 0 machine.old steps.old machine.new steps.new }
+    ensures reads { ReadsBy 24 machine.old steps.old machine.new steps.new }
+    ensures stored { OnOk result (ReadsBy 0 machine.old steps.old machine.new steps.new) }
 {
     for target in targets {
         store(machine, target, value, room, steps)?;

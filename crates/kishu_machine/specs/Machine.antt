@@ -87,6 +87,15 @@ HasRoom = HasRoomBy 0
 abbrev pub GrownBy : ℕ → Machine → ℕ → Machine → ℕ → Type 0
 GrownBy k old a new b = (length old.heap ≤ length new.heap) × (length new.heap + 4 * new.budget.left ≤ length old.heap + 4 * old.budget.left + k) × (old.budget.left + a ≤ new.budget.left + b)
 
+-- The counter rose by at most 128 for each step that was taken, and by so many more.
+abbrev pub ReadsBy : ℕ → Machine → ℕ → Machine → ℕ → Type 0
+ReadsBy k old a new b = b + 128 * new.budget.left ≤ a + 128 * old.budget.left + k
+
+-- A call that returned left so many reads over; another way out left none.
+abbrev pub LeavesReads : {X : Type 0} → ℕ → Machine → ℕ → Result X Fault → Machine → ℕ → Type 0
+LeavesReads k old a (Ok x) new b = b + 128 * new.budget.left + k ≤ a + 128 * old.budget.left
+LeavesReads k old a (Err f) new b = b + 128 * new.budget.left ≤ a + 128 * old.budget.left
+
 -- ---- what is sound among n nodes
 
 abbrev pub is_sound_thrown : ℕ → Thrown → Bool

@@ -1,6 +1,6 @@
 // Comparisons (Python Language Reference 3, "Comparisons").
 ghost use Rattle.std.specs.List.{list_all};
-ghost use Rattle.std.specs.Prelude.{Bool, Err, IsTrue, Option, is_some, length, map, nat_lt, not, true, ℕ, ◌+◌, ◌-ℤ◌, ◌<◌, ◌≡◌, ◌≤◌};
+ghost use Rattle.std.specs.Prelude.{Bool, Err, IsTrue, Option, is_some, length, map, nat_lt, not, true, ℕ, ◌*◌, ◌+◌, ◌-ℤ◌, ◌<◌, ◌≡◌, ◌≤◌};
 ghost use Rattle.std.specs.Str.{chars};
 ghost use Rattle.kishu_model.specs.Comparing.{among, compare, comparison_sign, identical, in_node, in_range, is_number_of, member, or_unordered, part_in};
 ghost use Rattle.kishu_model.specs.Counting.{Counted, ended_in};
@@ -15,7 +15,7 @@ ghost use Rattle.kishu_model.specs.Sound.{is_sound};
 ghost use Rattle.kishu_model.specs.Values.{value_of};
 ghost use Rattle.kishu_heap.specs.Cells.{entries_of};
 ghost use Rattle.kishu_machine.specs.Forms.{is_step_on, natural};
-ghost use Rattle.kishu_machine.specs.Machine.{Gives, GrownBy, IsSound, moment_of, placed_in};
+ghost use Rattle.kishu_machine.specs.Machine.{Gives, GrownBy, IsSound, ReadsBy, moment_of, placed_in};
 ghost use Rattle.kishu_heap.specs.Compared as compared;
 ghost use Rattle.kishu_model.specs.Values as model;
 
@@ -65,6 +65,7 @@ fn no_comparison<L: Ledger>(
     ensures gives { Gives (λ b. b) result (moment_of machine.now) (bad_operands (comparison_sign comparison) (value_of a.now) (value_of b.now) (moment_of machine.now)) }
     ensures sound { IsSound (λ _. true) (length machine.now.heap) result }
     ensures counted { steps.old ≤ steps.new }
+    ensures reads { steps.new ≤ steps.old + 2 }
 {
     bad_operands(machine, comparison_sign(comparison), a, b, steps)
 }
@@ -79,6 +80,7 @@ fn no_items<L: Ledger>(
     ensures gives { Gives (λ b. b) result (moment_of machine.now) (not_iterable (value_of value.now) (moment_of machine.now)) }
     ensures sound { IsSound (λ _. true) (length machine.now.heap) result }
     ensures counted { steps.old ≤ steps.new }
+    ensures reads { steps.new ≤ steps.old + 2 }
 {
     not_iterable(machine, value, steps)
 }
@@ -100,6 +102,7 @@ fn equal<L: Ledger>(
     ensures gives { Gives (λ b. b) result (moment_of machine.new) (equal (value_of a.now) (value_of b.now) (moment_of machine.old)) }
     ensures sound { IsSound (λ _. true) (length machine.new.heap) result }
     ensures kept { GrownBy 0 machine.old steps.old machine.new steps.new }
+    ensures reads { ReadsBy 8 machine.old steps.old machine.new steps.new }
     ensures heap { machine.new.heap ≡ machine.old.heap }
 {
     let answer = machine.heap.equal(a, b, &mut machine.budget, steps);
@@ -120,6 +123,7 @@ fn unanswered<L: Ledger>(
     ensures gives { (e : Counted (Option Bool)) → compared.Orders (Err fault) machine.now.budget.left e → Gives (λ b. b) result (moment_of machine.now) (and_then (ended_in (moment_of machine.now) e) (or_unordered comparison (value_of a.now) (value_of b.now))) }
     ensures sound { IsSound (λ _. true) (length machine.now.heap) result }
     ensures counted { steps.old ≤ steps.new }
+    ensures reads { steps.new ≤ steps.old + 2 }
 {
     match fault {
         CompareFault::Unordered => no_comparison(machine, comparison, a, b, steps),
@@ -142,6 +146,7 @@ fn ordered<L: Ledger>(
     ensures gives { (e : Counted (Option Bool)) → compared.Orders answer machine.now.budget.left e → Gives (λ b. b) result (moment_of machine.now) (and_then (ended_in (moment_of machine.now) e) (or_unordered comparison (value_of a.now) (value_of b.now))) }
     ensures sound { IsSound (λ _. true) (length machine.now.heap) result }
     ensures counted { steps.old ≤ steps.new }
+    ensures reads { steps.new ≤ steps.old + 2 }
 {
     match answer {
         Ok(holds) => Ok(holds),
@@ -164,6 +169,7 @@ fn less<L: Ledger>(
     ensures gives { Gives (λ b. b) result (moment_of machine.new) ((less (value_of one.now) (value_of other.now) ⊳ or_unordered comparison (value_of a.now) (value_of b.now)) (moment_of machine.old)) }
     ensures sound { IsSound (λ _. true) (length machine.new.heap) result }
     ensures kept { GrownBy 0 machine.old steps.old machine.new steps.new }
+    ensures reads { ReadsBy 10 machine.old steps.old machine.new steps.new }
     ensures heap { machine.new.heap ≡ machine.old.heap }
 {
     let answer = machine.heap.less(one, other, &mut machine.budget, steps);
@@ -179,6 +185,7 @@ fn identical<L: Ledger>(
     ensures gives { Gives (λ b. b) result (moment_of machine.new) (identical (value_of a.now) (value_of b.now) (moment_of machine.old)) }
     ensures sound { IsSound (λ _. true) (length machine.new.heap) result }
     ensures kept { GrownBy 0 machine.old steps.old machine.new steps.new }
+    ensures reads { ReadsBy 0 machine.old steps.old machine.new steps.new }
     ensures heap { machine.new.heap ≡ machine.old.heap }
 {
     spend(machine, pair_steps(a, b) as u128, steps)?;
@@ -198,6 +205,7 @@ fn part_in<L: Ledger>(
     ensures gives { Gives (λ b. b) result (moment_of machine.new) (part_in (chars part.now) (chars text.now) (moment_of machine.old)) }
     ensures sound { IsSound (λ _. true) (length machine.new.heap) result }
     ensures kept { GrownBy 0 machine.old steps.old machine.new steps.new }
+    ensures reads { ReadsBy 0 machine.old steps.old machine.new steps.new }
     ensures heap { machine.new.heap ≡ machine.old.heap }
 {
     let width = count(part).max(1) as u128;
@@ -217,6 +225,7 @@ fn among<L: Ledger>(
     ensures gives { (s : Moment) → Gives (λ b. b) result (placed_in s heap.now budget.new) (among (value_of value.now) (map value_of items.now) (placed_in s heap.now budget.old)) }
     ensures depth { budget.new.depth ≡ budget.old.depth }
     ensures least { budget.old.left + steps.old ≤ budget.new.left + steps.new }
+    ensures reads { 24 * budget.new.left + steps.new ≤ 24 * budget.old.left + steps.old }
     ensures left { budget.new.left ≤ budget.old.left }
     ensures sound { (n : ℕ) → IsSound (λ _. true) n result }
 {
@@ -300,6 +309,7 @@ fn key_in<L: Ledger>(
     ensures sound { IsSound (λ _. true) (length heap.now) result }
     ensures depth { budget.new.depth ≡ budget.old.depth }
     ensures least { budget.old.left + steps.old ≤ budget.new.left + steps.new }
+    ensures reads { 24 * budget.new.left + steps.new ≤ 24 * budget.old.left + steps.old + 2 }
     ensures left { budget.new.left ≤ budget.old.left }
 {
     let key = kishu_items::key_of(alloc, value, heap, budget, steps);
@@ -320,6 +330,7 @@ fn has_key<L: Ledger>(
     ensures sound { IsSound (λ _. true) (length heap.now) result }
     ensures depth { budget.new.depth ≡ budget.old.depth }
     ensures least { budget.old.left + steps.old ≤ budget.new.left + steps.new }
+    ensures reads { 24 * budget.new.left + steps.new ≤ 24 * budget.old.left + steps.old + 2 }
     ensures left { budget.new.left ≤ budget.old.left }
 {
     let key = key_in(alloc, value, heap, budget, steps)?;
@@ -337,6 +348,7 @@ fn in_node<L: Ledger>(
     ensures gives { Gives (λ b. b) result (moment_of machine.new) ((node_now (value_of b.now) ⊳ in_node (value_of a.now) (value_of b.now)) (moment_of machine.old)) }
     ensures sound { IsSound (λ _. true) (length machine.new.heap) result }
     ensures kept { GrownBy 0 machine.old steps.old machine.new steps.new }
+    ensures reads { ReadsBy 3 machine.old steps.old machine.new steps.new }
     ensures heap { machine.new.heap ≡ machine.old.heap }
 {
     let (alloc, heap, budget) = (machine.alloc, &machine.heap, &mut machine.budget);
@@ -375,6 +387,7 @@ fn in_text<L: Ledger>(
     ensures gives { Gives (λ b. b) result (moment_of machine.new) (member comparison (value_of a.now) (model.text (chars text.now)) (moment_of machine.old)) }
     ensures sound { IsSound (λ _. true) (length machine.new.heap) result }
     ensures kept { GrownBy 0 machine.old steps.old machine.new steps.new }
+    ensures reads { ReadsBy 2 machine.old steps.old machine.new steps.new }
     ensures heap { machine.new.heap ≡ machine.old.heap }
 {
     match text_from(a) {
@@ -395,6 +408,7 @@ fn member<L: Ledger>(
     ensures gives { Gives (λ b. b) result (moment_of machine.new) (member comparison (value_of a.now) (value_of b.now) (moment_of machine.old)) }
     ensures sound { IsSound (λ _. true) (length machine.new.heap) result }
     ensures kept { GrownBy 0 machine.old steps.old machine.new steps.new }
+    ensures reads { ReadsBy 3 machine.old steps.old machine.new steps.new }
     ensures heap { machine.new.heap ≡ machine.old.heap }
 {
     match b {
@@ -417,6 +431,7 @@ fn negated(answer: Result<bool, Fault>) -> Result<bool, Fault>
 }
 
 /// A comparison of two values.
+#[inline(never)]
 pub fn compare<L: Ledger>(
     machine: &mut Machine,
     comparison: Comparison,
@@ -429,6 +444,7 @@ pub fn compare<L: Ledger>(
     ensures gives { Gives (λ b. b) result (moment_of machine.new) (compare comparison (value_of a.now) (value_of b.now) (moment_of machine.old)) }
     ensures sound { IsSound (λ _. true) (length machine.new.heap) result }
     ensures kept { GrownBy 0 machine.old steps.old machine.new steps.new }
+    ensures reads { ReadsBy 16 machine.old steps.old machine.new steps.new }
     ensures heap { machine.new.heap ≡ machine.old.heap }
 {
     match comparison {

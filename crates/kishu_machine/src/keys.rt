@@ -5,7 +5,7 @@ ghost use Rattle.kishu_model.specs.Keys.{key_of};
 ghost use Rattle.kishu_model.specs.Sequences.{count_in, items_of, walked};
 ghost use Rattle.kishu_model.specs.Sound.{are_sound, is_sound};
 ghost use Rattle.kishu_model.specs.Values.{value_of};
-ghost use Rattle.kishu_machine.specs.Machine.{Gives, GrownBy, HasRoom, HasRoomBy, IsSound, moment_of};
+ghost use Rattle.kishu_machine.specs.Machine.{Gives, GrownBy, HasRoom, HasRoomBy, IsSound, ReadsBy, moment_of};
 
 use crate::fault::{Fault, passed};
 use crate::machine::Machine;
@@ -22,6 +22,7 @@ pub fn key_of<L: Ledger>(
     ensures gives { Gives key_of result (moment_of machine.new) (key_of_value (value_of value.now) (moment_of machine.old)) }
     ensures sound { IsSound (λ _. true) (length machine.new.heap) result }
     ensures kept { GrownBy 0 machine.old steps.old machine.new steps.new }
+    ensures reads { ReadsBy 4 machine.old steps.old machine.new steps.new }
     ensures heap { machine.new.heap ≡ machine.old.heap }
 {
     let key = kishu_items::key_of(
@@ -44,6 +45,7 @@ pub fn value_of_key<L: Ledger>(
     ensures gives { Gives value_of result (moment_of machine.new) (value_of_key (key_of key.now) (moment_of machine.old)) }
     ensures sound { IsSound (λ v. is_sound (length machine.new.heap) (value_of v)) (length machine.new.heap) result }
     ensures kept { GrownBy 1 machine.old steps.old machine.new steps.new }
+    ensures reads { ReadsBy 0 machine.old steps.old machine.new steps.new }
 {
     let value = kishu_items::value_of_key(
         machine.alloc,
@@ -66,6 +68,7 @@ pub fn items_of<L: Ledger>(
     ensures gives { Gives (λ v. map value_of v.items) result (moment_of machine.new) (items_of (value_of value.now) (moment_of machine.old)) }
     ensures sound { IsSound (λ v. are_sound (length machine.new.heap) (map value_of v.items)) (length machine.new.heap) result }
     ensures kept { GrownBy (unwrap_or (count_in machine.old.heap (value_of value.now)) 0) machine.old steps.old machine.new steps.new }
+    ensures reads { ReadsBy 4 machine.old steps.old machine.new steps.new }
 {
     let items = kishu_items::items_of(
         machine.alloc,
@@ -88,6 +91,7 @@ pub fn walked<L: Ledger>(
     ensures gives { Gives (λ v. map value_of v.items) result (moment_of machine.new) (walked (value_of value.now) (moment_of machine.old)) }
     ensures sound { IsSound (λ v. are_sound (length machine.new.heap) (map value_of v.items)) (length machine.new.heap) result }
     ensures kept { GrownBy 0 machine.old steps.old machine.new steps.new }
+    ensures reads { ReadsBy 4 machine.old steps.old machine.new steps.new }
 {
     let items = kishu_items::walked(
         machine.alloc,

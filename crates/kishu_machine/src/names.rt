@@ -118,6 +118,7 @@ fn read_local(alloc: Global, locals: &Option<Frame>, name: &str) -> Result<Value
 }
 
 /// The value of a name.
+#[inline(never)]
 pub fn read(machine: &mut Machine, name: &str) -> Result<Value, Fault>
     ensures gives { Gives value_of result (moment_of machine.new) (read name.now (moment_of machine.old)) }
     ensures sound { IsSound (λ v. is_sound (length machine.new.heap) (value_of v)) (length machine.new.heap) result }

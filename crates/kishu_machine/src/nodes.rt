@@ -23,6 +23,7 @@ pub fn node_at<'a, L: Ledger>(
     ensures node { option_map (λ n. node_of n.now) result ≡ node_at heap.now (value_of value.now) }
     ensures sound { IfSome result (λ n. IsTrue (is_sound_node (length heap.now) (node_of n.now))) }
     ensures counted { steps.old ≤ steps.new }
+    ensures reads { steps.new ≤ steps.old + 1 }
 {
     if let Value::Node(id) = value {
         if id.0 < heap.len() {
@@ -41,6 +42,7 @@ pub fn list_at<'a, L: Ledger>(
     ensures items { option_map (λ s. map value_of s.now) result ≡ list_from (node_at heap.now (value_of value.now)) }
     ensures sound { IfSome result (λ s. IsTrue (are_sound (length heap.now) (map value_of s.now))) }
     ensures counted { steps.old ≤ steps.new }
+    ensures reads { steps.new ≤ steps.old + 1 }
 {
     node_at(heap, value, steps)?.list()
 }
@@ -54,11 +56,13 @@ pub fn tuple_at<'a, L: Ledger>(
     ensures items { option_map (λ s. map value_of s.now) result ≡ tuple_from (node_at heap.now (value_of value.now)) }
     ensures sound { IfSome result (λ s. IsTrue (are_sound (length heap.now) (map value_of s.now))) }
     ensures counted { steps.old ≤ steps.new }
+    ensures reads { steps.new ≤ steps.old + 1 }
 {
     node_at(heap, value, steps)?.tuple()
 }
 
 /// A new node.
+#[inline(never)]
 pub fn make(machine: &mut Machine, node: Node) -> Result<NodeId, Fault>
     requires room { length machine.old.heap + 1 < 2 ^ 32 }
     requires sound { IsTrue (is_sound_node (length machine.old.heap) (node_of node)) }
@@ -73,6 +77,7 @@ pub fn make(machine: &mut Machine, node: Node) -> Result<NodeId, Fault>
 }
 
 /// A new list.
+#[inline(never)]
 pub fn new_list(machine: &mut Machine, items: Vec<Value>) -> Result<Value, Fault>
     requires room { length machine.old.heap + 1 < 2 ^ 32 }
     requires sound { IsTrue (are_sound (length machine.old.heap) (map value_of items.items)) }
@@ -86,6 +91,7 @@ pub fn new_list(machine: &mut Machine, items: Vec<Value>) -> Result<Value, Fault
 }
 
 /// A new tuple.
+#[inline(never)]
 pub fn new_tuple(machine: &mut Machine, items: Vec<Value>) -> Result<Value, Fault>
     requires room { length machine.old.heap + 1 < 2 ^ 32 }
     requires sound { IsTrue (are_sound (length machine.old.heap) (map value_of items.items)) }
@@ -103,6 +109,7 @@ pub fn truth<L: Ledger>(machine: &Machine, value: &Value, steps: &mut Steps<L>) 
     requires sound { IsTrue (is_sound (length machine.now.heap) (value_of value.now)) }
     ensures is { truth (value_of value.now) (moment_of machine.now) ≡ fine result (moment_of machine.now) }
     ensures counted { steps.old ≤ steps.new }
+    ensures reads { steps.new ≤ steps.old + 1 }
 {
     kishu_items::is_true(value, &machine.heap, steps)
 }

@@ -11,7 +11,7 @@ ghost use Rattle.kishu_model.specs.Sound.{are_sound, is_sound};
 ghost use Rattle.kishu_model.specs.Values.{value_of};
 ghost use Rattle.kishu_machine.specs.Forms.{maybe_both, maybe_node_times, maybe_often, maybe_tuple_times, maybe_value_times, some_value, text_from};
 ghost use Rattle.kishu_machine.specs.Lists.{are_sound_in, is_sound_in, items_in, values_in};
-ghost use Rattle.kishu_machine.specs.Machine.{Gives, GrownBy, HasRoom, HasRoomBy, IsSound, moment_of, placed};
+ghost use Rattle.kishu_machine.specs.Machine.{Gives, GrownBy, HasRoom, HasRoomBy, IsSound, ReadsBy, moment_of, placed};
 ghost use Rattle.kishu_model.specs.Values as model;
 ghost use Rattle.kishu_model.specs.declared.tree.Operator.TheVariants as operators;
 
@@ -66,6 +66,7 @@ fn bad_values<L: Ledger>(
     ensures gives { Gives value_of result (moment_of machine.now) (bad_operands (operator_sign operator) (value_of a.now) (value_of b.now) (moment_of machine.now)) }
     ensures sound { IsSound (λ v. is_sound (length machine.now.heap) (value_of v)) (length machine.now.heap) result }
     ensures counted { steps.old ≤ steps.new }
+    ensures reads { steps.new ≤ steps.old + 2 }
 {
     bad_operands(machine, operator_sign(operator), a, b, steps)
 }
@@ -114,6 +115,7 @@ fn joined<L: Ledger>(
     ensures gives { Gives value_of result (moment_of machine.new) (joined (chars a.now) (chars b.now) (moment_of machine.old)) }
     ensures sound { IsSound (λ v. is_sound (length machine.new.heap) (value_of v)) (length machine.new.heap) result }
     ensures kept { GrownBy 0 machine.old steps.old machine.new steps.new }
+    ensures reads { ReadsBy 0 machine.old steps.old machine.new steps.new }
     ensures heap { machine.new.heap ≡ machine.old.heap }
 {
     spend(machine, count(a) as u128 + count(b) as u128, steps)?;
@@ -167,6 +169,7 @@ fn repeated<L: Ledger>(
     ensures gives { Gives value_of result (moment_of machine.new) (repeated (chars text.now) number (moment_of machine.old)) }
     ensures sound { IsSound (λ v. is_sound (length machine.new.heap) (value_of v)) (length machine.new.heap) result }
     ensures kept { GrownBy 0 machine.old steps.old machine.new steps.new }
+    ensures reads { ReadsBy 0 machine.old steps.old machine.new steps.new }
     ensures heap { machine.new.heap ≡ machine.old.heap }
 {
     let times = times(number);
@@ -250,6 +253,7 @@ fn list_sum<L: Ledger>(
     ensures sound { IsSound (λ o. are_sound_in (length machine.new.heap) (items_in o)) (length machine.new.heap) result }
     ensures heap { machine.new.heap ≡ machine.old.heap }
     ensures kept { GrownBy 0 machine.old steps.old machine.new steps.new }
+    ensures reads { ReadsBy 2 machine.old steps.old machine.new steps.new }
 {
     let x = list_at(&machine.heap, a, steps);
     let y = list_at(&machine.heap, b, steps);
@@ -267,6 +271,7 @@ fn tuple_sum<L: Ledger>(
     ensures sound { IsSound (λ o. are_sound_in (length machine.new.heap) (items_in o)) (length machine.new.heap) result }
     ensures heap { machine.new.heap ≡ machine.old.heap }
     ensures kept { GrownBy 0 machine.old steps.old machine.new steps.new }
+    ensures reads { ReadsBy 2 machine.old steps.old machine.new steps.new }
 {
     let x = tuple_at(&machine.heap, a, steps);
     let y = tuple_at(&machine.heap, b, steps);
@@ -286,6 +291,7 @@ fn sum_of_tuples<L: Ledger>(
     ensures gives { Gives value_of result (moment_of machine.new) ((node_now (value_of a.now) ⊳ λ m. node_now (value_of b.now) ⊳ λ n. by_both (tuple_from m) (tuple_from n) (both new_tuple) (bad_operands (operator_sign operators.Add) (value_of a.now) (value_of b.now))) (moment_of machine.old)) }
     ensures sound { IsSound (λ v. is_sound (length machine.new.heap) (value_of v)) (length machine.new.heap) result }
     ensures kept { GrownBy 1 machine.old steps.old machine.new steps.new }
+    ensures reads { ReadsBy 4 machine.old steps.old machine.new steps.new }
 {
     let found = tuple_sum(machine, a, b, steps)?;
     match found {
@@ -307,6 +313,7 @@ fn sum_of_nodes<L: Ledger>(
     ensures gives { Gives value_of result (moment_of machine.new) ((node_now (value_of a.now) ⊳ λ m. node_now (value_of b.now) ⊳ λ n. sum_of_nodes m n (bad_operands (operator_sign operators.Add) (value_of a.now) (value_of b.now))) (moment_of machine.old)) }
     ensures sound { IsSound (λ v. is_sound (length machine.new.heap) (value_of v)) (length machine.new.heap) result }
     ensures kept { GrownBy 1 machine.old steps.old machine.new steps.new }
+    ensures reads { ReadsBy 6 machine.old steps.old machine.new steps.new }
 {
     let found = list_sum(machine, a, b, steps)?;
     match found {
@@ -328,6 +335,7 @@ fn sum_of<L: Ledger>(
     ensures gives { Gives value_of result (moment_of machine.new) (sum_of (value_of a.now) (value_of b.now) (moment_of machine.old)) }
     ensures sound { IsSound (λ v. is_sound (length machine.new.heap) (value_of v)) (length machine.new.heap) result }
     ensures kept { GrownBy 1 machine.old steps.old machine.new steps.new }
+    ensures reads { ReadsBy 6 machine.old steps.old machine.new steps.new }
 {
     let Some(left) = text_from(a) else {
         return sum_of_nodes(machine, a, b, steps);
@@ -372,6 +380,7 @@ fn list_times<L: Ledger>(
     ensures sound { IsSound (λ o. are_sound_in (length machine.new.heap) (items_in o)) (length machine.new.heap) result }
     ensures heap { machine.new.heap ≡ machine.old.heap }
     ensures kept { GrownBy 0 machine.old steps.old machine.new steps.new }
+    ensures reads { ReadsBy 1 machine.old steps.old machine.new steps.new }
 {
     let part = list_at(&machine.heap, value, steps);
     items_times(machine.alloc, part, times, &mut machine.budget, steps)
@@ -389,6 +398,7 @@ fn tuple_times<L: Ledger>(
     ensures sound { IsSound (λ o. are_sound_in (length machine.new.heap) (items_in o)) (length machine.new.heap) result }
     ensures heap { machine.new.heap ≡ machine.old.heap }
     ensures kept { GrownBy 0 machine.old steps.old machine.new steps.new }
+    ensures reads { ReadsBy 1 machine.old steps.old machine.new steps.new }
 {
     let part = tuple_at(&machine.heap, value, steps);
     items_times(machine.alloc, part, times, &mut machine.budget, steps)
@@ -415,6 +425,7 @@ fn tuple_product<L: Ledger>(
     requires sound_value { IsTrue (is_sound (length machine.old.heap) (value_of value.now)) }
     ensures gives { Gives values_in result (moment_of machine.new) ((node_now (value_of value.now) ⊳ λ m. maybe_tuple_times m number) (moment_of machine.old)) }
     ensures kept { GrownBy 1 machine.old steps.old machine.new steps.new }
+    ensures reads { ReadsBy 1 machine.old steps.old machine.new steps.new }
     ensures unmade { IfOk result (λ o. IfNone o (GrownBy 0 machine.old steps.old machine.new steps.new)) }
     ensures sound { IsSound (λ o. is_sound_in (length machine.new.heap) (values_in o)) (length machine.new.heap) result }
 {
@@ -436,6 +447,7 @@ fn node_times<L: Ledger>(
     requires sound_value { IsTrue (is_sound (length machine.old.heap) (value_of value.now)) }
     ensures gives { Gives values_in result (moment_of machine.new) ((node_now (value_of value.now) ⊳ λ m. maybe_node_times m number) (moment_of machine.old)) }
     ensures kept { GrownBy 1 machine.old steps.old machine.new steps.new }
+    ensures reads { ReadsBy 2 machine.old steps.old machine.new steps.new }
     ensures unmade { IfOk result (λ o. IfNone o (GrownBy 0 machine.old steps.old machine.new steps.new)) }
     ensures sound { IsSound (λ o. is_sound_in (length machine.new.heap) (values_in o)) (length machine.new.heap) result }
 {
@@ -457,6 +469,7 @@ fn value_often<L: Ledger>(
     requires sound_value { IsTrue (is_sound (length machine.old.heap) (value_of value.now)) }
     ensures gives { Gives values_in result (moment_of machine.new) (maybe_value_times (value_of value.now) (Some number) (moment_of machine.old)) }
     ensures kept { GrownBy 1 machine.old steps.old machine.new steps.new }
+    ensures reads { ReadsBy 2 machine.old steps.old machine.new steps.new }
     ensures unmade { IfOk result (λ o. IfNone o (GrownBy 0 machine.old steps.old machine.new steps.new)) }
     ensures sound { IsSound (λ o. is_sound_in (length machine.new.heap) (values_in o)) (length machine.new.heap) result }
 {
@@ -477,6 +490,7 @@ fn value_times<L: Ledger>(
     requires sound_value { IsTrue (is_sound (length machine.old.heap) (value_of value.now)) }
     ensures gives { Gives values_in result (moment_of machine.new) (maybe_value_times (value_of value.now) number (moment_of machine.old)) }
     ensures kept { GrownBy 1 machine.old steps.old machine.new steps.new }
+    ensures reads { ReadsBy 2 machine.old steps.old machine.new steps.new }
     ensures unmade { IfOk result (λ o. IfNone o (GrownBy 0 machine.old steps.old machine.new steps.new)) }
     ensures sound { IsSound (λ o. is_sound_in (length machine.new.heap) (values_in o)) (length machine.new.heap) result }
 {
@@ -499,6 +513,7 @@ fn right_product<L: Ledger>(
     ensures gives { Gives value_of result (moment_of machine.new) (value_times (value_of b.now) (number_in (value_of a.now)) (bad_operands (operator_sign operators.Multiply) (value_of a.now) (value_of b.now)) (moment_of machine.old)) }
     ensures sound { IsSound (λ v. is_sound (length machine.new.heap) (value_of v)) (length machine.new.heap) result }
     ensures kept { GrownBy 1 machine.old steps.old machine.new steps.new }
+    ensures reads { ReadsBy 4 machine.old steps.old machine.new steps.new }
 {
     let made = value_times(machine, b, number_in(a), steps)?;
     match made {
@@ -520,6 +535,7 @@ fn product_of<L: Ledger>(
     ensures gives { Gives value_of result (moment_of machine.new) (product_of (value_of a.now) (value_of b.now) (moment_of machine.old)) }
     ensures sound { IsSound (λ v. is_sound (length machine.new.heap) (value_of v)) (length machine.new.heap) result }
     ensures kept { GrownBy 1 machine.old steps.old machine.new steps.new }
+    ensures reads { ReadsBy 6 machine.old steps.old machine.new steps.new }
 {
     let made = value_times(machine, a, number_in(b), steps)?;
     match made {
@@ -542,6 +558,7 @@ fn on_sequences<L: Ledger>(
     ensures gives { Gives value_of result (moment_of machine.new) (on_sequences operator (value_of a.now) (value_of b.now) (moment_of machine.old)) }
     ensures sound { IsSound (λ v. is_sound (length machine.new.heap) (value_of v)) (length machine.new.heap) result }
     ensures kept { GrownBy 1 machine.old steps.old machine.new steps.new }
+    ensures reads { ReadsBy 6 machine.old steps.old machine.new steps.new }
 {
     match operator {
         Operator::Add => sum_of(machine, a, b, steps),
@@ -568,6 +585,7 @@ fn with_number<L: Ledger>(
     ensures gives { Gives value_of result (moment_of machine.new) (on_numbers operator (Some number) (number_in (value_of b.now)) (on_sequences operator (value_of a.now) (value_of b.now)) (moment_of machine.old)) }
     ensures sound { IsSound (λ v. is_sound (length machine.new.heap) (value_of v)) (length machine.new.heap) result }
     ensures kept { GrownBy 1 machine.old steps.old machine.new steps.new }
+    ensures reads { ReadsBy 6 machine.old steps.old machine.new steps.new }
 {
     match number_in(b) {
         Some(other) => arithmetic(machine.alloc, operator, number, other),
@@ -576,6 +594,7 @@ fn with_number<L: Ledger>(
 }
 
 /// An operator between two values.
+#[inline(never)]
 pub fn operate<L: Ledger>(
     machine: &mut Machine,
     operator: Operator,
@@ -589,6 +608,7 @@ pub fn operate<L: Ledger>(
     ensures gives { Gives value_of result (moment_of machine.new) (operate operator (value_of a.now) (value_of b.now) (moment_of machine.old)) }
     ensures sound { IsSound (λ v. is_sound (length machine.new.heap) (value_of v)) (length machine.new.heap) result }
     ensures kept { GrownBy 1 machine.old steps.old machine.new steps.new }
+    ensures reads { ReadsBy 16 machine.old steps.old machine.new steps.new }
 {
     match number_in(a) {
         Some(number) => with_number(machine, operator, number, a, b, steps),
@@ -597,6 +617,7 @@ pub fn operate<L: Ledger>(
 }
 
 /// A value with a sign before it.
+#[inline(never)]
 pub fn signed_value<L: Ledger>(
     machine: &Machine,
     sign: Sign,
@@ -607,6 +628,7 @@ pub fn signed_value<L: Ledger>(
     ensures gives { Gives value_of result (moment_of machine.now) (signed_value sign (value_of value.now) (moment_of machine.now)) }
     ensures sound { (n : ℕ) → IsSound (λ v. is_sound n (value_of v)) n result }
     ensures counted { steps.old ≤ steps.new }
+    ensures reads { steps.new ≤ steps.old + 4 }
 {
     match number_in(value) {
         Some(number) => signed_number(machine.alloc, sign, number),

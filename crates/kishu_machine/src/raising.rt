@@ -1,6 +1,6 @@
 // Exceptions, with their texts (Library Reference, "Built-in Exceptions").
 ghost use Rattle.std.specs.List.{list_all};
-ghost use Rattle.std.specs.Prelude.{IfOk, IsTrue, codes, length, nat_lt, ◌++◌, ◌≡◌, ◌≤◌};
+ghost use Rattle.std.specs.Prelude.{IfOk, IsTrue, codes, length, nat_lt, ◌++◌, ◌+◌, ◌≡◌, ◌≤◌};
 ghost use Rattle.std.specs.Rc.{rc_str_bytes};
 ghost use Rattle.std.specs.Str.{chars};
 ghost use Rattle.std.specs.String.{string_bytes};
@@ -72,6 +72,7 @@ fn kind_error<T, L: Ledger>(
     requires sound { IsTrue (is_sound (length machine.now.heap) (value_of value.now)) }
     ensures is { IsRaised result 23 (quoted_kind machine.now.heap (value_of value.now) ++ back.now) }
     ensures counted { steps.old ≤ steps.new }
+    ensures reads { steps.new ≤ steps.old + 1 }
 {
     let kind = kind_name(value, &machine.heap, steps);
     raise(TYPE_ERROR, quoted(machine.alloc, "", kind, back)?)
@@ -86,6 +87,7 @@ pub fn not_iterable<T, L: Ledger>(
     requires sound { IsTrue (is_sound (length machine.now.heap) (value_of value.now)) }
     ensures gives { Gives (λ x. x) result (moment_of machine.now) (not_iterable (value_of value.now) (moment_of machine.now)) }
     ensures counted { steps.old ≤ steps.new }
+    ensures reads { steps.new ≤ steps.old + 2 }
 {
     raise(
         TYPE_ERROR,
@@ -102,6 +104,7 @@ pub fn not_subscriptable<T, L: Ledger>(
     requires sound { IsTrue (is_sound (length machine.now.heap) (value_of value.now)) }
     ensures gives { Gives (λ x. x) result (moment_of machine.now) (not_subscriptable (value_of value.now) (moment_of machine.now)) }
     ensures counted { steps.old ≤ steps.new }
+    ensures reads { steps.new ≤ steps.old + 2 }
 {
     kind_error(machine, value, " object is not subscriptable", steps)
 }
@@ -115,6 +118,7 @@ pub fn not_callable<T, L: Ledger>(
     requires sound { IsTrue (is_sound (length machine.now.heap) (value_of value.now)) }
     ensures gives { Gives (λ x. x) result (moment_of machine.now) (not_callable (value_of value.now) (moment_of machine.now)) }
     ensures counted { steps.old ≤ steps.new }
+    ensures reads { steps.new ≤ steps.old + 2 }
 {
     kind_error(machine, value, " object is not callable", steps)
 }
@@ -137,6 +141,7 @@ pub(crate) fn bad_operand<T, L: Ledger>(
     requires sound { IsTrue (is_sound (length machine.now.heap) (value_of value.now)) }
     ensures gives { Gives (λ x. x) result (moment_of machine.now) (bad_operand sign.now (value_of value.now) (moment_of machine.now)) }
     ensures counted { steps.old ≤ steps.new }
+    ensures reads { steps.new ≤ steps.old + 1 }
 {
     let kind = kind_name(value, &machine.heap, steps);
     let text = operand_message(machine.alloc, sign, kind)?;
@@ -156,6 +161,7 @@ pub(crate) fn bad_operands<T, L: Ledger>(
     requires sound_b { IsTrue (is_sound (length machine.now.heap) (value_of b.now)) }
     ensures gives { Gives (λ x. x) result (moment_of machine.now) (bad_operands sign.now (value_of a.now) (value_of b.now) (moment_of machine.now)) }
     ensures counted { steps.old ≤ steps.new }
+    ensures reads { steps.new ≤ steps.old + 2 }
 {
     let text = bad_operands_text(machine.alloc, sign, a, b, &machine.heap, steps)?;
     raise(TYPE_ERROR, text)
@@ -191,6 +197,7 @@ pub fn no_attribute<T, L: Ledger>(
     requires sound { IsTrue (is_sound (length machine.now.heap) (value_of value.now)) }
     ensures gives { Gives (λ x. x) result (moment_of machine.now) (no_attribute (value_of value.now) name.now (moment_of machine.now)) }
     ensures counted { steps.old ≤ steps.new }
+    ensures reads { steps.new ≤ steps.old + 2 }
 {
     let kind = kind_name(value, &machine.heap, steps);
     let text = attribute_message(machine.alloc, kind, name)?;

@@ -10,7 +10,7 @@ ghost use Rattle.kishu_model.specs.Equal.{room_at};
 ghost use Rattle.kishu_model.specs.Show.{argument_text, repr_nodes, repr_of, show, show_all, show_all_in, show_nodes, show_thrown};
 ghost use Rattle.kishu_model.specs.Values.{none, value_of};
 ghost use Rattle.kishu_machine.specs.Lists.{is_node, string_texts};
-ghost use Rattle.kishu_machine.specs.Machine.{Gives, GrownBy, IsSound, moment_of, thrown_of};
+ghost use Rattle.kishu_machine.specs.Machine.{Gives, GrownBy, IsSound, ReadsBy, moment_of, thrown_of};
 ghost use Rattle.kishu_model.specs.Texts as words;
 ghost use Rattle.kishu_show.specs.Shown as shown;
 
@@ -47,6 +47,7 @@ pub fn repr_of<L: Ledger>(
     ensures gives { Gives (λ t. chars (string_bytes t)) result (moment_of machine.new) (repr_of (value_of value.now) (moment_of machine.old)) }
     ensures sound { IsSound (λ _. true) (length machine.new.heap) result }
     ensures kept { GrownBy 0 machine.old steps.old machine.new steps.new }
+    ensures reads { ReadsBy 8 machine.old steps.old machine.new steps.new }
     ensures heap { machine.new.heap ≡ machine.old.heap }
 {
     let alloc = machine.alloc;
@@ -63,6 +64,7 @@ pub fn show<L: Ledger>(
     ensures gives { Gives (λ t. chars (string_bytes t)) result (moment_of machine.new) (show (value_of value.now) (moment_of machine.old)) }
     ensures sound { IsSound (λ _. true) (length machine.new.heap) result }
     ensures kept { GrownBy 0 machine.old steps.old machine.new steps.new }
+    ensures reads { ReadsBy 8 machine.old steps.old machine.new steps.new }
     ensures heap { machine.new.heap ≡ machine.old.heap }
 {
     let alloc = machine.alloc;
@@ -85,6 +87,7 @@ fn inner_text<L: Ledger>(
     ensures left { budget.new.left ≤ budget.old.left }
     ensures depth { budget.new.depth ≡ budget.old.depth }
     ensures least { budget.old.left + steps.old ≤ budget.new.left + steps.new }
+    ensures reads { 24 * budget.new.left + steps.new ≤ 24 * budget.old.left + steps.old + 2 }
 {
     if class == KEY_ERROR.0 {
         kishu_show::repr_of(alloc, argument, heap, budget, steps)
@@ -122,6 +125,7 @@ fn text_below<L: Ledger>(
     ensures left { budget.new.left ≤ budget.old.left }
     ensures depth { budget.new.depth ≡ budget.old.depth }
     ensures least { budget.old.left + steps.old ≤ budget.new.left + steps.new }
+    ensures reads { 24 * budget.new.left + steps.new ≤ 24 * budget.old.left + steps.old + 2 }
 {
     let mut inner = Budget {
         left: budget.left,
@@ -145,6 +149,7 @@ fn deeper_text<L: Ledger>(
     ensures left { budget.new.left ≤ budget.old.left }
     ensures depth { budget.new.depth ≡ budget.old.depth }
     ensures least { budget.old.left + steps.old ≤ budget.new.left + steps.new }
+    ensures reads { 24 * budget.new.left + steps.new ≤ 24 * budget.old.left + steps.old + 2 }
 {
     if budget.depth < MOST_DEPTH {
         return text_below(alloc, class, argument, heap, budget, steps);
@@ -165,6 +170,7 @@ fn argument_text<L: Ledger>(
     ensures gives { Gives (λ t. chars (string_bytes t)) result (moment_of machine.new) (show_thrown (fresh class (value_of argument.now ∷ [])) (moment_of machine.old)) }
     ensures sound { IsSound (λ _. true) (length machine.new.heap) result }
     ensures kept { GrownBy 0 machine.old steps.old machine.new steps.new }
+    ensures reads { ReadsBy 0 machine.old steps.old machine.new steps.new }
     ensures heap { machine.new.heap ≡ machine.old.heap }
 {
     tick(machine, steps)?;
@@ -189,6 +195,7 @@ pub fn show_thrown<L: Ledger>(
     ensures gives { Gives (λ t. chars (string_bytes t)) result (moment_of machine.new) (show_thrown (thrown_of thrown.now) (moment_of machine.old)) }
     ensures sound { IsSound (λ _. true) (length machine.new.heap) result }
     ensures kept { GrownBy 0 machine.old steps.old machine.new steps.new }
+    ensures reads { ReadsBy 8 machine.old steps.old machine.new steps.new }
     ensures heap { machine.new.heap ≡ machine.old.heap }
 {
     match thrown {
@@ -212,6 +219,7 @@ fn all_texts<L: Ledger>(
     ensures left { budget.new.left ≤ budget.old.left }
     ensures depth { budget.new.depth ≡ budget.old.depth }
     ensures least { budget.old.left + steps.old ≤ budget.new.left + steps.new }
+    ensures reads { 24 * budget.new.left + steps.new ≤ 24 * budget.old.left + steps.old + 2 * length values.now }
 {
     let mut texts = Vec::new(alloc);
     for value in values {
@@ -229,6 +237,7 @@ fn show_all<L: Ledger>(
     ensures gives { Gives string_texts result (moment_of machine.new) (show_all (map value_of values.now) (moment_of machine.old)) }
     ensures sound { IsSound (λ _. true) (length machine.new.heap) result }
     ensures kept { GrownBy 0 machine.old steps.old machine.new steps.new }
+    ensures reads { ReadsBy (2 * length values.now) machine.old steps.old machine.new steps.new }
     ensures heap { machine.new.heap ≡ machine.old.heap }
 {
     let alloc = machine.alloc;
@@ -274,6 +283,7 @@ pub fn print<L: Ledger>(
     ensures gives { Gives value_of result (moment_of machine.new) (print (chars separator.now) (chars end.now) (map value_of values.now) (moment_of machine.old)) }
     ensures sound { IsSound (λ _. true) (length machine.new.heap) result }
     ensures kept { GrownBy 0 machine.old steps.old machine.new steps.new }
+    ensures reads { ReadsBy (2 * length values.now) machine.old steps.old machine.new steps.new }
     ensures heap { machine.new.heap ≡ machine.old.heap }
     ensures none { IfOk result (λ v. value_of v ≡ none) }
 {

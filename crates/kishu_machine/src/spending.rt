@@ -56,6 +56,7 @@ pub(crate) fn spend_times<L: Ledger>(
     ensures gives { Gives (λ u. u) result (moment_of machine.new) (spend (size * times) (moment_of machine.old)) }
     ensures sound { IsSound (λ _. true) (length machine.new.heap) result }
     ensures kept { GrownBy 0 machine.old steps.old machine.new steps.new }
+    ensures counted { steps.new + machine.new.budget.left ≡ steps.old + machine.old.budget.left }
     ensures taken { OnOk result (machine.new.budget.left + size * times ≡ machine.old.budget.left) }
     ensures heap { machine.new.heap ≡ machine.old.heap }
 {

@@ -16,6 +16,7 @@ pub fn tick<L: Ledger>(machine: &mut Machine, steps: &mut Steps<L>) -> Result<()
     ensures gives { Gives (λ u. u) result (moment_of machine.new) (tick (moment_of machine.old)) }
     ensures sound { IsSound (λ _. true) (length machine.new.heap) result }
     ensures kept { GrownBy 0 machine.old steps.old machine.new steps.new }
+    ensures counted { steps.new + machine.new.budget.left ≡ steps.old + machine.old.budget.left }
     ensures taken { OnOk result (machine.new.budget.left + 1 ≡ machine.old.budget.left) }
     ensures heap { machine.new.heap ≡ machine.old.heap }
 {
@@ -36,6 +37,7 @@ pub fn spend<L: Ledger>(
     ensures gives { Gives (λ u. u) result (moment_of machine.new) (spend count (moment_of machine.old)) }
     ensures sound { IsSound (λ _. true) (length machine.new.heap) result }
     ensures kept { GrownBy 0 machine.old steps.old machine.new steps.new }
+    ensures counted { steps.new + machine.new.budget.left ≡ steps.old + machine.old.budget.left }
     ensures taken { OnOk result (machine.new.budget.left + count ≡ machine.old.budget.left) }
     ensures heap { machine.new.heap ≡ machine.old.heap }
 {

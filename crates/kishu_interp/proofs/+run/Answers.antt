@@ -1,34 +1,35 @@
 -- What the functions of the cycle promise.
-use Rattle.std.proofs.Common.{◌≡◌, ◌∙◌, ◌+◌, ◌++◌, ◌∷◌, [], ap, sym, subst, arith, map, max, drop, length, IsTrue, List, ℕ, rules, Option, ◌≢◌, false-eqb, ◌<◌, length-drop, true, false, refl, ◌-◌, Some, None, suc, ◌≤◌, ◌^◌}
-use Rattle.std.proofs.lemmas.List.{map-append, drop_all, nil_from_length, length_push}
+use Rattle.std.proofs.Common.{◌≡◌, ◌∙◌, ◌+◌, ◌++◌, ◌∷◌, [], ap, sym, subst, arith, map, max, drop, length, length-append, IsTrue, ℕ, rules, not, Option, ◌*◌, ◌≢◌, true, false, false-eqb, ◌<◌, List, length-drop, refl, ◌≤◌, ◌-◌, Some, None, suc, ◌^◌}
+use Rattle.std.proofs.lemmas.List.{map-append, drop_all, length_push, nil_from_length}
 use Rattle.std.proofs.lemmas.Result.{err_from_is_err_and}
-use Rattle.std.specs.Prelude.{slice_get, option_map}
+use Rattle.std.specs.Prelude.{MatchOption, slice_get, option_map}
 use Rattle.std.specs.Rc.{rc_str_bytes}
 use Rattle.std.specs.declared.alloc.Global.{Global}
 use Rattle.std.specs.declared.rc.RcStr.{RcStr}
 use Rattle.std.specs.declared.vec.Vec.{Vec}
-use Rattle.kishu_model.specs.Callees.{Given, settled, Part}
-use Rattle.kishu_model.specs.Fits.{ArgumentsFit, keywords, OperandsFit, ExpressionsFit, LinksFit, PairsFit, TrailerFits, StatementsFit, ParametersFit}
+use Rattle.kishu_model.specs.Callees.{Given, Part, settled}
+use Rattle.kishu_model.specs.Fits.{ArgumentsFit, keywords, OperandsFit, LinksFit, ExpressionsFit, PairsFit, StatementsFit, ParametersFit}
 use Rattle.kishu_model.specs.Functions.{bound_values, own_names}
-use Rattle.kishu_model.specs.Height.{of_expression, of_arguments, of_operands, of_expressions, of_links, of_pairs, of_bound, of_trailer, of_statements, of_parameters}
-use Rattle.kishu_model.specs.Meaning.{call, arguments, operands, first_that, inner_values, pairs, expr, part, trailers, nodes, values, Place, no_place, place, place_by, store_each, acts, defaults, in_block, store, act}
-use Rattle.kishu_model.specs.Moment.{Ends, and_then, give, ◌>>=◌, fine, assign, make, ◌>>◌}
+use Rattle.kishu_model.specs.Height.{of_expression, of_arguments, of_operands, of_links, of_expressions, of_pairs, of_bound, of_trailers, of_statements, of_parameters}
+use Rattle.kishu_model.specs.Meaning.{call, arguments, operands, first_that, inner_values, pairs, expr, part, trailer, trailers, nodes, values, Place, no_place, place, place_by, store_each, acts, defaults, in_block, store, act}
+use Rattle.kishu_model.specs.Moment.{Ends, and_then, give, ◌>>=◌, fine, Locals, assign, make, ◌>>◌}
 use Rattle.kishu_model.specs.Names.{is_name}
 use Rattle.kishu_model.specs.Parse.{ParseDef}
 use Rattle.kishu_model.specs.Refusals.{all_differ}
 use Rattle.kishu_model.specs.Sound.{are_sound, with_default, is_sound}
-use Rattle.kishu_model.specs.Tree.{Text, Arguments, expression_of, Operands, Expressions, more_expressions, Links, Pairs, Trailer, bound_of, value_of as tree_value, Definition, definition_of, Statements, parameter_of, Parameter}
-use Rattle.kishu_model.specs.Values.{Value, value_of, function, node, Node}
+use Rattle.kishu_model.specs.Tree.{Text, Arguments, expression_of, Operands, Links, Expressions, more_expressions, Pairs, Trailer, bound_of, value_of as tree_value, Definition, definition_of, Statements, parameter_of, Parameter}
+use Rattle.kishu_model.specs.Values.{Value, value_of, Names, function, node, Node}
 use Rattle.kishu_model.specs.Ways.{Flow, broke, continued, onward, returned, walk_along, walk_on, turns}
 use Rattle.kishu_model.specs.declared.profile.Profile.{Profile}
 use Rattle.kishu_model.specs.declared.tree.Def.{Def}
 use Rattle.kishu_model.specs.declared.tree.Expr.{Expr}
 use Rattle.kishu_model.specs.declared.tree.Pair.{Pair}
 use Rattle.kishu_access.specs.Access.{place_of, walk_of, is_sound_maybe}
-use Rattle.kishu_calls.specs.Calls.{given_of, named_of, is_sound_given, IsFunction, part_of, flow_of}
-use Rattle.kishu_calls.specs.Rows.{primary_is, slice_is}
-use Rattle.kishu_calls.specs.Trees.{arguments_of, operands_of, expressions_of, links_of, pairs_of, trailers_of, trailer_of, statements_of}
-use Rattle.kishu_interp.proofs.+run.Goals.{expressions::arguments_given-in-Plain+in_ok-deeper_value-in-Plain+in_ok-push-in-Plain, expressions::arguments_given-in-Keyword+in_ok-value-in-Keyword+in_ok-clone-in-Keyword+in_ok-push-in-Keyword, expressions::deciding_value-then-i-operands-via-then-i-operands, expressions::deciding_value-then-i-operands-via-else-i-operands+then-truth-which, targets::store_each-then-i-items+in_ok-store, targets::store_each-else-i-items, statements::default_values-in-Some+in_ok-deeper_value+in_ok-push, statements::default_values-in_default, statements::run_turns-in-Onward, statements::run_turns-in-Continued, statements::run_while-in-Onward, statements::run_while-in-Continued}
+use Rattle.kishu_calls.specs.Calls.{given_of, named_of, is_sound_given, IsFunction, owed, part_of, flow_of}
+use Rattle.kishu_calls.specs.Forms.{is_function}
+use Rattle.kishu_calls.specs.Rows.{primary_is, attribute_is, call_is, index_is, slice_is}
+use Rattle.kishu_calls.specs.Trees.{arguments_of, operands_of, links_of, expressions_of, pairs_of, trailer_of, trailers_of, statements_of}
+use Rattle.kishu_interp.proofs.+run.Goals.{expressions::arguments_given-in-Plain+in_ok-deeper_value-in-Plain+in_ok-push-in-Plain, expressions::arguments_given-in-Keyword+in_ok-value-in-Keyword+in_ok-clone-in-Keyword+in_ok-push-in-Keyword, expressions::deciding_value-then-i-operands-via-then-i-operands, expressions::deciding_value-then-i-operands-via-else-i-operands+then-truth-which, expressions::part_behind-in-Attribute, expressions::part_behind-in-Call, expressions::part_behind-in-Index, expressions::part_behind-in-Slice, targets::store_each-then-i-items+in_ok-store, targets::store_each-else-i-items, statements::default_values-in-Some+in_ok-deeper_value+in_ok-push, statements::default_values-in_default, statements::run_turns-in-Onward, statements::run_turns-in-Continued, statements::run_while-in-Onward, statements::run_while-in-Continued}
 use Rattle.kishu_interp.proofs.Arguments.{plain_here, keyword_here, plain_on, keyword_on, plain_fails, keyword_fails, plain_pushed, named_pushed, differ_on, differ_now, with_plain, with_named, given_as}
 use Rattle.kishu_interp.proofs.Arms.{arm_fails, arms_fit, arms_low, next_arm, no_arm, this_arm}
 use Rattle.kishu_interp.proofs.Bodies.{title_is, called_bound, called_refused, body_is, sound_left, entered_fine, entered_fails}
@@ -39,28 +40,29 @@ use Rattle.kishu_interp.proofs.Functions.{function_holds, called_node}
 use Rattle.kishu_interp.proofs.Handlers.{handlers_fit, handlers_low, not_this, not_told, this_one}
 use Rattle.kishu_interp.proofs.Joined.{joined}
 use Rattle.kishu_interp.proofs.Leaving.{block_is}
-use Rattle.kishu_interp.proofs.Lists.{pushed_values, compared_gives, pushed_sound, inner_values_on, values_on}
-use Rattle.kishu_interp.proofs.Loops.{operands_on, operand_fails, operand_tick_fails, operator_fails, paid_on, first_fails, first_decided, first_open, begun, all_made, links_on, link_fails, link_tick_fails, comparison_fails, pairs_fail, pairs_fail_behind}
+use Rattle.kishu_interp.proofs.Lists.{pushed_values, compared_linked, pushed_sound, inner_values_on, values_on}
+use Rattle.kishu_interp.proofs.Loops.{operands_on, operand_fails, operand_tick_fails, operator_fails, paid_on, links_on, link_fails, link_tick_fails, comparison_fails, first_fails, first_decided, first_open, begun, all_made, pairs_fail, pairs_fail_behind}
 use Rattle.kishu_interp.proofs.Nested.{nested_gives}
 use Rattle.kishu_interp.proofs.Places.{before_fits, before_low, last_fits, last_low, place_none, place_split, split_trailers}
-use Rattle.kishu_interp.proofs.Primaries.{primary_fails, primary_gives}
-use Rattle.kishu_interp.proofs.Remaining.{expressions_fit, expressions_low, rest_fits, rest_low, store_ends, store_fails, stored, targets_end, pattern_fails, pattern_gives, parameters_fit, parameters_low, with_count, with_value, without_count, without_default}
-use Rattle.kishu_interp.proofs.Rests.{operands_here, expressions_here, links_here, pairs_here}
+use Rattle.kishu_interp.proofs.Primaries.{owes_reads_on, Found, found_ends, found_fails, found_on, leaves_more, moved, owing_more, room_found, sound_found, trailer_fits, trailer_here, trailer_low, primary_fails, primary_gives}
+use Rattle.kishu_interp.proofs.Remaining.{expressions_fit, expressions_low, rest_fits, rest_low, store_ends, store_fails, stored, targets_end, targets_here, targets_rest, pattern_fails, pattern_gives, targets_are, parameters_fit, parameters_low, with_count, with_value, without_count, without_default}
+use Rattle.kishu_interp.proofs.Rests.{operands_here, links_here, expressions_here, pairs_here}
 use Rattle.kishu_interp.proofs.Turns.{for_told, item_fails, put_fails, step_fails, walk_ends, walk_fails, walk_more, walked, body_fails, no_turn, test_fails, tick_fails, turned, while_told}
 use Rattle.kishu_interp.proofs.Walked.{def_defaults_fail, def_ends, for_gives, for_part_fails, for_walk_fails}
-use Rattle.kishu_interp.specs.Forms.{linked, slice_part}
+use Rattle.kishu_interp.specs.Forms.{linked}
 use Rattle.kishu_items.specs.Gathering.{sound_at}
-use Rattle.kishu_machine.specs.Composing.{grown_on, grown_none, gives_on, fails_on}
+use Rattle.kishu_machine.specs.Composing.{grown_on, grown_none, grown_by_more, fails_on, gives_on}
 use Rattle.kishu_machine.specs.Frames.{frame_of, names_of, locals_of, is_sound_run}
 use Rattle.kishu_machine.specs.Lists.{value_pairs, values_in}
-use Rattle.kishu_machine.specs.Machine.{Fails, moment_of, GrownBy, Gives}
+use Rattle.kishu_machine.specs.Machine.{Fails, moment_of, GrownBy, Gives, ReadsBy}
 use Rattle.kishu_machine.specs.SoundMore.{sound_more, sound_more_pairs, handled_in_run, run_with_handled, sound_more_handled, sound_more_thrown}
 use Rattle.kishu_machine.specs.declared.frame.Frame.{Frame}
 use Rattle.kishu_machine.specs.declared.machine.Machine.{Machine}
-use Rattle.kishu_model.specs.Meaning as m
 use Rattle.kishu_model.specs.declared.value.Value as rust
+use Rattle.kishu_model.specs.declared.tree.Argument as rust_argument
 use Rattle.kishu_calls.specs.declared.ways.Flow as rust_flow
 use Rattle.kishu_calls.specs.declared.callees.Given as rust_given
+use Rattle.kishu_model.specs.declared.tree.Trailer as rust_trailer
 use Rattle.kishu_model.specs.Tree as t
 use Rattle.kishu_interp.proofs.+run.Goals as goal
 
@@ -179,6 +181,10 @@ expressions::arguments_given-loop-argument-preserved g falls c =
                 subst (λ (m : Machine). GrownBy 0 c.args.machine.now c.args.steps.now m new.steps) (sym w.machine-is)
                 (subst (λ (b : ℕ). GrownBy 0 c.args.machine.now c.args.steps.now m2 b) (sym w.steps-is)
                 (grown_on 0 0 c.args.machine.now old.machine m2 c.args.steps.now old.steps b2 inv.kept gave.kept));
+            reads =
+                (let left : new.machine.budget.left ≡ m2.budget.left = ap (λ (m : Machine). m.budget.left) w.machine-is in
+                let count : length new.plain.items ≡ length old.plain.items + 1 = ap (λ (p : Vec rust.Value Global). length p.items) w.plain-is ∙ ap length w.in_ok-push-in-Plain.ensures.items ∙ length-append old.plain.items (v ∷ []) in
+                omega (arith, inv.reads, gave.reads, left, w.steps-is, count));
             sound =
                 subst (λ (m : Machine). IsTrue (is_sound_given (length m.heap) (given_of given))) (sym w.machine-is)
                 (subst (λ (h : Given). IsTrue (is_sound_given (length m2.heap) h)) (sym now)
@@ -216,6 +222,10 @@ expressions::arguments_given-loop-argument-preserved g falls c =
                 subst (λ (m : Machine). GrownBy 0 c.args.machine.now c.args.steps.now m new.steps) (sym w.machine-is)
                 (subst (λ (b : ℕ). GrownBy 0 c.args.machine.now c.args.steps.now m2 b) (sym w.steps-is)
                 (grown_on 0 0 c.args.machine.now old.machine m2 c.args.steps.now old.steps b2 inv.kept gave.kept));
+            reads =
+                (let left : new.machine.budget.left ≡ m2.budget.left = ap (λ (m : Machine). m.budget.left) w.machine-is in
+                let count : length new.plain.items ≡ length old.plain.items = ap (λ (p : Vec rust.Value Global). length p.items) w.plain-is in
+                omega (arith, inv.reads, gave.reads, left, w.steps-is, count));
             sound =
                 subst (λ (m : Machine). IsTrue (is_sound_given (length m.heap) (given_of given))) (sym w.machine-is)
                 (subst (λ (h : Given). IsTrue (is_sound_given (length m2.heap) h)) (sym now)
@@ -261,6 +271,13 @@ expressions::call_node-returns-in-Some-clause-gives g falls c =
     let found : IsFunction o c.in-Some.function = search rules in
     called_node value_of c.called.result c.args.room c.args.id.0 (given_of c.args.given.now) (moment_of c.args.machine.now) (moment_of c.called.new.machine) o c.in-Some.function found c.called.ensures.gives
 
+-- ---- called_part
+
+pub expressions::called_part-returns-in-Ok-arguments_given-clause-reads : goal.expressions::called_part-returns-in-Ok-arguments_given-clause-reads
+expressions::called_part-returns-in-Ok-arguments_given-clause-reads g falls c =
+    owes_reads_on 64 40 (2 * length c.in-Ok-arguments_given.given.plain.items) c.args.machine.now c.arguments_given.new.machine c.apply.new.machine c.args.steps.now c.arguments_given.new.steps c.apply.new.steps c.apply.result
+    (omega (arith, c.in-Ok.ensures.reads, c.in-Ok-arguments_given.ensures.paid)) c.apply.ensures.reads
+
 -- ---- combined_value
 
 pub expressions::combined_value-evaluate-requires-in-loop-other : goal.expressions::combined_value-evaluate-requires-in-loop-other
@@ -289,9 +306,8 @@ expressions::combined_value-evaluate-requires-in-loop-other g falls c κs within
   ),
 )
 
-pub expressions::combined_value-returns-in_err-right-clause-gives : goal.expressions::combined_value-returns-in_err-right-clause-gives
-expressions::combined_value-returns-in_err-right-clause-gives g falls c =
-    let p = err_from_is_err_and c.from_residual-in_err-right.result c.from_residual-in_err-right.ensures.1 in
+pub expressions::combined_value-returns-in-Err-evaluate-clause-gives : goal.expressions::combined_value-returns-in-Err-evaluate-clause-gives
+expressions::combined_value-returns-in-Err-evaluate-clause-gives g falls c =
     let i = c.loop-other.other-index in
     let o = c.other-item.result in
     let rest = operands_of (drop (i + 1) c.args.others.now) in
@@ -300,11 +316,11 @@ expressions::combined_value-returns-in_err-right-clause-gives g falls c =
     let s = moment_of c.loop-other.machine in
     let here = operands_here c.args.others.now i o (omega arith) c.other-item.is in
     let told = c.loop-other.invariant.told ∙ ap (λ (os : Operands). operands calls v os s) here in
-    rw (p.1, p.2) (subst (λ (x : Ends Value). Fails c.in_err-right.field-0.0 (moment_of c.evaluate-in-loop-other.new.machine) x) (sym told) (operand_fails calls o.operator v (expression_of o.value) rest s c.in_err-right.field-0.0 (moment_of c.evaluate-in-loop-other.new.machine) c.in_err-right.ensures.gives))
+    subst (λ (x : Ends Value). Fails c.in-Err-evaluate.fault (moment_of c.evaluate-in-loop-other.new.machine) x) (sym told) (operand_fails calls o.operator v (expression_of o.value) rest s c.in-Err-evaluate.fault (moment_of c.evaluate-in-loop-other.new.machine) c.in-Err-evaluate.ensures.gives)
 
 pub expressions::combined_value-returns-in_err-tick-clause-gives : goal.expressions::combined_value-returns-in_err-tick-clause-gives
 expressions::combined_value-returns-in_err-tick-clause-gives g falls c =
-    let p = err_from_is_err_and c.from_residual-in_err-tick.result c.from_residual-in_err-tick.ensures.1 in
+    let p = err_from_is_err_and c.from_residual.result c.from_residual.ensures.1 in
     let i = c.loop-other.other-index in
     let o = c.other-item.result in
     let rest = operands_of (drop (i + 1) c.args.others.now) in
@@ -313,11 +329,10 @@ expressions::combined_value-returns-in_err-tick-clause-gives g falls c =
     let s = moment_of c.loop-other.machine in
     let here = operands_here c.args.others.now i o (omega arith) c.other-item.is in
     let told = c.loop-other.invariant.told ∙ ap (λ (os : Operands). operands calls v os s) here in
-    rw (p.1, p.2) (subst (λ (x : Ends Value). Fails c.in_err-tick.field-0.0 (moment_of c.tick.new.machine) x) (sym told) (operand_tick_fails calls o.operator v (expression_of o.value) rest s (value_of c.in_ok-right.right) c.in_err-tick.field-0.0 (moment_of c.evaluate-in-loop-other.new.machine) (moment_of c.tick.new.machine) c.in_ok-right.ensures.gives c.in_err-tick.ensures.gives))
+    rw (p.1, p.2) (subst (λ (x : Ends Value). Fails c.in_err-tick.field-0.0 (moment_of c.tick.new.machine) x) (sym told) (operand_tick_fails calls o.operator v (expression_of o.value) rest s (value_of c.in-Ok-evaluate.right) c.in_err-tick.field-0.0 (moment_of c.evaluate-in-loop-other.new.machine) (moment_of c.tick.new.machine) c.in-Ok-evaluate.ensures.gives c.in_err-tick.ensures.gives))
 
-pub expressions::combined_value-returns-in_err-value-2-clause-gives : goal.expressions::combined_value-returns-in_err-value-2-clause-gives
-expressions::combined_value-returns-in_err-value-2-clause-gives g falls c =
-    let p = err_from_is_err_and c.from_residual-in_err-value-2.result c.from_residual-in_err-value-2.ensures.1 in
+pub expressions::combined_value-returns-in-Err-operate-clause-gives : goal.expressions::combined_value-returns-in-Err-operate-clause-gives
+expressions::combined_value-returns-in-Err-operate-clause-gives g falls c =
     let i = c.loop-other.other-index in
     let o = c.other-item.result in
     let rest = operands_of (drop (i + 1) c.args.others.now) in
@@ -326,7 +341,7 @@ expressions::combined_value-returns-in_err-value-2-clause-gives g falls c =
     let s = moment_of c.loop-other.machine in
     let here = operands_here c.args.others.now i o (omega arith) c.other-item.is in
     let told = c.loop-other.invariant.told ∙ ap (λ (os : Operands). operands calls v os s) here in
-    rw (p.1, p.2) (subst (λ (x : Ends Value). Fails c.in_err-value-2.field-0.0 (moment_of c.operate.new.machine) x) (sym told) (operator_fails calls o.operator v (expression_of o.value) rest s (value_of c.in_ok-right.right) _ c.in_err-value-2.field-0.0 (moment_of c.evaluate-in-loop-other.new.machine) (moment_of c.tick.new.machine) (moment_of c.operate.new.machine) c.in_ok-right.ensures.gives c.in_ok-tick.ensures.gives c.in_err-value-2.ensures.gives))
+    subst (λ (x : Ends Value). Fails c.in-Err-operate.fault (moment_of c.operate.new.machine) x) (sym told) (operator_fails calls o.operator v (expression_of o.value) rest s (value_of c.in-Ok-evaluate.right) _ c.in-Err-operate.fault (moment_of c.evaluate-in-loop-other.new.machine) (moment_of c.tick.new.machine) (moment_of c.operate.new.machine) c.in-Ok-evaluate.ensures.gives c.in_ok-tick.ensures.gives c.in-Err-operate.ensures.gives)
 
 pub expressions::combined_value-loop-other-preserved : goal.expressions::combined_value-loop-other-preserved
 expressions::combined_value-loop-other-preserved g falls c =
@@ -342,38 +357,156 @@ expressions::combined_value-loop-other-preserved g falls c =
     let b2 = c.evaluate-in-loop-other.new.steps in
     let b3 = c.tick.new.steps in
     let b4 = c.operate.new.steps in
-    let right = c.in_ok-right.ensures in
+    let right = c.in-Ok-evaluate.ensures in
     let step = c.in_ok-tick.ensures in
-    let all = c.in_ok-value-2.ensures in
+    let all = c.in-Ok-operate.ensures in
     let here = operands_here c.args.others.now i o (omega arith) c.other-item.is in
     let k : of_operands (operands_of (drop i c.args.others.now)) ≡ max (of_expression (expression_of o.value)) (of_operands rest) = ap of_operands here in
     record {
       told =
           c.loop-other.invariant.told
           ∙ ap (λ (os : Operands). operands calls (value_of c.loop-other.value) os (moment_of m1)) here
-          ∙ operands_on calls o.operator (value_of c.loop-other.value) (expression_of o.value) rest (moment_of m1) (value_of c.in_ok-right.right) (value_of c.in_ok-value-2.value) _ (moment_of m2) (moment_of m3) (moment_of m4) right.gives step.gives all.gives;
+          ∙ operands_on calls o.operator (value_of c.loop-other.value) (expression_of o.value) rest (moment_of m1) (value_of c.in-Ok-evaluate.right) (value_of c.in-Ok-operate.result) _ (moment_of m2) (moment_of m3) (moment_of m4) right.gives step.gives all.gives;
       height = omega arith;
       fits = (subst (λ (os : Operands). OperandsFit os) here c.loop-other.invariant.fits).1;
       kept =
           grown_on 0 0 c.args.machine.now m1 m4 c.args.steps.now b1 b4 c.loop-other.invariant.kept
           (grown_on 0 0 m1 m2 m4 b1 b2 b4 right.kept (paid_on m2 m3 m4 b2 b3 b4 step.heap step.taken step.kept all.kept));
+      reads = omega (arith, c.loop-other.invariant.reads, right.reads, step.counted, step.taken, all.reads);
       sound = all.sound;
     }
 
 -- ---- compared_value
 
-pub expressions::compared_value-returns-clause-gives : goal.expressions::compared_value-returns-clause-gives
-expressions::compared_value-returns-clause-gives g falls c =
+pub expressions::compared_value-loop-link-init : goal.expressions::compared_value-loop-link-init
+expressions::compared_value-loop-link-init g falls c =
     let some : length c.args.links.now ≢ 0 = λ e. false-eqb _ 0 (sym (sym c.is_empty.ensures ∙ c.if-is_empty.false)) e in
-    compared_gives value_of (call c.args.room) (expression_of c.args.first.now) c.args.links.now (value_of c.in_ok-value.value)
-    (moment_of c.args.machine.now) (moment_of c.evaluate.new.machine) (moment_of c.linked_value.new.machine) c.linked_value.result
-    (omega arith) c.in_ok-value.ensures.gives c.linked_value.ensures.gives
+    record {
+      told = compared_linked (call c.args.room) (expression_of c.args.first.now) c.args.links.now (value_of c.in-Ok.value) (moment_of c.args.machine.now) (moment_of c.evaluate.new.machine) (omega arith) c.in-Ok.ensures.gives;
+      height = omega arith;
+      fits = c.requires.fit_links;
+      kept = c.in-Ok.ensures.kept;
+      reads = omega (arith, c.in-Ok.ensures.reads);
+      sound = c.in-Ok.ensures.sound;
+    }
+
+pub expressions::compared_value-evaluate-requires-in-loop-link : goal.expressions::compared_value-evaluate-requires-in-loop-link
+expressions::compared_value-evaluate-requires-in-loop-link g falls c κs within = (
+  (let i = c.loop-link.link-index in
+      let l = c.link-item.result in
+      let here = links_here c.args.links.now i l (omega arith) c.link-item.is in
+      let k : of_links (links_of (drop i c.args.links.now)) ≡ max (of_expression (expression_of l.value)) (of_links (links_of (drop (i + 1) c.args.links.now))) = ap of_links here in
+      omega arith),
+  (
+    search rules,
+    (
+      (let i = c.loop-link.link-index in
+          let l = c.link-item.result in
+          let here = links_here c.args.links.now i l (omega arith) c.link-item.is in
+          let k : of_links (links_of (drop i c.args.links.now)) ≡ max (of_expression (expression_of l.value)) (of_links (links_of (drop (i + 1) c.args.links.now))) = ap of_links here in
+          omega arith),
+      (
+        (let here = links_here c.args.links.now c.loop-link.link-index c.link-item.result (omega arith) c.link-item.is in
+            (subst (λ (ls : Links). LinksFit ls) here c.loop-link.invariant.fits).0),
+        search rules,
+      ),
+    ),
+  ),
+)
+
+pub expressions::compared_value-returns-in-Err-evaluate-clause-gives : goal.expressions::compared_value-returns-in-Err-evaluate-clause-gives
+expressions::compared_value-returns-in-Err-evaluate-clause-gives g falls c =
+    let i = c.loop-link.link-index in
+    let l = c.link-item.result in
+    let rest = links_of (drop (i + 1) c.args.links.now) in
+    let calls = call c.args.room in
+    let left = value_of c.loop-link.left in
+    let s = moment_of c.loop-link.machine in
+    let here = links_here c.args.links.now i l (omega arith) c.link-item.is in
+    let told = c.loop-link.invariant.told ∙ ap (λ (ls : Links). linked calls left ls s) here in
+    subst (λ (x : Ends Value). Fails c.in-Err-evaluate.fault (moment_of c.evaluate-in-loop-link.new.machine) x) (sym told) (link_fails calls l.comparison left (expression_of l.value) rest s c.in-Err-evaluate.fault (moment_of c.evaluate-in-loop-link.new.machine) c.in-Err-evaluate.ensures.gives)
+
+pub expressions::compared_value-returns-in_err-tick-clause-gives : goal.expressions::compared_value-returns-in_err-tick-clause-gives
+expressions::compared_value-returns-in_err-tick-clause-gives g falls c =
+    let p = err_from_is_err_and c.from_residual.result c.from_residual.ensures.1 in
+    let i = c.loop-link.link-index in
+    let l = c.link-item.result in
+    let rest = links_of (drop (i + 1) c.args.links.now) in
+    let calls = call c.args.room in
+    let left = value_of c.loop-link.left in
+    let s = moment_of c.loop-link.machine in
+    let here = links_here c.args.links.now i l (omega arith) c.link-item.is in
+    let told = c.loop-link.invariant.told ∙ ap (λ (ls : Links). linked calls left ls s) here in
+    rw (p.1, p.2) (subst (λ (x : Ends Value). Fails c.in_err-tick.field-0.0 (moment_of c.tick.new.machine) x) (sym told) (link_tick_fails calls l.comparison left (expression_of l.value) rest s (value_of c.in-Ok-evaluate.right) c.in_err-tick.field-0.0 (moment_of c.evaluate-in-loop-link.new.machine) (moment_of c.tick.new.machine) c.in-Ok-evaluate.ensures.gives c.in_err-tick.ensures.gives))
+
+pub expressions::compared_value-returns-in-Err-compare-clause-gives : goal.expressions::compared_value-returns-in-Err-compare-clause-gives
+expressions::compared_value-returns-in-Err-compare-clause-gives g falls c =
+    let i = c.loop-link.link-index in
+    let l = c.link-item.result in
+    let rest = links_of (drop (i + 1) c.args.links.now) in
+    let calls = call c.args.room in
+    let left = value_of c.loop-link.left in
+    let s = moment_of c.loop-link.machine in
+    let here = links_here c.args.links.now i l (omega arith) c.link-item.is in
+    let told = c.loop-link.invariant.told ∙ ap (λ (ls : Links). linked calls left ls s) here in
+    subst (λ (x : Ends Value). Fails c.in-Err-compare.fault (moment_of c.compare.new.machine) x) (sym told) (comparison_fails calls l.comparison left (expression_of l.value) rest s (value_of c.in-Ok-evaluate.right) _ c.in-Err-compare.fault (moment_of c.evaluate-in-loop-link.new.machine) (moment_of c.tick.new.machine) (moment_of c.compare.new.machine) c.in-Ok-evaluate.ensures.gives c.in_ok-tick.ensures.gives c.in-Err-compare.ensures.gives)
+
+pub expressions::compared_value-loop-link-preserved : goal.expressions::compared_value-loop-link-preserved
+expressions::compared_value-loop-link-preserved g falls c =
+    let i = c.loop-link.link-index in
+    let l = c.link-item.result in
+    let rest = links_of (drop (i + 1) c.args.links.now) in
+    let calls = call c.args.room in
+    let m1 = c.loop-link.machine in
+    let m2 = c.evaluate-in-loop-link.new.machine in
+    let m3 = c.tick.new.machine in
+    let m4 = c.compare.new.machine in
+    let b1 = c.loop-link.steps in
+    let b2 = c.evaluate-in-loop-link.new.steps in
+    let b3 = c.tick.new.steps in
+    let b4 = c.compare.new.steps in
+    let left = value_of c.loop-link.left in
+    let w = value_of c.in-Ok-evaluate.right in
+    let right = c.in-Ok-evaluate.ensures in
+    let step = c.in_ok-tick.ensures in
+    let all = c.in-Ok-true.ensures in
+    let here = links_here c.args.links.now i l (omega arith) c.link-item.is in
+    let k : of_links (links_of (drop i c.args.links.now)) ≡ max (of_expression (expression_of l.value)) (of_links rest) = ap of_links here in
+    let n2 = length m2.heap in
+    let n4 = length m4.heap in
+    let same : n4 ≡ n2 = ap length all.heap ∙ ap length step.heap in
+    record {
+      told =
+          c.loop-link.invariant.told
+          ∙ ap (λ (ls : Links). linked calls left ls (moment_of m1)) here
+          ∙ links_on calls l.comparison left (expression_of l.value) rest (moment_of m1) w true _ (moment_of m2) (moment_of m3) (moment_of m4) right.gives step.gives (rw c.in-Ok-true.field-0-test at all.gives);
+      height = omega arith;
+      fits = (subst (λ (ls : Links). LinksFit ls) here c.loop-link.invariant.fits).1;
+      kept =
+          grown_on 0 0 c.args.machine.now m1 m4 c.args.steps.now b1 b4 c.loop-link.invariant.kept
+          (grown_on 0 0 m1 m2 m4 b1 b2 b4 right.kept (grown_on 0 0 m2 m3 m4 b2 b3 b4 step.kept all.kept));
+      reads = omega (arith, c.loop-link.invariant.reads, right.reads, step.counted, step.taken, all.reads);
+      sound = sound_more n2 n4 (omega (arith, same)) w right.sound;
+    }
+
+pub expressions::compared_value-returns-in-Ok-false-clause-gives : goal.expressions::compared_value-returns-in-Ok-false-clause-gives
+expressions::compared_value-returns-in-Ok-false-clause-gives g falls c =
+    let i = c.loop-link.link-index in
+    let l = c.link-item.result in
+    let rest = links_of (drop (i + 1) c.args.links.now) in
+    let calls = call c.args.room in
+    let s1 = moment_of c.loop-link.machine in
+    let left = value_of c.loop-link.left in
+    let w = value_of c.in-Ok-evaluate.right in
+    let here = links_here c.args.links.now i l (omega arith) c.link-item.is in
+    c.loop-link.invariant.told
+    ∙ ap (λ (ls : Links). linked calls left ls s1) here
+    ∙ links_on calls l.comparison left (expression_of l.value) rest s1 w false _ (moment_of c.evaluate-in-loop-link.new.machine) (moment_of c.tick.new.machine) (moment_of c.compare.new.machine) c.in-Ok-evaluate.ensures.gives c.in_ok-tick.ensures.gives (rw c.in-Ok-false.field-0-test at c.in-Ok-false.ensures.gives)
 
 -- ---- deciding_value
 
-pub expressions::deciding_value-returns-in_err-value-clause-gives : goal.expressions::deciding_value-returns-in_err-value-clause-gives
-expressions::deciding_value-returns-in_err-value-clause-gives g falls c =
-    let p = err_from_is_err_and c.from_residual-in_err-value.result c.from_residual-in_err-value.ensures.1 in
+pub expressions::deciding_value-returns-in-Err-clause-gives : goal.expressions::deciding_value-returns-in-Err-clause-gives
+expressions::deciding_value-returns-in-Err-clause-gives g falls c =
     let i = c.loop-i.i in
     let e = c.index-operands-i.result in
     let rest = expressions_of (drop (i + 1) c.args.operands.now) in
@@ -382,7 +515,7 @@ expressions::deciding_value-returns-in_err-value-clause-gives g falls c =
     let t = moment_of c.evaluate.new.machine in
     let here = expressions_here c.args.operands.now i e (omega arith) c.index-operands-i.is in
     let told = c.loop-i.invariant.told ∙ ap (λ (es : Expressions). first_that calls c.args.which es s) here in
-    rw (p.1, p.2) (subst (λ (x : Ends Value). Fails c.in_err-value.field-0.0 t x) (sym told) (first_fails calls c.args.which (expression_of e) s c.in_err-value.field-0.0 t rest c.in_err-value.ensures.gives))
+    subst (λ (x : Ends Value). Fails c.in-Err.fault t x) (sym told) (first_fails calls c.args.which (expression_of e) s c.in-Err.fault t rest c.in-Err.ensures.gives)
 
 pub expressions::deciding_value-returns-then-i-operands-clause-gives : goal.expressions::deciding_value-returns-then-i-operands-clause-gives
 expressions::deciding_value-returns-then-i-operands-clause-gives g falls c =
@@ -393,16 +526,16 @@ expressions::deciding_value-returns-then-i-operands-clause-gives g falls c =
     let which = c.args.which in
     let s = moment_of c.loop-i.machine in
     let t = moment_of c.evaluate.new.machine in
-    let v = value_of c.in_ok-value.value in
+    let v = value_of c.in-Ok.value in
     let here = expressions_here c.args.operands.now i e (omega arith) c.index-operands-i.is in
     let told = c.loop-i.invariant.told ∙ ap (λ (es : Expressions). first_that calls which es s) here in
     elim c.then-i-operands.branch [
       | expressions::deciding_value-then-i-operands-via-then-i-operands w ↦
           told
           ∙ ap (λ (os : List Expr). first_that calls which (more_expressions (expression_of e) (expressions_of os)) s) (drop_all (i + 1) c.args.operands.now (omega (arith, w.if-i-operands.true)))
-          ∙ c.in_ok-value.ensures.gives
+          ∙ c.in-Ok.ensures.gives
       | expressions::deciding_value-then-i-operands-via-else-i-operands+then-truth-which w ↦
-          told ∙ first_decided calls which (expression_of e) s v w.truth.result t (expressions_of os) c.in_ok-value.ensures.gives w.truth.ensures.is w.if-truth-which.true
+          told ∙ first_decided calls which (expression_of e) s v w.truth.result t (expressions_of os) c.in-Ok.ensures.gives w.truth.ensures.is w.if-truth-which.true
     ]
 
 pub expressions::deciding_value-loop-i-preserved : goal.expressions::deciding_value-loop-i-preserved
@@ -414,8 +547,8 @@ expressions::deciding_value-loop-i-preserved g falls c =
     let which = c.args.which in
     let s = moment_of c.loop-i.machine in
     let t = moment_of c.evaluate.new.machine in
-    let v = value_of c.in_ok-value.value in
-    let kept = c.in_ok-value.ensures.kept in
+    let v = value_of c.in-Ok.value in
+    let kept = c.in-Ok.ensures.kept in
     let before = c.loop-i.invariant.kept in
     let here = expressions_here c.args.operands.now i e (omega arith) c.index-operands-i.is in
     let k : of_expressions (expressions_of (drop i c.args.operands.now)) ≡ max (of_expression (expression_of e)) (of_expressions (expressions_of os)) = ap of_expressions here in
@@ -424,10 +557,11 @@ expressions::deciding_value-loop-i-preserved g falls c =
       told =
           c.loop-i.invariant.told
           ∙ ap (λ (es : Expressions). first_that calls which es s) here
-          ∙ first_open calls which (expression_of e) s v c.truth.result t os more c.in_ok-value.ensures.gives c.truth.ensures.is c.if-truth-which.false;
+          ∙ first_open calls which (expression_of e) s v c.truth.result t os more c.in-Ok.ensures.gives c.truth.ensures.is c.if-truth-which.false;
       height = omega arith;
       fits = (subst (λ (es : Expressions). ExpressionsFit es) here c.loop-i.invariant.fits).1;
       kept = (omega (arith, kept.0, before.0), omega (arith, kept.1, before.1), omega (arith, kept.2, before.2, c.truth.ensures.counted));
+      reads = omega (arith, c.loop-i.invariant.reads, c.in-Ok.ensures.reads, c.truth.ensures.reads);
     }
 
 -- ---- inner_values
@@ -438,6 +572,7 @@ expressions::inner_values-loop-item-init g falls c = record {
   height = omega arith;
   fits = c.requires.fit_items;
   kept = grown_none 0 c.args.machine.now c.args.steps.now;
+  reads = omega arith;
   sound = rw c.new-values.ensures.items (search rules);
 }
 
@@ -480,6 +615,7 @@ expressions::inner_values-loop-item-preserved g falls c =
       height = omega arith;
       fits = (subst (λ (es : Expressions). ExpressionsFit es) here c.loop-item.invariant.fits).1;
       kept = grown_on 0 0 c.args.machine.now c.loop-item.machine c.deeper_value.new.machine c.args.steps.now c.loop-item.steps c.deeper_value.new.steps c.loop-item.invariant.kept kept;
+      reads = omega (arith, c.loop-item.invariant.reads, c.in_ok-deeper_value.ensures.reads);
       sound = rw c.in_ok-push.ensures.items (pushed_sound (length c.loop-item.machine.heap) (length c.deeper_value.new.machine.heap) done v kept.0 c.loop-item.invariant.sound c.in_ok-deeper_value.ensures.sound);
     }
 
@@ -490,122 +626,6 @@ expressions::inner_values-returns-clause-gives g falls c =
     let s = moment_of c.loop-item.machine in
     all_made (inner_values calls (expressions_of c.args.items.now) (moment_of c.args.machine.now)) done s
     (c.loop-item.invariant.told ∙ ap (λ (es : List Expr). and_then (inner_values calls (expressions_of es) s) (λ vs. give (done ++ vs))) (drop_all c.loop-item.item-index c.args.items.now (omega arith)))
-
--- ---- linked_value
-
-pub expressions::linked_value-evaluate-requires : goal.expressions::linked_value-evaluate-requires
-expressions::linked_value-evaluate-requires g falls c κs within = (
-  (let i = c.loop-link.link-index in
-      let l = c.link-item.result in
-      let here = links_here c.args.links.now i l (omega arith) c.link-item.is in
-      let k : of_links (links_of (drop i c.args.links.now)) ≡ max (of_expression (expression_of l.value)) (of_links (links_of (drop (i + 1) c.args.links.now))) = ap of_links here in
-      omega arith),
-  (
-    search rules,
-    (
-      (let i = c.loop-link.link-index in
-          let l = c.link-item.result in
-          let here = links_here c.args.links.now i l (omega arith) c.link-item.is in
-          let k : of_links (links_of (drop i c.args.links.now)) ≡ max (of_expression (expression_of l.value)) (of_links (links_of (drop (i + 1) c.args.links.now))) = ap of_links here in
-          omega arith),
-      (
-        (let here = links_here c.args.links.now c.loop-link.link-index c.link-item.result (omega arith) c.link-item.is in
-            (subst (λ (ls : Links). LinksFit ls) here c.loop-link.invariant.fits).0),
-        search rules,
-      ),
-    ),
-  ),
-)
-
-pub expressions::linked_value-returns-in_err-right-clause-gives : goal.expressions::linked_value-returns-in_err-right-clause-gives
-expressions::linked_value-returns-in_err-right-clause-gives g falls c =
-    let p = err_from_is_err_and c.from_residual.result c.from_residual.ensures.1 in
-    let i = c.loop-link.link-index in
-    let l = c.link-item.result in
-    let rest = links_of (drop (i + 1) c.args.links.now) in
-    let calls = call c.args.room in
-    let left = value_of c.loop-link.left in
-    let s = moment_of c.loop-link.machine in
-    let here = links_here c.args.links.now i l (omega arith) c.link-item.is in
-    let told = c.loop-link.invariant.told ∙ ap (λ (ls : Links). linked calls left ls s) here in
-    rw (p.1, p.2) (subst (λ (x : Ends Value). Fails c.in_err-right.field-0.0 (moment_of c.evaluate.new.machine) x) (sym told) (link_fails calls l.comparison left (expression_of l.value) rest s c.in_err-right.field-0.0 (moment_of c.evaluate.new.machine) c.in_err-right.ensures.gives))
-
-pub expressions::linked_value-returns-in_err-tick-clause-gives : goal.expressions::linked_value-returns-in_err-tick-clause-gives
-expressions::linked_value-returns-in_err-tick-clause-gives g falls c =
-    let p = err_from_is_err_and c.from_residual-in_err-tick.result c.from_residual-in_err-tick.ensures.1 in
-    let i = c.loop-link.link-index in
-    let l = c.link-item.result in
-    let rest = links_of (drop (i + 1) c.args.links.now) in
-    let calls = call c.args.room in
-    let left = value_of c.loop-link.left in
-    let s = moment_of c.loop-link.machine in
-    let here = links_here c.args.links.now i l (omega arith) c.link-item.is in
-    let told = c.loop-link.invariant.told ∙ ap (λ (ls : Links). linked calls left ls s) here in
-    rw (p.1, p.2) (subst (λ (x : Ends Value). Fails c.in_err-tick.field-0.0 (moment_of c.tick.new.machine) x) (sym told) (link_tick_fails calls l.comparison left (expression_of l.value) rest s (value_of c.in_ok-right.right) c.in_err-tick.field-0.0 (moment_of c.evaluate.new.machine) (moment_of c.tick.new.machine) c.in_ok-right.ensures.gives c.in_err-tick.ensures.gives))
-
-pub expressions::linked_value-returns-in_err-compare-clause-gives : goal.expressions::linked_value-returns-in_err-compare-clause-gives
-expressions::linked_value-returns-in_err-compare-clause-gives g falls c =
-    let p = err_from_is_err_and c.from_residual-in_err-compare.result c.from_residual-in_err-compare.ensures.1 in
-    let i = c.loop-link.link-index in
-    let l = c.link-item.result in
-    let rest = links_of (drop (i + 1) c.args.links.now) in
-    let calls = call c.args.room in
-    let left = value_of c.loop-link.left in
-    let s = moment_of c.loop-link.machine in
-    let here = links_here c.args.links.now i l (omega arith) c.link-item.is in
-    let told = c.loop-link.invariant.told ∙ ap (λ (ls : Links). linked calls left ls s) here in
-    rw (p.1, p.2) (subst (λ (x : Ends Value). Fails c.in_err-compare.field-0.0 (moment_of c.compare.new.machine) x) (sym told) (comparison_fails calls l.comparison left (expression_of l.value) rest s (value_of c.in_ok-right.right) _ c.in_err-compare.field-0.0 (moment_of c.evaluate.new.machine) (moment_of c.tick.new.machine) (moment_of c.compare.new.machine) c.in_ok-right.ensures.gives c.in_ok-tick.ensures.gives c.in_err-compare.ensures.gives))
-
-pub expressions::linked_value-loop-link-preserved : goal.expressions::linked_value-loop-link-preserved
-expressions::linked_value-loop-link-preserved g falls c =
-    let i = c.loop-link.link-index in
-    let l = c.link-item.result in
-    let rest = links_of (drop (i + 1) c.args.links.now) in
-    let calls = call c.args.room in
-    let m1 = c.loop-link.machine in
-    let m2 = c.evaluate.new.machine in
-    let m3 = c.tick.new.machine in
-    let m4 = c.compare.new.machine in
-    let b1 = c.loop-link.steps in
-    let b2 = c.evaluate.new.steps in
-    let b3 = c.tick.new.steps in
-    let b4 = c.compare.new.steps in
-    let left = value_of c.loop-link.left in
-    let w = value_of c.in_ok-right.right in
-    let right = c.in_ok-right.ensures in
-    let step = c.in_ok-tick.ensures in
-    let all = c.in_ok-compare.ensures in
-    let here = links_here c.args.links.now i l (omega arith) c.link-item.is in
-    let k : of_links (links_of (drop i c.args.links.now)) ≡ max (of_expression (expression_of l.value)) (of_links rest) = ap of_links here in
-    let n2 = length m2.heap in
-    let n4 = length m4.heap in
-    let same : n4 ≡ n2 = ap length all.heap ∙ ap length step.heap in
-    record {
-      told =
-          c.loop-link.invariant.told
-          ∙ ap (λ (ls : Links). linked calls left ls (moment_of m1)) here
-          ∙ links_on calls l.comparison left (expression_of l.value) rest (moment_of m1) w true _ (moment_of m2) (moment_of m3) (moment_of m4) right.gives step.gives (rw c.if-not-branch.false at all.gives);
-      height = omega arith;
-      fits = (subst (λ (ls : Links). LinksFit ls) here c.loop-link.invariant.fits).1;
-      kept =
-          grown_on 0 0 c.args.machine.now m1 m4 c.args.steps.now b1 b4 c.loop-link.invariant.kept
-          (grown_on 0 0 m1 m2 m4 b1 b2 b4 right.kept (grown_on 0 0 m2 m3 m4 b2 b3 b4 step.kept all.kept));
-      sound = sound_more n2 n4 (omega (arith, same)) w right.sound;
-    }
-
-pub expressions::linked_value-returns-then-not-branch-clause-gives : goal.expressions::linked_value-returns-then-not-branch-clause-gives
-expressions::linked_value-returns-then-not-branch-clause-gives g falls c =
-    let i = c.loop-link.link-index in
-    let l = c.link-item.result in
-    let rest = links_of (drop (i + 1) c.args.links.now) in
-    let calls = call c.args.room in
-    let s1 = moment_of c.loop-link.machine in
-    let left = value_of c.loop-link.left in
-    let w = value_of c.in_ok-right.right in
-    let here = links_here c.args.links.now i l (omega arith) c.link-item.is in
-    c.loop-link.invariant.told
-    ∙ ap (λ (ls : Links). linked calls left ls s1) here
-    ∙ links_on calls l.comparison left (expression_of l.value) rest s1 w false _ (moment_of c.evaluate.new.machine) (moment_of c.tick.new.machine) (moment_of c.compare.new.machine) c.in_ok-right.ensures.gives c.in_ok-tick.ensures.gives (rw c.if-not-branch.true at c.in_ok-compare.ensures.gives)
 
 -- ---- pair_values
 
@@ -619,6 +639,7 @@ expressions::pair_values-loop-pair-init g falls c = record {
   height = omega arith;
   fits = c.requires.fits;
   kept = grown_none 0 c.args.machine.now c.args.steps.now;
+  reads = rw c.new-entries.ensures.items (omega arith);
   sound = rw c.new-entries.ensures.items (search rules);
 }
 
@@ -732,6 +753,7 @@ expressions::pair_values-loop-pair-preserved g falls c =
       height = omega arith;
       fits = (subst (λ (ps : Pairs). PairsFit ps) here c.loop-pair.invariant.fits).2;
       kept = grown_on 0 0 c.args.machine.now m1 m3 c.args.steps.now b1 b3 c.loop-pair.invariant.kept kept;
+      reads = let one : length c.push.new.self.items ≡ length done + 1 = ap length c.in_ok-push.ensures.items ∙ length_push done (v, w) in omega (arith, one, c.loop-pair.invariant.reads, key.reads, value.reads);
       sound =
           rw (c.in_ok-push.ensures.items, pair_seen done v w) (
           pair_pushed n3 (value_pairs c.loop-pair.entries) (value_of v, value_of w)
@@ -754,6 +776,226 @@ pub expressions::part-returns-in-Primary-clause-gives : goal.expressions::part-r
 expressions::part-returns-in-Primary-clause-gives g falls c =
     rw (c.in-Primary.is, primary_is) (rw (c.deref-in-Primary.ensures, c.deref-in-Primary-2.ensures.value) at c.primary_part.ensures.gives)
 
+-- ---- part_behind
+
+pub expressions::part_behind-loop-trailer-init : goal.expressions::part_behind-loop-trailer-init
+expressions::part_behind-loop-trailer-init g falls c = record {
+  told = (part (call c.args.room) (expression_of c.args.atom.now) (expr (call c.args.room) (expression_of c.args.atom.now)) (moment_of c.args.machine.now), c.part-found.ensures.gives, refl);
+  height = omega arith;
+  fits = c.requires.fit_trailers;
+  kept = c.part-found.ensures.kept;
+  reads = c.part-found.ensures.reads;
+  owes = c.part-found.ensures.owes;
+  sound = c.part-found.ensures.sound;
+}
+
+pub expressions::part_behind-dotted_part-requires : goal.expressions::part_behind-dotted_part-requires
+expressions::part_behind-dotted_part-requires g falls c = record {
+  sound_part = sound_found (length c.loop-trailer.machine.heap) c.loop-trailer.found c.in-Ok.part c.in-Ok.is c.loop-trailer.invariant.sound;
+  room = room_found (length c.loop-trailer.machine.heap) c.loop-trailer.found c.in-Ok.part c.in-Ok.is c.loop-trailer.trailer-index (length c.args.trailers.now) c.args.machine.now c.loop-trailer.machine c.loop-trailer-test.true c.requires.room c.loop-trailer.invariant.owes;
+}
+
+pub expressions::part_behind-called_part-requires : goal.expressions::part_behind-called_part-requires
+expressions::part_behind-called_part-requires g falls c κs within =
+    let i = c.loop-trailer.trailer-index in
+    let ts = c.args.trailers.now in
+    let x = c.trailer-item.result in
+    let es = arguments_of c.deref.result.now in
+    let is : trailer_of x ≡ t.call es = ap trailer_of c.in-Call.is ∙ call_is c.in-Call.arguments ∙ ap (λ (as' : List rust_argument.Argument). t.call (arguments_of as')) (sym c.deref.ensures.value) in
+    let low : of_arguments es ≤ of_trailers (trailers_of (drop i ts)) = (trailer_low ts i x c.loop-trailer-test.true c.trailer-item.is (t.call es) is).0 in
+    let fit = (trailer_fits ts i x c.loop-trailer-test.true c.trailer-item.is (t.call es) is c.loop-trailer.invariant.fits).0 in (
+      omega (arith, low, c.loop-trailer.invariant.height, c.requires.small_trailers),
+      (
+        search rules,
+        (
+          sound_found (length c.loop-trailer.machine.heap) c.loop-trailer.found c.in-Ok.part c.in-Ok.is c.loop-trailer.invariant.sound,
+          (
+            omega (arith, low, c.loop-trailer.invariant.height, c.requires.small_trailers),
+            (
+              fit.0,
+              (
+                fit.1,
+                room_found (length c.loop-trailer.machine.heap) c.loop-trailer.found c.in-Ok.part c.in-Ok.is i (length ts) c.args.machine.now c.loop-trailer.machine c.loop-trailer-test.true c.requires.room c.loop-trailer.invariant.owes,
+              ),
+            ),
+          ),
+        ),
+      ),
+    )
+
+pub expressions::part_behind-item_part-requires : goal.expressions::part_behind-item_part-requires
+expressions::part_behind-item_part-requires g falls c κs within =
+    let i = c.loop-trailer.trailer-index in
+    let ts = c.args.trailers.now in
+    let x = c.trailer-item.result in
+    let e = expression_of c.in-Index.index in
+    let is : trailer_of x ≡ t.index e = ap trailer_of c.in-Index.is ∙ index_is c.in-Index.index in
+    let low : of_expression e ≤ of_trailers (trailers_of (drop i ts)) = (trailer_low ts i x c.loop-trailer-test.true c.trailer-item.is (t.index e) is).0 in (
+      omega (arith, low, c.loop-trailer.invariant.height, c.requires.small_trailers),
+      (
+        search rules,
+        (
+          sound_found (length c.loop-trailer.machine.heap) c.loop-trailer.found c.in-Ok.part c.in-Ok.is c.loop-trailer.invariant.sound,
+          (
+            omega (arith, low, c.loop-trailer.invariant.height, c.requires.small_trailers),
+            (
+              (trailer_fits ts i x c.loop-trailer-test.true c.trailer-item.is (t.index e) is c.loop-trailer.invariant.fits).0,
+              room_found (length c.loop-trailer.machine.heap) c.loop-trailer.found c.in-Ok.part c.in-Ok.is i (length ts) c.args.machine.now c.loop-trailer.machine c.loop-trailer-test.true c.requires.room c.loop-trailer.invariant.owes,
+            ),
+          ),
+        ),
+      ),
+    )
+
+pub expressions::part_behind-sliced_part-requires : goal.expressions::part_behind-sliced_part-requires
+expressions::part_behind-sliced_part-requires g falls c κs within =
+    let i = c.loop-trailer.trailer-index in
+    let ts = c.args.trailers.now in
+    let x = c.trailer-item.result in
+    let start = bound_of (tree_value c.in-Slice.start) in
+    let stop = bound_of (tree_value c.in-Slice.stop) in
+    let step = bound_of (tree_value c.in-Slice.step) in
+    let is : trailer_of x ≡ t.slice start stop step = ap trailer_of c.in-Slice.is ∙ slice_is c.in-Slice.start c.in-Slice.stop c.in-Slice.step in
+    let low : max (of_bound start) (max (of_bound stop) (of_bound step)) ≤ of_trailers (trailers_of (drop i ts)) = (trailer_low ts i x c.loop-trailer-test.true c.trailer-item.is (t.slice start stop step) is).0 in
+    let fit = (trailer_fits ts i x c.loop-trailer-test.true c.trailer-item.is (t.slice start stop step) is c.loop-trailer.invariant.fits).0 in (
+      omega (arith, low, c.loop-trailer.invariant.height, c.requires.small_trailers),
+      (
+        search rules,
+        (
+          sound_found (length c.loop-trailer.machine.heap) c.loop-trailer.found c.in-Ok.part c.in-Ok.is c.loop-trailer.invariant.sound,
+          (
+            omega (arith, low, c.loop-trailer.invariant.height, c.requires.small_trailers),
+            (
+              fit.0,
+              (
+                omega (arith, low, c.loop-trailer.invariant.height, c.requires.small_trailers),
+                (
+                  fit.1,
+                  (
+                    omega (arith, low, c.loop-trailer.invariant.height, c.requires.small_trailers),
+                    (
+                      fit.2,
+                      room_found (length c.loop-trailer.machine.heap) c.loop-trailer.found c.in-Ok.part c.in-Ok.is i (length ts) c.args.machine.now c.loop-trailer.machine c.loop-trailer-test.true c.requires.room c.loop-trailer.invariant.owes,
+                    ),
+                  ),
+                ),
+              ),
+            ),
+          ),
+        ),
+      ),
+    )
+
+pub expressions::part_behind-returns-in-Err-clause-gives : goal.expressions::part_behind-returns-in-Err-clause-gives
+expressions::part_behind-returns-in-Err-clause-gives g falls c =
+    let calls = call c.args.room in
+    let e = expression_of c.args.atom.now in
+    let ts = trailers_of c.args.trailers.now in
+    let told = c.loop-trailer.invariant.told in
+    found_fails calls ((part calls e (expr calls e) >>= λ p. trailers calls p ts) (moment_of c.args.machine.now)) c.loop-trailer.found (moment_of c.loop-trailer.machine) told.0 told.1 (trailers_of (drop c.loop-trailer.trailer-index c.args.trailers.now)) told.2 c.in-Err.fault c.in-Err.is
+
+pub expressions::part_behind-returns-in-Err-clause-sound : goal.expressions::part_behind-returns-in-Err-clause-sound
+expressions::part_behind-returns-in-Err-clause-sound g falls c = rw c.in-Err.is at c.loop-trailer.invariant.sound
+
+pub expressions::part_behind-returns-in-Err-clause-kept : goal.expressions::part_behind-returns-in-Err-clause-kept
+expressions::part_behind-returns-in-Err-clause-kept g falls c = grown_by_more c.loop-trailer.trailer-index (length c.args.trailers.now) c.args.machine.now c.loop-trailer.machine c.args.steps.now c.loop-trailer.steps c.loop-trailer.auto.trailer-index-end c.loop-trailer.invariant.kept
+
+pub expressions::part_behind-returns-in-Err-clause-reads : goal.expressions::part_behind-returns-in-Err-clause-reads
+expressions::part_behind-returns-in-Err-clause-reads g falls c =
+    rw c.in-Err.is at (leaves_more (120 * c.loop-trailer.trailer-index) (120 * length c.args.trailers.now) (omega (arith, c.loop-trailer.auto.trailer-index-end)) c.args.machine.now c.args.steps.now c.loop-trailer.found c.loop-trailer.machine c.loop-trailer.steps c.loop-trailer.invariant.reads)
+
+pub expressions::part_behind-returns-in-Err-clause-owes : goal.expressions::part_behind-returns-in-Err-clause-owes
+expressions::part_behind-returns-in-Err-clause-owes g falls c =
+    rw c.in-Err.is at (owing_more c.loop-trailer.trailer-index (length c.args.trailers.now) c.loop-trailer.auto.trailer-index-end c.args.machine.now c.loop-trailer.found c.loop-trailer.machine c.loop-trailer.invariant.owes)
+
+pub expressions::part_behind-loop-trailer-preserved : goal.expressions::part_behind-loop-trailer-preserved
+expressions::part_behind-loop-trailer-preserved g falls c =
+    let i = c.loop-trailer.trailer-index in
+    let ts = c.args.trailers.now in
+    let x = c.trailer-item.result in
+    let rest = trailers_of (drop (i + 1) ts) in
+    let calls = call c.args.room in
+    let e = expression_of c.args.atom.now in
+    let m0 = c.args.machine.now in
+    let m1 = c.loop-trailer.machine in
+    let a = c.args.steps.now in
+    let b = c.loop-trailer.steps in
+    let p = c.in-Ok.part in
+    let inv = c.loop-trailer.invariant in
+    let new = c.match-trailer in
+    let whole = (part calls e (expr calls e) >>= λ p. trailers calls p (trailers_of ts)) (moment_of m0) in
+    let here = trailer_here ts i x c.loop-trailer-test.true c.trailer-item.is (trailer_of x) refl in
+    let low = (trailer_low ts i x c.loop-trailer-test.true c.trailer-item.is (trailer_of x) refl).1 in
+    let had : Found calls whole (t.more_trailers (trailer_of x) rest) i m0 a c.loop-trailer.found m1 b =
+    ((inv.told.0, inv.told.1, inv.told.2 ∙ ap (λ (us : t.Trailers). and_then inv.told.0 (λ p. trailers calls p us)) here), inv.kept, inv.reads, inv.owes, inv.sound) in
+    let found : Found calls whole rest (i + 1) m0 a new.found new.machine new.steps =
+    elim new.branch [
+      | expressions::part_behind-in-Attribute w ↦ (
+          let r = w.dotted_part.result in
+          let m2 = w.dotted_part.new.machine in
+          let b2 = w.dotted_part.new.steps in
+          let is : trailer_of x ≡ t.attribute (rc_str_bytes w.in-Attribute.name) = ap trailer_of w.in-Attribute.is ∙ attribute_is w.in-Attribute.name in
+          let gave = subst (λ (y : Trailer). Gives part_of r (moment_of m2) (trailer calls (part_of p) y (moment_of m1))) (sym is) w.dotted_part.ensures.gives in
+          moved (Found calls whole rest (i + 1) m0 a) new.found r new.machine m2 new.steps b2 w.found-is w.machine-is w.steps-is
+          (found_on calls whole (trailer_of x) rest i (8 + 8 * owed (part_of p)) m0 m1 m2 a b b2 p c.loop-trailer.found r c.in-Ok.is (omega arith) had gave w.dotted_part.ensures.kept w.dotted_part.ensures.reads w.dotted_part.ensures.owes w.dotted_part.ensures.sound))
+      | expressions::part_behind-in-Call w ↦ (
+          let r = w.called_part.result in
+          let m2 = w.called_part.new.machine in
+          let b2 = w.called_part.new.steps in
+          let is : trailer_of x ≡ t.call (arguments_of w.deref.result.now) = ap trailer_of w.in-Call.is ∙ call_is w.in-Call.arguments ∙ ap (λ (as' : List rust_argument.Argument). t.call (arguments_of as')) (sym w.deref.ensures.value) in
+          let gave = subst (λ (y : Trailer). Gives part_of r (moment_of m2) (trailer calls (part_of p) y (moment_of m1))) (sym is) w.called_part.ensures.gives in
+          moved (Found calls whole rest (i + 1) m0 a) new.found r new.machine m2 new.steps b2 w.found-is w.machine-is w.steps-is
+          (found_on calls whole (trailer_of x) rest i 104 m0 m1 m2 a b b2 p c.loop-trailer.found r c.in-Ok.is (omega arith) had gave w.called_part.ensures.kept w.called_part.ensures.reads w.called_part.ensures.owes w.called_part.ensures.sound))
+      | expressions::part_behind-in-Index w ↦ (
+          let r = w.item_part.result in
+          let m2 = w.item_part.new.machine in
+          let b2 = w.item_part.new.steps in
+          let is : trailer_of x ≡ t.index (expression_of w.in-Index.index) = ap trailer_of w.in-Index.is ∙ index_is w.in-Index.index in
+          let gave = subst (λ (y : Trailer). Gives part_of r (moment_of m2) (trailer calls (part_of p) y (moment_of m1))) (sym is) w.item_part.ensures.gives in
+          moved (Found calls whole rest (i + 1) m0 a) new.found r new.machine m2 new.steps b2 w.found-is w.machine-is w.steps-is
+          (found_on calls whole (trailer_of x) rest i (16 + 8 * owed (part_of p)) m0 m1 m2 a b b2 p c.loop-trailer.found r c.in-Ok.is (omega arith) had gave w.item_part.ensures.kept w.item_part.ensures.reads w.item_part.ensures.owes w.item_part.ensures.sound))
+      | expressions::part_behind-in-Slice w ↦ (
+          let r = w.sliced_part.result in
+          let m2 = w.sliced_part.new.machine in
+          let b2 = w.sliced_part.new.steps in
+          let is : trailer_of x ≡ t.slice (bound_of (tree_value w.in-Slice.start)) (bound_of (tree_value w.in-Slice.stop)) (bound_of (tree_value w.in-Slice.step)) = ap trailer_of w.in-Slice.is ∙ slice_is w.in-Slice.start w.in-Slice.stop w.in-Slice.step in
+          let gave = subst (λ (y : Trailer). Gives part_of r (moment_of m2) (trailer calls (part_of p) y (moment_of m1))) (sym is) w.sliced_part.ensures.gives in
+          moved (Found calls whole rest (i + 1) m0 a) new.found r new.machine m2 new.steps b2 w.found-is w.machine-is w.steps-is
+          (found_on calls whole (trailer_of x) rest i (16 + 8 * owed (part_of p)) m0 m1 m2 a b b2 p c.loop-trailer.found r c.in-Ok.is (omega arith) had gave w.sliced_part.ensures.kept w.sliced_part.ensures.reads w.sliced_part.ensures.owes w.sliced_part.ensures.sound))
+    ] in
+    record {
+      told = found.0;
+      height = omega (arith, low, inv.height);
+      fits = (trailer_fits ts i x c.loop-trailer-test.true c.trailer-item.is (trailer_of x) refl inv.fits).1;
+      kept = found.1;
+      reads = found.2;
+      owes = found.3;
+      sound = found.4;
+    }
+
+pub expressions::part_behind-returns-clause-gives : goal.expressions::part_behind-returns-clause-gives
+expressions::part_behind-returns-clause-gives g falls c =
+    let calls = call c.args.room in
+    let e = expression_of c.args.atom.now in
+    let ts = trailers_of c.args.trailers.now in
+    let told = c.loop-trailer.invariant.told in
+    let none = ap (λ (us : List rust_trailer.Trailer). and_then told.0 (λ p. trailers calls p (trailers_of us))) (drop_all c.loop-trailer.trailer-index c.args.trailers.now (omega (arith, c.loop-trailer-test.false))) in
+    found_ends calls ((part calls e (expr calls e) >>= λ p. trailers calls p ts) (moment_of c.args.machine.now)) c.loop-trailer.found (moment_of c.loop-trailer.machine) told.0 told.1 (told.2 ∙ none)
+
+pub expressions::part_behind-returns-clause-sound : goal.expressions::part_behind-returns-clause-sound
+expressions::part_behind-returns-clause-sound g falls c = c.loop-trailer.invariant.sound
+
+pub expressions::part_behind-returns-clause-kept : goal.expressions::part_behind-returns-clause-kept
+expressions::part_behind-returns-clause-kept g falls c = grown_by_more c.loop-trailer.trailer-index (length c.args.trailers.now) c.args.machine.now c.loop-trailer.machine c.args.steps.now c.loop-trailer.steps c.loop-trailer.auto.trailer-index-end c.loop-trailer.invariant.kept
+
+pub expressions::part_behind-returns-clause-reads : goal.expressions::part_behind-returns-clause-reads
+expressions::part_behind-returns-clause-reads g falls c =
+    leaves_more (120 * c.loop-trailer.trailer-index) (120 * length c.args.trailers.now) (omega (arith, c.loop-trailer.auto.trailer-index-end)) c.args.machine.now c.args.steps.now c.loop-trailer.found c.loop-trailer.machine c.loop-trailer.steps c.loop-trailer.invariant.reads
+
+pub expressions::part_behind-returns-clause-owes : goal.expressions::part_behind-returns-clause-owes
+expressions::part_behind-returns-clause-owes g falls c =
+    owing_more c.loop-trailer.trailer-index (length c.args.trailers.now) c.loop-trailer.auto.trailer-index-end c.args.machine.now c.loop-trailer.found c.loop-trailer.machine c.loop-trailer.invariant.owes
+
 -- ---- primary_part
 
 pub expressions::primary_part-returns-clause-gives : goal.expressions::primary_part-returns-clause-gives
@@ -766,56 +1008,26 @@ expressions::primary_part-returns-clause-gives g falls c =
 
 -- ---- primary_value
 
-pub expressions::primary_value-returns-in_err-part-clause-gives : goal.expressions::primary_value-returns-in_err-part-clause-gives
-expressions::primary_value-returns-in_err-part-clause-gives g falls c =
-    let p = err_from_is_err_and c.from_residual.result c.from_residual.ensures.1 in
-    rw (p.1, p.2) (primary_fails (call c.args.room) (expression_of c.args.atom.now) (trailers_of c.args.trailers.now) (moment_of c.args.machine.now) c.in_err-part.field-0.0 (moment_of c.primary_part.new.machine) c.in_err-part.ensures.gives)
-
-pub expressions::primary_value-returns-clause-gives : goal.expressions::primary_value-returns-clause-gives
-expressions::primary_value-returns-clause-gives g falls c =
-    primary_gives (call c.args.room) (expression_of c.args.atom.now) (trailers_of c.args.trailers.now) (moment_of c.args.machine.now)
-    value_of c.settled.result (part_of c.in_ok-part.part) (moment_of c.primary_part.new.machine) (moment_of c.settled.new.machine) c.in_ok-part.ensures.gives c.settled.ensures.gives
-
--- ---- trailer_part
-
-pub expressions::trailer_part-slice_part-requires : goal.expressions::trailer_part-slice_part-requires
-expressions::trailer_part-slice_part-requires g falls c κs within = (
-  (let h : of_trailer (trailer_of c.args.trailer.now) ≡ max (of_bound (bound_of (tree_value c.in-Slice.start))) (max (of_bound (bound_of (tree_value c.in-Slice.stop))) (of_bound (bound_of (tree_value c.in-Slice.step)))) = ap of_trailer (ap trailer_of c.in-Slice.is ∙ slice_is c.in-Slice.start c.in-Slice.stop c.in-Slice.step) in omega (arith, c.requires.small, h)),
-  (
-    search rules,
-    (
-      search rules,
-      (
-        (let h : of_trailer (trailer_of c.args.trailer.now) ≡ max (of_bound (bound_of (tree_value c.in-Slice.start))) (max (of_bound (bound_of (tree_value c.in-Slice.stop))) (of_bound (bound_of (tree_value c.in-Slice.step)))) = ap of_trailer (ap trailer_of c.in-Slice.is ∙ slice_is c.in-Slice.start c.in-Slice.stop c.in-Slice.step) in omega (arith, c.requires.small, h)),
-        (
-          (subst TrailerFits (ap trailer_of c.in-Slice.is ∙ slice_is c.in-Slice.start c.in-Slice.stop c.in-Slice.step) c.requires.fits).0,
-          (
-            (let h : of_trailer (trailer_of c.args.trailer.now) ≡ max (of_bound (bound_of (tree_value c.in-Slice.start))) (max (of_bound (bound_of (tree_value c.in-Slice.stop))) (of_bound (bound_of (tree_value c.in-Slice.step)))) = ap of_trailer (ap trailer_of c.in-Slice.is ∙ slice_is c.in-Slice.start c.in-Slice.stop c.in-Slice.step) in omega (arith, c.requires.small, h)),
-            (
-              (subst TrailerFits (ap trailer_of c.in-Slice.is ∙ slice_is c.in-Slice.start c.in-Slice.stop c.in-Slice.step) c.requires.fits).1,
-              (
-                (let h : of_trailer (trailer_of c.args.trailer.now) ≡ max (of_bound (bound_of (tree_value c.in-Slice.start))) (max (of_bound (bound_of (tree_value c.in-Slice.stop))) (of_bound (bound_of (tree_value c.in-Slice.step)))) = ap of_trailer (ap trailer_of c.in-Slice.is ∙ slice_is c.in-Slice.start c.in-Slice.stop c.in-Slice.step) in omega (arith, c.requires.small, h)),
-                (
-                  (subst TrailerFits (ap trailer_of c.in-Slice.is ∙ slice_is c.in-Slice.start c.in-Slice.stop c.in-Slice.step) c.requires.fits).2,
-                  search rules,
-                ),
-              ),
-            ),
-          ),
-        ),
-      ),
-    ),
-  ),
-)
-
-pub expressions::trailer_part-returns-in_ok-value-in-Slice-clause-gives : goal.expressions::trailer_part-returns-in_ok-value-in-Slice-clause-gives
-expressions::trailer_part-returns-in_ok-value-in-Slice-clause-gives g falls c =
+pub expressions::primary_value-returns-in-Ok-clause-gives : goal.expressions::primary_value-returns-in-Ok-clause-gives
+expressions::primary_value-returns-in-Ok-clause-gives g falls c =
     let calls = call c.args.room in
-    let s = moment_of c.args.machine.now in
-    let t = moment_of c.slice_part.new.machine in
-    let p = part_of c.args.part in
-    subst (λ (x : Trailer). Gives part_of c.slice_part.result t (m.trailer calls p x s)) (sym (ap trailer_of c.in-Slice.is ∙ slice_is c.in-Slice.start c.in-Slice.stop c.in-Slice.step))
-    (gives_on (λ v. slice_part calls v (bound_of (tree_value c.in-Slice.start)) (bound_of (tree_value c.in-Slice.stop)) (bound_of (tree_value c.in-Slice.step))) part_of c.slice_part.result (value_of c.in_ok-value-in-Slice.value) (moment_of c.settled.new.machine) t (settled p s) c.in_ok-value-in-Slice.ensures.gives c.slice_part.ensures.gives)
+    let e = expression_of c.args.atom.now in
+    let ts = trailers_of c.args.trailers.now in
+    let p = part_of c.in-Ok.part in
+    let u = moment_of c.part_behind.new.machine in
+    primary_gives calls e ts (moment_of c.args.machine.now) value_of c.settled.result p u (moment_of c.settled.new.machine)
+    (subst (λ (x : Ends (Unit {0})). and_then (and_then x (λ _. part calls e (expr calls e))) (λ q. trailers calls q ts) ≡ fine p u) (sym c.in_ok-take_nodes.ensures.gives) c.in-Ok.ensures.gives)
+    c.settled.ensures.gives
+
+pub expressions::primary_value-returns-in-Err-clause-gives : goal.expressions::primary_value-returns-in-Err-clause-gives
+expressions::primary_value-returns-in-Err-clause-gives g falls c =
+    let calls = call c.args.room in
+    let e = expression_of c.args.atom.now in
+    let ts = trailers_of c.args.trailers.now in
+    let f = c.in-Err.fault in
+    let u = moment_of c.part_behind.new.machine in
+    primary_fails calls e ts (moment_of c.args.machine.now) f u
+    (subst (λ (x : Ends (Unit {0})). Fails {A = Part} f u (and_then (and_then x (λ _. part calls e (expr calls e))) (λ q. trailers calls q ts))) (sym c.in_ok-take_nodes.ensures.gives) c.in-Err.ensures.gives)
 
 -- ---- value_with_sign
 
@@ -830,6 +1042,7 @@ expressions::values_of-loop-item-init g falls c = record {
   height = omega arith;
   fits = c.requires.fit_items;
   kept = grown_none 0 c.args.machine.now c.args.steps.now;
+  reads = omega arith;
   sound = rw c.new-values.ensures.items (search rules);
 }
 
@@ -872,6 +1085,7 @@ expressions::values_of-loop-item-preserved g falls c =
       height = omega arith;
       fits = (subst (λ (es : Expressions). ExpressionsFit es) here c.loop-item.invariant.fits).1;
       kept = grown_on 0 0 c.args.machine.now c.loop-item.machine c.evaluate.new.machine c.args.steps.now c.loop-item.steps c.evaluate.new.steps c.loop-item.invariant.kept kept;
+      reads = omega (arith, c.loop-item.invariant.reads, c.in_ok-evaluate.ensures.reads);
       sound = rw c.in_ok-push.ensures.items (pushed_sound (length c.loop-item.machine.heap) (length c.evaluate.new.machine.heap) done v kept.0 c.loop-item.invariant.sound c.in_ok-evaluate.ensures.sound);
     }
 
@@ -1076,7 +1290,10 @@ targets::store_each-store-requires g falls c κs within = (
         (
           (let n = length c.args.machine.now.heap in
               sound_more n (length c.loop-i.machine.heap) c.loop-i.invariant.kept.0 (value_of c.index-items-i.result) (sound_at n c.args.items.now c.loop-i.i c.index-items-i.result c.if-i-items.true c.index-items-i.is c.requires.sound_items)),
-          search rules,
+          (
+            search rules,
+            (targets_here c.args.targets.now c.loop-i.i c.index-targets-i.result c.loop-i-test.true c.index-targets-i.is c.loop-i.invariant.targets).0,
+          ),
         ),
       ),
     ),
@@ -1116,6 +1333,11 @@ targets::store_each-loop-i-preserved g falls c =
         | targets::store_each-then-i-items+in_ok-store w ↦ rw (w.machine-is, w.steps-is) (grown_on 0 0 c.args.machine.now c.loop-i.machine w.store.new.machine c.args.steps.now c.loop-i.steps w.store.new.steps now.kept w.in_ok-store.ensures.kept)
         | targets::store_each-else-i-items w ↦ rw (w.machine-is, w.steps-is) now.kept
       ];
+      reads = elim c.if-i-items.branch [
+        | targets::store_each-then-i-items+in_ok-store w ↦ rw (w.machine-is, w.steps-is) (omega (arith, now.reads, w.in_ok-store.ensures.stored))
+        | targets::store_each-else-i-items w ↦ rw (w.machine-is, w.steps-is) now.reads
+      ];
+      targets = targets_rest es i now.targets;
     }
 
 pub targets::store_each-returns-clause-gives : goal.targets::store_each-returns-clause-gives
@@ -1129,11 +1351,37 @@ targets::store_pattern-returns-in_err-items-clause-gives g falls c =
     let p = err_from_is_err_and c.from_residual.result c.from_residual.ensures.1 in
     rw (p.1, p.2) (pattern_fails (call c.args.room) c.args.targets.now (value_of c.args.value.now) (moment_of c.args.machine.now) c.in_err-items.field-0.0 (moment_of c.unpacked.new.machine) c.in_err-items.ensures.gives)
 
+pub targets::store_pattern-store_each-requires : goal.targets::store_pattern-store_each-requires
+targets::store_pattern-store_each-requires g falls c κs within = (
+  omega arith,
+  (
+    search rules,
+    (
+      c.requires.small_targets,
+      (
+        c.requires.fit_targets,
+        (
+          search rules,
+          (
+            search rules,
+            (targets_are c.args.targets.now c.requires.targets).0,
+          ),
+        ),
+      ),
+    ),
+  ),
+)
+
 pub targets::store_pattern-returns-clause-gives : goal.targets::store_pattern-returns-clause-gives
 targets::store_pattern-returns-clause-gives g falls c =
     let t = moment_of c.unpacked.new.machine in
     let same = ap (λ (vs : List rust.Value). fine (map value_of vs) t) (sym c.as_slice.ensures.value) in
     pattern_gives (call c.args.room) c.args.targets.now (value_of c.args.value.now) (moment_of c.args.machine.now) c.store_each.result (map value_of c.as_slice.result.now) t (moment_of c.store_each.new.machine) (c.in_ok-items.ensures.gives ∙ same) c.store_each.ensures.gives
+
+pub targets::store_pattern-returns-clause-reads : goal.targets::store_pattern-returns-clause-reads
+targets::store_pattern-returns-clause-reads g falls c =
+    let some = (targets_are c.args.targets.now c.requires.targets).1 in
+    omega (arith, some, c.in_ok-items.ensures.taken, c.store_each.ensures.reads)
 
 -- ---- block
 
@@ -1186,6 +1434,9 @@ statements::default_values-loop-default-preserved g falls c =
                 subst (λ (m : Machine). GrownBy 0 c.args.machine.now c.args.steps.now m new.steps) (sym w.machine-is)
                 (subst (λ (b : ℕ). GrownBy 0 c.args.machine.now c.args.steps.now m2 b) (sym w.steps-is)
                 (grown_on 0 0 c.args.machine.now old.machine m2 c.args.steps.now old.steps b2 inv.kept gave.kept));
+            reads = subst (λ (m : Machine). ReadsBy 0 c.args.machine.now c.args.steps.now m new.steps) (sym w.machine-is)
+                (subst (λ (b : ℕ). ReadsBy 0 c.args.machine.now c.args.steps.now m2 b) (sym w.steps-is)
+                (omega (arith, inv.reads, gave.reads)));
             count = let many : length new.values.items ≡ length vs + 1 = ap length items_are ∙ length_push vs v in let step = with_count ps i p less at w.in-Some.e w.in-Some.is in let all = inv.count in omega (arith, many, step, all);
             sound =
                 subst (λ (m : Machine). IsTrue (are_sound (length m.heap) (map value_of new.values.items))) (sym w.machine-is)
@@ -1203,6 +1454,8 @@ statements::default_values-loop-default-preserved g falls c =
         kept =
             subst (λ (m : Machine). GrownBy 0 c.args.machine.now c.args.steps.now m new.steps) (sym w.machine-is)
             (subst (λ (b : ℕ). GrownBy 0 c.args.machine.now c.args.steps.now old.machine b) (sym w.steps-is) inv.kept);
+        reads = subst (λ (m : Machine). ReadsBy 0 c.args.machine.now c.args.steps.now m new.steps) (sym w.machine-is)
+            (subst (λ (b : ℕ). ReadsBy 0 c.args.machine.now c.args.steps.now old.machine b) (sym w.steps-is) inv.reads);
         count = let many : length new.values.items ≡ length vs = ap (λ (p : Vec rust.Value Global). length p.items) w.values-is in let step = without_count ps i p less at w.in_default.is in let all = inv.count in omega (arith, many, step, all);
         sound =
             subst (λ (m : Machine). IsTrue (are_sound (length m.heap) (map value_of new.values.items))) (sym w.machine-is)
@@ -1289,6 +1542,7 @@ statements::run_choice-loop-arm-preserved g falls c =
       height = omega (arith, low.2, now.height);
       fits = (arms_fit arms i arm c.loop-arm-test.true c.arm-item.is now.fits).2;
       kept = (omega (arith, now.kept.0, kept.0), omega (arith, now.kept.1, kept.1), omega (arith, now.kept.2, kept.2, c.truth.ensures.counted));
+      reads = omega (arith, now.reads, c.in_ok-value.ensures.reads, c.truth.ensures.reads);
     }
 
 pub statements::run_choice-returns-clause-gives : goal.statements::run_choice-returns-clause-gives
@@ -1473,6 +1727,7 @@ statements::run_handlers-loop-handler-preserved g falls c =
       height = omega (arith, low.2, now.height);
       fits = (handlers_fit hs i h c.loop-handler-test.true c.handler-item.is now.fits).3;
       kept = grown_on 0 0 c.args.machine.now c.loop-handler.machine c.is_for.new.machine c.args.steps.now c.loop-handler.steps c.is_for.new.steps now.kept kept;
+      reads = omega (arith, now.reads, c.is_for.ensures.reads);
       sound = search (now.sound, kept.0, sound_more_thrown);
     }
 
@@ -1483,6 +1738,7 @@ statements::run_turns-loop-item-init g falls c = record {
   told = (suc c.args.machine.now.budget.left, omega arith, refl);
   place = omega arith;
   kept = grown_none 0 c.args.machine.now c.args.steps.now;
+  reads = omega arith;
 }
 
 pub statements::run_turns-item_for-requires-clause-sound_walk : goal.statements::run_turns-item_for-requires-clause-sound_walk
@@ -1545,7 +1801,10 @@ statements::run_turns-store-requires g falls c κs within = (
         search rules,
         (
           subst (λ (ns : List Node). IsTrue (is_sound (length ns) (value_of c.in-Some.item))) (sym c.in_ok-tick.ensures.heap) (subst (λ found. IsTrue (is_sound_maybe (length c.item_for.new.machine.heap) found)) c.in-Some.is c.in_ok-item.ensures.sound),
-          search rules,
+          (
+            search rules,
+            c.requires.target,
+          ),
         ),
       ),
     ),
@@ -1660,6 +1919,7 @@ statements::run_turns-loop-item-preserved-after-branch-6 g falls c =
       kept =
           (let then = c.loop-item.invariant.kept in
           (omega (arith, then.0, c.in_ok-item.ensures.kept.0, c.in_ok-item.ensures.kept.1, c.in_ok-tick.ensures.taken, c.in_ok-tick.ensures.kept.0, c.in_ok-tick.ensures.kept.1, c.in_ok-store.ensures.kept.0, c.in_ok-store.ensures.kept.1, c.in_ok-block.ensures.kept.0, c.in_ok-block.ensures.kept.1), omega (arith, then.1, ap length c.in_ok-tick.ensures.heap, c.in_ok-item.ensures.kept.0, c.in_ok-item.ensures.kept.1, c.in_ok-tick.ensures.taken, c.in_ok-tick.ensures.kept.0, c.in_ok-tick.ensures.kept.1, c.in_ok-store.ensures.kept.0, c.in_ok-store.ensures.kept.1, c.in_ok-block.ensures.kept.0, c.in_ok-block.ensures.kept.1), omega (arith, then.2, c.in_ok-item.ensures.kept.2, c.in_ok-tick.ensures.kept.2, c.in_ok-store.ensures.kept.2, c.in_ok-block.ensures.kept.2)));
+      reads = omega (arith, c.loop-item.invariant.reads, c.in_ok-item.ensures.reads, c.in_ok-tick.ensures.counted, c.in_ok-tick.ensures.taken, c.in_ok-store.ensures.reads, c.in_ok-block.ensures.reads);
     }
 
 pub statements::run_turns-loop-item-smaller : goal.statements::run_turns-loop-item-smaller
@@ -1694,6 +1954,7 @@ statements::run_turns-loop-item-preserved g falls c =
       kept =
           (let then = c.loop-item.invariant.kept in
           (omega (arith, then.0, c.in_ok-item.ensures.kept.0, c.in_ok-item.ensures.kept.1, c.in_ok-tick.ensures.taken, c.in_ok-tick.ensures.kept.0, c.in_ok-tick.ensures.kept.1, c.in_ok-store.ensures.kept.0, c.in_ok-store.ensures.kept.1, c.in_ok-block.ensures.kept.0, c.in_ok-block.ensures.kept.1), omega (arith, then.1, ap length c.in_ok-tick.ensures.heap, c.in_ok-item.ensures.kept.0, c.in_ok-item.ensures.kept.1, c.in_ok-tick.ensures.taken, c.in_ok-tick.ensures.kept.0, c.in_ok-tick.ensures.kept.1, c.in_ok-store.ensures.kept.0, c.in_ok-store.ensures.kept.1, c.in_ok-block.ensures.kept.0, c.in_ok-block.ensures.kept.1), omega (arith, then.2, c.in_ok-item.ensures.kept.2, c.in_ok-tick.ensures.kept.2, c.in_ok-store.ensures.kept.2, c.in_ok-block.ensures.kept.2)));
+      reads = omega (arith, c.loop-item.invariant.reads, c.in_ok-item.ensures.reads, c.in_ok-tick.ensures.counted, c.in_ok-tick.ensures.taken, c.in_ok-store.ensures.reads, c.in_ok-block.ensures.reads);
     }
 
 -- ---- run_while
@@ -1702,6 +1963,7 @@ pub statements::run_while-loop-value-init : goal.statements::run_while-loop-valu
 statements::run_while-loop-value-init g falls c = record {
   told = (suc c.args.machine.now.budget.left, omega arith, refl);
   kept = grown_none 0 c.args.machine.now c.args.steps.now;
+  reads = omega arith;
 }
 
 pub statements::run_while-returns-in_err-value-clause-gives : goal.statements::run_while-returns-in_err-value-clause-gives
@@ -1838,6 +2100,7 @@ statements::run_while-loop-value-preserved-after-branch-4 g falls c =
           (grown_on 0 0 m0 m1 m2 a0 a1 c.truth.new.steps c.loop-value.invariant.kept (omega (arith, c.in_ok-value.ensures.kept.0), omega (arith, c.in_ok-value.ensures.kept.1), omega (arith, c.in_ok-value.ensures.kept.2, c.truth.ensures.counted)))
           c.in_ok-tick.ensures.kept)
           c.in_ok-block.ensures.kept);
+      reads = omega (arith, c.loop-value.invariant.reads, c.in_ok-value.ensures.reads, c.in_ok-tick.ensures.counted, c.in_ok-tick.ensures.taken, c.in_ok-block.ensures.reads, c.truth.ensures.reads);
     }
 
 pub statements::run_while-loop-value-smaller : goal.statements::run_while-loop-value-smaller
@@ -1878,4 +2141,5 @@ statements::run_while-loop-value-preserved g falls c =
           (grown_on 0 0 m0 m1 m2 a0 a1 c.truth.new.steps c.loop-value.invariant.kept (omega (arith, c.in_ok-value.ensures.kept.0), omega (arith, c.in_ok-value.ensures.kept.1), omega (arith, c.in_ok-value.ensures.kept.2, c.truth.ensures.counted)))
           c.in_ok-tick.ensures.kept)
           c.in_ok-block.ensures.kept);
+      reads = omega (arith, c.loop-value.invariant.reads, c.in_ok-value.ensures.reads, c.in_ok-tick.ensures.counted, c.in_ok-tick.ensures.taken, c.in_ok-block.ensures.reads, c.truth.ensures.reads);
     }

@@ -2,21 +2,24 @@
 use Rattle.std.proofs.Common.{◌≡◌, ◌+◌, ◌*◌, ◌^◌, ◌++◌, ◌≤◌, ◌<◌, ℕ, IsTrue, length, map, max, drop}
 use Rattle.kishu_model.specs.Height.{of_expression, of_expressions, of_operands, of_links, of_pairs, of_trailers, of_trailer, of_bound, of_arguments, of_optional, of_list, of_parameters, of_statement, of_statements, of_arms, of_handlers}
 use Rattle.kishu_model.specs.Meaning.{call, expr, values, inner_values, pairs, first_that, operands, arguments, part, trailers, store, store_each, store_all, delete_all, act, acts, in_block, handlers, defaults}
-use Rattle.kishu_model.specs.Moment.{tick, give, and_then, ◌>>=◌, ◌>>◌}
+use Rattle.kishu_model.specs.Moment.{tick, give, and_then, ◌>>=◌, ◌>>◌, Ends}
 use Rattle.kishu_model.specs.Sound.{is_sound, are_sound, with_default}
 use Rattle.kishu_model.specs.Tree.{expression_of, statement_of, definition_of, parameter_of, bound_of, value_of as tree_value}
-use Rattle.kishu_model.specs.Tree as t
 use Rattle.kishu_model.specs.Values.{value_of}
 use Rattle.kishu_model.specs.Ways.{turns, walk_on, walk_along}
 use Rattle.kishu_access.specs.Access.{walk_of}
-use Rattle.kishu_calls.specs.Calls.{part_of, given_of, is_sound_part, is_sound_given, owed}
+use Rattle.kishu_calls.specs.Calls.{part_of, given_of, is_sound_part, is_sound_given, owed, Owing}
 use Rattle.kishu_calls.specs.Trees.{expressions_of, operands_of, links_of, pairs_of, trailers_of, trailer_of, arguments_of, statements_of, arms_of, handlers_of}
 use Rattle.kishu_machine.specs.Lists.{are_sound_pairs, value_pairs}
-use Rattle.kishu_machine.specs.Machine.{GrownBy, moment_of, is_sound_thrown, thrown_of}
+use Rattle.kishu_machine.specs.Machine.{GrownBy, moment_of, is_sound_thrown, thrown_of, ReadsBy, Gives, IsSound}
 use Rattle.kishu_model.specs.Fits.{ArgumentsFit, ArmsFit, ExpressionsFit, HandlersFit, LinksFit, ListFits, OperandsFit, PairsFit, ParametersFit, StatementsFit, TrailersFit, keywords}
 use Rattle.kishu_model.specs.Refusals.{all_differ}
-use Rattle.kishu_interp.specs.Forms.{linked}
+use Rattle.kishu_interp.specs.Forms.{linked, LeavesPart}
 use Rattle.kishu_interp.proofs.Joined.{joined}
+use Rattle.kishu_model.specs.Callees.{Part}
+use Rattle.kishu_model.specs.Targets.{is_target}
+use Rattle.std.specs.List.{list_all}
+use Rattle.kishu_model.specs.Tree as t
 use Rattle.kishu_interp.proofs.+run.Given as goal
 
 abbrev pub decreases-expressions::evaluate : goal.decreases-expressions::evaluate
@@ -64,9 +67,6 @@ decreases-expressions::combined_value g l = 2 ^ 24 * l.room + 8 * (max (of_expre
 abbrev pub decreases-expressions::compared_value : goal.decreases-expressions::compared_value
 decreases-expressions::compared_value g l = 2 ^ 24 * l.room + 8 * (max (of_expression (expression_of l.first.now)) (of_links (links_of l.links.now))) + 6
 
-abbrev pub decreases-expressions::linked_value : goal.decreases-expressions::linked_value
-decreases-expressions::linked_value g l = 2 ^ 24 * l.room + 8 * (of_links (links_of l.links.now)) + 5
-
 abbrev pub decreases-expressions::primary_value : goal.decreases-expressions::primary_value
 decreases-expressions::primary_value g l = 2 ^ 24 * l.room + 8 * (max (of_expression (expression_of l.atom.now)) (of_trailers (trailers_of l.trailers.now))) + 9
 
@@ -85,8 +85,8 @@ decreases-expressions::whole_part g l = 2 ^ 24 * l.room + 8 * (of_expression (ex
 abbrev pub decreases-expressions::deeper_part : goal.decreases-expressions::deeper_part
 decreases-expressions::deeper_part g l = 2 ^ 24 * l.room + 8 * (of_expression (expression_of l.e.now)) + 5
 
-abbrev pub decreases-expressions::trailer_part : goal.decreases-expressions::trailer_part
-decreases-expressions::trailer_part g l = 2 ^ 24 * l.room + 8 * (of_trailer (trailer_of l.trailer.now)) + 6
+abbrev pub decreases-expressions::sliced_part : goal.decreases-expressions::sliced_part
+decreases-expressions::sliced_part g l = 2 ^ 24 * l.room + 8 * (max (of_bound (bound_of (tree_value l.start.now))) (max (of_bound (bound_of (tree_value l.stop.now))) (of_bound (bound_of (tree_value l.step.now))))) + 6
 
 abbrev pub decreases-expressions::called_part : goal.decreases-expressions::called_part
 decreases-expressions::called_part g l = 2 ^ 24 * l.room + 8 * (of_arguments (arguments_of l.arguments.now)) + 5
@@ -225,6 +225,7 @@ invariant-expressions::values_of-loop-item g l = record {
   height : of_expressions (expressions_of (drop l.item-index l.items)) ≤ of_expressions (expressions_of l.items);
   fits : ExpressionsFit (expressions_of (drop l.item-index l.items));
   kept : GrownBy 0 l.fn.machine l.fn.steps l.machine l.steps;
+  reads : ReadsBy 0 l.fn.machine l.fn.steps l.machine l.steps;
   sound : IsTrue (are_sound (length l.machine.heap) (map value_of l.values.items));
 }
 
@@ -234,6 +235,7 @@ invariant-expressions::inner_values-loop-item g l = record {
   height : of_expressions (expressions_of (drop l.item-index l.items)) ≤ of_expressions (expressions_of l.items);
   fits : ExpressionsFit (expressions_of (drop l.item-index l.items));
   kept : GrownBy 0 l.fn.machine l.fn.steps l.machine l.steps;
+  reads : ReadsBy 0 l.fn.machine l.fn.steps l.machine l.steps;
   sound : IsTrue (are_sound (length l.machine.heap) (map value_of l.values.items));
 }
 
@@ -243,6 +245,7 @@ invariant-expressions::pair_values-loop-pair g l = record {
   height : of_pairs (pairs_of (drop l.pair-index l.pairs)) ≤ of_pairs (pairs_of l.pairs);
   fits : PairsFit (pairs_of (drop l.pair-index l.pairs));
   kept : GrownBy 0 l.fn.machine l.fn.steps l.machine l.steps;
+  reads : l.steps + 128 * l.machine.budget.left + 4 * length l.entries.items ≤ l.fn.steps + 128 * l.fn.machine.budget.left;
   sound : IsTrue (are_sound_pairs (length l.machine.heap) (value_pairs l.entries));
 }
 
@@ -252,6 +255,7 @@ invariant-expressions::deciding_value-loop-i g l = record {
   height : of_expressions (expressions_of (drop l.i l.operands)) ≤ of_expressions (expressions_of l.operands);
   fits : ExpressionsFit (expressions_of (drop l.i l.operands));
   kept : GrownBy 0 l.fn.machine l.fn.steps l.machine l.steps;
+  reads : l.steps + 128 * l.machine.budget.left + 64 ≤ l.fn.steps + 128 * l.fn.machine.budget.left;
 }
 
 abbrev pub invariant-expressions::combined_value-loop-other : goal.invariant-expressions::combined_value-loop-other
@@ -260,26 +264,29 @@ invariant-expressions::combined_value-loop-other g l = record {
   height : of_operands (operands_of (drop l.other-index l.others)) ≤ of_operands (operands_of l.others);
   fits : OperandsFit (operands_of (drop l.other-index l.others));
   kept : GrownBy 0 l.fn.machine l.fn.steps l.machine l.steps;
+  reads : l.steps + 128 * l.machine.budget.left + 64 ≤ l.fn.steps + 128 * l.fn.machine.budget.left;
   sound : IsTrue (is_sound (length l.machine.heap) (value_of l.value));
 }
 
-abbrev pub invariant-expressions::linked_value-loop-link : goal.invariant-expressions::linked_value-loop-link
-invariant-expressions::linked_value-loop-link g l = record {
-  told : linked (call l.room) (value_of l.fn.first) (links_of l.links) (moment_of l.fn.machine) ≡ linked (call l.room) (value_of l.left) (links_of (drop l.link-index l.links)) (moment_of l.machine);
+abbrev pub invariant-expressions::compared_value-loop-link : goal.invariant-expressions::compared_value-loop-link
+invariant-expressions::compared_value-loop-link g l = record {
+  told : expr (call l.room) (t.compared (expression_of l.fn.first) (links_of l.links)) (moment_of l.fn.machine) ≡ linked (call l.room) (value_of l.left) (links_of (drop l.link-index l.links)) (moment_of l.machine);
   height : of_links (links_of (drop l.link-index l.links)) ≤ of_links (links_of l.links);
   fits : LinksFit (links_of (drop l.link-index l.links));
   kept : GrownBy 0 l.fn.machine l.fn.steps l.machine l.steps;
+  reads : l.steps + 128 * l.machine.budget.left + 64 ≤ l.fn.steps + 128 * l.fn.machine.budget.left;
   sound : IsTrue (is_sound (length l.machine.heap) (value_of l.left));
 }
 
 abbrev pub invariant-expressions::part_behind-loop-trailer : goal.invariant-expressions::part_behind-loop-trailer
 invariant-expressions::part_behind-loop-trailer g l = record {
-  told : (part (call l.room) (expression_of l.atom) (expr (call l.room) (expression_of l.atom)) >>= λ p. trailers (call l.room) p (trailers_of l.trailers)) (moment_of l.fn.machine) ≡ trailers (call l.room) (part_of l.found) (trailers_of (drop l.trailer-index l.trailers)) (moment_of l.machine);
+  told : (e : Ends Part) × Gives part_of l.found (moment_of l.machine) e × ((part (call l.room) (expression_of l.atom) (expr (call l.room) (expression_of l.atom)) >>= λ p. trailers (call l.room) p (trailers_of l.trailers)) (moment_of l.fn.machine) ≡ and_then e (λ p. trailers (call l.room) p (trailers_of (drop l.trailer-index l.trailers))));
   height : of_trailers (trailers_of (drop l.trailer-index l.trailers)) ≤ of_trailers (trailers_of l.trailers);
   fits : TrailersFit (trailers_of (drop l.trailer-index l.trailers));
   kept : GrownBy l.trailer-index l.fn.machine l.fn.steps l.machine l.steps;
-  owes : length l.machine.heap + 4 * l.machine.budget.left + owed (part_of l.found) ≤ length l.fn.machine.heap + 4 * l.fn.machine.budget.left + l.trailer-index;
-  sound : IsTrue (is_sound_part (length l.machine.heap) (part_of l.found));
+  reads : LeavesPart (120 * l.trailer-index) l.fn.machine l.fn.steps l.found l.machine l.steps;
+  owes : Owing l.trailer-index l.fn.machine l.found l.machine;
+  sound : IsSound (λ v. is_sound_part (length l.machine.heap) (part_of v)) (length l.machine.heap) l.found;
 }
 
 abbrev pub invariant-expressions::arguments_given-loop-argument : goal.invariant-expressions::arguments_given-loop-argument
@@ -289,6 +296,7 @@ invariant-expressions::arguments_given-loop-argument g l = record {
   fits : ArgumentsFit (arguments_of (drop l.argument-index l.arguments));
   differ : IsTrue (all_differ (map (λ k. k.0) (given_of (record { plain = l.plain; named = l.named })).named ++ keywords (arguments_of (drop l.argument-index l.arguments))));
   kept : GrownBy 0 l.fn.machine l.fn.steps l.machine l.steps;
+  reads : l.steps + 128 * l.machine.budget.left + 2 * length l.plain.items ≤ l.fn.steps + 128 * l.fn.machine.budget.left;
   sound : IsTrue (is_sound_given (length l.machine.heap) (given_of (record { plain = l.plain; named = l.named })));
 }
 
@@ -298,6 +306,8 @@ invariant-targets::store_each-loop-i g l = record {
   height : of_expressions (expressions_of (drop l.i l.targets)) ≤ of_expressions (expressions_of l.targets);
   fits : ExpressionsFit (expressions_of (drop l.i l.targets));
   kept : GrownBy 0 l.fn.machine l.fn.steps l.machine l.steps;
+  reads : ReadsBy 0 l.fn.machine l.fn.steps l.machine l.steps;
+  targets : IsTrue (list_all is_target (map expression_of (drop l.i l.targets)));
 }
 
 abbrev pub invariant-targets::store_all-loop-target : goal.invariant-targets::store_all-loop-target
@@ -306,6 +316,8 @@ invariant-targets::store_all-loop-target g l = record {
   height : of_list (map expression_of (drop l.target-index l.targets)) ≤ of_list (map expression_of l.targets);
   fits : ListFits (map expression_of (drop l.target-index l.targets));
   kept : GrownBy 0 l.fn.machine l.fn.steps l.machine l.steps;
+  reads : ReadsBy 0 l.fn.machine l.fn.steps l.machine l.steps;
+  targets : IsTrue (list_all is_target (map expression_of (drop l.target-index l.targets)));
 }
 
 abbrev pub invariant-statements::run_delete-loop-e : goal.invariant-statements::run_delete-loop-e
@@ -314,6 +326,7 @@ invariant-statements::run_delete-loop-e g l = record {
   height : of_list (map expression_of (drop l.e-index l.places)) ≤ of_list (map expression_of l.places);
   fits : ListFits (map expression_of (drop l.e-index l.places));
   kept : GrownBy 0 l.fn.machine l.fn.steps l.machine l.steps;
+  reads : ReadsBy 0 l.fn.machine l.fn.steps l.machine l.steps;
 }
 
 abbrev pub invariant-statements::run_all-loop-statement : goal.invariant-statements::run_all-loop-statement
@@ -322,6 +335,7 @@ invariant-statements::run_all-loop-statement g l = record {
   height : of_statements (statements_of (drop l.statement-index l.body)) ≤ of_statements (statements_of l.body);
   fits : StatementsFit (statements_of (drop l.statement-index l.body));
   kept : GrownBy 0 l.fn.machine l.fn.steps l.machine l.steps;
+  reads : ReadsBy 0 l.fn.machine l.fn.steps l.machine l.steps;
 }
 
 abbrev pub invariant-statements::run_choice-loop-arm : goal.invariant-statements::run_choice-loop-arm
@@ -330,12 +344,14 @@ invariant-statements::run_choice-loop-arm g l = record {
   height : of_arms (arms_of (drop l.arm-index l.arms)) ≤ of_arms (arms_of l.arms);
   fits : ArmsFit (arms_of (drop l.arm-index l.arms));
   kept : GrownBy 0 l.fn.machine l.fn.steps l.machine l.steps;
+  reads : ReadsBy 0 l.fn.machine l.fn.steps l.machine l.steps;
 }
 
 abbrev pub invariant-statements::run_while-loop-value : goal.invariant-statements::run_while-loop-value
 invariant-statements::run_while-loop-value g l = record {
   told : (n : ℕ) × (l.machine.budget.left < n) × (act (call l.room) (t.while (expression_of l.test) (statements_of l.body)) (moment_of l.fn.machine) ≡ turns n (expr (call l.room) (expression_of l.test)) (in_block (statements_of l.body) (acts (call l.room) (statements_of l.body))) (moment_of l.machine));
   kept : GrownBy 0 l.fn.machine l.fn.steps l.machine l.steps;
+  reads : ReadsBy 0 l.fn.machine l.fn.steps l.machine l.steps;
 }
 
 abbrev pub decreases-statements::run_while-loop-value : goal.decreases-statements::run_while-loop-value
@@ -346,6 +362,7 @@ invariant-statements::run_turns-loop-item g l = record {
   told : (n : ℕ) × (l.machine.budget.left < n) × (walk_along (walk_of l.walk) (λ v. store (call l.room) (expression_of l.target) v >> in_block (statements_of l.body) (acts (call l.room) (statements_of l.body))) (moment_of l.fn.machine) ≡ walk_on n (walk_of l.walk) l.place (λ v. store (call l.room) (expression_of l.target) v >> in_block (statements_of l.body) (acts (call l.room) (statements_of l.body))) (moment_of l.machine));
   place : l.place + l.machine.budget.left ≤ l.fn.machine.budget.left;
   kept : GrownBy 0 l.fn.machine l.fn.steps l.machine l.steps;
+  reads : ReadsBy 0 l.fn.machine l.fn.steps l.machine l.steps;
 }
 
 abbrev pub decreases-statements::run_turns-loop-item : goal.decreases-statements::run_turns-loop-item
@@ -357,6 +374,7 @@ invariant-statements::run_handlers-loop-handler g l = record {
   height : of_handlers (handlers_of (drop l.handler-index l.handlers)) ≤ of_handlers (handlers_of l.handlers);
   fits : HandlersFit (handlers_of (drop l.handler-index l.handlers));
   kept : GrownBy 0 l.fn.machine l.fn.steps l.machine l.steps;
+  reads : ReadsBy 0 l.fn.machine l.fn.steps l.machine l.steps;
   sound : IsTrue (is_sound_thrown (length l.machine.heap) (thrown_of l.thrown));
 }
 
@@ -366,6 +384,7 @@ invariant-statements::default_values-loop-default g l = record {
   height : of_parameters (map parameter_of (drop l.default-index l.params)) ≤ of_parameters (map parameter_of l.params);
   fits : ParametersFit (map parameter_of (drop l.default-index l.params));
   kept : GrownBy 0 l.fn.machine l.fn.steps l.machine l.steps;
+  reads : ReadsBy 0 l.fn.machine l.fn.steps l.machine l.steps;
   count : length l.values.items + with_default (map parameter_of (drop l.default-index l.params)) ≡ with_default (map parameter_of l.params);
   sound : IsTrue (are_sound (length l.machine.heap) (map value_of l.values.items));
 }

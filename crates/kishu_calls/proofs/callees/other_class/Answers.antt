@@ -26,3 +26,8 @@ pub returns-clause-kept : goal.returns-clause-kept
 returns-clause-kept g c = (
     let e = c.construct.ensures in
     (e.heap, omega (arith, e.most, e.left), omega (arith, e.least)))
+
+pub returns-clause-reads : goal.returns-clause-reads
+returns-clause-reads g c = (
+    let e = c.construct.ensures in
+    omega (arith, e.reads, e.left))

@@ -47,4 +47,5 @@ loop-statement-preserved g c =
       height = omega (arith, k, now.height);
       fits = (subst (λ (ss : Statements). StatementsFit ss) tree now.fits).1;
       kept = paid c.args.machine.now m m1 m2 c.args.steps.now c.loop-statement.steps c.tick.new.steps c.run_statement.new.steps now.kept tick.kept tick.taken tick.heap step.kept;
+      reads = omega (arith, now.reads, tick.counted, tick.taken, step.reads);
     }

@@ -3,7 +3,7 @@ use Rattle.kishu_model.specs.Height.{of_statements}
 use Rattle.kishu_model.specs.Tree.{statement_of}
 use Rattle.kishu_model.specs.Fits.{StatementsFit}
 use Rattle.kishu_calls.specs.Trees.{statements_of}
-use Rattle.kishu_machine.specs.Machine.{GrownBy, moment_of}
+use Rattle.kishu_machine.specs.Machine.{GrownBy, ReadsBy, moment_of}
 use Rattle.kishu_interp.specs.Forms.{each}
 use Rattle.kishu_interp.proofs.cell.run_each.Given as goal
 
@@ -13,4 +13,5 @@ invariant-loop-statement g l = record {
   height : of_statements (statements_of (drop l.statement-index l.statements)) ≤ of_statements (statements_of l.statements);
   fits : StatementsFit (statements_of (drop l.statement-index l.statements));
   kept : GrownBy 0 l.fn.machine l.fn.steps l.machine l.steps;
+  reads : ReadsBy 0 l.fn.machine l.fn.steps l.machine l.steps;
 }

@@ -1,4 +1,4 @@
-use Rattle.std.proofs.Common.{◌≡◌, ◌∙◌, sym, subst, IsTrue, List, [], ◌∷◌, length}
+use Rattle.std.proofs.Common.{◌≡◌, ◌∙◌, sym, subst, IsTrue, List, [], ◌∷◌, length, ap, arith, suc}
 use Rattle.std.specs.List.{list_all}
 use Rattle.kishu_model.specs.Keys.{Key}
 use Rattle.kishu_model.specs.Meaning.{with_pairs}
@@ -30,6 +30,7 @@ loop-key-preserved-in_ok-insert g c =
       others = subst (λ (h : List Node). IsTrue (are_sound_pairs (length h) (seen_pairs rest))) (sym key.heap) (entry_others items rest k v j es new next made n at.invariant.others);
       sound = subst (λ (h : List Node). IsTrue (list_all (λ (e : Key × Value). is_sound (length h) e.1) (entries_of new))) (sym key.heap) (entry_sound items rest k v j es new next made n at.invariant.others at.invariant.sound);
       kept = grown_on 0 0 c.args.machine.now at.machine c.key_of.new.machine c.args.steps.now at.steps c.key_of.new.steps at.invariant.kept key.kept;
+      reads = let one : length items ≡ suc (length rest) = ap length next in omega (arith, one, at.invariant.reads, key.reads);
       heap = key.heap ∙ at.invariant.heap;
     }
 
@@ -52,5 +53,6 @@ loop-key-preserved g c =
       others = subst (λ (h : List Node). IsTrue (are_sound_pairs (length h) (seen_pairs rest))) (sym key.heap) (entry_others items rest k v j es new next made n at.invariant.others);
       sound = subst (λ (h : List Node). IsTrue (list_all (λ (e : Key × Value). is_sound (length h) e.1) (entries_of new))) (sym key.heap) (entry_sound items rest k v j es new next made n at.invariant.others at.invariant.sound);
       kept = grown_on 0 0 c.args.machine.now at.machine c.key_of.new.machine c.args.steps.now at.steps c.key_of.new.steps at.invariant.kept key.kept;
+      reads = let one : length items ≡ suc (length rest) = ap length next in omega (arith, one, at.invariant.reads, key.reads);
       heap = key.heap ∙ at.invariant.heap;
     }

@@ -1,4 +1,4 @@
-use Rattle.std.proofs.Common.{◌≡◌, IsTrue, [], length, map}
+use Rattle.std.proofs.Common.{◌≡◌, ◌+◌, ◌≤◌, IsTrue, [], length, map, ◌*◌}
 use Rattle.std.specs.List.{list_all}
 use Rattle.kishu_model.specs.Meaning.{with_pairs}
 use Rattle.kishu_model.specs.Sound.{is_sound}
@@ -14,5 +14,6 @@ invariant-loop-key g l = record {
   others : IsTrue (are_sound_pairs (length l.machine.heap) (map (λ p. (value_of p.0, value_of p.1)) l.key-iterator.rest.items));
   sound : IsTrue (list_all (λ e. is_sound (length l.machine.heap) e.1) (entries_of l.entries.entries));
   kept : GrownBy 0 l.fn.machine l.fn.steps l.machine l.steps;
+  reads : l.steps + 128 * l.machine.budget.left + 4 * length l.key-iterator.rest.items ≤ l.fn.steps + 128 * l.fn.machine.budget.left + 4 * length l.fn.pairs.items;
   heap : l.machine.heap ≡ l.fn.machine.heap;
 }

@@ -24,6 +24,9 @@ returns-in-Ok-clause-accessed g c = rw (run_of_tree c.args.profile c.args.text.n
 pub returns-in-Ok-clause-least : goal.returns-in-Ok-clause-least
 returns-in-Ok-clause-least g c = rw (run_of_tree c.args.profile c.args.text.now (state_in c.args.heap.now c.args.names.now) (program_of c.in-Ok.program) c.in-Ok.ensures.found) c.run_program.ensures.least
 
+pub returns-in-Ok-clause-most : goal.returns-in-Ok-clause-most
+returns-in-Ok-clause-most g c = rw (run_of_tree c.args.profile c.args.text.now (state_in c.args.heap.now c.args.names.now) (program_of c.in-Ok.program) c.in-Ok.ensures.found) c.run_program.ensures.most
+
 pub returns-in-Err-Syntax-clause-report : goal.returns-in-Err-Syntax-clause-report
 returns-in-Err-Syntax-clause-report g c =
     let s = state_in c.args.heap.now c.args.names.now in
@@ -45,6 +48,12 @@ returns-in-Err-Syntax-clause-accessed g c =
 
 pub returns-in-Err-Syntax-clause-least : goal.returns-in-Err-Syntax-clause-least
 returns-in-Err-Syntax-clause-least g c =
+    let s = state_in c.args.heap.now c.args.names.now in
+    let line : Line c.args.profile c.args.text.now c.in-Err-Syntax.line = line_of c.in-Err-Syntax.field-0 c.in-Err-Syntax.line (Line c.args.profile c.args.text.now) c.in-Err-Syntax.field-0-is c.in-Err-Syntax.ensures.line in
+    rw (run_of_fault c.args.profile c.args.text.now s c.in-Err-Syntax.line line) (search rules)
+
+pub returns-in-Err-Syntax-clause-most : goal.returns-in-Err-Syntax-clause-most
+returns-in-Err-Syntax-clause-most g c =
     let s = state_in c.args.heap.now c.args.names.now in
     let line : Line c.args.profile c.args.text.now c.in-Err-Syntax.line = line_of c.in-Err-Syntax.field-0 c.in-Err-Syntax.line (Line c.args.profile c.args.text.now) c.in-Err-Syntax.field-0-is c.in-Err-Syntax.ensures.line in
     rw (run_of_fault c.args.profile c.args.text.now s c.in-Err-Syntax.line line) (search rules)

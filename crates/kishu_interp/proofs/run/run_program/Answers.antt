@@ -1,4 +1,4 @@
-use Rattle.std.proofs.Common.{◌≡◌, ◌∙◌, ◌+◌, ◌-◌, ◌≤◌, ap, arith, length, map, List, ℕ, Option}
+use Rattle.std.proofs.Common.{◌≡◌, ◌∙◌, ◌+◌, ◌*◌, ◌-◌, ◌≤◌, ap, arith, length, map, List, ℕ, Option}
 use Rattle.std.proofs.lemmas.Result.{IfOk-weaker}
 use Rattle.std.specs.String.{string_bytes}
 use Rattle.kishu_model.specs.declared.result.CellResult.{CellResult}
@@ -10,7 +10,7 @@ use Rattle.kishu_model.specs.Values.{Names, report_of}
 use Rattle.kishu_names.specs.Namespace.{Namespace}
 use Rattle.kishu_names.specs.Record.{texts_of}
 use Rattle.kishu_machine.specs.Machine.{Gives, moment_of, shown_of, state_in, state_of}
-use Rattle.kishu_interp.proofs.Runs.{cell_gives, charged}
+use Rattle.kishu_interp.proofs.Runs.{cell_gives, charged, charged_most}
 use Rattle.kishu_interp.proofs.run.run_program.Goals as goal
 
 pub returns-clause-report : goal.returns-clause-report
@@ -74,3 +74,21 @@ returns-clause-least g c =
     let kept = c.run_statements-end.ensures.kept in
     IfOk-weaker c.finish-result.result (λ (_ : CellResult). (f : Ends (Option (List ℕ))) → Gives shown_of r m f → (finished f).charge ≡ most_steps - m3.budget.left) (λ (_ : CellResult). c.args.steps.now + (finished e).charge ≤ c.finish-result.new.steps)
     (λ _ h. charged m2 m3 (length c.replace.result) c.args.steps.now c.run_statements-end.new.steps c.finish-result.new.steps (finished e).charge kept.0 (omega (arith, kept.1)) kept.2 c.finish-result.ensures.kept (h e gives)) c.finish-result.ensures.charge
+
+pub returns-clause-most : goal.returns-clause-most
+returns-clause-most g c =
+    let r = c.run_statements-end.result in
+    let m2 = c.run_statements-end.new.machine in
+    let m3 = c.finish-result.new.machine in
+    let m = moment_of m2 in
+    let e = cell (program_of c.args.program.now) (begun c.args.profile (state_in c.args.heap.now c.args.names.now)) in
+    let gives : Gives shown_of r m e =
+    cell_gives c.args.profile c.replace.result c.args.heap.now c.replace-2.result.bound c.args.names.now.bound c.replace-2.result.accessed (string_bytes c.new-3.result) r m (map statement_of c.deref.result.now) (program_of c.args.program.now)
+    (ap (map statement_of) c.deref.ensures.value) c.replace.ensures.value
+    (ap (λ (n : Namespace). n.bound) c.replace-2.ensures.value ∙ c.take_record-earlier.ensures.bound)
+    (ap (λ (n : Namespace). n.accessed) c.replace-2.ensures.value ∙ c.take_record-earlier.ensures.accessed)
+    c.new-3.ensures.bytes c.run_statements-end.ensures.gives in
+    let kept = c.run_statements-end.ensures.kept in
+    let reads = c.run_statements-end.ensures.reads in
+    IfOk-weaker c.finish-result.result (λ (_ : CellResult). (f : Ends (Option (List ℕ))) → Gives shown_of r m f → (finished f).charge ≡ most_steps - m3.budget.left) (λ (_ : CellResult). c.finish-result.new.steps ≤ c.args.steps.now + 128 * (finished e).charge + 128)
+    (λ _ h. charged_most m2 m3 (length c.replace.result) c.args.steps.now c.run_statements-end.new.steps c.finish-result.new.steps (finished e).charge kept.0 (omega (arith, kept.1)) (omega (arith, reads)) c.finish-result.ensures.kept c.finish-result.ensures.reads (h e gives)) c.finish-result.ensures.charge

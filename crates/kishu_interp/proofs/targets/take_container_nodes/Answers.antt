@@ -19,6 +19,7 @@ loop-place-preserved g c =
     record {
       told = now.told ∙ nodes_next c.args.trailers.now c.loop-place._place (moment_of c.loop-place.machine) (moment_of c.tick.new.machine) c.loop-place-test.true c.in_ok-tick.ensures.gives;
       kept = grown_on 0 0 c.args.machine.now c.loop-place.machine c.tick.new.machine c.args.steps.now c.loop-place.steps c.tick.new.steps now.kept c.in_ok-tick.ensures.kept;
+      counted = omega (arith, now.counted, c.in_ok-tick.ensures.counted);
       heap = c.in_ok-tick.ensures.heap ∙ now.heap;
       taken = omega (arith, c.in_ok-tick.ensures.taken, now.taken);
     }

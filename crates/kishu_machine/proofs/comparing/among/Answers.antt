@@ -10,7 +10,7 @@ use Rattle.kishu_machine.proofs.Members.{found_fails, found_here, found_later}
 use Rattle.kishu_machine.proofs.comparing.among.Goals as goal
 
 pub loop-item-init : goal.loop-item-init
-loop-item-init g c = record { same = λ s. refl; depth = refl; least = omega arith; left = omega arith }
+loop-item-init g c = record { same = λ s. refl; depth = refl; least = omega arith; reads = omega arith; left = omega arith }
 
 pub returns-in_err-answered-clause-gives : goal.returns-in_err-answered-clause-gives
 returns-in_err-answered-clause-gives g c = λ s.
@@ -55,6 +55,7 @@ loop-item-preserved g c = record {
       (rw c.is_item-answer.ensures.depth (found_later v c.args.items.now c.loop-item.item-index c.item-item.result here c.loop-item-test.true c.item-item.is (record here { left = left }) (rw c.if-branch.false at (c.in_ok-answered.ensures.gives here left e c.is_item-answer.ensures.gives)))));
   depth = c.is_item-answer.ensures.depth ∙ c.loop-item.invariant.depth;
   least = omega arith;
+  reads = omega arith;
   left = omega arith;
 }
 

@@ -22,6 +22,7 @@ loop-value-init g c = record {
   left = omega arith;
   depth = search rules;
   least = omega arith;
+  reads = omega arith;
 }
 
 pub returns-in_err-made-clause-gives : goal.returns-in_err-made-clause-gives
@@ -64,6 +65,7 @@ loop-value-preserved g c = record {
   left = omega arith;
   depth = c.show-text.ensures.depth ∙ c.loop-value.invariant.depth;
   least = omega arith;
+  reads = omega arith;
 }
 
 pub returns-clause-gives : goal.returns-clause-gives

@@ -1,4 +1,4 @@
-use Rattle.std.proofs.Common.{◌≡◌, ◌+◌, ◌≤◌, map, drop}
+use Rattle.std.proofs.Common.{◌≡◌, ◌+◌, ◌*◌, ◌≤◌, map, drop}
 use Rattle.kishu_model.specs.Counting.{ended_in}
 use Rattle.kishu_model.specs.Moment.{Moment, and_then}
 use Rattle.kishu_model.specs.Show.{show_all_in}
@@ -13,4 +13,5 @@ invariant-loop-value g l = record {
   left : l.budget.left ≤ l.fn.budget.left;
   depth : l.budget.depth ≡ l.fn.budget.depth;
   least : l.fn.budget.left + l.fn.steps ≤ l.budget.left + l.steps;
+  reads : 24 * l.budget.left + l.steps ≤ 24 * l.fn.budget.left + l.fn.steps + 2 * l.value-index;
 }
