@@ -1,6 +1,7 @@
 ghost use Rattle.std.specs.Prelude.{◌≡◌, ◌<◌};
 
 mod cells;
+mod language;
 
 use kishu_host::{Host, MemHost, MemSource, Source};
 use kishu_model::Steps;
@@ -447,7 +448,7 @@ fn values_of_all_kinds(rt: HostRuntime) -> Result<(), Fail> {
 // frames are larger, the recursion runs out of it.
 #[test]
 fn cells_of_great_depth(rt: HostRuntime) -> Result<(), Fail> {
-    let rows: [(&str, Status, &str); 8] = [
+    let rows: [(&str, Status, &str); 10] = [
         (
             "def f(n): return f(n + 1)\nf(0)",
             Status::Done,
@@ -465,6 +466,16 @@ fn cells_of_great_depth(rt: HostRuntime) -> Result<(), Fail> {
         ),
         (
             "def f(n): return 0 < (0 < (0 < (0 < (0 < (0 < (0 < (0 < (0 < (0 < (0 < (0 < (0 < (0 < (0 < (0 < (0 < (0 < (0 < (0 < (0 < (0 < (0 < (0 < (0 < (0 < (0 < (0 < (0 < (0 < (0 < (0 < (0 < (0 < (0 < (0 < (0 < (0 < (0 < (0 < (0 < (0 < (0 < (0 < (0 < (0 < (0 < (0 < (0 < (0 < (0 < (0 < (0 < (0 < (0 < (0 < (0 < (f(n))))))))))))))))))))))))))))))))))))))))))))))))))))))))))\nf(0)",
+            Status::Done,
+            "{\"answer\":\"cell\",\"commit\":1,\"count\":1,\"outcome\":\"error\",\"outputs\":[{\"ename\":\"RecursionError\",\"evalue\":\"depth limit reached\",\"output_type\":\"error\",\"traceback\":[\"RecursionError: depth limit reached\"]}]}\n",
+        ),
+        (
+            "def f(n): return 1 if 0 or 1 and 0 < 1 + 1 * f(n) else 2\nf(0)",
+            Status::Done,
+            "{\"answer\":\"cell\",\"commit\":1,\"count\":1,\"outcome\":\"error\",\"outputs\":[{\"ename\":\"RecursionError\",\"evalue\":\"depth limit reached\",\"output_type\":\"error\",\"traceback\":[\"RecursionError: depth limit reached\"]}]}\n",
+        ),
+        (
+            "def f(n): return {1: 1 if 0 or 1 and 0 < 1 + 1 * {1: 1 if 0 or 1 and 0 < 1 + 1 * {1: 1 if 0 or 1 and 0 < 1 + 1 * {1: 1 if 0 or 1 and 0 < 1 + 1 * {1: 1 if 0 or 1 and 0 < 1 + 1 * {1: 1 if 0 or 1 and 0 < 1 + 1 * {1: 1 if 0 or 1 and 0 < 1 + 1 * {1: 1 if 0 or 1 and 0 < 1 + 1 * {1: 1 if 0 or 1 and 0 < 1 + 1 * {1: 1 if 0 or 1 and 0 < 1 + 1 * {1: 1 if 0 or 1 and 0 < 1 + 1 * {1: 1 if 0 or 1 and 0 < 1 + 1 * {1: 1 if 0 or 1 and 0 < 1 + 1 * {1: 1 if 0 or 1 and 0 < 1 + 1 * {1: 1 if 0 or 1 and 0 < 1 + 1 * {1: 1 if 0 or 1 and 0 < 1 + 1 * {1: 1 if 0 or 1 and 0 < 1 + 1 * {1: 1 if 0 or 1 and 0 < 1 + 1 * {1: 1 if 0 or 1 and 0 < 1 + 1 * {1: 1 if 0 or 1 and 0 < 1 + 1 * {1: 1 if 0 or 1 and 0 < 1 + 1 * {1: 1 if 0 or 1 and 0 < 1 + 1 * {1: 1 if 0 or 1 and 0 < 1 + 1 * {1: 1 if 0 or 1 and 0 < 1 + 1 * {1: 1 if 0 or 1 and 0 < 1 + 1 * {1: 1 if 0 or 1 and 0 < 1 + 1 * {1: 1 if 0 or 1 and 0 < 1 + 1 * {1: 1 if 0 or 1 and 0 < 1 + 1 * {1: 1 if 0 or 1 and 0 < 1 + 1 * {1: 1 if 0 or 1 and 0 < 1 + 1 * {1: 1 if 0 or 1 and 0 < 1 + 1 * {1: 1 if 0 or 1 and 0 < 1 + 1 * {1: 1 if 0 or 1 and 0 < 1 + 1 * {1: 1 if 0 or 1 and 0 < 1 + 1 * {1: 1 if 0 or 1 and 0 < 1 + 1 * {1: 1 if 0 or 1 and 0 < 1 + 1 * {1: 1 if 0 or 1 and 0 < 1 + 1 * {1: 1 if 0 or 1 and 0 < 1 + 1 * {1: 1 if 0 or 1 and 0 < 1 + 1 * {1: 1 if 0 or 1 and 0 < 1 + 1 * {1: 1 if 0 or 1 and 0 < 1 + 1 * {1: 1 if 0 or 1 and 0 < 1 + 1 * {1: 1 if 0 or 1 and 0 < 1 + 1 * {1: 1 if 0 or 1 and 0 < 1 + 1 * {1: 1 if 0 or 1 and 0 < 1 + 1 * {1: 1 if 0 or 1 and 0 < 1 + 1 * {1: 1 if 0 or 1 and 0 < 1 + 1 * {1: 1 if 0 or 1 and 0 < 1 + 1 * {1: 1 if 0 or 1 and 0 < 1 + 1 * {1: 1 if 0 or 1 and 0 < 1 + 1 * {1: 1 if 0 or 1 and 0 < 1 + 1 * {1: 1 if 0 or 1 and 0 < 1 + 1 * {1: 1 if 0 or 1 and 0 < 1 + 1 * {1: 1 if 0 or 1 and 0 < 1 + 1 * {1: 1 if 0 or 1 and 0 < 1 + 1 * {1: 1 if 0 or 1 and 0 < 1 + 1 * {1: 1 if 0 or 1 and 0 < 1 + 1 * f(n) ** 2 else 1}[1] ** 2 else 1}[1] ** 2 else 1}[1] ** 2 else 1}[1] ** 2 else 1}[1] ** 2 else 1}[1] ** 2 else 1}[1] ** 2 else 1}[1] ** 2 else 1}[1] ** 2 else 1}[1] ** 2 else 1}[1] ** 2 else 1}[1] ** 2 else 1}[1] ** 2 else 1}[1] ** 2 else 1}[1] ** 2 else 1}[1] ** 2 else 1}[1] ** 2 else 1}[1] ** 2 else 1}[1] ** 2 else 1}[1] ** 2 else 1}[1] ** 2 else 1}[1] ** 2 else 1}[1] ** 2 else 1}[1] ** 2 else 1}[1] ** 2 else 1}[1] ** 2 else 1}[1] ** 2 else 1}[1] ** 2 else 1}[1] ** 2 else 1}[1] ** 2 else 1}[1] ** 2 else 1}[1] ** 2 else 1}[1] ** 2 else 1}[1] ** 2 else 1}[1] ** 2 else 1}[1] ** 2 else 1}[1] ** 2 else 1}[1] ** 2 else 1}[1] ** 2 else 1}[1] ** 2 else 1}[1] ** 2 else 1}[1] ** 2 else 1}[1] ** 2 else 1}[1] ** 2 else 1}[1] ** 2 else 1}[1] ** 2 else 1}[1] ** 2 else 1}[1] ** 2 else 1}[1] ** 2 else 1}[1] ** 2 else 1}[1] ** 2 else 1}[1] ** 2 else 1}[1] ** 2 else 1}[1] ** 2 else 1}[1] ** 2 else 1}[1] ** 2 else 1}[1]\nf(0)",
             Status::Done,
             "{\"answer\":\"cell\",\"commit\":1,\"count\":1,\"outcome\":\"error\",\"outputs\":[{\"ename\":\"RecursionError\",\"evalue\":\"depth limit reached\",\"output_type\":\"error\",\"traceback\":[\"RecursionError: depth limit reached\"]}]}\n",
         ),
@@ -535,6 +546,35 @@ fn cells_that_spend_their_steps(rt: HostRuntime) -> Result<(), Fail> {
         }
     }
     assert_eq!(rt; count, cells::SPENT);
+    Ok(())
+}
+
+#[test]
+fn examples_of_the_language(rt: HostRuntime) -> Result<(), Fail> {
+    let alloc = rt.alloc();
+    let mut count: usize = 0;
+    for row in language::ROWS.split('\x1e') {
+        if !row.is_empty() {
+            assert!(rt; is_spent(row) || keeps(alloc, row)?, "at {row}");
+            count = count.wrapping_add(1);
+        }
+    }
+    assert_eq!(rt; count, language::COUNT);
+    Ok(())
+}
+
+// These take 4,000,000 steps each, as those of the cells above do.
+#[test]
+fn examples_that_spend_their_steps(rt: HostRuntime) -> Result<(), Fail> {
+    let alloc = rt.alloc();
+    let mut count: usize = 0;
+    for row in language::ROWS.split('\x1e') {
+        if is_spent(row) {
+            assert!(rt; keeps(alloc, row)?, "at {row}");
+            count = count.wrapping_add(1);
+        }
+    }
+    assert_eq!(rt; count, language::SPENT);
     Ok(())
 }
 
