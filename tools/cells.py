@@ -185,12 +185,21 @@ pub(crate) const ROWS: &str = "\\
 """
 
 
+def answered(ran):
+    """The outcome and the outputs, as they stand in the answer."""
+    outputs = json.dumps([output_json(o) for o in ran.outputs], ensure_ascii=False, separators=(",", ":"), sort_keys=True)
+    return '"%s","outputs":%s' % (ran.outcome, outputs)
+
+
+def rust_row(text, ran):
+    return "    %s\\x1f%s\\x1e\\\n" % (rust_text(answered(ran)), rust_text(text))
+
+
 def rust(path, rows):
     with open(path, "w") as out:
         out.write(RUST_HEAD % (len(rows), spent(rows)))
         for text, ran in rows:
-            outputs = json.dumps([output_json(o) for o in ran.outputs], ensure_ascii=False, separators=(",", ":"), sort_keys=True)
-            out.write("    %s\\x1f%s\\x1e\\\n" % (rust_text('"%s","outputs":%s' % (ran.outcome, outputs)), rust_text(text)))
+            out.write(rust_row(text, ran))
         out.write('";\n')
 
 
