@@ -82,7 +82,7 @@ RISKY = {
         (ATOM, WIDE, "<rg:0>[<few>]"), (ATOM, WIDE, "<rg:0>[-2]"), (TERM, LARGE, "<small:3> // <small:2>"), (TERM, LARGE, "<small:3> % <small:2>"), (ATOM, WIDE, "int(<str>)"), (ATOM, WIDE, "<tu:0>.index(<any>)"), (ATOM, WIDE, "len(<any>)"),
     ],
     "str": [(ATOM, LONG, "<ws:0>[<few>]"), (ATOM, 1, "<str:0>[<few>]"), (ATOM, LONG, "<di:0>[<few>]"), (ATOM, LONG, "min(<ws>)"), (ATOM, 1, "max(<str>)"), (ATOM, WIDE, "', '.join(<mx>)"), (ATOM, 1, "<str:0>[<any>]")],
-    "bool": [(COMPARISON, 1, "<mx:4> <order> <mx:4>"), (COMPARISON, 1, "<tu:4> <order> <tu:4>"), (COMPARISON, 1, "<any:4> <order> <any:4>"), (COMPARISON, 1, "<any:4> <in> <any:4>"), (ATOM, 1, "all(<any>)")],
+    "bool": [(COMPARISON, 1, "<mx:4> <order> <mx:4>"), (COMPARISON, 1, "<tu:4> <order> <tu:4>"), (COMPARISON, 1, "<any:4> <order> <any:4>"), (COMPARISON, 1, "<str:4> <in> <any:4>"), (COMPARISON, 1, "<li:4> <in> <any:4>"), (ATOM, 1, "all(<any>)")],
     "li": [(ATOM, LONG, "<rows:0>[<few>]"), (ATOM, LONG, "<dl:0>[<key>]"), (ATOM, LONG, "<dl:0>.pop(<key>)")], "mx": [(ATOM, 9, "[<@li>[<few>], <@ds>[<key>]]")],
 }
 LITERALS = {
