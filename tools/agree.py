@@ -20,6 +20,7 @@ The programs keep to what both languages mean alike. What is known to differ is 
 - negative powers, and what CPython takes besides: `%` of texts, slices of ranges, `sorted` of lists,
   further methods and arguments, methods without a call, attributes of functions and exceptions;
 - `is` between whole numbers, texts, ranges and tuples, and `*=` of a list, which makes a new one here;
+- slices with a bad bound and a step of 0, of which the earlier is told here and the step there;
 - texts of exceptions that the language raises: programs see their class and the number of their arguments;
 - a list after a `sort` that raised, and a dict that loses one key and gains another in one turn of a loop;
 - texts with characters that aren't printable, and `count` and `replace` of the empty text;

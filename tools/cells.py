@@ -1,7 +1,7 @@
 #!/usr/bin/env python3
 """Makes the tables of cells and of what they show by which the meaning of cells is tested.
 
-Usage: tools/cells.py antt FOLDER                 (crates/kishu_model/proofs, for MeaningExamples.antt,
+Usage: tools/cells.py antt FOLDER                 (crates/kishu_rows/proofs, for MeaningExamples.antt,
                                                    MoreExamples.antt, BudgetExamples.antt, DepthExamples.antt,
                                                    those over nodes, Node..Cells.antt and the
                                                    like, and those of functions and builtin functions)
@@ -26,6 +26,7 @@ from types import SimpleNamespace
 import builtin_cells
 import function_cells
 import node_cells
+import rule_cells
 from cell_machine import LISTED, PRINT
 from cell_machine import Ran as CellRan
 from builtin_machine import Whole
@@ -328,7 +329,7 @@ GROUPS = (
     ("use Rattle.kishu_model.specs.Keys as %s\n", "p"),
     ("use Rattle.kishu_model.specs.Values.{%s}\n", "none bool integer text range builtin class node list tuple dict object function exception empty stream shown fault"),
     ("use Rattle.kishu_model.specs.Meaning.{%s}\n", "run call"),
-    ("use Rattle.kishu_model.proofs.Cells.{%s}\n", "ran ran_over ranged run_with run_at"),
+    ("use Rattle.kishu_rows.proofs.Cells.{%s}\n", "ran ran_over ranged run_with run_at"),
 )
 
 
@@ -410,6 +411,19 @@ def antt_plain(folder, rows):
         antt("%s/%s.antt" % (folder, name), head, row, first, found)
 
 
+def antt_rules(folder):
+    """The rows of which kishu_tests has none."""
+    rows = [(text, Ran(text)) for text in rule_cells.SAME + rule_cells.OWN]
+    check_same(rows[: len(rule_cells.SAME)])
+    cells = [("run One %s empty" % codes(text), antt_ran(ran)) for text, ran in rows]
+    half = len(cells) // 2
+    antt(folder + "/RuleCells.antt", "What some cells give, for each rule of expressions and builtin functions", "rule", 1, cells[:half], " call")
+    antt(folder + "/MoreRuleCells.antt", "What some cells give, for each rule of statements, and where CPython differs", "rule", half + 1, cells[half:], " call")
+    deep = [("run_at %d %s" % (1000 - n, codes(text)), antt_ran(Ran(text))) for n, text in rule_cells.DEEP]
+    too_deep = [("(run_at %d %s).report.outputs" % (1001 - n, codes(text)), TOO_DEEP) for n, text in rule_cells.DEEP]
+    antt(folder + "/RuleDepth.antt", "What some cells give that compare nodes at a great depth", "level", 1, deep + too_deep)
+
+
 def main():
     rows = [(text, Ran(text)) for text in SAME + OWN] + [(text, Ran(text, line)) for text, line in FAULTS]
     over_nodes = [(text, Ran(text)) for text in node_cells.SAME + node_cells.OWN]
@@ -425,6 +439,7 @@ def main():
     antt_functions(folder, functions)
     antt_builtins(folder, with_builtins)
     antt_plain(folder, rows)
+    antt_rules(folder)
 
 
 if __name__ == "__main__":

@@ -291,12 +291,11 @@ class Nodes(Machine):
     def cut(self, value, start, stop, step):
         if not (isinstance(value, str) or is_kind(value, "list", "tuple")):
             raise self.not_subscriptable(value)
-        step = self.bound(step)
+        start, stop, step = self.bound(start), self.bound(stop), self.bound(step)
         if step == 0:
             raise Raised("ValueError", "step is zero")
-        start = self.bound(start)
         inside = value if isinstance(value, str) else value.inside
-        made = inside[start : self.bound(stop) : step]
+        made = inside[start:stop:step]
         self.step(len(made))
         return made if isinstance(value, str) else self.make(value.kind, made)
 

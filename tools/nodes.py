@@ -1,4 +1,4 @@
-"""Makes the worked rows on keys, nodes and comparisons of crates/kishu_model/proofs: KeyExamples,
+"""Makes the worked rows on keys, nodes and comparisons of crates/kishu_rows/proofs: KeyExamples,
 NodeExamples and EqualExamples.
 
 Whether keys are one, what a dict holds after a change, and whether values are equal or less is asked
@@ -10,7 +10,7 @@ import pathlib
 from types import SimpleNamespace
 
 TOP = pathlib.Path(__file__).resolve().parent.parent
-PROOFS = TOP / "crates/kishu_model/proofs"
+PROOFS = TOP / "crates/kishu_rows/proofs"
 
 
 # ---- how a value is written as a term

@@ -2,7 +2,7 @@
 """Makes the table of texts and their tokens by which the lexer is tested.
 
 Usage: tools/tokens.py rust      crates/kishu_tests/src/lexer/table.rt
-       tools/tokens.py antt      crates/kishu_model/proofs/TokenExamples.antt
+       tools/tokens.py antt      crates/kishu_rows/proofs/TokenExamples.antt
 
 Where the language agrees with Python the tokens come from CPython's `tokenize`, with their lines
 and places, and the values of numbers and texts from `ast.literal_eval`. The rows of OWN differ

@@ -3,7 +3,7 @@
 tested.
 
 Usage: tools/trees.py antt TREES FAULTS OTHERS    (TreeExamples.antt, FaultExamples.antt and
-                                                   OtherExamples.antt in crates/kishu_model/proofs)
+                                                   OtherExamples.antt in crates/kishu_rows/proofs)
        tools/trees.py rust                        (crates/kishu_tests/src/parser/table.rt)
 
 The texts stand in tree_texts.py, and their trees come from CPython (python_trees.py). A text that

@@ -1,4 +1,4 @@
-"""Makes the worked rows on texts of values, sequences and methods of crates/kishu_model/proofs:
+"""Makes the worked rows on texts of values, sequences and methods of crates/kishu_rows/proofs:
 ShowExamples, SequenceExamples and MethodExamples.
 
 What a value's text is and what a method answers and changes is asked of CPython, but for the rows
@@ -546,7 +546,7 @@ def missing_rows():
 
 def needed(uses, rows, words=""):
     """The use lines, with the names that stand in the rows or among the words."""
-    there = set(re.findall(r"[^\s(){}.,\"]+|\[\]", re.sub(r'"[^"]*"', '"', " ".join(rows)) + " " + words)) | {"◌≡◌", "◌∷◌", "refl"}
+    there = set(re.findall(r"[^\s(){}.,\"]+|\[\]", re.sub(r'"[^"]*"', '"', " ".join(rows)) + " " + words)) | {"◌≡◌", "refl"} | ({"◌∷◌"} if any(" ∷ " in row for row in rows) else set())
     lines = []
     for use in uses:
         found = re.fullmatch(r"(.*\.)\{(.*)\}", use)

@@ -171,36 +171,41 @@ pub bound_number : (v : rust.Value) (s : Moment) (z : ℤ) → (v ≡ values.Non
 bound_number v s z h k = bound_given v s h ∙ ap (λ (x : Ends ℤ). and_then x (λ z. give (Some z))) k
 
 module _ (n : ℕ) (start stop step : Value) (s : Moment) where
-  abbrev with_both : ℤ → Option ℤ → Option ℤ → M (List ℤ)
-  with_both c a b = give (places_between (first_limit n c a) (last_limit n c b) c)
+  abbrev with_step : Option ℤ → Option ℤ → ℤ → M (List ℤ)
+  with_step a b c = give (places_between (first_limit n c a) (last_limit n c b) c)
 
-  abbrev with_start : ℤ → Option ℤ → M (List ℤ)
-  with_start c a = bound_of stop >>= with_both c a
+  abbrev with_stop : Option ℤ → Option ℤ → M (List ℤ)
+  with_stop a b = (bound_of step >>= step_from) >>= with_step a b
 
-  abbrev with_step : ℤ → M (List ℤ)
-  with_step c = bound_of start >>= with_start c
+  abbrev with_start : Option ℤ → M (List ℤ)
+  with_start a = bound_of stop >>= with_stop a
 
-  pub step_fails : (f : Fault) → Fails f s (bound_of step s) → Fails f s (slice_places n start stop step s)
-  step_fails f h = fails_on with_step f s (and_then (bound_of step s) step_from) (fails_on step_from f s (bound_of step s) h)
+  pub start_fails : (f : Fault) → Fails f s (bound_of start s) → Fails f s (slice_places n start stop step s)
+  start_fails f h = fails_on with_start f s (bound_of start s) h
 
-  pub step_refused : (o : Option ℤ) (f : Fault) → bound_of step s ≡ fine o s → Fails f s (step_from o s) → Fails f s (slice_places n start stop step s)
-  step_refused o f e h = fails_on with_step f s (and_then (bound_of step s) step_from) (subst (λ (x : Ends ℤ). Fails f s x) (sym (ap (λ (x : Ends (Option ℤ)). and_then x step_from) e)) h)
+  module _ (a : Option ℤ) (e : bound_of start s ≡ fine a s) where
+    start_asked : slice_places n start stop step s ≡ with_start a s
+    start_asked = ap (λ (x : Ends (Option ℤ)). and_then x with_start) e
 
-  module _ (o : Option ℤ) (c : ℤ) (e : bound_of step s ≡ fine o s) (g : step_from o s ≡ fine c s) where
-    stepped : slice_places n start stop step s ≡ with_step c s
-    stepped = ap (λ (x : Ends (Option ℤ)). and_then (and_then x step_from) with_step) e ∙ ap (λ (x : Ends ℤ). and_then x with_step) g
+    pub stop_fails : (f : Fault) → Fails f s (bound_of stop s) → Fails f s (slice_places n start stop step s)
+    stop_fails f h = subst (λ (x : Ends (List ℤ)). Fails f s x) (sym start_asked) (fails_on (with_stop a) f s (bound_of stop s) h)
 
-    pub start_fails : (f : Fault) → Fails f s (bound_of start s) → Fails f s (slice_places n start stop step s)
-    start_fails f h = subst (λ (x : Ends (List ℤ)). Fails f s x) (sym stepped) (fails_on (with_start c) f s (bound_of start s) h)
+    module _ (b : Option ℤ) (g : bound_of stop s ≡ fine b s) where
+      stop_asked : slice_places n start stop step s ≡ with_stop a b s
+      stop_asked = start_asked ∙ ap (λ (x : Ends (Option ℤ)). and_then x (with_stop a)) g
 
-    started : (a : Option ℤ) → bound_of start s ≡ fine a s → slice_places n start stop step s ≡ with_start c a s
-    started a h = stepped ∙ ap (λ (x : Ends (Option ℤ)). and_then x (with_start c)) h
+      pub step_fails : (f : Fault) → Fails f s (bound_of step s) → Fails f s (slice_places n start stop step s)
+      step_fails f h = subst (λ (x : Ends (List ℤ)). Fails f s x) (sym stop_asked) (fails_on (with_step a b) f s (and_then (bound_of step s) step_from) (fails_on step_from f s (bound_of step s) h))
 
-    pub stop_fails : (a : Option ℤ) (f : Fault) → bound_of start s ≡ fine a s → Fails f s (bound_of stop s) → Fails f s (slice_places n start stop step s)
-    stop_fails a f h k = subst (λ (x : Ends (List ℤ)). Fails f s x) (sym (started a h)) (fails_on (with_both c a) f s (bound_of stop s) k)
+      pub step_refused : (o : Option ℤ) (f : Fault) → bound_of step s ≡ fine o s → Fails f s (step_from o s) → Fails f s (slice_places n start stop step s)
+      step_refused o f i h =
+          subst (λ (x : Ends (List ℤ)). Fails f s x) (sym stop_asked)
+          (fails_on (with_step a b) f s (and_then (bound_of step s) step_from) (subst (λ (x : Ends ℤ). Fails f s x) (sym (ap (λ (x : Ends (Option ℤ)). and_then x step_from) i)) h))
 
-    pub places_given : (a b : Option ℤ) → bound_of start s ≡ fine a s → bound_of stop s ≡ fine b s → slice_places n start stop step s ≡ fine (places_between (first_limit n c a) (last_limit n c b) c) s
-    places_given a b h k = started a h ∙ ap (λ (x : Ends (Option ℤ)). and_then x (with_both c a)) k
+      pub places_given : (o : Option ℤ) (c : ℤ) → bound_of step s ≡ fine o s → step_from o s ≡ fine c s → slice_places n start stop step s ≡ fine (places_between (first_limit n c a) (last_limit n c b) c) s
+      places_given o c i h =
+          stop_asked ∙ ap (λ (x : Ends (Option ℤ)). and_then (and_then x step_from) (with_step a b)) i
+          ∙ ap (λ (x : Ends ℤ). and_then x (with_step a b)) h
 
 -- ---- what stands at the places
 

@@ -13,7 +13,7 @@ use Rattle.kishu_machine.specs.Composing.{fails_on}
 use Rattle.kishu_machine.specs.Machine.{Fails}
 use Rattle.kishu_model.specs.Operators.{list_from}
 use Rattle.kishu_model.specs.Walks.{or_none_there}
-use Rattle.kishu_access.specs.declared.subscripts.Container.TheVariants as containers
+use Rattle.kishu_access.specs.declared.stores.Container.TheVariants as containers
 use Rattle.kishu_access.specs.Access.{container_of}
 
 -- A list of so many items has each place below.

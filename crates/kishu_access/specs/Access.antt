@@ -13,8 +13,8 @@ use Rattle.kishu_model.specs.Meaning.{Place, named, attribute_of, item_of}
 use Rattle.kishu_access.specs.declared.places.Place as rust_place
 use Rattle.kishu_access.specs.declared.places.Place.TheVariants as rust_places
 use Rattle.kishu_access.specs.declared.slices.Places.{Places}
-use Rattle.kishu_access.specs.declared.subscripts.Container.{Container}
-use Rattle.kishu_access.specs.declared.subscripts.Container.TheVariants as containers
+use Rattle.kishu_access.specs.declared.stores.Container.{Container}
+use Rattle.kishu_access.specs.declared.stores.Container.TheVariants as containers
 use Rattle.kishu_access.specs.declared.walks.View as rust_view
 use Rattle.kishu_access.specs.declared.walks.View.TheVariants as views
 use Rattle.kishu_access.specs.declared.walks.Walk as rust_walk

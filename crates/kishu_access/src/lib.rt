@@ -8,6 +8,7 @@
 mod attributes;
 mod places;
 mod slices;
+mod stores;
 mod subscripts;
 mod updates;
 mod walks;

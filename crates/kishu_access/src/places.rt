@@ -7,7 +7,8 @@ ghost use Rattle.kishu_access.specs.Access.{is_sound_place, place_of, place_read
 ghost use Rattle.kishu_machine.specs.Machine.{Gives, GrownBy, HasRoomBy, IsSound, ReadsBy, moment_of};
 
 use crate::attributes::{attribute, delete_attribute, store_attribute};
-use crate::subscripts::{delete_item, item, store_item};
+use crate::stores::{delete_item, store_item};
+use crate::subscripts::item;
 use kishu_machine::{Fault, Machine, assign, delete, read};
 use kishu_model::{Steps, Value};
 use std::rc::RcStr;

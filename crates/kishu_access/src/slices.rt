@@ -160,7 +160,7 @@ fn places_between(len: usize, step: i128, start: Option<i128>, stop: Option<i128
     }
 }
 
-// The step is asked first, then the start and the stop.
+// The bounds are asked in their order.
 fn slice_places<L: Ledger>(
     machine: &Machine,
     len: usize,
@@ -174,10 +174,10 @@ fn slice_places<L: Ledger>(
     ensures counted { steps.old ≤ steps.new }
     ensures reads { steps.new ≤ steps.old + 3 }
 {
-    let asked = bound_of(machine, bounds.step, steps)?;
-    let step = step_from(machine.alloc, asked)?;
     let start = bound_of(machine, bounds.start, steps)?;
     let stop = bound_of(machine, bounds.stop, steps)?;
+    let asked = bound_of(machine, bounds.step, steps)?;
+    let step = step_from(machine.alloc, asked)?;
     Ok(places_between(len, step, start, stop))
 }
 

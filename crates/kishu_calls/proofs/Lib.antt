@@ -8,7 +8,7 @@ pub mod BuiltinCalls
 pub mod Called
 pub mod Binding
 pub mod Caught
-pub mod Locals
+pub mod LocalNames
 pub mod Printed
 pub mod Attributes
 pub mod Marks

@@ -17,7 +17,7 @@ use Rattle.kishu_model.specs.declared.value.Value.TheVariants as variants
 use Rattle.kishu_machine.specs.declared.fault.Fault.{Fault}
 use Rattle.kishu_machine.specs.declared.fault.Fault.TheVariants as faults
 use Rattle.kishu_machine.specs.Machine.{IsRaised}
-use Rattle.kishu_calls.specs.declared.callees.Marks as rust_marks
+use Rattle.kishu_calls.specs.declared.calls.Marks as rust_marks
 use Rattle.kishu_calls.specs.Calls.{PrintsBy, named_of}
 
 raises : (r : Result rust_marks.Marks Fault) (ks : Names) (vs : List Value) (s : Moment) → IsRaised r 23 (codes "print" ++ codes "() got bad arguments") → print_by ks (codes " ") (line_feed ∷ []) vs s ≡ bad_arguments {A = Value} (codes "print") s → PrintsBy r ks vs s

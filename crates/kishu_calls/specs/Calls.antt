@@ -22,7 +22,7 @@ use Rattle.kishu_calls.specs.declared.callees.Callee.TheVariants as callees
 use Rattle.kishu_calls.specs.declared.callees.Given as rust_given
 use Rattle.kishu_calls.specs.declared.parts.Part as rust_part
 use Rattle.kishu_calls.specs.declared.parts.Part.TheVariants as parts
-use Rattle.kishu_calls.specs.declared.callees.Marks as rust_marks
+use Rattle.kishu_calls.specs.declared.calls.Marks as rust_marks
 use Rattle.kishu_calls.specs.declared.functions.Function as rust_function
 use Rattle.kishu_machine.specs.declared.fault.Fault.{Fault}
 use Rattle.kishu_machine.specs.declared.fault.Fault.TheVariants as faults

@@ -8,13 +8,17 @@
 #![tactic(auto)]
 
 mod callees;
+mod calls;
 mod endings;
 mod functions;
+mod locals;
 mod parts;
 mod ways;
 
-pub use callees::{Callee, Given, call_builtin, call_method, callee_in, construct};
+pub use callees::{Callee, Given, callee_in};
+pub use calls::{call_builtin, call_method, construct};
 pub use endings::{ended, fault_output, finish};
-pub use functions::{Function, bound_values, function_at, own_names};
+pub use functions::{Function, bound_values, function_at};
+pub use locals::own_names;
 pub use parts::{Part, dotted_part, settled, walked_by};
 pub use ways::{Flow, is_caught, object_of, throw_again, throw_value};

@@ -4,16 +4,23 @@
 //! each call is one level deeper. A call recurses no deeper than the points under evaluation lie, a
 //! few frames for each level.
 //!
-//! The cycle of `expressions`, `calls`, `targets` and `statements` has one function for each form of
-//! the language, over what `kishu_machine`, `kishu_access` and `kishu_calls` do with values. `cell`
-//! and `run` are what a whole cell gives.
+//! One cycle has a function for each form of the language, over what `kishu_machine`,
+//! `kishu_access` and `kishu_calls` do with values: `expressions`, with `displays`, `operators`,
+//! `primaries` and `calls`; `targets`; `statements`, with `loops` and `tries`. Its functions are kept
+//! apart, and pass faults on by `match` where `?` would copy them, so that their frames stay small.
+//! `cell` and `run` are what a whole cell gives.
 #![tactic(auto)]
 
 mod calls;
 mod cell;
+mod displays;
 mod expressions;
+mod loops;
+mod operators;
+mod primaries;
 mod run;
 mod statements;
 mod targets;
+mod tries;
 
 pub use run::run_cell;

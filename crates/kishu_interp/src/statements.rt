@@ -1,39 +1,37 @@
 // Statements.
-ghost use Rattle.std.specs.Prelude.{IfOk, IsTrue, Some, length, map, true, ◌<◌, ◌^◌, ◌≡◌, ◌≤◌};
+ghost use Rattle.std.specs.Prelude.{IfOk, IsTrue, Some, length, map, ◌<◌, ◌^◌, ◌≡◌, ◌≤◌};
 ghost use Rattle.std.specs.Rc.{rc_str_bytes};
 ghost use Rattle.std.specs.List.{list_all};
 ghost use Rattle.kishu_model.specs.Targets.{is_target};
 ghost use Rattle.kishu_model.specs.Classes.{namespace_number};
 ghost use Rattle.kishu_model.specs.Functions.{or_class_name};
-ghost use Rattle.kishu_model.specs.Height.{of_arms, of_expression, of_handlers, of_list, of_optional, of_parameters, of_statement, of_statements};
-ghost use Rattle.kishu_model.specs.Meaning.{act, acts, call, defaults, in_block, is_for, raise_by, returned_by, store};
-ghost use Rattle.kishu_model.specs.Moment.{Ends, assign, give, ◌>>◌ as ◌▹◌};
+ghost use Rattle.kishu_model.specs.Height.{of_arms, of_expression, of_list, of_optional, of_parameters, of_statement, of_statements};
+ghost use Rattle.kishu_model.specs.Meaning.{act, acts, call, defaults, in_block, raise_by, returned_by};
+ghost use Rattle.kishu_model.specs.Moment.{assign, give, ◌>>◌ as ◌▹◌};
 ghost use Rattle.kishu_model.specs.Names.{is_name};
 ghost use Rattle.kishu_model.specs.Parse.{ParseDef};
 ghost use Rattle.kishu_model.specs.Sound.{are_sound, with_default};
 ghost use Rattle.kishu_model.specs.Tree.{definition_of, expression_of, parameter_of, statement_of, text_of, value_of as tree_value};
-ghost use Rattle.kishu_model.specs.Values.{class, node, value_of};
-ghost use Rattle.kishu_model.specs.Ways.{and_last, attempt, forget_caught, handle, handling, onward, walk_along};
-ghost use Rattle.kishu_access.specs.Access.{is_sound_walk, walk_of};
-ghost use Rattle.kishu_calls.specs.Calls.{flow_of, is_sound_flow, is_sound_way};
-ghost use Rattle.kishu_calls.specs.Trees.{arms_of, handlers_of, statements_of};
-ghost use Rattle.kishu_model.specs.Fits.{ArmsFit, ExpressionFits, HandlersFit, ListFits, OptionalFits, ParametersFit, StatementFits, StatementsFit, TitleFits};
-ghost use Rattle.kishu_machine.specs.Machine.{Gives, GrownBy, HasRoom, HasRoomBy, IsSound, ReadsBy, is_sound_thrown, moment_of, thrown_of};
-ghost use Rattle.kishu_model.specs.Meaning as m;
+ghost use Rattle.kishu_model.specs.Values.{class, value_of};
+ghost use Rattle.kishu_model.specs.Ways.{onward};
+ghost use Rattle.kishu_calls.specs.Calls.{flow_of, is_sound_flow};
+ghost use Rattle.kishu_calls.specs.Trees.{arms_of, statements_of};
+ghost use Rattle.kishu_model.specs.Fits.{ArmsFit, ExpressionFits, ListFits, OptionalFits, ParametersFit, StatementFits, StatementsFit, TitleFits};
+ghost use Rattle.kishu_machine.specs.Machine.{Gives, GrownBy, HasRoom, HasRoomBy, IsSound, ReadsBy, moment_of};
 ghost use Rattle.kishu_model.specs.Tree as t;
-ghost use Rattle.kishu_model.specs.Ways as w;
 
-use crate::expressions::{deeper_value, evaluate, part};
-use crate::targets::{place_at, store, store_all};
-use kishu_access::{Walk, delete_place, item_for, read_place, store_in, updated};
-use kishu_calls::{Flow, is_caught, object_of, throw_again, throw_value, walked_by};
+use crate::expressions::{deeper_value, evaluate};
+use crate::loops::{run_for, run_while};
+use crate::targets::{place_at, store_all};
+use crate::tries::{run_finally, run_try};
+use kishu_access::{delete_place, read_place, store_in, updated};
+use kishu_calls::{Flow, throw_again, throw_value};
 use kishu_heap::{FunctionNode, Node};
 use kishu_machine::{
-    ASSERTION_ERROR, Fault, MOST_DEPTH, Machine, NAMESPACE, Thrown, assign, forget, make, tick,
-    too_deep, truth,
+    ASSERTION_ERROR, Fault, MOST_DEPTH, Machine, NAMESPACE, Thrown, assign, make, tick, too_deep,
+    truth,
 };
-use kishu_model::{Arm, Def, Expr, Handler, NodeId, Operator, Steps, Stmt, Value};
-use std::mem;
+use kishu_model::{Arm, Def, Expr, Operator, Steps, Stmt, Value};
 use std::rc::{Rc, RcStr};
 use std::sync::ledger::Ledger;
 
@@ -354,364 +352,6 @@ fn run_choice<L: Ledger>(
         }
     }
     block(machine, other, room, steps)
-}
-
-// ---- loops
-
-#[cycle(run)]
-#[inline(never)]
-fn run_while<L: Ledger>(
-    machine: &mut Machine,
-    test: &Expr,
-    body: &[Stmt],
-    room: u32,
-    steps: &mut Steps<L>,
-) -> Result<Flow, Fault>
-    requires small_test { of_expression (expression_of test.now) < 2 ^ 20 }
-    requires fit_test { ExpressionFits (expression_of test.now) }
-    requires small_body { of_statements (statements_of body.now) < 2 ^ 20 }
-    requires fit_body { StatementsFit (statements_of body.now) }
-    requires room { HasRoomBy 4 machine.old }
-    ensures gives { Gives flow_of result (moment_of machine.new) (act (call room) (t.while (expression_of test.now) (statements_of body.now)) (moment_of machine.old)) }
-    ensures sound { IsSound (λ v. is_sound_flow (length machine.new.heap) (flow_of v)) (length machine.new.heap) result }
-    ensures kept { GrownBy 3 machine.old steps.old machine.new steps.new }
-    ensures reads { ReadsBy 0 machine.old steps.old machine.new steps.new }
-{
-    loop {
-        let value = evaluate(machine, test, room, steps)?;
-        if !truth(machine, &value, steps) {
-            return Ok(Flow::Onward);
-        }
-        tick(machine, steps)?;
-        match block(machine, body, room, steps)? {
-            Flow::Onward => {}
-            Flow::Continued => {}
-            Flow::Broke => return Ok(Flow::Onward),
-            Flow::Returned(value) => return Ok(Flow::Returned(value)),
-        }
-    }
-}
-
-#[cycle(run)]
-#[inline(never)]
-fn run_for<L: Ledger>(
-    machine: &mut Machine,
-    target: &Expr,
-    walked: &Expr,
-    body: &[Stmt],
-    room: u32,
-    steps: &mut Steps<L>,
-) -> Result<Flow, Fault>
-    requires small_target { of_expression (expression_of target.now) < 2 ^ 20 }
-    requires fit_target { ExpressionFits (expression_of target.now) }
-    requires small_walked { of_expression (expression_of walked.now) < 2 ^ 20 }
-    requires fit_walked { ExpressionFits (expression_of walked.now) }
-    requires small_body { of_statements (statements_of body.now) < 2 ^ 20 }
-    requires fit_body { StatementsFit (statements_of body.now) }
-    requires room { HasRoomBy 4 machine.old }
-    requires target { IsTrue (is_target (expression_of target.now)) }
-    ensures gives { Gives flow_of result (moment_of machine.new) (act (call room) (t.for (expression_of target.now) (expression_of walked.now) (statements_of body.now)) (moment_of machine.old)) }
-    ensures sound { IsSound (λ v. is_sound_flow (length machine.new.heap) (flow_of v)) (length machine.new.heap) result }
-    ensures kept { GrownBy 3 machine.old steps.old machine.new steps.new }
-    ensures reads { ReadsBy 0 machine.old steps.old machine.new steps.new }
-{
-    let walked = part(machine, walked, room, steps)?;
-    let walk = walked_by(machine, walked, steps)?;
-    run_turns(machine, target, &walk, body, room, steps)
-}
-
-#[cycle(run)]
-#[inline(never)]
-fn run_turns<L: Ledger>(
-    machine: &mut Machine,
-    target: &Expr,
-    walk: &Walk,
-    body: &[Stmt],
-    room: u32,
-    steps: &mut Steps<L>,
-) -> Result<Flow, Fault>
-    requires small_target { of_expression (expression_of target.now) < 2 ^ 20 }
-    requires fit_target { ExpressionFits (expression_of target.now) }
-    requires sound_walk { IsTrue (is_sound_walk (length machine.old.heap) (walk_of walk.now)) }
-    requires small_body { of_statements (statements_of body.now) < 2 ^ 20 }
-    requires fit_body { StatementsFit (statements_of body.now) }
-    requires room { HasRoomBy 2 machine.old }
-    requires target { IsTrue (is_target (expression_of target.now)) }
-    ensures gives { Gives flow_of result (moment_of machine.new) (walk_along (walk_of walk.now) (λ v. store (call room) (expression_of target.now) v ▹ in_block (statements_of body.now) (acts (call room) (statements_of body.now))) (moment_of machine.old)) }
-    ensures sound { IsSound (λ v. is_sound_flow (length machine.new.heap) (flow_of v)) (length machine.new.heap) result }
-    ensures kept { GrownBy 2 machine.old steps.old machine.new steps.new }
-    ensures reads { ReadsBy 16 machine.old steps.old machine.new steps.new }
-{
-    let mut place = 0;
-    loop {
-        let Some(item) = item_for(machine, walk, place, steps)? else {
-            return Ok(Flow::Onward);
-        };
-        tick(machine, steps)?;
-        store(machine, target, &item, room, steps)?;
-        match block(machine, body, room, steps)? {
-            Flow::Onward => {}
-            Flow::Continued => {}
-            Flow::Broke => return Ok(Flow::Onward),
-            Flow::Returned(value) => return Ok(Flow::Returned(value)),
-        }
-        place += 1;
-    }
-}
-
-// ---- exceptions
-
-#[cycle(run)]
-#[inline(never)]
-fn run_try<L: Ledger>(
-    machine: &mut Machine,
-    body: &[Stmt],
-    handlers: &[Handler],
-    other: &[Stmt],
-    last: &[Stmt],
-    room: u32,
-    steps: &mut Steps<L>,
-) -> Result<Flow, Fault>
-    requires small_body { of_statements (statements_of body.now) < 2 ^ 20 }
-    requires fit_body { StatementsFit (statements_of body.now) }
-    requires small_handlers { of_handlers (handlers_of handlers.now) < 2 ^ 20 }
-    requires fit_handlers { HandlersFit (handlers_of handlers.now) }
-    requires small_other { of_statements (statements_of other.now) < 2 ^ 20 }
-    requires fit_other { StatementsFit (statements_of other.now) }
-    requires small_last { of_statements (statements_of last.now) < 2 ^ 20 }
-    requires fit_last { StatementsFit (statements_of last.now) }
-    requires room { HasRoomBy 4 machine.old }
-    ensures gives { Gives flow_of result (moment_of machine.new) (act (call room) (t.try (statements_of body.now) (handlers_of handlers.now) (statements_of other.now) (statements_of last.now)) (moment_of machine.old)) }
-    ensures sound { IsSound (λ v. is_sound_flow (length machine.new.heap) (flow_of v)) (length machine.new.heap) result }
-    ensures kept { GrownBy 3 machine.old steps.old machine.new steps.new }
-    ensures reads { ReadsBy 0 machine.old steps.old machine.new steps.new }
-{
-    let way = run_attempt(machine, body, handlers, other, room, steps);
-    run_last(machine, way, last, room, steps)
-}
-
-// The handlers are for what the body raises, and the block of `else` for where it ends plainly.
-#[cycle(run)]
-#[inline(never)]
-fn run_attempt<L: Ledger>(
-    machine: &mut Machine,
-    body: &[Stmt],
-    handlers: &[Handler],
-    other: &[Stmt],
-    room: u32,
-    steps: &mut Steps<L>,
-) -> Result<Flow, Fault>
-    requires small_body { of_statements (statements_of body.now) < 2 ^ 20 }
-    requires fit_body { StatementsFit (statements_of body.now) }
-    requires small_handlers { of_handlers (handlers_of handlers.now) < 2 ^ 20 }
-    requires fit_handlers { HandlersFit (handlers_of handlers.now) }
-    requires small_other { of_statements (statements_of other.now) < 2 ^ 20 }
-    requires fit_other { StatementsFit (statements_of other.now) }
-    requires room { HasRoomBy 1 machine.old }
-    ensures gives { Gives flow_of result (moment_of machine.new) (attempt (in_block (statements_of body.now) (acts (call room) (statements_of body.now))) (m.handlers (call room) (handlers_of handlers.now)) (in_block (statements_of other.now) (acts (call room) (statements_of other.now))) (moment_of machine.old)) }
-    ensures sound { IsSound (λ v. is_sound_flow (length machine.new.heap) (flow_of v)) (length machine.new.heap) result }
-    ensures kept { GrownBy 1 machine.old steps.old machine.new steps.new }
-    ensures reads { ReadsBy 0 machine.old steps.old machine.new steps.new }
-{
-    match block(machine, body, room, steps) {
-        Ok(Flow::Onward) => block(machine, other, room, steps),
-        Ok(Flow::Broke) => Ok(Flow::Broke),
-        Ok(Flow::Continued) => Ok(Flow::Continued),
-        Ok(Flow::Returned(value)) => Ok(Flow::Returned(value)),
-        Err(Fault::Raised(thrown)) => run_handlers(machine, handlers, thrown, room, steps),
-        Err(Fault::Stopped) => Err(Fault::Stopped),
-        Err(Fault::NoMemory) => Err(Fault::NoMemory),
-    }
-}
-
-// The handlers are tried in order.
-#[cycle(run)]
-#[inline(never)]
-#[tactic(auto, using(kishu_calls::specs::StatementRows::statement_rows))]
-fn run_handlers<L: Ledger>(
-    machine: &mut Machine,
-    handlers: &[Handler],
-    thrown: Thrown,
-    room: u32,
-    steps: &mut Steps<L>,
-) -> Result<Flow, Fault>
-    requires small { of_handlers (handlers_of handlers.now) < 2 ^ 20 }
-    requires fits { HandlersFit (handlers_of handlers.now) }
-    requires sound_thrown { IsTrue (is_sound_thrown (length machine.old.heap) (thrown_of thrown)) }
-    requires room { HasRoomBy 1 machine.old }
-    ensures gives { Gives flow_of result (moment_of machine.new) (m.handlers (call room) (handlers_of handlers.now) (thrown_of thrown) (moment_of machine.old)) }
-    ensures sound { IsSound (λ v. is_sound_flow (length machine.new.heap) (flow_of v)) (length machine.new.heap) result }
-    ensures kept { GrownBy 1 machine.old steps.old machine.new steps.new }
-    ensures reads { ReadsBy 0 machine.old steps.old machine.new steps.new }
-{
-    for handler in handlers {
-        if is_for(machine, &handler.class, &thrown, room, steps)? {
-            return handle(machine, &handler.name, &handler.body, thrown, room, steps);
-        }
-    }
-    Err(Fault::Raised(thrown))
-}
-
-// A handler without a class is for each exception.
-#[cycle(run)]
-#[inline(never)]
-fn is_for<L: Ledger>(
-    machine: &mut Machine,
-    class: &Option<Expr>,
-    thrown: &Thrown,
-    room: u32,
-    steps: &mut Steps<L>,
-) -> Result<bool, Fault>
-    requires small_class { of_optional (tree_value class.now) < 2 ^ 20 }
-    requires fit_class { OptionalFits (tree_value class.now) }
-    requires room { HasRoom machine.old }
-    ensures gives { Gives (λ b. b) result (moment_of machine.new) (is_for (call room) (tree_value class.now) (thrown_of thrown.now) (moment_of machine.old)) }
-    ensures sound { IsSound (λ _. true) (length machine.new.heap) result }
-    ensures kept { GrownBy 0 machine.old steps.old machine.new steps.new }
-    ensures reads { ReadsBy 0 machine.old steps.old machine.new steps.new }
-{
-    match class {
-        Some(e) => {
-            let classes = evaluate(machine, e, room, steps)?;
-            is_caught(machine, thrown, &classes, steps)
-        }
-        None => Ok(true),
-    }
-}
-
-// The exception is bound for the block, and its name unbound on each way out.
-#[cycle(run)]
-#[inline(never)]
-fn handle<L: Ledger>(
-    machine: &mut Machine,
-    name: &Option<RcStr>,
-    body: &[Stmt],
-    thrown: Thrown,
-    room: u32,
-    steps: &mut Steps<L>,
-) -> Result<Flow, Fault>
-    requires fit_name { TitleFits (text_of name.now) }
-    requires small_body { of_statements (statements_of body.now) < 2 ^ 20 }
-    requires fit_body { StatementsFit (statements_of body.now) }
-    requires sound_thrown { IsTrue (is_sound_thrown (length machine.old.heap) (thrown_of thrown)) }
-    requires room { HasRoomBy 1 machine.old }
-    ensures gives { Gives flow_of result (moment_of machine.new) (handle (text_of name.now) (in_block (statements_of body.now) (acts (call room) (statements_of body.now))) (thrown_of thrown) (moment_of machine.old)) }
-    ensures sound { IsSound (λ v. is_sound_flow (length machine.new.heap) (flow_of v)) (length machine.new.heap) result }
-    ensures kept { GrownBy 1 machine.old steps.old machine.new steps.new }
-    ensures reads { ReadsBy 0 machine.old steps.old machine.new steps.new }
-{
-    let id = object_of(machine, thrown)?;
-    let Some(name) = name else {
-        return handling(machine, id, body, room, steps);
-    };
-    assign(machine, name, Value::Node(id))?;
-    let way = handling(machine, id, body, room, steps);
-    forgotten(machine, way, name.as_str())
-}
-
-// A spent budget leaves the name.
-#[inline(never)]
-fn forgotten(machine: &mut Machine, way: Result<Flow, Fault>, name: &str) -> Result<Flow, Fault>
-    requires sound_way { IsTrue (is_sound_way (length machine.old.heap) way) }
-    ensures gives { (e : Ends w.Flow) → Gives flow_of way (moment_of machine.old) e → Gives flow_of result (moment_of machine.new) (and_last e (forget_caught (Some name.now) ▹ give onward)) }
-    ensures sound { IsSound (λ v. is_sound_flow (length machine.new.heap) (flow_of v)) (length machine.new.heap) result }
-    ensures heap { machine.new.heap ≡ machine.old.heap }
-    ensures budget { machine.new.budget ≡ machine.old.budget }
-{
-    match way {
-        Err(Fault::Stopped) => Err(Fault::Stopped),
-        Err(Fault::NoMemory) => Err(Fault::NoMemory),
-        Err(Fault::Raised(thrown)) => {
-            forget(machine, name)?;
-            Err(Fault::Raised(thrown))
-        }
-        Ok(flow) => {
-            forget(machine, name)?;
-            Ok(flow)
-        }
-    }
-}
-
-// While this object is handled.
-#[cycle(run)]
-#[inline(never)]
-fn handling<L: Ledger>(
-    machine: &mut Machine,
-    id: NodeId,
-    body: &[Stmt],
-    room: u32,
-    steps: &mut Steps<L>,
-) -> Result<Flow, Fault>
-    requires id { id.0 < length machine.old.heap }
-    requires small_body { of_statements (statements_of body.now) < 2 ^ 20 }
-    requires fit_body { StatementsFit (statements_of body.now) }
-    requires room { HasRoom machine.old }
-    ensures gives { Gives flow_of result (moment_of machine.new) (handling (node id.0) (in_block (statements_of body.now) (acts (call room) (statements_of body.now))) (moment_of machine.old)) }
-    ensures sound { IsSound (λ v. is_sound_flow (length machine.new.heap) (flow_of v)) (length machine.new.heap) result }
-    ensures kept { GrownBy 0 machine.old steps.old machine.new steps.new }
-    ensures reads { ReadsBy 0 machine.old steps.old machine.new steps.new }
-{
-    let outer = mem::replace(&mut machine.handled, Some(Value::Node(id)));
-    let way = block(machine, body, room, steps);
-    machine.handled = outer;
-    way
-}
-
-#[cycle(run)]
-#[inline(never)]
-fn run_finally<L: Ledger>(
-    machine: &mut Machine,
-    body: &[Stmt],
-    last: &[Stmt],
-    room: u32,
-    steps: &mut Steps<L>,
-) -> Result<Flow, Fault>
-    requires small_body { of_statements (statements_of body.now) < 2 ^ 20 }
-    requires fit_body { StatementsFit (statements_of body.now) }
-    requires small_last { of_statements (statements_of last.now) < 2 ^ 20 }
-    requires fit_last { StatementsFit (statements_of last.now) }
-    requires room { HasRoomBy 4 machine.old }
-    ensures gives { Gives flow_of result (moment_of machine.new) (act (call room) (t.finally (statements_of body.now) (statements_of last.now)) (moment_of machine.old)) }
-    ensures sound { IsSound (λ v. is_sound_flow (length machine.new.heap) (flow_of v)) (length machine.new.heap) result }
-    ensures kept { GrownBy 3 machine.old steps.old machine.new steps.new }
-    ensures reads { ReadsBy 0 machine.old steps.old machine.new steps.new }
-{
-    let way = block(machine, body, room, steps);
-    run_last(machine, way, last, room, steps)
-}
-
-// The last block runs on each way out, but for a spent budget; where it leaves by itself, that takes
-// the place of the way out.
-#[cycle(run)]
-#[inline(never)]
-fn run_last<L: Ledger>(
-    machine: &mut Machine,
-    way: Result<Flow, Fault>,
-    last: &[Stmt],
-    room: u32,
-    steps: &mut Steps<L>,
-) -> Result<Flow, Fault>
-    requires small_last { of_statements (statements_of last.now) < 2 ^ 20 }
-    requires fit_last { StatementsFit (statements_of last.now) }
-    requires room { HasRoom machine.old }
-    requires sound_way { IsTrue (is_sound_way (length machine.old.heap) way) }
-    ensures gives { (e : Ends w.Flow) → Gives flow_of way (moment_of machine.old) e → Gives flow_of result (moment_of machine.new) (and_last e (in_block (statements_of last.now) (acts (call room) (statements_of last.now)))) }
-    ensures sound { IsSound (λ v. is_sound_flow (length machine.new.heap) (flow_of v)) (length machine.new.heap) result }
-    ensures kept { GrownBy 0 machine.old steps.old machine.new steps.new }
-    ensures reads { ReadsBy 0 machine.old steps.old machine.new steps.new }
-{
-    if let Err(Fault::Stopped) = &way {
-        return way;
-    }
-    if let Err(Fault::NoMemory) = &way {
-        return way;
-    }
-    match block(machine, last, room, steps)? {
-        Flow::Onward => way,
-        Flow::Broke => Ok(Flow::Broke),
-        Flow::Continued => Ok(Flow::Continued),
-        Flow::Returned(value) => Ok(Flow::Returned(value)),
-    }
 }
 
 // ---- functions

@@ -17,7 +17,8 @@ ghost use Rattle.kishu_model.specs.Fits.{ExpressionFits, ExpressionsFit, ListFit
 ghost use Rattle.kishu_machine.specs.Machine.{Gives, GrownBy, HasRoom, HasRoomBy, IsSound, ReadsBy, moment_of};
 ghost use Rattle.kishu_model.specs.Tree as t;
 
-use crate::expressions::{deeper_value, part_behind};
+use crate::expressions::deeper_value;
+use crate::primaries::part_behind;
 use kishu_access::{Place, store_in, unpacked};
 use kishu_calls::{Part, settled};
 use kishu_machine::{Fault, MOST_DEPTH, Machine, tick, too_deep};

@@ -18,10 +18,12 @@ mod names;
 mod nodes;
 mod numbers;
 mod operators;
+mod products;
 mod raising;
 mod shows;
 mod spending;
 mod stepping;
+mod sums;
 mod texts;
 
 pub use comparing::compare;

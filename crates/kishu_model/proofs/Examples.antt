@@ -1,11 +1,12 @@
--- Worked examples, computed on the definitions.
+-- Worked examples, computed on the definitions, of what a small slip would change. `kishu_rows` has the others.
 use Rattle.std.proofs.Common.{◌≡◌, ◌∷◌, [], refl}
-use Rattle.std.specs.Prelude.{ℕ, pos, List, codes, Some}
+use Rattle.std.specs.Prelude.{pos, List, ℕ, true, false, codes, Some}
 use Rattle.std.specs.Char.{encode_utf8}
 use Rattle.std.specs.Fmt.{digits}
 use Rattle.std.specs.Str.{chars}
 use Rattle.kishu_model.specs.declared.profile.Profile.TheVariants.{One}
-use Rattle.kishu_model.specs.declared.result.Outcome.TheVariants.{Done, Raised}
+use Rattle.kishu_model.specs.declared.result.Outcome.TheVariants.{Done}
+use Rattle.kishu_model.specs.declared.tree.Comparison.TheVariants as comparisons
 use Rattle.kishu_model.specs.Names.{builtin_names, class_names}
 use Rattle.kishu_model.specs.Numbers.{power}
 use Rattle.kishu_model.specs.Marks.{reserved_marks, delimiter, operator}
@@ -17,79 +18,61 @@ use Rattle.kishu_model.specs.Code.{code_of}
 use Rattle.kishu_model.specs.ReadExpressions as E
 use Rattle.kishu_model.specs.ReadStatements as S
 use Rattle.kishu_model.specs.ReadText as R
-use Rattle.kishu_model.specs.Values.{Names, none, integer, text, State, empty, stream, shown, fault}
-use Rattle.kishu_model.specs.Moment.{Moment, fresh, fine, raised, give, deeper, read, assign}
-use Rattle.kishu_model.specs.Show.{show_thrown}
-use Rattle.kishu_model.specs.Meaning.{begun, run}
-use Rattle.kishu_model.proofs.Cells.{ran}
-
--- ---- cells, one after another
-
-abbrev after : List ℕ → State
-after source = (run One source empty).state
-
-kept : run One (codes "n") (after (codes "n = 1; m = 1 // 0; n = 2")) ≡ ran Done (shown (codes "1") ∷ []) ((codes "n", integer (pos 1)) ∷ []) (codes "n" ∷ []) 3
-unfolding reserved_marks delimiter operator numeral Q.escape Q.item Q.closes Q.body Q.quoted token_piece lexeme cut indented begin bracket step layout encode_utf8 code_of E.keyword_begins E.another E.argument E.attribute E.call E.slice_after E.item_or_slice E.trailer E.parenthesised E.list E.pair E.dict E.atom E.primary_parts E.primary E.power E.unary_level E.term E.sum E.compared E.negated_level E.conjunction E.disjunction E.expr_level E.exprs_level E.phrase S.primary_at S.another_simple S.raise S.return S.assertion S.delete S.global S.import S.update_of S.assignment_of S.update_or_assignment S.simple S.simples S.line S.block S.block_after S.arm S.choice S.while S.for S.caught S.handler S.handled S.finished S.try S.parameter S.definition S.define S.compound S.chunk S.program R.piece R.read_chars chars digits power builtin_names class_names run
-kept = refl
-
-added : run One (codes "m = n; n += 1; a = ''") (after (codes "n = 1"))
-    ≡ ran Done [] ((codes "a", text []) ∷ (codes "m", integer (pos 1)) ∷ (codes "n", integer (pos 2)) ∷ []) (codes "a" ∷ codes "m" ∷ codes "n" ∷ []) 8
-unfolding reserved_marks delimiter operator numeral Q.escape Q.item Q.closes Q.body Q.quoted token_piece lexeme cut indented begin bracket step layout encode_utf8 code_of E.keyword_begins E.another E.argument E.attribute E.call E.slice_after E.item_or_slice E.trailer E.parenthesised E.list E.pair E.dict E.atom E.primary_parts E.primary E.power E.unary_level E.term E.sum E.compared E.negated_level E.conjunction E.disjunction E.expr_level E.exprs_level E.phrase S.primary_at S.another_simple S.raise S.return S.assertion S.delete S.global S.import S.update_of S.assignment_of S.update_or_assignment S.simple S.simples S.line S.block S.block_after S.arm S.choice S.while S.for S.caught S.handler S.handled S.finished S.try S.parameter S.definition S.define S.compound S.chunk S.program R.piece R.read_chars chars digits power builtin_names class_names run
-added = refl
-
--- A text without a tree runs nothing.
-nothing_run : run One (codes "n = 2\nn = = 3") (after (codes "n = 1")) ≡ ran Raised (fault (codes "SyntaxError") (codes "invalid syntax, line 2") ∷ []) ((codes "n", integer (pos 1)) ∷ []) [] 0
-unfolding reserved_marks delimiter operator numeral Q.escape Q.item Q.closes Q.body Q.quoted token_piece lexeme cut indented begin bracket step layout encode_utf8 code_of E.keyword_begins E.another E.argument E.attribute E.call E.slice_after E.item_or_slice E.trailer E.parenthesised E.list E.pair E.dict E.atom E.primary_parts E.primary E.power E.unary_level E.term E.sum E.compared E.negated_level E.conjunction E.disjunction E.expr_level E.exprs_level E.phrase S.primary_at S.another_simple S.raise S.return S.assertion S.delete S.global S.import S.update_of S.assignment_of S.update_or_assignment S.simple S.simples S.line S.block S.block_after S.arm S.choice S.while S.for S.caught S.handler S.handled S.finished S.try S.parameter S.definition S.define S.compound S.chunk S.program R.piece R.read_chars chars digits power builtin_names class_names run
-nothing_run = refl
-
--- What was printed before is put out, and the names that were bound before are kept.
-too_large : run One (codes "print(x)\n\ny = x + 1  \nx = 0\n") (after (codes "x = 170141183460469231731687303715884105727"))
-    ≡ ran Raised (stream (codes "170141183460469231731687303715884105727\n") ∷ fault (codes "OverflowError") (codes "whole number too large") ∷ [])
-    ((codes "x", integer (pos 170141183460469231731687303715884105727)) ∷ []) (codes "print" ∷ codes "x" ∷ []) 71
-unfolding reserved_marks delimiter operator numeral Q.escape Q.item Q.closes Q.body Q.quoted token_piece lexeme cut indented begin bracket step layout encode_utf8 code_of E.keyword_begins E.another E.argument E.attribute E.call E.slice_after E.item_or_slice E.trailer E.parenthesised E.list E.pair E.dict E.atom E.primary_parts E.primary E.power E.unary_level E.term E.sum E.compared E.negated_level E.conjunction E.disjunction E.expr_level E.exprs_level E.phrase S.primary_at S.another_simple S.raise S.return S.assertion S.delete S.global S.import S.update_of S.assignment_of S.update_or_assignment S.simple S.simples S.line S.block S.block_after S.arm S.choice S.while S.for S.caught S.handler S.handled S.finished S.try S.parameter S.definition S.define S.compound S.chunk S.program R.piece R.read_chars chars digits power builtin_names class_names run
-too_large = refl
-
--- ---- moments
+use Rattle.kishu_model.specs.Keys as p
+use Rattle.kishu_model.specs.Values.{Names, Node, none, bool, integer, text, node, list, dict, empty}
+use Rattle.kishu_model.specs.Moment.{Moment, fresh, fine, raised, stopped, give, read}
+use Rattle.kishu_model.specs.Comparing.{compare}
+use Rattle.kishu_model.specs.Walks.{keys, along_list, along_dict, walk_of, item_for}
+use Rattle.kishu_model.specs.Ways.{onward, broke, finally}
+use Rattle.kishu_model.specs.Meaning.{begun, run, add_to}
 
 abbrev start : Moment
 start = begun One empty
 
--- The depth may be 1000, and what went deeper comes back.
-deep : deeper (give (integer (pos 1))) (record start { depth = 999 }) ≡ fine (integer (pos 1)) (record start { depth = 999 })
-deep = refl
-
-too_deep : deeper (give (integer (pos 1))) (record start { depth = 1000 }) ≡ raised (fresh 21 (text (codes "depth limit reached") ∷ [])) (record start { depth = 1000 })
-too_deep = refl
+abbrev with_nodes : List Node → Moment
+with_nodes ns = record start { nodes = ns }
 
 -- in a function whose only local name is a
 abbrev in_function : Names → Moment
 in_function values = record start { names = (codes "a", integer (pos 1)) ∷ []; locals = Some (record { own = codes "a" ∷ []; values = values }) }
 
-local_value : read (codes "a") (in_function ((codes "a", none) ∷ [])) ≡ fine none (in_function ((codes "a", none) ∷ []))
-local_value = refl
-
+-- A local name without a value isn't looked for elsewhere.
 no_local_value : read (codes "a") (in_function []) ≡ raised (fresh 18 (text (codes "local name 'a' has no value") ∷ [])) (in_function [])
 unfolding chars
 no_local_value = refl
 
+-- A miss is recorded too.
 not_local : read (codes "b") (in_function []) ≡ raised (fresh 17 (text (codes "name 'b' is not defined") ∷ [])) (record (in_function []) { accessed = codes "b" ∷ [] })
 unfolding builtin_names class_names chars
 not_local = refl
 
-local_bound : assign (codes "a") none (in_function []) ≡ fine tt (in_function ((codes "a", none) ∷ []))
-local_bound = refl
+-- 1 == True, and yet they are two.
+one_is_true : compare comparisons.Is (integer (pos 1)) (bool true) start ≡ fine false start
+one_is_true = refl
 
-not_local_bound : assign (codes "b") none (in_function [])
-    ≡ fine tt (record (in_function []) { names = (codes "a", integer (pos 1)) ∷ (codes "b", none) ∷ []; accessed = codes "b" ∷ [] })
-not_local_bound = refl
+-- `+=` changes the list.
+added_in_place : add_to (node 0) (node 0) (Some (none ∷ [])) (with_nodes (list (none ∷ []) ∷ []))
+    ≡ fine (node 0) (record (with_nodes (list (none ∷ none ∷ []) ∷ [])) { left = 3999999 })
+added_in_place = refl
 
--- ---- texts of exceptions
+-- A list is walked as it is at each turn.
+walked_as_it_is : walk_of (node 0) (with_nodes (list (none ∷ []) ∷ [])) ≡ fine (along_list 0) (with_nodes (list (none ∷ []) ∷ []))
+walked_as_it_is = refl
 
-no_argument : show_thrown (fresh 24 []) start ≡ fine [] start
-no_argument = refl
+-- A dict that became smaller is seen.
+smaller_dict : item_for (along_dict 0 1 keys) 0 (with_nodes (dict [] ∷ [])) ≡ raised (fresh 19 (text (codes "dictionary changed size during iteration") ∷ [])) (with_nodes (dict [] ∷ []))
+smaller_dict = refl
 
-one_argument : show_thrown (fresh 24 (text (codes "k") ∷ [])) (record start { left = 5 }) ≡ fine (codes "k") (record start { left = 3 })
-one_argument = refl
+-- A spent budget runs no last block.
+no_last_block : finally (λ s. stopped s) (give broke) start ≡ stopped start
+no_last_block = refl
 
-missing_key : show_thrown (fresh 16 (text (codes "k") ∷ [])) (record start { left = 5 }) ≡ fine (codes "'k'") (record start { left = 1 })
-missing_key = refl
+-- Targets are stored into from left to right.
+targets : run One (codes "x = x[0] = [1]") empty ≡ record {
+  state = record { names = (codes "x", node 0) ∷ []; nodes = list (node 0 ∷ []) ∷ [] };
+  report = record { outcome = Done; outputs = [] };
+  accessed = codes "x" ∷ [];
+  charge = 5;
+}
+unfolding reserved_marks delimiter operator numeral Q.escape Q.item Q.closes Q.body Q.quoted token_piece lexeme cut indented begin bracket step layout encode_utf8 code_of E.keyword_begins E.another E.argument E.attribute E.call E.slice_after E.item_or_slice E.trailer E.parenthesised E.list E.pair E.dict E.atom E.primary_parts E.primary E.power E.unary_level E.term E.sum E.compared E.negated_level E.conjunction E.disjunction E.expr_level E.exprs_level E.phrase S.primary_at S.another_simple S.raise S.return S.assertion S.delete S.global S.import S.update_of S.assignment_of S.update_or_assignment S.simple S.simples S.line S.block S.block_after S.arm S.choice S.while S.for S.caught S.handler S.handled S.finished S.try S.parameter S.definition S.define S.compound S.chunk S.program R.piece R.read_chars chars digits power builtin_names class_names run
+targets = refl

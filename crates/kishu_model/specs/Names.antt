@@ -46,10 +46,6 @@ place_among word (w ∷ words) = if bytes_eq word w then Some 0 else option_map 
 abbrev pub is_reserved_word : List ℕ → Bool
 is_reserved_word word = is_among word reserved_words
 
--- a builtin function or a class
-abbrev pub is_builtin_name : List ℕ → Bool
-is_builtin_name word = is_among word builtin_names || is_among word class_names
-
 abbrev pub begins_with_letter : List ℕ → Bool
 begins_with_letter [] = false
 begins_with_letter (c ∷ cs) = is_letter c

@@ -78,12 +78,12 @@ last_limit n step stop = limit n step (if int_lt (pos 0) step then highest n ste
 abbrev pub places_between : ℤ → ℤ → ℤ → List ℤ
 places_between first last step = places first step (range_length first last step)
 
--- The step is asked first, then the start and the stop.
+-- The bounds are asked in their order.
 abbrev pub slice_places : ℕ → Value → Value → Value → M (List ℤ)
 slice_places n start stop step = do
-  c ← bound_of step >>= step_from
   a ← bound_of start
   b ← bound_of stop
+  c ← bound_of step >>= step_from
   give (places_between (first_limit n c a) (last_limit n c b) c)
 
 abbrev pub at_place : {A : Type 0} → List A → ℤ → Option A

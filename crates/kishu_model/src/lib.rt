@@ -15,7 +15,7 @@ mod value;
 
 pub use budget::Budget;
 pub use key::{Key, KeyPart};
-pub use names::{builtin_name, builtin_named, class_name, class_named, is_builtin, is_reserved};
+pub use names::{builtin_name, builtin_named, class_name, class_named, is_reserved};
 pub use profile::Profile;
 pub use result::{CellResult, Outcome, Output};
 pub use steps::Steps;

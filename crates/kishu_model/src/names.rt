@@ -1,8 +1,8 @@
 // The words that have a meaning of their own.
-ghost use Rattle.std.specs.Prelude.{◌≡◌, ◌||◌, ◌<◌, length, map, option_map, slice_get};
+ghost use Rattle.std.specs.Prelude.{◌≡◌, ◌<◌, length, map, option_map, slice_get};
 ghost use Rattle.std.specs.List.{list_any};
 ghost use Rattle.std.specs.Str.{bytes_eq};
-ghost use Rattle.kishu_model.specs.Names.{is_reserved_word, is_builtin_name, is_among, place_among, builtin_names, class_names};
+ghost use Rattle.kishu_model.specs.Names.{is_reserved_word, place_among, builtin_names, class_names};
 ghost use Rattle.kishu_model.specs.Show.{builtin_name, class_name, or_empty};
 
 use crate::value::{Builtin, ClassId};
@@ -69,33 +69,10 @@ pub fn is_reserved(word: &[u8]) -> bool
     is_one_of(words.as_slice(), word)
 }
 
-/// Whether a word names a builtin function or a class.
-pub fn is_builtin(word: &[u8]) -> bool
-    ensures { result ≡ is_builtin_name word.now }
-{
-    is_function(word) || is_class(word)
-}
-
 fn is_one_of(words: &[&str], word: &[u8]) -> bool
     ensures { result ≡ list_any (λ w. bytes_eq word.now w.now) words.now }
 {
     words.iter().any(|other| word == other.as_bytes())
-}
-
-#[tactic(auto, unfolding(crate::specs::Names::builtin_names))]
-fn is_function(word: &[u8]) -> bool
-    ensures { result ≡ is_among word.now builtin_names }
-{
-    let words: [&str; 14] = BUILTINS;
-    is_one_of(words.as_slice(), word)
-}
-
-#[tactic(auto, unfolding(crate::specs::Names::class_names))]
-fn is_class(word: &[u8]) -> bool
-    ensures { result ≡ is_among word.now class_names }
-{
-    let words: [&str; 25] = CLASSES;
-    is_one_of(words.as_slice(), word)
 }
 
 // The place at which a word stands.

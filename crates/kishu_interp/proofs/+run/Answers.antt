@@ -29,22 +29,22 @@ use Rattle.kishu_calls.specs.Calls.{given_of, named_of, is_sound_given, IsFuncti
 use Rattle.kishu_calls.specs.Forms.{is_function}
 use Rattle.kishu_calls.specs.Rows.{primary_is, attribute_is, call_is, index_is, slice_is}
 use Rattle.kishu_calls.specs.Trees.{arguments_of, operands_of, links_of, expressions_of, pairs_of, trailer_of, trailers_of, statements_of}
-use Rattle.kishu_interp.proofs.+run.Goals.{expressions::arguments_given-in-Plain+in_ok-deeper_value-in-Plain+in_ok-push-in-Plain, expressions::arguments_given-in-Keyword+in_ok-value-in-Keyword+in_ok-clone-in-Keyword+in_ok-push-in-Keyword, expressions::deciding_value-then-i-operands-via-then-i-operands, expressions::deciding_value-then-i-operands-via-else-i-operands+then-truth-which, expressions::part_behind-in-Attribute, expressions::part_behind-in-Call, expressions::part_behind-in-Index, expressions::part_behind-in-Slice, targets::store_each-then-i-items+in_ok-store, targets::store_each-else-i-items, statements::default_values-in-Some+in_ok-deeper_value+in_ok-push, statements::default_values-in_default, statements::run_turns-in-Onward, statements::run_turns-in-Continued, statements::run_while-in-Onward, statements::run_while-in-Continued}
+use Rattle.kishu_interp.proofs.+run.Goals.{calls::arguments_given-in-Plain+in_ok-deeper_value-in-Plain+in_ok-push-in-Plain, calls::arguments_given-in-Keyword+in_ok-value-in-Keyword+in_ok-clone-in-Keyword+in_ok-push-in-Keyword, expressions::deciding_value-then-i-operands-via-then-i-operands, expressions::deciding_value-then-i-operands-via-else-i-operands+then-truth-which, primaries::part_behind-in-Attribute, primaries::part_behind-in-Call, primaries::part_behind-in-Index, primaries::part_behind-in-Slice, targets::store_each-then-i-items+in_ok-store, targets::store_each-else-i-items, statements::default_values-in-Some+in_ok-deeper_value+in_ok-push, statements::default_values-in_default, loops::run_turns-in-Onward, loops::run_turns-in-Continued, loops::run_while-in-Onward, loops::run_while-in-Continued}
 use Rattle.kishu_interp.proofs.Arguments.{plain_here, keyword_here, plain_on, keyword_on, plain_fails, keyword_fails, plain_pushed, named_pushed, differ_on, differ_now, with_plain, with_named, given_as}
 use Rattle.kishu_interp.proofs.Arms.{arm_fails, arms_fit, arms_low, next_arm, no_arm, this_arm}
 use Rattle.kishu_interp.proofs.Bodies.{title_is, called_bound, called_refused, body_is, sound_left, entered_fine, entered_fails}
 use Rattle.kishu_interp.proofs.Calling.{AreSoundNames, bound_sound}
 use Rattle.kishu_interp.proofs.Defining.{parameters_are, same_profile}
-use Rattle.kishu_interp.proofs.Displays.{pairs_on, pair_pushed, seen_pairs}
+use Rattle.kishu_interp.proofs.Displaying.{pairs_on, pair_pushed, seen_pairs}
 use Rattle.kishu_interp.proofs.Functions.{function_holds, called_node}
 use Rattle.kishu_interp.proofs.Handlers.{handlers_fit, handlers_low, not_this, not_told, this_one}
 use Rattle.kishu_interp.proofs.Joined.{joined}
 use Rattle.kishu_interp.proofs.Leaving.{block_is}
 use Rattle.kishu_interp.proofs.Lists.{pushed_values, compared_linked, pushed_sound, inner_values_on, values_on}
-use Rattle.kishu_interp.proofs.Loops.{operands_on, operand_fails, operand_tick_fails, operator_fails, paid_on, links_on, link_fails, link_tick_fails, comparison_fails, first_fails, first_decided, first_open, begun, all_made, pairs_fail, pairs_fail_behind}
+use Rattle.kishu_interp.proofs.Looping.{operands_on, operand_fails, operand_tick_fails, operator_fails, paid_on, links_on, link_fails, link_tick_fails, comparison_fails, first_fails, first_decided, first_open, begun, all_made, pairs_fail, pairs_fail_behind}
 use Rattle.kishu_interp.proofs.Nested.{nested_gives}
 use Rattle.kishu_interp.proofs.Places.{before_fits, before_low, last_fits, last_low, place_none, place_split, split_trailers}
-use Rattle.kishu_interp.proofs.Primaries.{owes_reads_on, Found, found_ends, found_fails, found_on, leaves_more, moved, owing_more, room_found, sound_found, trailer_fits, trailer_here, trailer_low, primary_fails, primary_gives}
+use Rattle.kishu_interp.proofs.Trailing.{owes_reads_on, Found, found_ends, found_fails, found_on, leaves_more, moved, owing_more, room_found, sound_found, trailer_fits, trailer_here, trailer_low, primary_fails, primary_gives}
 use Rattle.kishu_interp.proofs.Remaining.{expressions_fit, expressions_low, rest_fits, rest_low, store_ends, store_fails, stored, targets_end, targets_here, targets_rest, pattern_fails, pattern_gives, targets_are, parameters_fit, parameters_low, with_count, with_value, without_count, without_default}
 use Rattle.kishu_interp.proofs.Rests.{operands_here, links_here, expressions_here, pairs_here}
 use Rattle.kishu_interp.proofs.Turns.{for_told, item_fails, put_fails, step_fails, walk_ends, walk_fails, walk_more, walked, body_fails, no_turn, test_fails, tick_fails, turned, while_told}
@@ -68,8 +68,8 @@ use Rattle.kishu_interp.proofs.+run.Goals as goal
 
 -- ---- arguments_given
 
-pub expressions::arguments_given-deeper_value-requires : goal.expressions::arguments_given-deeper_value-requires
-expressions::arguments_given-deeper_value-requires g falls c κs within = (
+pub calls::arguments_given-deeper_value-requires : goal.calls::arguments_given-deeper_value-requires
+calls::arguments_given-deeper_value-requires g falls c κs within = (
   (let i = c.loop-argument.argument-index in
       let here = plain_here c.args.arguments.now i c.argument-item.result (omega arith) c.argument-item.is c.in-Plain.e c.in-Plain.is in
       let k : of_arguments (arguments_of (drop i c.args.arguments.now)) ≡ max (of_expression (expression_of c.in-Plain.e)) (of_arguments (arguments_of (drop (i + 1) c.args.arguments.now))) = ap of_arguments here in
@@ -90,8 +90,8 @@ expressions::arguments_given-deeper_value-requires g falls c κs within = (
   ),
 )
 
-pub expressions::arguments_given-returns-in_err-deeper_value-in-Plain-clause-gives : goal.expressions::arguments_given-returns-in_err-deeper_value-in-Plain-clause-gives
-expressions::arguments_given-returns-in_err-deeper_value-in-Plain-clause-gives g falls c =
+pub calls::arguments_given-returns-in_err-deeper_value-in-Plain-clause-gives : goal.calls::arguments_given-returns-in_err-deeper_value-in-Plain-clause-gives
+calls::arguments_given-returns-in_err-deeper_value-in-Plain-clause-gives g falls c =
     let i = c.loop-argument.argument-index in
     let calls = call c.args.room in
     let rest = arguments_of (drop (i + 1) c.args.arguments.now) in
@@ -105,8 +105,8 @@ expressions::arguments_given-returns-in_err-deeper_value-in-Plain-clause-gives g
     rw (p.1, p.2) (subst (λ (x : Ends Given). Fails {A = Given} f u x) (sym is)
     (plain_fails calls done (expression_of c.in-Plain.e) rest s f u c.in_err-deeper_value-in-Plain.ensures.gives))
 
-pub expressions::arguments_given-deeper_value-requires-in-Keyword : goal.expressions::arguments_given-deeper_value-requires-in-Keyword
-expressions::arguments_given-deeper_value-requires-in-Keyword g falls c κs within = (
+pub calls::arguments_given-deeper_value-requires-in-Keyword : goal.calls::arguments_given-deeper_value-requires-in-Keyword
+calls::arguments_given-deeper_value-requires-in-Keyword g falls c κs within = (
   (let i = c.loop-argument.argument-index in
       let here = keyword_here c.args.arguments.now i c.argument-item.result (omega arith) c.argument-item.is c.in-Keyword.name c.in-Keyword.e c.in-Keyword.is in
       let k : of_arguments (arguments_of (drop i c.args.arguments.now)) ≡ max (of_expression (expression_of c.in-Keyword.e)) (of_arguments (arguments_of (drop (i + 1) c.args.arguments.now))) = ap of_arguments here in
@@ -127,8 +127,8 @@ expressions::arguments_given-deeper_value-requires-in-Keyword g falls c κs with
   ),
 )
 
-pub expressions::arguments_given-returns-in_err-value-in-Keyword-clause-gives : goal.expressions::arguments_given-returns-in_err-value-in-Keyword-clause-gives
-expressions::arguments_given-returns-in_err-value-in-Keyword-clause-gives g falls c =
+pub calls::arguments_given-returns-in_err-value-in-Keyword-clause-gives : goal.calls::arguments_given-returns-in_err-value-in-Keyword-clause-gives
+calls::arguments_given-returns-in_err-value-in-Keyword-clause-gives g falls c =
     let i = c.loop-argument.argument-index in
     let calls = call c.args.room in
     let rest = arguments_of (drop (i + 1) c.args.arguments.now) in
@@ -142,8 +142,8 @@ expressions::arguments_given-returns-in_err-value-in-Keyword-clause-gives g fall
     rw (p.1, p.2) (subst (λ (x : Ends Given). Fails {A = Given} f u x) (sym is)
     (keyword_fails calls done (expression_of c.in-Keyword.e) rest s (rc_str_bytes c.in-Keyword.name) f u c.in_err-value-in-Keyword.ensures.gives))
 
-pub expressions::arguments_given-loop-argument-preserved : goal.expressions::arguments_given-loop-argument-preserved
-expressions::arguments_given-loop-argument-preserved g falls c =
+pub calls::arguments_given-loop-argument-preserved : goal.calls::arguments_given-loop-argument-preserved
+calls::arguments_given-loop-argument-preserved g falls c =
     let i = c.loop-argument.argument-index in
     let calls = call c.args.room in
     let rest = arguments_of (drop (i + 1) c.args.arguments.now) in
@@ -154,7 +154,7 @@ expressions::arguments_given-loop-argument-preserved g falls c =
     let inv = old.invariant in
     let given : rust_given.Given = record { plain = new.plain; named = new.named } in
     elim c.match-argument.branch [
-      | expressions::arguments_given-in-Plain+in_ok-deeper_value-in-Plain+in_ok-push-in-Plain w ↦ (
+      | calls::arguments_given-in-Plain+in_ok-deeper_value-in-Plain+in_ok-push-in-Plain w ↦ (
           let e = expression_of w.in-Plain.e in
           let v = w.in_ok-deeper_value-in-Plain.field-0 in
           let m2 = w.deeper_value.new.machine in
@@ -190,7 +190,7 @@ expressions::arguments_given-loop-argument-preserved g falls c =
                 (subst (λ (h : Given). IsTrue (is_sound_given (length m2.heap) h)) (sym now)
                 (plain_pushed (length old.machine.heap) (length m2.heap) gave.kept.0 done inv.sound (value_of v) gave.sound));
           })
-      | expressions::arguments_given-in-Keyword+in_ok-value-in-Keyword+in_ok-clone-in-Keyword+in_ok-push-in-Keyword w ↦ (
+      | calls::arguments_given-in-Keyword+in_ok-value-in-Keyword+in_ok-clone-in-Keyword+in_ok-push-in-Keyword w ↦ (
           let x = rc_str_bytes w.in-Keyword.name in
           let e = expression_of w.in-Keyword.e in
           let v = w.in_ok-value-in-Keyword.value in
@@ -235,8 +235,8 @@ expressions::arguments_given-loop-argument-preserved g falls c =
 
 -- ---- call_node
 
-pub expressions::call_node-called-requires : goal.expressions::call_node-called-requires
-expressions::call_node-called-requires g falls c κs within = (
+pub calls::call_node-called-requires : goal.calls::call_node-called-requires
+calls::call_node-called-requires g falls c κs within = (
   omega arith,
   (
     search rules,
@@ -265,23 +265,23 @@ expressions::call_node-called-requires g falls c κs within = (
   ),
 )
 
-pub expressions::call_node-returns-in-Some-clause-gives : goal.expressions::call_node-returns-in-Some-clause-gives
-expressions::call_node-returns-in-Some-clause-gives g falls c =
+pub calls::call_node-returns-in-Some-clause-gives : goal.calls::call_node-returns-in-Some-clause-gives
+calls::call_node-returns-in-Some-clause-gives g falls c =
     let o = slice_get c.args.machine.now.heap c.args.id.0 in
     let found : IsFunction o c.in-Some.function = search rules in
     called_node value_of c.called.result c.args.room c.args.id.0 (given_of c.args.given.now) (moment_of c.args.machine.now) (moment_of c.called.new.machine) o c.in-Some.function found c.called.ensures.gives
 
 -- ---- called_part
 
-pub expressions::called_part-returns-in-Ok-arguments_given-clause-reads : goal.expressions::called_part-returns-in-Ok-arguments_given-clause-reads
-expressions::called_part-returns-in-Ok-arguments_given-clause-reads g falls c =
+pub primaries::called_part-returns-in-Ok-arguments_given-clause-reads : goal.primaries::called_part-returns-in-Ok-arguments_given-clause-reads
+primaries::called_part-returns-in-Ok-arguments_given-clause-reads g falls c =
     owes_reads_on 64 40 (2 * length c.in-Ok-arguments_given.given.plain.items) c.args.machine.now c.arguments_given.new.machine c.apply.new.machine c.args.steps.now c.arguments_given.new.steps c.apply.new.steps c.apply.result
     (omega (arith, c.in-Ok.ensures.reads, c.in-Ok-arguments_given.ensures.paid)) c.apply.ensures.reads
 
 -- ---- combined_value
 
-pub expressions::combined_value-evaluate-requires-in-loop-other : goal.expressions::combined_value-evaluate-requires-in-loop-other
-expressions::combined_value-evaluate-requires-in-loop-other g falls c κs within = (
+pub operators::combined_value-evaluate-requires-in-loop-other : goal.operators::combined_value-evaluate-requires-in-loop-other
+operators::combined_value-evaluate-requires-in-loop-other g falls c κs within = (
   (let i = c.loop-other.other-index in
       let o = c.other-item.result in
       let here = operands_here c.args.others.now i o (omega arith) c.other-item.is in
@@ -306,8 +306,8 @@ expressions::combined_value-evaluate-requires-in-loop-other g falls c κs within
   ),
 )
 
-pub expressions::combined_value-returns-in-Err-evaluate-clause-gives : goal.expressions::combined_value-returns-in-Err-evaluate-clause-gives
-expressions::combined_value-returns-in-Err-evaluate-clause-gives g falls c =
+pub operators::combined_value-returns-in-Err-evaluate-clause-gives : goal.operators::combined_value-returns-in-Err-evaluate-clause-gives
+operators::combined_value-returns-in-Err-evaluate-clause-gives g falls c =
     let i = c.loop-other.other-index in
     let o = c.other-item.result in
     let rest = operands_of (drop (i + 1) c.args.others.now) in
@@ -318,8 +318,8 @@ expressions::combined_value-returns-in-Err-evaluate-clause-gives g falls c =
     let told = c.loop-other.invariant.told ∙ ap (λ (os : Operands). operands calls v os s) here in
     subst (λ (x : Ends Value). Fails c.in-Err-evaluate.fault (moment_of c.evaluate-in-loop-other.new.machine) x) (sym told) (operand_fails calls o.operator v (expression_of o.value) rest s c.in-Err-evaluate.fault (moment_of c.evaluate-in-loop-other.new.machine) c.in-Err-evaluate.ensures.gives)
 
-pub expressions::combined_value-returns-in_err-tick-clause-gives : goal.expressions::combined_value-returns-in_err-tick-clause-gives
-expressions::combined_value-returns-in_err-tick-clause-gives g falls c =
+pub operators::combined_value-returns-in_err-tick-clause-gives : goal.operators::combined_value-returns-in_err-tick-clause-gives
+operators::combined_value-returns-in_err-tick-clause-gives g falls c =
     let p = err_from_is_err_and c.from_residual.result c.from_residual.ensures.1 in
     let i = c.loop-other.other-index in
     let o = c.other-item.result in
@@ -331,8 +331,8 @@ expressions::combined_value-returns-in_err-tick-clause-gives g falls c =
     let told = c.loop-other.invariant.told ∙ ap (λ (os : Operands). operands calls v os s) here in
     rw (p.1, p.2) (subst (λ (x : Ends Value). Fails c.in_err-tick.field-0.0 (moment_of c.tick.new.machine) x) (sym told) (operand_tick_fails calls o.operator v (expression_of o.value) rest s (value_of c.in-Ok-evaluate.right) c.in_err-tick.field-0.0 (moment_of c.evaluate-in-loop-other.new.machine) (moment_of c.tick.new.machine) c.in-Ok-evaluate.ensures.gives c.in_err-tick.ensures.gives))
 
-pub expressions::combined_value-returns-in-Err-operate-clause-gives : goal.expressions::combined_value-returns-in-Err-operate-clause-gives
-expressions::combined_value-returns-in-Err-operate-clause-gives g falls c =
+pub operators::combined_value-returns-in-Err-operate-clause-gives : goal.operators::combined_value-returns-in-Err-operate-clause-gives
+operators::combined_value-returns-in-Err-operate-clause-gives g falls c =
     let i = c.loop-other.other-index in
     let o = c.other-item.result in
     let rest = operands_of (drop (i + 1) c.args.others.now) in
@@ -343,8 +343,8 @@ expressions::combined_value-returns-in-Err-operate-clause-gives g falls c =
     let told = c.loop-other.invariant.told ∙ ap (λ (os : Operands). operands calls v os s) here in
     subst (λ (x : Ends Value). Fails c.in-Err-operate.fault (moment_of c.operate.new.machine) x) (sym told) (operator_fails calls o.operator v (expression_of o.value) rest s (value_of c.in-Ok-evaluate.right) _ c.in-Err-operate.fault (moment_of c.evaluate-in-loop-other.new.machine) (moment_of c.tick.new.machine) (moment_of c.operate.new.machine) c.in-Ok-evaluate.ensures.gives c.in_ok-tick.ensures.gives c.in-Err-operate.ensures.gives)
 
-pub expressions::combined_value-loop-other-preserved : goal.expressions::combined_value-loop-other-preserved
-expressions::combined_value-loop-other-preserved g falls c =
+pub operators::combined_value-loop-other-preserved : goal.operators::combined_value-loop-other-preserved
+operators::combined_value-loop-other-preserved g falls c =
     let i = c.loop-other.other-index in
     let o = c.other-item.result in
     let rest = operands_of (drop (i + 1) c.args.others.now) in
@@ -378,8 +378,8 @@ expressions::combined_value-loop-other-preserved g falls c =
 
 -- ---- compared_value
 
-pub expressions::compared_value-loop-link-init : goal.expressions::compared_value-loop-link-init
-expressions::compared_value-loop-link-init g falls c =
+pub operators::compared_value-loop-link-init : goal.operators::compared_value-loop-link-init
+operators::compared_value-loop-link-init g falls c =
     let some : length c.args.links.now ≢ 0 = λ e. false-eqb _ 0 (sym (sym c.is_empty.ensures ∙ c.if-is_empty.false)) e in
     record {
       told = compared_linked (call c.args.room) (expression_of c.args.first.now) c.args.links.now (value_of c.in-Ok.value) (moment_of c.args.machine.now) (moment_of c.evaluate.new.machine) (omega arith) c.in-Ok.ensures.gives;
@@ -390,8 +390,8 @@ expressions::compared_value-loop-link-init g falls c =
       sound = c.in-Ok.ensures.sound;
     }
 
-pub expressions::compared_value-evaluate-requires-in-loop-link : goal.expressions::compared_value-evaluate-requires-in-loop-link
-expressions::compared_value-evaluate-requires-in-loop-link g falls c κs within = (
+pub operators::compared_value-evaluate-requires-in-loop-link : goal.operators::compared_value-evaluate-requires-in-loop-link
+operators::compared_value-evaluate-requires-in-loop-link g falls c κs within = (
   (let i = c.loop-link.link-index in
       let l = c.link-item.result in
       let here = links_here c.args.links.now i l (omega arith) c.link-item.is in
@@ -414,8 +414,8 @@ expressions::compared_value-evaluate-requires-in-loop-link g falls c κs within 
   ),
 )
 
-pub expressions::compared_value-returns-in-Err-evaluate-clause-gives : goal.expressions::compared_value-returns-in-Err-evaluate-clause-gives
-expressions::compared_value-returns-in-Err-evaluate-clause-gives g falls c =
+pub operators::compared_value-returns-in-Err-evaluate-clause-gives : goal.operators::compared_value-returns-in-Err-evaluate-clause-gives
+operators::compared_value-returns-in-Err-evaluate-clause-gives g falls c =
     let i = c.loop-link.link-index in
     let l = c.link-item.result in
     let rest = links_of (drop (i + 1) c.args.links.now) in
@@ -426,8 +426,8 @@ expressions::compared_value-returns-in-Err-evaluate-clause-gives g falls c =
     let told = c.loop-link.invariant.told ∙ ap (λ (ls : Links). linked calls left ls s) here in
     subst (λ (x : Ends Value). Fails c.in-Err-evaluate.fault (moment_of c.evaluate-in-loop-link.new.machine) x) (sym told) (link_fails calls l.comparison left (expression_of l.value) rest s c.in-Err-evaluate.fault (moment_of c.evaluate-in-loop-link.new.machine) c.in-Err-evaluate.ensures.gives)
 
-pub expressions::compared_value-returns-in_err-tick-clause-gives : goal.expressions::compared_value-returns-in_err-tick-clause-gives
-expressions::compared_value-returns-in_err-tick-clause-gives g falls c =
+pub operators::compared_value-returns-in_err-tick-clause-gives : goal.operators::compared_value-returns-in_err-tick-clause-gives
+operators::compared_value-returns-in_err-tick-clause-gives g falls c =
     let p = err_from_is_err_and c.from_residual.result c.from_residual.ensures.1 in
     let i = c.loop-link.link-index in
     let l = c.link-item.result in
@@ -439,8 +439,8 @@ expressions::compared_value-returns-in_err-tick-clause-gives g falls c =
     let told = c.loop-link.invariant.told ∙ ap (λ (ls : Links). linked calls left ls s) here in
     rw (p.1, p.2) (subst (λ (x : Ends Value). Fails c.in_err-tick.field-0.0 (moment_of c.tick.new.machine) x) (sym told) (link_tick_fails calls l.comparison left (expression_of l.value) rest s (value_of c.in-Ok-evaluate.right) c.in_err-tick.field-0.0 (moment_of c.evaluate-in-loop-link.new.machine) (moment_of c.tick.new.machine) c.in-Ok-evaluate.ensures.gives c.in_err-tick.ensures.gives))
 
-pub expressions::compared_value-returns-in-Err-compare-clause-gives : goal.expressions::compared_value-returns-in-Err-compare-clause-gives
-expressions::compared_value-returns-in-Err-compare-clause-gives g falls c =
+pub operators::compared_value-returns-in-Err-compare-clause-gives : goal.operators::compared_value-returns-in-Err-compare-clause-gives
+operators::compared_value-returns-in-Err-compare-clause-gives g falls c =
     let i = c.loop-link.link-index in
     let l = c.link-item.result in
     let rest = links_of (drop (i + 1) c.args.links.now) in
@@ -451,8 +451,8 @@ expressions::compared_value-returns-in-Err-compare-clause-gives g falls c =
     let told = c.loop-link.invariant.told ∙ ap (λ (ls : Links). linked calls left ls s) here in
     subst (λ (x : Ends Value). Fails c.in-Err-compare.fault (moment_of c.compare.new.machine) x) (sym told) (comparison_fails calls l.comparison left (expression_of l.value) rest s (value_of c.in-Ok-evaluate.right) _ c.in-Err-compare.fault (moment_of c.evaluate-in-loop-link.new.machine) (moment_of c.tick.new.machine) (moment_of c.compare.new.machine) c.in-Ok-evaluate.ensures.gives c.in_ok-tick.ensures.gives c.in-Err-compare.ensures.gives)
 
-pub expressions::compared_value-loop-link-preserved : goal.expressions::compared_value-loop-link-preserved
-expressions::compared_value-loop-link-preserved g falls c =
+pub operators::compared_value-loop-link-preserved : goal.operators::compared_value-loop-link-preserved
+operators::compared_value-loop-link-preserved g falls c =
     let i = c.loop-link.link-index in
     let l = c.link-item.result in
     let rest = links_of (drop (i + 1) c.args.links.now) in
@@ -489,8 +489,8 @@ expressions::compared_value-loop-link-preserved g falls c =
       sound = sound_more n2 n4 (omega (arith, same)) w right.sound;
     }
 
-pub expressions::compared_value-returns-in-Ok-false-clause-gives : goal.expressions::compared_value-returns-in-Ok-false-clause-gives
-expressions::compared_value-returns-in-Ok-false-clause-gives g falls c =
+pub operators::compared_value-returns-in-Ok-false-clause-gives : goal.operators::compared_value-returns-in-Ok-false-clause-gives
+operators::compared_value-returns-in-Ok-false-clause-gives g falls c =
     let i = c.loop-link.link-index in
     let l = c.link-item.result in
     let rest = links_of (drop (i + 1) c.args.links.now) in
@@ -566,8 +566,8 @@ expressions::deciding_value-loop-i-preserved g falls c =
 
 -- ---- inner_values
 
-pub expressions::inner_values-loop-item-init : goal.expressions::inner_values-loop-item-init
-expressions::inner_values-loop-item-init g falls c = record {
+pub displays::inner_values-loop-item-init : goal.displays::inner_values-loop-item-init
+displays::inner_values-loop-item-init g falls c = record {
   told = rw c.new-values.ensures.items (begun (inner_values (call c.args.room) (expressions_of c.args.items.now) (moment_of c.args.machine.now)));
   height = omega arith;
   fits = c.requires.fit_items;
@@ -576,8 +576,8 @@ expressions::inner_values-loop-item-init g falls c = record {
   sound = rw c.new-values.ensures.items (search rules);
 }
 
-pub expressions::inner_values-deeper_value-requires : goal.expressions::inner_values-deeper_value-requires
-expressions::inner_values-deeper_value-requires g falls c κs within =
+pub displays::inner_values-deeper_value-requires : goal.displays::inner_values-deeper_value-requires
+displays::inner_values-deeper_value-requires g falls c κs within =
     let here = expressions_here c.args.items.now c.loop-item.item-index c.item-item.result (omega arith) c.item-item.is in
     let k : of_expressions (expressions_of (drop c.loop-item.item-index c.args.items.now)) ≡ max (of_expression (expression_of c.item-item.result)) (of_expressions (expressions_of (drop (c.loop-item.item-index + 1) c.args.items.now))) = ap of_expressions here in (
       omega arith,
@@ -593,8 +593,8 @@ expressions::inner_values-deeper_value-requires g falls c κs within =
       ),
     )
 
-pub expressions::inner_values-loop-item-preserved : goal.expressions::inner_values-loop-item-preserved
-expressions::inner_values-loop-item-preserved g falls c =
+pub displays::inner_values-loop-item-preserved : goal.displays::inner_values-loop-item-preserved
+displays::inner_values-loop-item-preserved g falls c =
     let i = c.loop-item.item-index in
     let rest = expressions_of (drop (i + 1) c.args.items.now) in
     let e = expression_of c.item-item.result in
@@ -619,8 +619,8 @@ expressions::inner_values-loop-item-preserved g falls c =
       sound = rw c.in_ok-push.ensures.items (pushed_sound (length c.loop-item.machine.heap) (length c.deeper_value.new.machine.heap) done v kept.0 c.loop-item.invariant.sound c.in_ok-deeper_value.ensures.sound);
     }
 
-pub expressions::inner_values-returns-clause-gives : goal.expressions::inner_values-returns-clause-gives
-expressions::inner_values-returns-clause-gives g falls c =
+pub displays::inner_values-returns-clause-gives : goal.displays::inner_values-returns-clause-gives
+displays::inner_values-returns-clause-gives g falls c =
     let done = map value_of c.loop-item.values.items in
     let calls = call c.args.room in
     let s = moment_of c.loop-item.machine in
@@ -633,8 +633,8 @@ pair_seen : (ps : List (rust.Value × rust.Value)) (v w : rust.Value) → seen_p
 pair_seen [] v w = refl
 pair_seen (p ∷ ps) v w = ap (λ (qs : List (Value × Value)). (value_of p.0, value_of p.1) ∷ qs) (pair_seen ps v w)
 
-pub expressions::pair_values-loop-pair-init : goal.expressions::pair_values-loop-pair-init
-expressions::pair_values-loop-pair-init g falls c = record {
+pub displays::pair_values-loop-pair-init : goal.displays::pair_values-loop-pair-init
+displays::pair_values-loop-pair-init g falls c = record {
   told = rw c.new-entries.ensures.items (begun (pairs (call c.args.room) (pairs_of c.args.pairs.now) (moment_of c.args.machine.now)));
   height = omega arith;
   fits = c.requires.fits;
@@ -643,8 +643,8 @@ expressions::pair_values-loop-pair-init g falls c = record {
   sound = rw c.new-entries.ensures.items (search rules);
 }
 
-pub expressions::pair_values-deeper_value-requires : goal.expressions::pair_values-deeper_value-requires
-expressions::pair_values-deeper_value-requires g falls c κs within = (
+pub displays::pair_values-deeper_value-requires : goal.displays::pair_values-deeper_value-requires
+displays::pair_values-deeper_value-requires g falls c κs within = (
   (let i = c.loop-pair.pair-index in
       let p = c.pair-item.result in
       let here = pairs_here c.args.pairs.now i p (omega arith) c.pair-item.is in
@@ -669,8 +669,8 @@ expressions::pair_values-deeper_value-requires g falls c κs within = (
   ),
 )
 
-pub expressions::pair_values-deeper_value-requires-in-loop-pair : goal.expressions::pair_values-deeper_value-requires-in-loop-pair
-expressions::pair_values-deeper_value-requires-in-loop-pair g falls c κs within = (
+pub displays::pair_values-deeper_value-requires-in-loop-pair : goal.displays::pair_values-deeper_value-requires-in-loop-pair
+displays::pair_values-deeper_value-requires-in-loop-pair g falls c κs within = (
   (let i = c.loop-pair.pair-index in
       let p = c.pair-item.result in
       let here = pairs_here c.args.pairs.now i p (omega arith) c.pair-item.is in
@@ -695,8 +695,8 @@ expressions::pair_values-deeper_value-requires-in-loop-pair g falls c κs within
   ),
 )
 
-pub expressions::pair_values-returns-in_err-key-clause-gives : goal.expressions::pair_values-returns-in_err-key-clause-gives
-expressions::pair_values-returns-in_err-key-clause-gives g falls c =
+pub displays::pair_values-returns-in_err-key-clause-gives : goal.displays::pair_values-returns-in_err-key-clause-gives
+displays::pair_values-returns-in_err-key-clause-gives g falls c =
     let r = err_from_is_err_and c.from_residual.result c.from_residual.ensures.1 in
     let i = c.loop-pair.pair-index in
     let p = c.pair-item.result in
@@ -708,8 +708,8 @@ expressions::pair_values-returns-in_err-key-clause-gives g falls c =
     let told = c.loop-pair.invariant.told ∙ ap (λ (ps : Pairs). and_then (pairs calls ps s) (λ vs. give (done ++ vs))) here in
     rw (r.1, r.2) (subst (λ (x : Ends (List (Value × Value))). Fails c.in_err-key.field-0.0 (moment_of c.deeper_value.new.machine) x) (sym told) (pairs_fail calls c.in_err-key.field-0.0 s (moment_of c.deeper_value.new.machine) done (expression_of p.key) (expression_of p.value) rest c.in_err-key.ensures.gives))
 
-pub expressions::pair_values-returns-in_err-value-clause-gives : goal.expressions::pair_values-returns-in_err-value-clause-gives
-expressions::pair_values-returns-in_err-value-clause-gives g falls c =
+pub displays::pair_values-returns-in_err-value-clause-gives : goal.displays::pair_values-returns-in_err-value-clause-gives
+displays::pair_values-returns-in_err-value-clause-gives g falls c =
     let r = err_from_is_err_and c.from_residual-in_err-value.result c.from_residual-in_err-value.ensures.1 in
     let i = c.loop-pair.pair-index in
     let p = c.pair-item.result in
@@ -721,8 +721,8 @@ expressions::pair_values-returns-in_err-value-clause-gives g falls c =
     let told = c.loop-pair.invariant.told ∙ ap (λ (ps : Pairs). and_then (pairs calls ps s) (λ vs. give (done ++ vs))) here in
     rw (r.1, r.2) (subst (λ (x : Ends (List (Value × Value))). Fails c.in_err-value.field-0.0 (moment_of c.deeper_value-in-loop-pair.new.machine) x) (sym told) (pairs_fail_behind calls c.in_err-value.field-0.0 s (moment_of c.deeper_value.new.machine) (moment_of c.deeper_value-in-loop-pair.new.machine) done (value_of c.in_ok-key.key) (expression_of p.key) (expression_of p.value) rest c.in_ok-key.ensures.gives c.in_err-value.ensures.gives))
 
-pub expressions::pair_values-loop-pair-preserved : goal.expressions::pair_values-loop-pair-preserved
-expressions::pair_values-loop-pair-preserved g falls c =
+pub displays::pair_values-loop-pair-preserved : goal.displays::pair_values-loop-pair-preserved
+displays::pair_values-loop-pair-preserved g falls c =
     let i = c.loop-pair.pair-index in
     let p = c.pair-item.result in
     let rest = pairs_of (drop (i + 1) c.args.pairs.now) in
@@ -762,8 +762,8 @@ expressions::pair_values-loop-pair-preserved g falls c =
           value.sound);
     }
 
-pub expressions::pair_values-returns-clause-gives : goal.expressions::pair_values-returns-clause-gives
-expressions::pair_values-returns-clause-gives g falls c =
+pub displays::pair_values-returns-clause-gives : goal.displays::pair_values-returns-clause-gives
+displays::pair_values-returns-clause-gives g falls c =
     let done = value_pairs c.loop-pair.entries in
     let calls = call c.args.room in
     let s = moment_of c.loop-pair.machine in
@@ -772,14 +772,14 @@ expressions::pair_values-returns-clause-gives g falls c =
 
 -- ---- part
 
-pub expressions::part-returns-in-Primary-clause-gives : goal.expressions::part-returns-in-Primary-clause-gives
-expressions::part-returns-in-Primary-clause-gives g falls c =
+pub primaries::part-returns-in-Primary-clause-gives : goal.primaries::part-returns-in-Primary-clause-gives
+primaries::part-returns-in-Primary-clause-gives g falls c =
     rw (c.in-Primary.is, primary_is) (rw (c.deref-in-Primary.ensures, c.deref-in-Primary-2.ensures.value) at c.primary_part.ensures.gives)
 
 -- ---- part_behind
 
-pub expressions::part_behind-loop-trailer-init : goal.expressions::part_behind-loop-trailer-init
-expressions::part_behind-loop-trailer-init g falls c = record {
+pub primaries::part_behind-loop-trailer-init : goal.primaries::part_behind-loop-trailer-init
+primaries::part_behind-loop-trailer-init g falls c = record {
   told = (part (call c.args.room) (expression_of c.args.atom.now) (expr (call c.args.room) (expression_of c.args.atom.now)) (moment_of c.args.machine.now), c.part-found.ensures.gives, refl);
   height = omega arith;
   fits = c.requires.fit_trailers;
@@ -789,14 +789,14 @@ expressions::part_behind-loop-trailer-init g falls c = record {
   sound = c.part-found.ensures.sound;
 }
 
-pub expressions::part_behind-dotted_part-requires : goal.expressions::part_behind-dotted_part-requires
-expressions::part_behind-dotted_part-requires g falls c = record {
+pub primaries::part_behind-dotted_part-requires : goal.primaries::part_behind-dotted_part-requires
+primaries::part_behind-dotted_part-requires g falls c = record {
   sound_part = sound_found (length c.loop-trailer.machine.heap) c.loop-trailer.found c.in-Ok.part c.in-Ok.is c.loop-trailer.invariant.sound;
   room = room_found (length c.loop-trailer.machine.heap) c.loop-trailer.found c.in-Ok.part c.in-Ok.is c.loop-trailer.trailer-index (length c.args.trailers.now) c.args.machine.now c.loop-trailer.machine c.loop-trailer-test.true c.requires.room c.loop-trailer.invariant.owes;
 }
 
-pub expressions::part_behind-called_part-requires : goal.expressions::part_behind-called_part-requires
-expressions::part_behind-called_part-requires g falls c κs within =
+pub primaries::part_behind-called_part-requires : goal.primaries::part_behind-called_part-requires
+primaries::part_behind-called_part-requires g falls c κs within =
     let i = c.loop-trailer.trailer-index in
     let ts = c.args.trailers.now in
     let x = c.trailer-item.result in
@@ -823,8 +823,8 @@ expressions::part_behind-called_part-requires g falls c κs within =
       ),
     )
 
-pub expressions::part_behind-item_part-requires : goal.expressions::part_behind-item_part-requires
-expressions::part_behind-item_part-requires g falls c κs within =
+pub primaries::part_behind-item_part-requires : goal.primaries::part_behind-item_part-requires
+primaries::part_behind-item_part-requires g falls c κs within =
     let i = c.loop-trailer.trailer-index in
     let ts = c.args.trailers.now in
     let x = c.trailer-item.result in
@@ -847,8 +847,8 @@ expressions::part_behind-item_part-requires g falls c κs within =
       ),
     )
 
-pub expressions::part_behind-sliced_part-requires : goal.expressions::part_behind-sliced_part-requires
-expressions::part_behind-sliced_part-requires g falls c κs within =
+pub primaries::part_behind-sliced_part-requires : goal.primaries::part_behind-sliced_part-requires
+primaries::part_behind-sliced_part-requires g falls c κs within =
     let i = c.loop-trailer.trailer-index in
     let ts = c.args.trailers.now in
     let x = c.trailer-item.result in
@@ -886,30 +886,30 @@ expressions::part_behind-sliced_part-requires g falls c κs within =
       ),
     )
 
-pub expressions::part_behind-returns-in-Err-clause-gives : goal.expressions::part_behind-returns-in-Err-clause-gives
-expressions::part_behind-returns-in-Err-clause-gives g falls c =
+pub primaries::part_behind-returns-in-Err-clause-gives : goal.primaries::part_behind-returns-in-Err-clause-gives
+primaries::part_behind-returns-in-Err-clause-gives g falls c =
     let calls = call c.args.room in
     let e = expression_of c.args.atom.now in
     let ts = trailers_of c.args.trailers.now in
     let told = c.loop-trailer.invariant.told in
     found_fails calls ((part calls e (expr calls e) >>= λ p. trailers calls p ts) (moment_of c.args.machine.now)) c.loop-trailer.found (moment_of c.loop-trailer.machine) told.0 told.1 (trailers_of (drop c.loop-trailer.trailer-index c.args.trailers.now)) told.2 c.in-Err.fault c.in-Err.is
 
-pub expressions::part_behind-returns-in-Err-clause-sound : goal.expressions::part_behind-returns-in-Err-clause-sound
-expressions::part_behind-returns-in-Err-clause-sound g falls c = rw c.in-Err.is at c.loop-trailer.invariant.sound
+pub primaries::part_behind-returns-in-Err-clause-sound : goal.primaries::part_behind-returns-in-Err-clause-sound
+primaries::part_behind-returns-in-Err-clause-sound g falls c = rw c.in-Err.is at c.loop-trailer.invariant.sound
 
-pub expressions::part_behind-returns-in-Err-clause-kept : goal.expressions::part_behind-returns-in-Err-clause-kept
-expressions::part_behind-returns-in-Err-clause-kept g falls c = grown_by_more c.loop-trailer.trailer-index (length c.args.trailers.now) c.args.machine.now c.loop-trailer.machine c.args.steps.now c.loop-trailer.steps c.loop-trailer.auto.trailer-index-end c.loop-trailer.invariant.kept
+pub primaries::part_behind-returns-in-Err-clause-kept : goal.primaries::part_behind-returns-in-Err-clause-kept
+primaries::part_behind-returns-in-Err-clause-kept g falls c = grown_by_more c.loop-trailer.trailer-index (length c.args.trailers.now) c.args.machine.now c.loop-trailer.machine c.args.steps.now c.loop-trailer.steps c.loop-trailer.auto.trailer-index-end c.loop-trailer.invariant.kept
 
-pub expressions::part_behind-returns-in-Err-clause-reads : goal.expressions::part_behind-returns-in-Err-clause-reads
-expressions::part_behind-returns-in-Err-clause-reads g falls c =
+pub primaries::part_behind-returns-in-Err-clause-reads : goal.primaries::part_behind-returns-in-Err-clause-reads
+primaries::part_behind-returns-in-Err-clause-reads g falls c =
     rw c.in-Err.is at (leaves_more (120 * c.loop-trailer.trailer-index) (120 * length c.args.trailers.now) (omega (arith, c.loop-trailer.auto.trailer-index-end)) c.args.machine.now c.args.steps.now c.loop-trailer.found c.loop-trailer.machine c.loop-trailer.steps c.loop-trailer.invariant.reads)
 
-pub expressions::part_behind-returns-in-Err-clause-owes : goal.expressions::part_behind-returns-in-Err-clause-owes
-expressions::part_behind-returns-in-Err-clause-owes g falls c =
+pub primaries::part_behind-returns-in-Err-clause-owes : goal.primaries::part_behind-returns-in-Err-clause-owes
+primaries::part_behind-returns-in-Err-clause-owes g falls c =
     rw c.in-Err.is at (owing_more c.loop-trailer.trailer-index (length c.args.trailers.now) c.loop-trailer.auto.trailer-index-end c.args.machine.now c.loop-trailer.found c.loop-trailer.machine c.loop-trailer.invariant.owes)
 
-pub expressions::part_behind-loop-trailer-preserved : goal.expressions::part_behind-loop-trailer-preserved
-expressions::part_behind-loop-trailer-preserved g falls c =
+pub primaries::part_behind-loop-trailer-preserved : goal.primaries::part_behind-loop-trailer-preserved
+primaries::part_behind-loop-trailer-preserved g falls c =
     let i = c.loop-trailer.trailer-index in
     let ts = c.args.trailers.now in
     let x = c.trailer-item.result in
@@ -930,7 +930,7 @@ expressions::part_behind-loop-trailer-preserved g falls c =
     ((inv.told.0, inv.told.1, inv.told.2 ∙ ap (λ (us : t.Trailers). and_then inv.told.0 (λ p. trailers calls p us)) here), inv.kept, inv.reads, inv.owes, inv.sound) in
     let found : Found calls whole rest (i + 1) m0 a new.found new.machine new.steps =
     elim new.branch [
-      | expressions::part_behind-in-Attribute w ↦ (
+      | primaries::part_behind-in-Attribute w ↦ (
           let r = w.dotted_part.result in
           let m2 = w.dotted_part.new.machine in
           let b2 = w.dotted_part.new.steps in
@@ -938,7 +938,7 @@ expressions::part_behind-loop-trailer-preserved g falls c =
           let gave = subst (λ (y : Trailer). Gives part_of r (moment_of m2) (trailer calls (part_of p) y (moment_of m1))) (sym is) w.dotted_part.ensures.gives in
           moved (Found calls whole rest (i + 1) m0 a) new.found r new.machine m2 new.steps b2 w.found-is w.machine-is w.steps-is
           (found_on calls whole (trailer_of x) rest i (8 + 8 * owed (part_of p)) m0 m1 m2 a b b2 p c.loop-trailer.found r c.in-Ok.is (omega arith) had gave w.dotted_part.ensures.kept w.dotted_part.ensures.reads w.dotted_part.ensures.owes w.dotted_part.ensures.sound))
-      | expressions::part_behind-in-Call w ↦ (
+      | primaries::part_behind-in-Call w ↦ (
           let r = w.called_part.result in
           let m2 = w.called_part.new.machine in
           let b2 = w.called_part.new.steps in
@@ -946,7 +946,7 @@ expressions::part_behind-loop-trailer-preserved g falls c =
           let gave = subst (λ (y : Trailer). Gives part_of r (moment_of m2) (trailer calls (part_of p) y (moment_of m1))) (sym is) w.called_part.ensures.gives in
           moved (Found calls whole rest (i + 1) m0 a) new.found r new.machine m2 new.steps b2 w.found-is w.machine-is w.steps-is
           (found_on calls whole (trailer_of x) rest i 104 m0 m1 m2 a b b2 p c.loop-trailer.found r c.in-Ok.is (omega arith) had gave w.called_part.ensures.kept w.called_part.ensures.reads w.called_part.ensures.owes w.called_part.ensures.sound))
-      | expressions::part_behind-in-Index w ↦ (
+      | primaries::part_behind-in-Index w ↦ (
           let r = w.item_part.result in
           let m2 = w.item_part.new.machine in
           let b2 = w.item_part.new.steps in
@@ -954,7 +954,7 @@ expressions::part_behind-loop-trailer-preserved g falls c =
           let gave = subst (λ (y : Trailer). Gives part_of r (moment_of m2) (trailer calls (part_of p) y (moment_of m1))) (sym is) w.item_part.ensures.gives in
           moved (Found calls whole rest (i + 1) m0 a) new.found r new.machine m2 new.steps b2 w.found-is w.machine-is w.steps-is
           (found_on calls whole (trailer_of x) rest i (16 + 8 * owed (part_of p)) m0 m1 m2 a b b2 p c.loop-trailer.found r c.in-Ok.is (omega arith) had gave w.item_part.ensures.kept w.item_part.ensures.reads w.item_part.ensures.owes w.item_part.ensures.sound))
-      | expressions::part_behind-in-Slice w ↦ (
+      | primaries::part_behind-in-Slice w ↦ (
           let r = w.sliced_part.result in
           let m2 = w.sliced_part.new.machine in
           let b2 = w.sliced_part.new.steps in
@@ -973,8 +973,8 @@ expressions::part_behind-loop-trailer-preserved g falls c =
       sound = found.4;
     }
 
-pub expressions::part_behind-returns-clause-gives : goal.expressions::part_behind-returns-clause-gives
-expressions::part_behind-returns-clause-gives g falls c =
+pub primaries::part_behind-returns-clause-gives : goal.primaries::part_behind-returns-clause-gives
+primaries::part_behind-returns-clause-gives g falls c =
     let calls = call c.args.room in
     let e = expression_of c.args.atom.now in
     let ts = trailers_of c.args.trailers.now in
@@ -982,24 +982,24 @@ expressions::part_behind-returns-clause-gives g falls c =
     let none = ap (λ (us : List rust_trailer.Trailer). and_then told.0 (λ p. trailers calls p (trailers_of us))) (drop_all c.loop-trailer.trailer-index c.args.trailers.now (omega (arith, c.loop-trailer-test.false))) in
     found_ends calls ((part calls e (expr calls e) >>= λ p. trailers calls p ts) (moment_of c.args.machine.now)) c.loop-trailer.found (moment_of c.loop-trailer.machine) told.0 told.1 (told.2 ∙ none)
 
-pub expressions::part_behind-returns-clause-sound : goal.expressions::part_behind-returns-clause-sound
-expressions::part_behind-returns-clause-sound g falls c = c.loop-trailer.invariant.sound
+pub primaries::part_behind-returns-clause-sound : goal.primaries::part_behind-returns-clause-sound
+primaries::part_behind-returns-clause-sound g falls c = c.loop-trailer.invariant.sound
 
-pub expressions::part_behind-returns-clause-kept : goal.expressions::part_behind-returns-clause-kept
-expressions::part_behind-returns-clause-kept g falls c = grown_by_more c.loop-trailer.trailer-index (length c.args.trailers.now) c.args.machine.now c.loop-trailer.machine c.args.steps.now c.loop-trailer.steps c.loop-trailer.auto.trailer-index-end c.loop-trailer.invariant.kept
+pub primaries::part_behind-returns-clause-kept : goal.primaries::part_behind-returns-clause-kept
+primaries::part_behind-returns-clause-kept g falls c = grown_by_more c.loop-trailer.trailer-index (length c.args.trailers.now) c.args.machine.now c.loop-trailer.machine c.args.steps.now c.loop-trailer.steps c.loop-trailer.auto.trailer-index-end c.loop-trailer.invariant.kept
 
-pub expressions::part_behind-returns-clause-reads : goal.expressions::part_behind-returns-clause-reads
-expressions::part_behind-returns-clause-reads g falls c =
+pub primaries::part_behind-returns-clause-reads : goal.primaries::part_behind-returns-clause-reads
+primaries::part_behind-returns-clause-reads g falls c =
     leaves_more (120 * c.loop-trailer.trailer-index) (120 * length c.args.trailers.now) (omega (arith, c.loop-trailer.auto.trailer-index-end)) c.args.machine.now c.args.steps.now c.loop-trailer.found c.loop-trailer.machine c.loop-trailer.steps c.loop-trailer.invariant.reads
 
-pub expressions::part_behind-returns-clause-owes : goal.expressions::part_behind-returns-clause-owes
-expressions::part_behind-returns-clause-owes g falls c =
+pub primaries::part_behind-returns-clause-owes : goal.primaries::part_behind-returns-clause-owes
+primaries::part_behind-returns-clause-owes g falls c =
     owing_more c.loop-trailer.trailer-index (length c.args.trailers.now) c.loop-trailer.auto.trailer-index-end c.args.machine.now c.loop-trailer.found c.loop-trailer.machine c.loop-trailer.invariant.owes
 
 -- ---- primary_part
 
-pub expressions::primary_part-returns-clause-gives : goal.expressions::primary_part-returns-clause-gives
-expressions::primary_part-returns-clause-gives g falls c =
+pub primaries::primary_part-returns-clause-gives : goal.primaries::primary_part-returns-clause-gives
+primaries::primary_part-returns-clause-gives g falls c =
     let calls = call c.args.room in
     let e = expression_of c.args.atom.now in
     let ts = trailers_of c.args.trailers.now in
@@ -1008,8 +1008,8 @@ expressions::primary_part-returns-clause-gives g falls c =
 
 -- ---- primary_value
 
-pub expressions::primary_value-returns-in-Ok-clause-gives : goal.expressions::primary_value-returns-in-Ok-clause-gives
-expressions::primary_value-returns-in-Ok-clause-gives g falls c =
+pub primaries::primary_value-returns-in-Ok-clause-gives : goal.primaries::primary_value-returns-in-Ok-clause-gives
+primaries::primary_value-returns-in-Ok-clause-gives g falls c =
     let calls = call c.args.room in
     let e = expression_of c.args.atom.now in
     let ts = trailers_of c.args.trailers.now in
@@ -1019,8 +1019,8 @@ expressions::primary_value-returns-in-Ok-clause-gives g falls c =
     (subst (λ (x : Ends (Unit {0})). and_then (and_then x (λ _. part calls e (expr calls e))) (λ q. trailers calls q ts) ≡ fine p u) (sym c.in_ok-take_nodes.ensures.gives) c.in-Ok.ensures.gives)
     c.settled.ensures.gives
 
-pub expressions::primary_value-returns-in-Err-clause-gives : goal.expressions::primary_value-returns-in-Err-clause-gives
-expressions::primary_value-returns-in-Err-clause-gives g falls c =
+pub primaries::primary_value-returns-in-Err-clause-gives : goal.primaries::primary_value-returns-in-Err-clause-gives
+primaries::primary_value-returns-in-Err-clause-gives g falls c =
     let calls = call c.args.room in
     let e = expression_of c.args.atom.now in
     let ts = trailers_of c.args.trailers.now in
@@ -1031,13 +1031,13 @@ expressions::primary_value-returns-in-Err-clause-gives g falls c =
 
 -- ---- value_with_sign
 
-pub expressions::value_with_sign-returns-clause-sound : goal.expressions::value_with_sign-returns-clause-sound
-expressions::value_with_sign-returns-clause-sound g falls c = c.signed_value.ensures.sound (length c.tick.new.machine.heap)
+pub operators::value_with_sign-returns-clause-sound : goal.operators::value_with_sign-returns-clause-sound
+operators::value_with_sign-returns-clause-sound g falls c = c.signed_value.ensures.sound (length c.tick.new.machine.heap)
 
 -- ---- values_of
 
-pub expressions::values_of-loop-item-init : goal.expressions::values_of-loop-item-init
-expressions::values_of-loop-item-init g falls c = record {
+pub displays::values_of-loop-item-init : goal.displays::values_of-loop-item-init
+displays::values_of-loop-item-init g falls c = record {
   told = rw c.new-values.ensures.items (begun (values (call c.args.room) (expressions_of c.args.items.now) (moment_of c.args.machine.now)));
   height = omega arith;
   fits = c.requires.fit_items;
@@ -1046,8 +1046,8 @@ expressions::values_of-loop-item-init g falls c = record {
   sound = rw c.new-values.ensures.items (search rules);
 }
 
-pub expressions::values_of-evaluate-requires : goal.expressions::values_of-evaluate-requires
-expressions::values_of-evaluate-requires g falls c κs within =
+pub displays::values_of-evaluate-requires : goal.displays::values_of-evaluate-requires
+displays::values_of-evaluate-requires g falls c κs within =
     let here = expressions_here c.args.items.now c.loop-item.item-index c.item-item.result (omega arith) c.item-item.is in
     let k : of_expressions (expressions_of (drop c.loop-item.item-index c.args.items.now)) ≡ max (of_expression (expression_of c.item-item.result)) (of_expressions (expressions_of (drop (c.loop-item.item-index + 1) c.args.items.now))) = ap of_expressions here in (
       omega arith,
@@ -1063,8 +1063,8 @@ expressions::values_of-evaluate-requires g falls c κs within =
       ),
     )
 
-pub expressions::values_of-loop-item-preserved : goal.expressions::values_of-loop-item-preserved
-expressions::values_of-loop-item-preserved g falls c =
+pub displays::values_of-loop-item-preserved : goal.displays::values_of-loop-item-preserved
+displays::values_of-loop-item-preserved g falls c =
     let i = c.loop-item.item-index in
     let rest = expressions_of (drop (i + 1) c.args.items.now) in
     let e = expression_of c.item-item.result in
@@ -1089,8 +1089,8 @@ expressions::values_of-loop-item-preserved g falls c =
       sound = rw c.in_ok-push.ensures.items (pushed_sound (length c.loop-item.machine.heap) (length c.evaluate.new.machine.heap) done v kept.0 c.loop-item.invariant.sound c.in_ok-evaluate.ensures.sound);
     }
 
-pub expressions::values_of-returns-clause-gives : goal.expressions::values_of-returns-clause-gives
-expressions::values_of-returns-clause-gives g falls c =
+pub displays::values_of-returns-clause-gives : goal.displays::values_of-returns-clause-gives
+displays::values_of-returns-clause-gives g falls c =
     let done = map value_of c.loop-item.values.items in
     let calls = call c.args.room in
     let s = moment_of c.loop-item.machine in
@@ -1465,8 +1465,8 @@ statements::default_values-loop-default-preserved g falls c =
 
 -- ---- handling
 
-pub statements::handling-invariant_of-machine-2 : goal.statements::handling-invariant_of-machine-2
-statements::handling-invariant_of-machine-2 g falls c =
+pub tries::handling-invariant_of-machine-2 : goal.tries::handling-invariant_of-machine-2
+tries::handling-invariant_of-machine-2 g falls c =
     (let old = c.args.machine.now in
     let now = c.block-way.new.machine in
     let outer = option_map value_of c.replace-outer.result in
@@ -1624,8 +1624,8 @@ statements::run_def-returns-clause-gives g falls c =
 
 -- ---- run_for
 
-pub statements::run_for-returns-in_err-walked-clause-gives : goal.statements::run_for-returns-in_err-walked-clause-gives
-statements::run_for-returns-in_err-walked-clause-gives g falls c =
+pub loops::run_for-returns-in_err-walked-clause-gives : goal.loops::run_for-returns-in_err-walked-clause-gives
+loops::run_for-returns-in_err-walked-clause-gives g falls c =
     let p = err_from_is_err_and c.from_residual.result c.from_residual.ensures.1 in
     let calls = call c.args.room in
     let e = expression_of c.args.target.now in
@@ -1634,8 +1634,8 @@ statements::run_for-returns-in_err-walked-clause-gives g falls c =
     let s = moment_of c.args.machine.now in
     rw (p.1, p.2) (for_part_fails calls e walked body s c.in_err-walked.field-0.0 (moment_of c.part.new.machine) c.in_err-walked.ensures.gives)
 
-pub statements::run_for-returns-in_err-walk-clause-gives : goal.statements::run_for-returns-in_err-walk-clause-gives
-statements::run_for-returns-in_err-walk-clause-gives g falls c =
+pub loops::run_for-returns-in_err-walk-clause-gives : goal.loops::run_for-returns-in_err-walk-clause-gives
+loops::run_for-returns-in_err-walk-clause-gives g falls c =
     let p = err_from_is_err_and c.from_residual-in_err-walk.result c.from_residual-in_err-walk.ensures.1 in
     let calls = call c.args.room in
     let e = expression_of c.args.target.now in
@@ -1644,8 +1644,8 @@ statements::run_for-returns-in_err-walk-clause-gives g falls c =
     let s = moment_of c.args.machine.now in
     rw (p.1, p.2) (for_walk_fails calls e walked body s (part_of c.in_ok-walked.walked) (moment_of c.part.new.machine) c.in_ok-walked.ensures.gives c.in_err-walk.field-0.0 (moment_of c.walked_by.new.machine) (c.in_err-walk.ensures.gives calls))
 
-pub statements::run_for-returns-clause-gives : goal.statements::run_for-returns-clause-gives
-statements::run_for-returns-clause-gives g falls c =
+pub loops::run_for-returns-clause-gives : goal.loops::run_for-returns-clause-gives
+loops::run_for-returns-clause-gives g falls c =
     let calls = call c.args.room in
     let e = expression_of c.args.target.now in
     let walked = expression_of c.args.walked.now in
@@ -1655,8 +1655,8 @@ statements::run_for-returns-clause-gives g falls c =
 
 -- ---- run_handlers
 
-pub statements::run_handlers-is_for-requires : goal.statements::run_handlers-is_for-requires
-statements::run_handlers-is_for-requires g falls c κs within = (
+pub tries::run_handlers-is_for-requires : goal.tries::run_handlers-is_for-requires
+tries::run_handlers-is_for-requires g falls c κs within = (
   (let low = handlers_low c.args.handlers.now c.loop-handler.handler-index c.handler-item.result c.loop-handler-test.true c.handler-item.is in
       omega (arith, low.0, c.loop-handler.invariant.height, c.requires.small)),
   (
@@ -1672,8 +1672,8 @@ statements::run_handlers-is_for-requires g falls c κs within = (
   ),
 )
 
-pub statements::run_handlers-returns-in_err-is_for-clause-gives : goal.statements::run_handlers-returns-in_err-is_for-clause-gives
-statements::run_handlers-returns-in_err-is_for-clause-gives g falls c =
+pub tries::run_handlers-returns-in_err-is_for-clause-gives : goal.tries::run_handlers-returns-in_err-is_for-clause-gives
+tries::run_handlers-returns-in_err-is_for-clause-gives g falls c =
     let p = err_from_is_err_and c.from_residual.result c.from_residual.ensures.1 in
     let f = c.in_err-is_for.field-0.0 in
     let s = moment_of c.loop-handler.machine in
@@ -1681,8 +1681,8 @@ statements::run_handlers-returns-in_err-is_for-clause-gives g falls c =
     rw (p.1, p.2) (subst (λ (x : Ends Flow). Fails f t x) (sym c.loop-handler.invariant.told)
     (not_told c.args.handlers.now c.loop-handler.handler-index c.handler-item.result c.loop-handler-test.true c.handler-item.is (call c.args.room) _ s t f c.in_err-is_for.ensures.gives))
 
-pub statements::run_handlers-handle-requires : goal.statements::run_handlers-handle-requires
-statements::run_handlers-handle-requires g falls c κs within = (
+pub tries::run_handlers-handle-requires : goal.tries::run_handlers-handle-requires
+tries::run_handlers-handle-requires g falls c κs within = (
   (let low = handlers_low c.args.handlers.now c.loop-handler.handler-index c.handler-item.result c.loop-handler-test.true c.handler-item.is in
       omega (arith, ap (λ b. of_statements (statements_of b)) c.deref.ensures.value, low.1, c.loop-handler.invariant.height, c.requires.small)),
   (
@@ -1704,16 +1704,16 @@ statements::run_handlers-handle-requires g falls c κs within = (
   ),
 )
 
-pub statements::run_handlers-returns-then-branch-clause-gives : goal.statements::run_handlers-returns-then-branch-clause-gives
-statements::run_handlers-returns-then-branch-clause-gives g falls c =
+pub tries::run_handlers-returns-then-branch-clause-gives : goal.tries::run_handlers-returns-then-branch-clause-gives
+tries::run_handlers-returns-then-branch-clause-gives g falls c =
     let s = moment_of c.loop-handler.machine in
     let t = moment_of c.is_for.new.machine in
     let u = moment_of c.handle.new.machine in
     subst (λ (x : Ends Flow). Gives flow_of c.handle.result u x) (sym c.loop-handler.invariant.told)
     (this_one c.args.handlers.now c.loop-handler.handler-index c.handler-item.result c.loop-handler-test.true c.handler-item.is (call c.args.room) _ s t c.in_ok-is_for.field-0 c.if-branch.true c.in_ok-is_for.ensures.gives c.deref.result.now c.deref.ensures.value c.handle.result u c.handle.ensures.gives)
 
-pub statements::run_handlers-loop-handler-preserved : goal.statements::run_handlers-loop-handler-preserved
-statements::run_handlers-loop-handler-preserved g falls c =
+pub tries::run_handlers-loop-handler-preserved : goal.tries::run_handlers-loop-handler-preserved
+tries::run_handlers-loop-handler-preserved g falls c =
     let now = c.loop-handler.invariant in
     let hs = c.args.handlers.now in
     let i = c.loop-handler.handler-index in
@@ -1733,19 +1733,19 @@ statements::run_handlers-loop-handler-preserved g falls c =
 
 -- ---- run_turns
 
-pub statements::run_turns-loop-item-init : goal.statements::run_turns-loop-item-init
-statements::run_turns-loop-item-init g falls c = record {
+pub loops::run_turns-loop-item-init : goal.loops::run_turns-loop-item-init
+loops::run_turns-loop-item-init g falls c = record {
   told = (suc c.args.machine.now.budget.left, omega arith, refl);
   place = omega arith;
   kept = grown_none 0 c.args.machine.now c.args.steps.now;
   reads = omega arith;
 }
 
-pub statements::run_turns-item_for-requires-clause-sound_walk : goal.statements::run_turns-item_for-requires-clause-sound_walk
-statements::run_turns-item_for-requires-clause-sound_walk g falls c = walk_more (length c.args.machine.now.heap) (length c.loop-item.machine.heap) c.loop-item.invariant.kept.0 (walk_of c.args.walk.now) c.requires.sound_walk
+pub loops::run_turns-item_for-requires-clause-sound_walk : goal.loops::run_turns-item_for-requires-clause-sound_walk
+loops::run_turns-item_for-requires-clause-sound_walk g falls c = walk_more (length c.args.machine.now.heap) (length c.loop-item.machine.heap) c.loop-item.invariant.kept.0 (walk_of c.args.walk.now) c.requires.sound_walk
 
-pub statements::run_turns-returns-in_err-item-clause-gives : goal.statements::run_turns-returns-in_err-item-clause-gives
-statements::run_turns-returns-in_err-item-clause-gives g falls c =
+pub loops::run_turns-returns-in_err-item-clause-gives : goal.loops::run_turns-returns-in_err-item-clause-gives
+loops::run_turns-returns-in_err-item-clause-gives g falls c =
     let p = err_from_is_err_and c.from_residual.result c.from_residual.ensures.1 in
     let put = store (call c.args.room) (expression_of c.args.target.now) in
     let body = in_block (statements_of c.args.body.now) (acts (call c.args.room) (statements_of c.args.body.now)) in
@@ -1759,8 +1759,8 @@ statements::run_turns-returns-in_err-item-clause-gives g falls c =
     let end = moment_of c.item_for.new.machine in
     rw (p.1, p.2) (subst (λ (x : Ends Flow). Fails f end x) (sym w.2) (item_fails w.0 walk k put body f s end c.in_err-item.ensures.gives))
 
-pub statements::run_turns-returns-in_default-clause-gives : goal.statements::run_turns-returns-in_default-clause-gives
-statements::run_turns-returns-in_default-clause-gives g falls c =
+pub loops::run_turns-returns-in_default-clause-gives : goal.loops::run_turns-returns-in_default-clause-gives
+loops::run_turns-returns-in_default-clause-gives g falls c =
     let put = store (call c.args.room) (expression_of c.args.target.now) in
     let body = in_block (statements_of c.args.body.now) (acts (call c.args.room) (statements_of c.args.body.now)) in
     let walk = walk_of c.args.walk.now in
@@ -1772,8 +1772,8 @@ statements::run_turns-returns-in_default-clause-gives g falls c =
     let s1 = moment_of c.item_for.new.machine in
     w.2 ∙ walk_ends w.0 walk k put body s s1 (c.in_ok-item.ensures.gives ∙ ap (λ found. fine (values_in found) s1) c.in_default.is)
 
-pub statements::run_turns-returns-in_err-tick-clause-gives : goal.statements::run_turns-returns-in_err-tick-clause-gives
-statements::run_turns-returns-in_err-tick-clause-gives g falls c =
+pub loops::run_turns-returns-in_err-tick-clause-gives : goal.loops::run_turns-returns-in_err-tick-clause-gives
+loops::run_turns-returns-in_err-tick-clause-gives g falls c =
     let p = err_from_is_err_and c.from_residual-in_err-tick.result c.from_residual-in_err-tick.ensures.1 in
     let put = store (call c.args.room) (expression_of c.args.target.now) in
     let body = in_block (statements_of c.args.body.now) (acts (call c.args.room) (statements_of c.args.body.now)) in
@@ -1790,8 +1790,8 @@ statements::run_turns-returns-in_err-tick-clause-gives g falls c =
     let end = moment_of c.tick.new.machine in
     rw (p.1, p.2) (subst (λ (x : Ends Flow). Fails f end x) (sym w.2) (step_fails w.0 walk k put body s s1 v here f end c.in_err-tick.ensures.gives))
 
-pub statements::run_turns-store-requires : goal.statements::run_turns-store-requires
-statements::run_turns-store-requires g falls c κs within = (
+pub loops::run_turns-store-requires : goal.loops::run_turns-store-requires
+loops::run_turns-store-requires g falls c κs within = (
   omega arith,
   (
     search rules,
@@ -1811,8 +1811,8 @@ statements::run_turns-store-requires g falls c κs within = (
   ),
 )
 
-pub statements::run_turns-returns-in_err-store-clause-gives : goal.statements::run_turns-returns-in_err-store-clause-gives
-statements::run_turns-returns-in_err-store-clause-gives g falls c =
+pub loops::run_turns-returns-in_err-store-clause-gives : goal.loops::run_turns-returns-in_err-store-clause-gives
+loops::run_turns-returns-in_err-store-clause-gives g falls c =
     let p = err_from_is_err_and c.from_residual-in_err-store.result c.from_residual-in_err-store.ensures.1 in
     let put = store (call c.args.room) (expression_of c.args.target.now) in
     let body = in_block (statements_of c.args.body.now) (acts (call c.args.room) (statements_of c.args.body.now)) in
@@ -1829,8 +1829,8 @@ statements::run_turns-returns-in_err-store-clause-gives g falls c =
     let end = moment_of c.store.new.machine in
     rw (p.1, p.2) (subst (λ (x : Ends Flow). Fails f end x) (sym w.2) (put_fails w.0 walk k put body s s1 v here (moment_of c.tick.new.machine) c.in_ok-tick.ensures.gives f end c.in_err-store.ensures.gives))
 
-pub statements::run_turns-returns-in_err-block-clause-gives : goal.statements::run_turns-returns-in_err-block-clause-gives
-statements::run_turns-returns-in_err-block-clause-gives g falls c =
+pub loops::run_turns-returns-in_err-block-clause-gives : goal.loops::run_turns-returns-in_err-block-clause-gives
+loops::run_turns-returns-in_err-block-clause-gives g falls c =
     let p = err_from_is_err_and c.from_residual-in_err-block.result c.from_residual-in_err-block.ensures.1 in
     let put = store (call c.args.room) (expression_of c.args.target.now) in
     let body = in_block (statements_of c.args.body.now) (acts (call c.args.room) (statements_of c.args.body.now)) in
@@ -1847,8 +1847,8 @@ statements::run_turns-returns-in_err-block-clause-gives g falls c =
     let end = moment_of c.block.new.machine in
     rw (p.1, p.2) (subst (λ (x : Ends Flow). Fails f end x) (sym w.2) (walk_fails w.0 walk k put body s s1 v here (moment_of c.tick.new.machine) c.in_ok-tick.ensures.gives (moment_of c.store.new.machine) c.in_ok-store.ensures.gives f end c.in_err-block.ensures.gives))
 
-pub statements::run_turns-returns-in-Broke-clause-gives : goal.statements::run_turns-returns-in-Broke-clause-gives
-statements::run_turns-returns-in-Broke-clause-gives g falls c =
+pub loops::run_turns-returns-in-Broke-clause-gives : goal.loops::run_turns-returns-in-Broke-clause-gives
+loops::run_turns-returns-in-Broke-clause-gives g falls c =
     let put = store (call c.args.room) (expression_of c.args.target.now) in
     let body = in_block (statements_of c.args.body.now) (acts (call c.args.room) (statements_of c.args.body.now)) in
     let walk = walk_of c.args.walk.now in
@@ -1867,8 +1867,8 @@ statements::run_turns-returns-in-Broke-clause-gives g falls c =
     let there = w.2 ∙ walked w.0 walk k put body s s1 v here s2 c.in_ok-tick.ensures.gives s3 c.in_ok-store.ensures.gives s4 broke leads in
     there
 
-pub statements::run_turns-returns-in-Returned-clause-gives : goal.statements::run_turns-returns-in-Returned-clause-gives
-statements::run_turns-returns-in-Returned-clause-gives g falls c =
+pub loops::run_turns-returns-in-Returned-clause-gives : goal.loops::run_turns-returns-in-Returned-clause-gives
+loops::run_turns-returns-in-Returned-clause-gives g falls c =
     let put = store (call c.args.room) (expression_of c.args.target.now) in
     let body = in_block (statements_of c.args.body.now) (acts (call c.args.room) (statements_of c.args.body.now)) in
     let walk = walk_of c.args.walk.now in
@@ -1887,12 +1887,12 @@ statements::run_turns-returns-in-Returned-clause-gives g falls c =
     let there = w.2 ∙ walked w.0 walk k put body s s1 v here s2 c.in_ok-tick.ensures.gives s3 c.in_ok-store.ensures.gives s4 (returned (value_of c.in-Returned.value)) leads in
     there
 
-pub statements::run_turns-loop-item-smaller-after-branch-6 : goal.statements::run_turns-loop-item-smaller-after-branch-6
-statements::run_turns-loop-item-smaller-after-branch-6 g falls c =
+pub loops::run_turns-loop-item-smaller-after-branch-6 : goal.loops::run_turns-loop-item-smaller-after-branch-6
+loops::run_turns-loop-item-smaller-after-branch-6 g falls c =
     omega (arith, c.in_ok-item.ensures.kept.0, c.in_ok-item.ensures.kept.1, c.in_ok-tick.ensures.taken, c.in_ok-tick.ensures.kept.0, c.in_ok-tick.ensures.kept.1, c.in_ok-store.ensures.kept.0, c.in_ok-store.ensures.kept.1, c.in_ok-block.ensures.kept.0, c.in_ok-block.ensures.kept.1)
 
-pub statements::run_turns-loop-item-preserved-after-branch-6 : goal.statements::run_turns-loop-item-preserved-after-branch-6
-statements::run_turns-loop-item-preserved-after-branch-6 g falls c =
+pub loops::run_turns-loop-item-preserved-after-branch-6 : goal.loops::run_turns-loop-item-preserved-after-branch-6
+loops::run_turns-loop-item-preserved-after-branch-6 g falls c =
     let put = store (call c.args.room) (expression_of c.args.target.now) in
     let body = in_block (statements_of c.args.body.now) (acts (call c.args.room) (statements_of c.args.body.now)) in
     let walk = walk_of c.args.walk.now in
@@ -1909,8 +1909,8 @@ statements::run_turns-loop-item-preserved-after-branch-6 g falls c =
     let s4 = moment_of c.block.new.machine in
     let turn = walked w.0 walk k put body s s1 v here s2 c.in_ok-tick.ensures.gives s3 c.in_ok-store.ensures.gives s4 in
     let there : start ≡ walk_on w.0 walk (suc k) (λ v. put v >> body) s4 = elim c.match-branch-6.branch [
-      | statements::run_turns-in-Onward x ↦ w.2 ∙ turn onward (c.in_ok-block.ensures.gives ∙ ap (λ (f : rust_flow.Flow). fine (flow_of f) s4) x.in-Onward.is)
-      | statements::run_turns-in-Continued x ↦ w.2 ∙ turn continued (c.in_ok-block.ensures.gives ∙ ap (λ (f : rust_flow.Flow). fine (flow_of f) s4) x.in-Continued.is)
+      | loops::run_turns-in-Onward x ↦ w.2 ∙ turn onward (c.in_ok-block.ensures.gives ∙ ap (λ (f : rust_flow.Flow). fine (flow_of f) s4) x.in-Onward.is)
+      | loops::run_turns-in-Continued x ↦ w.2 ∙ turn continued (c.in_ok-block.ensures.gives ∙ ap (λ (f : rust_flow.Flow). fine (flow_of f) s4) x.in-Continued.is)
     ] in
     let next : suc k ≡ k + 1 = omega arith in
     record {
@@ -1922,12 +1922,12 @@ statements::run_turns-loop-item-preserved-after-branch-6 g falls c =
       reads = omega (arith, c.loop-item.invariant.reads, c.in_ok-item.ensures.reads, c.in_ok-tick.ensures.counted, c.in_ok-tick.ensures.taken, c.in_ok-store.ensures.reads, c.in_ok-block.ensures.reads);
     }
 
-pub statements::run_turns-loop-item-smaller : goal.statements::run_turns-loop-item-smaller
-statements::run_turns-loop-item-smaller g falls c =
+pub loops::run_turns-loop-item-smaller : goal.loops::run_turns-loop-item-smaller
+loops::run_turns-loop-item-smaller g falls c =
     omega (arith, c.in_ok-item.ensures.kept.0, c.in_ok-item.ensures.kept.1, c.in_ok-tick.ensures.taken, c.in_ok-tick.ensures.kept.0, c.in_ok-tick.ensures.kept.1, c.in_ok-store.ensures.kept.0, c.in_ok-store.ensures.kept.1, c.in_ok-block.ensures.kept.0, c.in_ok-block.ensures.kept.1)
 
-pub statements::run_turns-loop-item-preserved : goal.statements::run_turns-loop-item-preserved
-statements::run_turns-loop-item-preserved g falls c =
+pub loops::run_turns-loop-item-preserved : goal.loops::run_turns-loop-item-preserved
+loops::run_turns-loop-item-preserved g falls c =
     let put = store (call c.args.room) (expression_of c.args.target.now) in
     let body = in_block (statements_of c.args.body.now) (acts (call c.args.room) (statements_of c.args.body.now)) in
     let walk = walk_of c.args.walk.now in
@@ -1944,8 +1944,8 @@ statements::run_turns-loop-item-preserved g falls c =
     let s4 = moment_of c.block.new.machine in
     let turn = walked w.0 walk k put body s s1 v here s2 c.in_ok-tick.ensures.gives s3 c.in_ok-store.ensures.gives s4 in
     let there : start ≡ walk_on w.0 walk (suc k) (λ v. put v >> body) s4 = elim c.match-branch-6.branch [
-      | statements::run_turns-in-Onward x ↦ w.2 ∙ turn onward (c.in_ok-block.ensures.gives ∙ ap (λ (f : rust_flow.Flow). fine (flow_of f) s4) x.in-Onward.is)
-      | statements::run_turns-in-Continued x ↦ w.2 ∙ turn continued (c.in_ok-block.ensures.gives ∙ ap (λ (f : rust_flow.Flow). fine (flow_of f) s4) x.in-Continued.is)
+      | loops::run_turns-in-Onward x ↦ w.2 ∙ turn onward (c.in_ok-block.ensures.gives ∙ ap (λ (f : rust_flow.Flow). fine (flow_of f) s4) x.in-Onward.is)
+      | loops::run_turns-in-Continued x ↦ w.2 ∙ turn continued (c.in_ok-block.ensures.gives ∙ ap (λ (f : rust_flow.Flow). fine (flow_of f) s4) x.in-Continued.is)
     ] in
     let next : suc k ≡ k + 1 = omega arith in
     record {
@@ -1959,15 +1959,15 @@ statements::run_turns-loop-item-preserved g falls c =
 
 -- ---- run_while
 
-pub statements::run_while-loop-value-init : goal.statements::run_while-loop-value-init
-statements::run_while-loop-value-init g falls c = record {
+pub loops::run_while-loop-value-init : goal.loops::run_while-loop-value-init
+loops::run_while-loop-value-init g falls c = record {
   told = (suc c.args.machine.now.budget.left, omega arith, refl);
   kept = grown_none 0 c.args.machine.now c.args.steps.now;
   reads = omega arith;
 }
 
-pub statements::run_while-returns-in_err-value-clause-gives : goal.statements::run_while-returns-in_err-value-clause-gives
-statements::run_while-returns-in_err-value-clause-gives g falls c =
+pub loops::run_while-returns-in_err-value-clause-gives : goal.loops::run_while-returns-in_err-value-clause-gives
+loops::run_while-returns-in_err-value-clause-gives g falls c =
     let p = err_from_is_err_and c.from_residual.result c.from_residual.ensures.1 in
     let test = expr (call c.args.room) (expression_of c.args.test.now) in
     let body = in_block (statements_of c.args.body.now) (acts (call c.args.room) (statements_of c.args.body.now)) in
@@ -1979,8 +1979,8 @@ statements::run_while-returns-in_err-value-clause-gives g falls c =
     let end = moment_of c.evaluate.new.machine in
     rw (p.1, p.2) (subst (λ (x : Ends Flow). Fails f end x) (sym w.2) (test_fails w.0 test body f s end c.in_err-value.ensures.gives))
 
-pub statements::run_while-returns-then-not-truth-clause-gives : goal.statements::run_while-returns-then-not-truth-clause-gives
-statements::run_while-returns-then-not-truth-clause-gives g falls c =
+pub loops::run_while-returns-then-not-truth-clause-gives : goal.loops::run_while-returns-then-not-truth-clause-gives
+loops::run_while-returns-then-not-truth-clause-gives g falls c =
     let test = expr (call c.args.room) (expression_of c.args.test.now) in
     let body = in_block (statements_of c.args.body.now) (acts (call c.args.room) (statements_of c.args.body.now)) in
     let s = moment_of c.loop-value.machine in
@@ -1992,8 +1992,8 @@ statements::run_while-returns-then-not-truth-clause-gives g falls c =
     let here = c.in_ok-value.ensures.gives in
     w.2 ∙ no_turn w.0 test body s s1 v here (rw c.if-not-truth.true at c.truth.ensures.is)
 
-pub statements::run_while-returns-in_err-tick-clause-gives : goal.statements::run_while-returns-in_err-tick-clause-gives
-statements::run_while-returns-in_err-tick-clause-gives g falls c =
+pub loops::run_while-returns-in_err-tick-clause-gives : goal.loops::run_while-returns-in_err-tick-clause-gives
+loops::run_while-returns-in_err-tick-clause-gives g falls c =
     let p = err_from_is_err_and c.from_residual-in_err-tick.result c.from_residual-in_err-tick.ensures.1 in
     let test = expr (call c.args.room) (expression_of c.args.test.now) in
     let body = in_block (statements_of c.args.body.now) (acts (call c.args.room) (statements_of c.args.body.now)) in
@@ -2009,8 +2009,8 @@ statements::run_while-returns-in_err-tick-clause-gives g falls c =
     let end = moment_of c.tick.new.machine in
     rw (p.1, p.2) (subst (λ (x : Ends Flow). Fails f end x) (sym w.2) (tick_fails w.0 test body s s1 v here true_is f end c.in_err-tick.ensures.gives))
 
-pub statements::run_while-returns-in_err-block-clause-gives : goal.statements::run_while-returns-in_err-block-clause-gives
-statements::run_while-returns-in_err-block-clause-gives g falls c =
+pub loops::run_while-returns-in_err-block-clause-gives : goal.loops::run_while-returns-in_err-block-clause-gives
+loops::run_while-returns-in_err-block-clause-gives g falls c =
     let p = err_from_is_err_and c.from_residual-in_err-block.result c.from_residual-in_err-block.ensures.1 in
     let test = expr (call c.args.room) (expression_of c.args.test.now) in
     let body = in_block (statements_of c.args.body.now) (acts (call c.args.room) (statements_of c.args.body.now)) in
@@ -2026,8 +2026,8 @@ statements::run_while-returns-in_err-block-clause-gives g falls c =
     let end = moment_of c.block.new.machine in
     rw (p.1, p.2) (subst (λ (x : Ends Flow). Fails f end x) (sym w.2) (body_fails w.0 test body s s1 v here true_is (moment_of c.tick.new.machine) c.in_ok-tick.ensures.gives f end c.in_err-block.ensures.gives))
 
-pub statements::run_while-returns-in-Broke-clause-gives : goal.statements::run_while-returns-in-Broke-clause-gives
-statements::run_while-returns-in-Broke-clause-gives g falls c =
+pub loops::run_while-returns-in-Broke-clause-gives : goal.loops::run_while-returns-in-Broke-clause-gives
+loops::run_while-returns-in-Broke-clause-gives g falls c =
     let test = expr (call c.args.room) (expression_of c.args.test.now) in
     let body = in_block (statements_of c.args.body.now) (acts (call c.args.room) (statements_of c.args.body.now)) in
     let s = moment_of c.loop-value.machine in
@@ -2044,8 +2044,8 @@ statements::run_while-returns-in-Broke-clause-gives g falls c =
     let there = w.2 ∙ turned w.0 test body s s1 v here true_is s2 s3 broke c.in_ok-tick.ensures.gives leads in
     there
 
-pub statements::run_while-returns-in-Returned-clause-gives : goal.statements::run_while-returns-in-Returned-clause-gives
-statements::run_while-returns-in-Returned-clause-gives g falls c =
+pub loops::run_while-returns-in-Returned-clause-gives : goal.loops::run_while-returns-in-Returned-clause-gives
+loops::run_while-returns-in-Returned-clause-gives g falls c =
     let test = expr (call c.args.room) (expression_of c.args.test.now) in
     let body = in_block (statements_of c.args.body.now) (acts (call c.args.room) (statements_of c.args.body.now)) in
     let s = moment_of c.loop-value.machine in
@@ -2062,12 +2062,12 @@ statements::run_while-returns-in-Returned-clause-gives g falls c =
     let there = w.2 ∙ turned w.0 test body s s1 v here true_is s2 s3 (returned (value_of c.in-Returned.value)) c.in_ok-tick.ensures.gives leads in
     there
 
-pub statements::run_while-loop-value-smaller-after-branch-4 : goal.statements::run_while-loop-value-smaller-after-branch-4
-statements::run_while-loop-value-smaller-after-branch-4 g falls c =
+pub loops::run_while-loop-value-smaller-after-branch-4 : goal.loops::run_while-loop-value-smaller-after-branch-4
+loops::run_while-loop-value-smaller-after-branch-4 g falls c =
     omega (arith, c.in_ok-value.ensures.kept.0, c.in_ok-value.ensures.kept.1, c.in_ok-tick.ensures.taken, c.in_ok-block.ensures.kept.0, c.in_ok-block.ensures.kept.1)
 
-pub statements::run_while-loop-value-preserved-after-branch-4 : goal.statements::run_while-loop-value-preserved-after-branch-4
-statements::run_while-loop-value-preserved-after-branch-4 g falls c =
+pub loops::run_while-loop-value-preserved-after-branch-4 : goal.loops::run_while-loop-value-preserved-after-branch-4
+loops::run_while-loop-value-preserved-after-branch-4 g falls c =
     let test = expr (call c.args.room) (expression_of c.args.test.now) in
     let body = in_block (statements_of c.args.body.now) (acts (call c.args.room) (statements_of c.args.body.now)) in
     let s = moment_of c.loop-value.machine in
@@ -2082,8 +2082,8 @@ statements::run_while-loop-value-preserved-after-branch-4 g falls c =
     let s3 = moment_of c.block.new.machine in
     let turn = turned w.0 test body s s1 v here true_is s2 s3 in
     let there : start ≡ turns w.0 test body s3 = elim c.match-branch-4.branch [
-      | statements::run_while-in-Onward x ↦ w.2 ∙ turn onward c.in_ok-tick.ensures.gives (c.in_ok-block.ensures.gives ∙ ap (λ (f : rust_flow.Flow). fine (flow_of f) s3) x.in-Onward.is)
-      | statements::run_while-in-Continued x ↦ w.2 ∙ turn continued c.in_ok-tick.ensures.gives (c.in_ok-block.ensures.gives ∙ ap (λ (f : rust_flow.Flow). fine (flow_of f) s3) x.in-Continued.is)
+      | loops::run_while-in-Onward x ↦ w.2 ∙ turn onward c.in_ok-tick.ensures.gives (c.in_ok-block.ensures.gives ∙ ap (λ (f : rust_flow.Flow). fine (flow_of f) s3) x.in-Onward.is)
+      | loops::run_while-in-Continued x ↦ w.2 ∙ turn continued c.in_ok-tick.ensures.gives (c.in_ok-block.ensures.gives ∙ ap (λ (f : rust_flow.Flow). fine (flow_of f) s3) x.in-Continued.is)
     ] in
     record {
       told = (w.0, omega (arith, w.1, told.1, c.in_ok-value.ensures.kept.0, c.in_ok-value.ensures.kept.1, c.in_ok-tick.ensures.taken, c.in_ok-block.ensures.kept.0, c.in_ok-block.ensures.kept.1), there);
@@ -2103,12 +2103,12 @@ statements::run_while-loop-value-preserved-after-branch-4 g falls c =
       reads = omega (arith, c.loop-value.invariant.reads, c.in_ok-value.ensures.reads, c.in_ok-tick.ensures.counted, c.in_ok-tick.ensures.taken, c.in_ok-block.ensures.reads, c.truth.ensures.reads);
     }
 
-pub statements::run_while-loop-value-smaller : goal.statements::run_while-loop-value-smaller
-statements::run_while-loop-value-smaller g falls c =
+pub loops::run_while-loop-value-smaller : goal.loops::run_while-loop-value-smaller
+loops::run_while-loop-value-smaller g falls c =
     omega (arith, c.in_ok-value.ensures.kept.0, c.in_ok-value.ensures.kept.1, c.in_ok-tick.ensures.taken, c.in_ok-block.ensures.kept.0, c.in_ok-block.ensures.kept.1)
 
-pub statements::run_while-loop-value-preserved : goal.statements::run_while-loop-value-preserved
-statements::run_while-loop-value-preserved g falls c =
+pub loops::run_while-loop-value-preserved : goal.loops::run_while-loop-value-preserved
+loops::run_while-loop-value-preserved g falls c =
     let test = expr (call c.args.room) (expression_of c.args.test.now) in
     let body = in_block (statements_of c.args.body.now) (acts (call c.args.room) (statements_of c.args.body.now)) in
     let s = moment_of c.loop-value.machine in
@@ -2123,8 +2123,8 @@ statements::run_while-loop-value-preserved g falls c =
     let s3 = moment_of c.block.new.machine in
     let turn = turned w.0 test body s s1 v here true_is s2 s3 in
     let there : start ≡ turns w.0 test body s3 = elim c.match-branch-4.branch [
-      | statements::run_while-in-Onward x ↦ w.2 ∙ turn onward c.in_ok-tick.ensures.gives (c.in_ok-block.ensures.gives ∙ ap (λ (f : rust_flow.Flow). fine (flow_of f) s3) x.in-Onward.is)
-      | statements::run_while-in-Continued x ↦ w.2 ∙ turn continued c.in_ok-tick.ensures.gives (c.in_ok-block.ensures.gives ∙ ap (λ (f : rust_flow.Flow). fine (flow_of f) s3) x.in-Continued.is)
+      | loops::run_while-in-Onward x ↦ w.2 ∙ turn onward c.in_ok-tick.ensures.gives (c.in_ok-block.ensures.gives ∙ ap (λ (f : rust_flow.Flow). fine (flow_of f) s3) x.in-Onward.is)
+      | loops::run_while-in-Continued x ↦ w.2 ∙ turn continued c.in_ok-tick.ensures.gives (c.in_ok-block.ensures.gives ∙ ap (λ (f : rust_flow.Flow). fine (flow_of f) s3) x.in-Continued.is)
     ] in
     record {
       told = (w.0, omega (arith, w.1, told.1, c.in_ok-value.ensures.kept.0, c.in_ok-value.ensures.kept.1, c.in_ok-tick.ensures.taken, c.in_ok-block.ensures.kept.0, c.in_ok-block.ensures.kept.1), there);

@@ -28,23 +28,23 @@ decreases-expressions::evaluate g l = 2 ^ 24 * l.room + 8 * (of_expression (expr
 abbrev pub decreases-expressions::deeper_value : goal.decreases-expressions::deeper_value
 decreases-expressions::deeper_value g l = 2 ^ 24 * l.room + 8 * (of_expression (expression_of l.e.now)) + 3
 
-abbrev pub decreases-expressions::tuple_value : goal.decreases-expressions::tuple_value
-decreases-expressions::tuple_value g l = 2 ^ 24 * l.room + 8 * (of_expressions (expressions_of l.items.now)) + 6
+abbrev pub decreases-displays::tuple_value : goal.decreases-displays::tuple_value
+decreases-displays::tuple_value g l = 2 ^ 24 * l.room + 8 * (of_expressions (expressions_of l.items.now)) + 6
 
-abbrev pub decreases-expressions::values_of : goal.decreases-expressions::values_of
-decreases-expressions::values_of g l = 2 ^ 24 * l.room + 8 * (of_expressions (expressions_of l.items.now)) + 5
+abbrev pub decreases-displays::values_of : goal.decreases-displays::values_of
+decreases-displays::values_of g l = 2 ^ 24 * l.room + 8 * (of_expressions (expressions_of l.items.now)) + 5
 
-abbrev pub decreases-expressions::list_value : goal.decreases-expressions::list_value
-decreases-expressions::list_value g l = 2 ^ 24 * l.room + 8 * (of_expressions (expressions_of l.items.now)) + 6
+abbrev pub decreases-displays::list_value : goal.decreases-displays::list_value
+decreases-displays::list_value g l = 2 ^ 24 * l.room + 8 * (of_expressions (expressions_of l.items.now)) + 6
 
-abbrev pub decreases-expressions::inner_values : goal.decreases-expressions::inner_values
-decreases-expressions::inner_values g l = 2 ^ 24 * l.room + 8 * (of_expressions (expressions_of l.items.now)) + 5
+abbrev pub decreases-displays::inner_values : goal.decreases-displays::inner_values
+decreases-displays::inner_values g l = 2 ^ 24 * l.room + 8 * (of_expressions (expressions_of l.items.now)) + 5
 
-abbrev pub decreases-expressions::dict_value : goal.decreases-expressions::dict_value
-decreases-expressions::dict_value g l = 2 ^ 24 * l.room + 8 * (of_pairs (pairs_of l.pairs.now)) + 6
+abbrev pub decreases-displays::dict_value : goal.decreases-displays::dict_value
+decreases-displays::dict_value g l = 2 ^ 24 * l.room + 8 * (of_pairs (pairs_of l.pairs.now)) + 6
 
-abbrev pub decreases-expressions::pair_values : goal.decreases-expressions::pair_values
-decreases-expressions::pair_values g l = 2 ^ 24 * l.room + 8 * (of_pairs (pairs_of l.pairs.now)) + 5
+abbrev pub decreases-displays::pair_values : goal.decreases-displays::pair_values
+decreases-displays::pair_values g l = 2 ^ 24 * l.room + 8 * (of_pairs (pairs_of l.pairs.now)) + 5
 
 abbrev pub decreases-expressions::chosen_value : goal.decreases-expressions::chosen_value
 decreases-expressions::chosen_value g l = 2 ^ 24 * l.room + 8 * (max (of_expression (expression_of l.value.now)) (max (of_expression (expression_of l.test.now)) (of_expression (expression_of l.other.now)))) + 5
@@ -52,65 +52,65 @@ decreases-expressions::chosen_value g l = 2 ^ 24 * l.room + 8 * (max (of_express
 abbrev pub decreases-expressions::deciding_value : goal.decreases-expressions::deciding_value
 decreases-expressions::deciding_value g l = 2 ^ 24 * l.room + 8 * (of_expressions (expressions_of l.operands.now)) + 5
 
-abbrev pub decreases-expressions::negated_value : goal.decreases-expressions::negated_value
-decreases-expressions::negated_value g l = 2 ^ 24 * l.room + 8 * (of_expression (expression_of l.e.now)) + 5
+abbrev pub decreases-operators::negated_value : goal.decreases-operators::negated_value
+decreases-operators::negated_value g l = 2 ^ 24 * l.room + 8 * (of_expression (expression_of l.e.now)) + 5
 
-abbrev pub decreases-expressions::value_with_sign : goal.decreases-expressions::value_with_sign
-decreases-expressions::value_with_sign g l = 2 ^ 24 * l.room + 8 * (of_expression (expression_of l.e.now)) + 5
+abbrev pub decreases-operators::value_with_sign : goal.decreases-operators::value_with_sign
+decreases-operators::value_with_sign g l = 2 ^ 24 * l.room + 8 * (of_expression (expression_of l.e.now)) + 5
 
-abbrev pub decreases-expressions::power_value : goal.decreases-expressions::power_value
-decreases-expressions::power_value g l = 2 ^ 24 * l.room + 8 * (max (of_expression (expression_of l.base.now)) (of_expression (expression_of l.exponent.now))) + 5
+abbrev pub decreases-operators::power_value : goal.decreases-operators::power_value
+decreases-operators::power_value g l = 2 ^ 24 * l.room + 8 * (max (of_expression (expression_of l.base.now)) (of_expression (expression_of l.exponent.now))) + 5
 
-abbrev pub decreases-expressions::combined_value : goal.decreases-expressions::combined_value
-decreases-expressions::combined_value g l = 2 ^ 24 * l.room + 8 * (max (of_expression (expression_of l.first.now)) (of_operands (operands_of l.others.now))) + 5
+abbrev pub decreases-operators::combined_value : goal.decreases-operators::combined_value
+decreases-operators::combined_value g l = 2 ^ 24 * l.room + 8 * (max (of_expression (expression_of l.first.now)) (of_operands (operands_of l.others.now))) + 5
 
-abbrev pub decreases-expressions::compared_value : goal.decreases-expressions::compared_value
-decreases-expressions::compared_value g l = 2 ^ 24 * l.room + 8 * (max (of_expression (expression_of l.first.now)) (of_links (links_of l.links.now))) + 6
+abbrev pub decreases-operators::compared_value : goal.decreases-operators::compared_value
+decreases-operators::compared_value g l = 2 ^ 24 * l.room + 8 * (max (of_expression (expression_of l.first.now)) (of_links (links_of l.links.now))) + 6
 
-abbrev pub decreases-expressions::primary_value : goal.decreases-expressions::primary_value
-decreases-expressions::primary_value g l = 2 ^ 24 * l.room + 8 * (max (of_expression (expression_of l.atom.now)) (of_trailers (trailers_of l.trailers.now))) + 9
+abbrev pub decreases-primaries::primary_value : goal.decreases-primaries::primary_value
+decreases-primaries::primary_value g l = 2 ^ 24 * l.room + 8 * (max (of_expression (expression_of l.atom.now)) (of_trailers (trailers_of l.trailers.now))) + 9
 
-abbrev pub decreases-expressions::primary_part : goal.decreases-expressions::primary_part
-decreases-expressions::primary_part g l = 2 ^ 24 * l.room + 8 * (max (of_expression (expression_of l.atom.now)) (of_trailers (trailers_of l.trailers.now))) + 8
+abbrev pub decreases-primaries::primary_part : goal.decreases-primaries::primary_part
+decreases-primaries::primary_part g l = 2 ^ 24 * l.room + 8 * (max (of_expression (expression_of l.atom.now)) (of_trailers (trailers_of l.trailers.now))) + 8
 
-abbrev pub decreases-expressions::part_behind : goal.decreases-expressions::part_behind
-decreases-expressions::part_behind g l = 2 ^ 24 * l.room + 8 * (max (of_expression (expression_of l.atom.now)) (of_trailers (trailers_of l.trailers.now))) + 7
+abbrev pub decreases-primaries::part_behind : goal.decreases-primaries::part_behind
+decreases-primaries::part_behind g l = 2 ^ 24 * l.room + 8 * (max (of_expression (expression_of l.atom.now)) (of_trailers (trailers_of l.trailers.now))) + 7
 
-abbrev pub decreases-expressions::part : goal.decreases-expressions::part
-decreases-expressions::part g l = 2 ^ 24 * l.room + 8 * (of_expression (expression_of l.e.now)) + 4
+abbrev pub decreases-primaries::part : goal.decreases-primaries::part
+decreases-primaries::part g l = 2 ^ 24 * l.room + 8 * (of_expression (expression_of l.e.now)) + 4
 
-abbrev pub decreases-expressions::whole_part : goal.decreases-expressions::whole_part
-decreases-expressions::whole_part g l = 2 ^ 24 * l.room + 8 * (of_expression (expression_of l.e.now)) + 3
+abbrev pub decreases-primaries::whole_part : goal.decreases-primaries::whole_part
+decreases-primaries::whole_part g l = 2 ^ 24 * l.room + 8 * (of_expression (expression_of l.e.now)) + 3
 
-abbrev pub decreases-expressions::deeper_part : goal.decreases-expressions::deeper_part
-decreases-expressions::deeper_part g l = 2 ^ 24 * l.room + 8 * (of_expression (expression_of l.e.now)) + 5
+abbrev pub decreases-primaries::deeper_part : goal.decreases-primaries::deeper_part
+decreases-primaries::deeper_part g l = 2 ^ 24 * l.room + 8 * (of_expression (expression_of l.e.now)) + 5
 
-abbrev pub decreases-expressions::sliced_part : goal.decreases-expressions::sliced_part
-decreases-expressions::sliced_part g l = 2 ^ 24 * l.room + 8 * (max (of_bound (bound_of (tree_value l.start.now))) (max (of_bound (bound_of (tree_value l.stop.now))) (of_bound (bound_of (tree_value l.step.now))))) + 6
+abbrev pub decreases-primaries::sliced_part : goal.decreases-primaries::sliced_part
+decreases-primaries::sliced_part g l = 2 ^ 24 * l.room + 8 * (max (of_bound (bound_of (tree_value l.start.now))) (max (of_bound (bound_of (tree_value l.stop.now))) (of_bound (bound_of (tree_value l.step.now))))) + 6
 
-abbrev pub decreases-expressions::called_part : goal.decreases-expressions::called_part
-decreases-expressions::called_part g l = 2 ^ 24 * l.room + 8 * (of_arguments (arguments_of l.arguments.now)) + 5
+abbrev pub decreases-primaries::called_part : goal.decreases-primaries::called_part
+decreases-primaries::called_part g l = 2 ^ 24 * l.room + 8 * (of_arguments (arguments_of l.arguments.now)) + 5
 
-abbrev pub decreases-expressions::item_part : goal.decreases-expressions::item_part
-decreases-expressions::item_part g l = 2 ^ 24 * l.room + 8 * (of_expression (expression_of l.index.now)) + 5
+abbrev pub decreases-primaries::item_part : goal.decreases-primaries::item_part
+decreases-primaries::item_part g l = 2 ^ 24 * l.room + 8 * (of_expression (expression_of l.index.now)) + 5
 
-abbrev pub decreases-expressions::bound_value : goal.decreases-expressions::bound_value
-decreases-expressions::bound_value g l = 2 ^ 24 * l.room + 8 * (of_bound (bound_of (tree_value l.bound.now))) + 4
+abbrev pub decreases-primaries::bound_value : goal.decreases-primaries::bound_value
+decreases-primaries::bound_value g l = 2 ^ 24 * l.room + 8 * (of_bound (bound_of (tree_value l.bound.now))) + 4
 
-abbrev pub decreases-expressions::slice_part : goal.decreases-expressions::slice_part
-decreases-expressions::slice_part g l = 2 ^ 24 * l.room + 8 * (max (of_bound (bound_of (tree_value l.start.now))) (max (of_bound (bound_of (tree_value l.stop.now))) (of_bound (bound_of (tree_value l.step.now))))) + 5
+abbrev pub decreases-primaries::slice_part : goal.decreases-primaries::slice_part
+decreases-primaries::slice_part g l = 2 ^ 24 * l.room + 8 * (max (of_bound (bound_of (tree_value l.start.now))) (max (of_bound (bound_of (tree_value l.stop.now))) (of_bound (bound_of (tree_value l.step.now))))) + 5
 
-abbrev pub decreases-expressions::arguments_given : goal.decreases-expressions::arguments_given
-decreases-expressions::arguments_given g l = 2 ^ 24 * l.room + 8 * (of_arguments (arguments_of l.arguments.now)) + 4
+abbrev pub decreases-calls::arguments_given : goal.decreases-calls::arguments_given
+decreases-calls::arguments_given g l = 2 ^ 24 * l.room + 8 * (of_arguments (arguments_of l.arguments.now)) + 4
 
-abbrev pub decreases-expressions::apply : goal.decreases-expressions::apply
-decreases-expressions::apply g l = 2 ^ 24 * l.room + 3
+abbrev pub decreases-calls::apply : goal.decreases-calls::apply
+decreases-calls::apply g l = 2 ^ 24 * l.room + 3
 
-abbrev pub decreases-expressions::call_value : goal.decreases-expressions::call_value
-decreases-expressions::call_value g l = 2 ^ 24 * l.room + 2
+abbrev pub decreases-calls::call_value : goal.decreases-calls::call_value
+decreases-calls::call_value g l = 2 ^ 24 * l.room + 2
 
-abbrev pub decreases-expressions::call_node : goal.decreases-expressions::call_node
-decreases-expressions::call_node g l = 2 ^ 24 * l.room + 1
+abbrev pub decreases-calls::call_node : goal.decreases-calls::call_node
+decreases-calls::call_node g l = 2 ^ 24 * l.room + 1
 
 abbrev pub decreases-calls::called : goal.decreases-calls::called
 decreases-calls::called g l = 2 ^ 24 * l.room
@@ -178,38 +178,38 @@ decreases-statements::run_all g l = 2 ^ 24 * l.room + 8 * (of_statements (statem
 abbrev pub decreases-statements::run_choice : goal.decreases-statements::run_choice
 decreases-statements::run_choice g l = 2 ^ 24 * l.room + 8 * (max (of_arms (arms_of l.arms.now)) (of_statements (statements_of l.other.now))) + 8
 
-abbrev pub decreases-statements::run_while : goal.decreases-statements::run_while
-decreases-statements::run_while g l = 2 ^ 24 * l.room + 8 * (max (of_expression (expression_of l.test.now)) (of_statements (statements_of l.body.now))) + 8
+abbrev pub decreases-loops::run_while : goal.decreases-loops::run_while
+decreases-loops::run_while g l = 2 ^ 24 * l.room + 8 * (max (of_expression (expression_of l.test.now)) (of_statements (statements_of l.body.now))) + 8
 
-abbrev pub decreases-statements::run_for : goal.decreases-statements::run_for
-decreases-statements::run_for g l = 2 ^ 24 * l.room + 8 * (max (of_expression (expression_of l.target.now)) (max (of_expression (expression_of l.walked.now)) (of_statements (statements_of l.body.now)))) + 9
+abbrev pub decreases-loops::run_for : goal.decreases-loops::run_for
+decreases-loops::run_for g l = 2 ^ 24 * l.room + 8 * (max (of_expression (expression_of l.target.now)) (max (of_expression (expression_of l.walked.now)) (of_statements (statements_of l.body.now)))) + 9
 
-abbrev pub decreases-statements::run_turns : goal.decreases-statements::run_turns
-decreases-statements::run_turns g l = 2 ^ 24 * l.room + 8 * (max (of_expression (expression_of l.target.now)) (of_statements (statements_of l.body.now))) + 8
+abbrev pub decreases-loops::run_turns : goal.decreases-loops::run_turns
+decreases-loops::run_turns g l = 2 ^ 24 * l.room + 8 * (max (of_expression (expression_of l.target.now)) (of_statements (statements_of l.body.now))) + 8
 
-abbrev pub decreases-statements::run_try : goal.decreases-statements::run_try
-decreases-statements::run_try g l = 2 ^ 24 * l.room + 8 * (max (of_statements (statements_of l.body.now)) (max (of_handlers (handlers_of l.handlers.now)) (max (of_statements (statements_of l.other.now)) (of_statements (statements_of l.last.now))))) + 12
+abbrev pub decreases-tries::run_try : goal.decreases-tries::run_try
+decreases-tries::run_try g l = 2 ^ 24 * l.room + 8 * (max (of_statements (statements_of l.body.now)) (max (of_handlers (handlers_of l.handlers.now)) (max (of_statements (statements_of l.other.now)) (of_statements (statements_of l.last.now))))) + 12
 
-abbrev pub decreases-statements::run_attempt : goal.decreases-statements::run_attempt
-decreases-statements::run_attempt g l = 2 ^ 24 * l.room + 8 * (max (of_statements (statements_of l.body.now)) (max (of_handlers (handlers_of l.handlers.now)) (of_statements (statements_of l.other.now)))) + 11
+abbrev pub decreases-tries::run_attempt : goal.decreases-tries::run_attempt
+decreases-tries::run_attempt g l = 2 ^ 24 * l.room + 8 * (max (of_statements (statements_of l.body.now)) (max (of_handlers (handlers_of l.handlers.now)) (of_statements (statements_of l.other.now)))) + 11
 
-abbrev pub decreases-statements::run_handlers : goal.decreases-statements::run_handlers
-decreases-statements::run_handlers g l = 2 ^ 24 * l.room + 8 * (of_handlers (handlers_of l.handlers.now)) + 10
+abbrev pub decreases-tries::run_handlers : goal.decreases-tries::run_handlers
+decreases-tries::run_handlers g l = 2 ^ 24 * l.room + 8 * (of_handlers (handlers_of l.handlers.now)) + 10
 
-abbrev pub decreases-statements::is_for : goal.decreases-statements::is_for
-decreases-statements::is_for g l = 2 ^ 24 * l.room + 8 * (of_optional (tree_value l.class.now)) + 4
+abbrev pub decreases-tries::is_for : goal.decreases-tries::is_for
+decreases-tries::is_for g l = 2 ^ 24 * l.room + 8 * (of_optional (tree_value l.class.now)) + 4
 
-abbrev pub decreases-statements::handle : goal.decreases-statements::handle
-decreases-statements::handle g l = 2 ^ 24 * l.room + 8 * (of_statements (statements_of l.body.now)) + 9
+abbrev pub decreases-tries::handle : goal.decreases-tries::handle
+decreases-tries::handle g l = 2 ^ 24 * l.room + 8 * (of_statements (statements_of l.body.now)) + 9
 
-abbrev pub decreases-statements::handling : goal.decreases-statements::handling
-decreases-statements::handling g l = 2 ^ 24 * l.room + 8 * (of_statements (statements_of l.body.now)) + 8
+abbrev pub decreases-tries::handling : goal.decreases-tries::handling
+decreases-tries::handling g l = 2 ^ 24 * l.room + 8 * (of_statements (statements_of l.body.now)) + 8
 
-abbrev pub decreases-statements::run_finally : goal.decreases-statements::run_finally
-decreases-statements::run_finally g l = 2 ^ 24 * l.room + 8 * (max (of_statements (statements_of l.body.now)) (of_statements (statements_of l.last.now))) + 9
+abbrev pub decreases-tries::run_finally : goal.decreases-tries::run_finally
+decreases-tries::run_finally g l = 2 ^ 24 * l.room + 8 * (max (of_statements (statements_of l.body.now)) (of_statements (statements_of l.last.now))) + 9
 
-abbrev pub decreases-statements::run_last : goal.decreases-statements::run_last
-decreases-statements::run_last g l = 2 ^ 24 * l.room + 8 * (of_statements (statements_of l.last.now)) + 8
+abbrev pub decreases-tries::run_last : goal.decreases-tries::run_last
+decreases-tries::run_last g l = 2 ^ 24 * l.room + 8 * (of_statements (statements_of l.last.now)) + 8
 
 abbrev pub decreases-statements::default_values : goal.decreases-statements::default_values
 decreases-statements::default_values g l = 2 ^ 24 * l.room + 8 * (of_parameters (map parameter_of l.params.now)) + 5
@@ -219,8 +219,8 @@ decreases-statements::run_def g l = 2 ^ 24 * l.room + 8 * (of_parameters (defini
 
 -- ---- loops: what is left of the list goes on from here
 
-abbrev pub invariant-expressions::values_of-loop-item : goal.invariant-expressions::values_of-loop-item
-invariant-expressions::values_of-loop-item g l = record {
+abbrev pub invariant-displays::values_of-loop-item : goal.invariant-displays::values_of-loop-item
+invariant-displays::values_of-loop-item g l = record {
   told : values (call l.room) (expressions_of l.items) (moment_of l.fn.machine) ≡ and_then (values (call l.room) (expressions_of (drop l.item-index l.items)) (moment_of l.machine)) (λ vs. give (map value_of l.values.items ++ vs));
   height : of_expressions (expressions_of (drop l.item-index l.items)) ≤ of_expressions (expressions_of l.items);
   fits : ExpressionsFit (expressions_of (drop l.item-index l.items));
@@ -229,8 +229,8 @@ invariant-expressions::values_of-loop-item g l = record {
   sound : IsTrue (are_sound (length l.machine.heap) (map value_of l.values.items));
 }
 
-abbrev pub invariant-expressions::inner_values-loop-item : goal.invariant-expressions::inner_values-loop-item
-invariant-expressions::inner_values-loop-item g l = record {
+abbrev pub invariant-displays::inner_values-loop-item : goal.invariant-displays::inner_values-loop-item
+invariant-displays::inner_values-loop-item g l = record {
   told : inner_values (call l.room) (expressions_of l.items) (moment_of l.fn.machine) ≡ and_then (inner_values (call l.room) (expressions_of (drop l.item-index l.items)) (moment_of l.machine)) (λ vs. give (map value_of l.values.items ++ vs));
   height : of_expressions (expressions_of (drop l.item-index l.items)) ≤ of_expressions (expressions_of l.items);
   fits : ExpressionsFit (expressions_of (drop l.item-index l.items));
@@ -239,8 +239,8 @@ invariant-expressions::inner_values-loop-item g l = record {
   sound : IsTrue (are_sound (length l.machine.heap) (map value_of l.values.items));
 }
 
-abbrev pub invariant-expressions::pair_values-loop-pair : goal.invariant-expressions::pair_values-loop-pair
-invariant-expressions::pair_values-loop-pair g l = record {
+abbrev pub invariant-displays::pair_values-loop-pair : goal.invariant-displays::pair_values-loop-pair
+invariant-displays::pair_values-loop-pair g l = record {
   told : pairs (call l.room) (pairs_of l.pairs) (moment_of l.fn.machine) ≡ and_then (pairs (call l.room) (pairs_of (drop l.pair-index l.pairs)) (moment_of l.machine)) (λ vs. give (value_pairs l.entries ++ vs));
   height : of_pairs (pairs_of (drop l.pair-index l.pairs)) ≤ of_pairs (pairs_of l.pairs);
   fits : PairsFit (pairs_of (drop l.pair-index l.pairs));
@@ -258,8 +258,8 @@ invariant-expressions::deciding_value-loop-i g l = record {
   reads : l.steps + 128 * l.machine.budget.left + 64 ≤ l.fn.steps + 128 * l.fn.machine.budget.left;
 }
 
-abbrev pub invariant-expressions::combined_value-loop-other : goal.invariant-expressions::combined_value-loop-other
-invariant-expressions::combined_value-loop-other g l = record {
+abbrev pub invariant-operators::combined_value-loop-other : goal.invariant-operators::combined_value-loop-other
+invariant-operators::combined_value-loop-other g l = record {
   told : expr (call l.room) (t.sum (expression_of l.fn.first) (operands_of l.others)) (moment_of l.fn.machine) ≡ operands (call l.room) (value_of l.value) (operands_of (drop l.other-index l.others)) (moment_of l.machine);
   height : of_operands (operands_of (drop l.other-index l.others)) ≤ of_operands (operands_of l.others);
   fits : OperandsFit (operands_of (drop l.other-index l.others));
@@ -268,8 +268,8 @@ invariant-expressions::combined_value-loop-other g l = record {
   sound : IsTrue (is_sound (length l.machine.heap) (value_of l.value));
 }
 
-abbrev pub invariant-expressions::compared_value-loop-link : goal.invariant-expressions::compared_value-loop-link
-invariant-expressions::compared_value-loop-link g l = record {
+abbrev pub invariant-operators::compared_value-loop-link : goal.invariant-operators::compared_value-loop-link
+invariant-operators::compared_value-loop-link g l = record {
   told : expr (call l.room) (t.compared (expression_of l.fn.first) (links_of l.links)) (moment_of l.fn.machine) ≡ linked (call l.room) (value_of l.left) (links_of (drop l.link-index l.links)) (moment_of l.machine);
   height : of_links (links_of (drop l.link-index l.links)) ≤ of_links (links_of l.links);
   fits : LinksFit (links_of (drop l.link-index l.links));
@@ -278,8 +278,8 @@ invariant-expressions::compared_value-loop-link g l = record {
   sound : IsTrue (is_sound (length l.machine.heap) (value_of l.left));
 }
 
-abbrev pub invariant-expressions::part_behind-loop-trailer : goal.invariant-expressions::part_behind-loop-trailer
-invariant-expressions::part_behind-loop-trailer g l = record {
+abbrev pub invariant-primaries::part_behind-loop-trailer : goal.invariant-primaries::part_behind-loop-trailer
+invariant-primaries::part_behind-loop-trailer g l = record {
   told : (e : Ends Part) × Gives part_of l.found (moment_of l.machine) e × ((part (call l.room) (expression_of l.atom) (expr (call l.room) (expression_of l.atom)) >>= λ p. trailers (call l.room) p (trailers_of l.trailers)) (moment_of l.fn.machine) ≡ and_then e (λ p. trailers (call l.room) p (trailers_of (drop l.trailer-index l.trailers))));
   height : of_trailers (trailers_of (drop l.trailer-index l.trailers)) ≤ of_trailers (trailers_of l.trailers);
   fits : TrailersFit (trailers_of (drop l.trailer-index l.trailers));
@@ -289,8 +289,8 @@ invariant-expressions::part_behind-loop-trailer g l = record {
   sound : IsSound (λ v. is_sound_part (length l.machine.heap) (part_of v)) (length l.machine.heap) l.found;
 }
 
-abbrev pub invariant-expressions::arguments_given-loop-argument : goal.invariant-expressions::arguments_given-loop-argument
-invariant-expressions::arguments_given-loop-argument g l = record {
+abbrev pub invariant-calls::arguments_given-loop-argument : goal.invariant-calls::arguments_given-loop-argument
+invariant-calls::arguments_given-loop-argument g l = record {
   told : arguments (call l.room) (arguments_of l.arguments) (moment_of l.fn.machine) ≡ and_then (arguments (call l.room) (arguments_of (drop l.argument-index l.arguments)) (moment_of l.machine)) (λ given. give (joined (given_of (record { plain = l.plain; named = l.named })) given));
   height : of_arguments (arguments_of (drop l.argument-index l.arguments)) ≤ of_arguments (arguments_of l.arguments);
   fits : ArgumentsFit (arguments_of (drop l.argument-index l.arguments));
@@ -347,29 +347,29 @@ invariant-statements::run_choice-loop-arm g l = record {
   reads : ReadsBy 0 l.fn.machine l.fn.steps l.machine l.steps;
 }
 
-abbrev pub invariant-statements::run_while-loop-value : goal.invariant-statements::run_while-loop-value
-invariant-statements::run_while-loop-value g l = record {
+abbrev pub invariant-loops::run_while-loop-value : goal.invariant-loops::run_while-loop-value
+invariant-loops::run_while-loop-value g l = record {
   told : (n : ℕ) × (l.machine.budget.left < n) × (act (call l.room) (t.while (expression_of l.test) (statements_of l.body)) (moment_of l.fn.machine) ≡ turns n (expr (call l.room) (expression_of l.test)) (in_block (statements_of l.body) (acts (call l.room) (statements_of l.body))) (moment_of l.machine));
   kept : GrownBy 0 l.fn.machine l.fn.steps l.machine l.steps;
   reads : ReadsBy 0 l.fn.machine l.fn.steps l.machine l.steps;
 }
 
-abbrev pub decreases-statements::run_while-loop-value : goal.decreases-statements::run_while-loop-value
-decreases-statements::run_while-loop-value g l = l.machine.budget.left
+abbrev pub decreases-loops::run_while-loop-value : goal.decreases-loops::run_while-loop-value
+decreases-loops::run_while-loop-value g l = l.machine.budget.left
 
-abbrev pub invariant-statements::run_turns-loop-item : goal.invariant-statements::run_turns-loop-item
-invariant-statements::run_turns-loop-item g l = record {
+abbrev pub invariant-loops::run_turns-loop-item : goal.invariant-loops::run_turns-loop-item
+invariant-loops::run_turns-loop-item g l = record {
   told : (n : ℕ) × (l.machine.budget.left < n) × (walk_along (walk_of l.walk) (λ v. store (call l.room) (expression_of l.target) v >> in_block (statements_of l.body) (acts (call l.room) (statements_of l.body))) (moment_of l.fn.machine) ≡ walk_on n (walk_of l.walk) l.place (λ v. store (call l.room) (expression_of l.target) v >> in_block (statements_of l.body) (acts (call l.room) (statements_of l.body))) (moment_of l.machine));
   place : l.place + l.machine.budget.left ≤ l.fn.machine.budget.left;
   kept : GrownBy 0 l.fn.machine l.fn.steps l.machine l.steps;
   reads : ReadsBy 0 l.fn.machine l.fn.steps l.machine l.steps;
 }
 
-abbrev pub decreases-statements::run_turns-loop-item : goal.decreases-statements::run_turns-loop-item
-decreases-statements::run_turns-loop-item g l = l.machine.budget.left
+abbrev pub decreases-loops::run_turns-loop-item : goal.decreases-loops::run_turns-loop-item
+decreases-loops::run_turns-loop-item g l = l.machine.budget.left
 
-abbrev pub invariant-statements::run_handlers-loop-handler : goal.invariant-statements::run_handlers-loop-handler
-invariant-statements::run_handlers-loop-handler g l = record {
+abbrev pub invariant-tries::run_handlers-loop-handler : goal.invariant-tries::run_handlers-loop-handler
+invariant-tries::run_handlers-loop-handler g l = record {
   told : handlers (call l.room) (handlers_of l.handlers) (thrown_of l.fn.thrown) (moment_of l.fn.machine) ≡ handlers (call l.room) (handlers_of (drop l.handler-index l.handlers)) (thrown_of l.thrown) (moment_of l.machine);
   height : of_handlers (handlers_of (drop l.handler-index l.handlers)) ≤ of_handlers (handlers_of l.handlers);
   fits : HandlersFit (handlers_of (drop l.handler-index l.handlers));

@@ -248,7 +248,7 @@ pub(crate) const ROWS: &str = "\
     error TypeError: bad index type: 'str'\x1f[1]['a':]\x1e\
     error TypeError: bad index type: 'str'\x1f[1][:'b']\x1e\
     error TypeError: bad index type: 'str'\x1f[1][::'c']\x1e\
-    error ValueError: step is zero\x1f[1]['a'::0]\x1e\
+    error TypeError: bad index type: 'str'\x1f[1]['a'::0]\x1e\
     error TypeError: 'int' object is not subscriptable\x1f1[1:2]\x1e\
     error TypeError: 'dict' object is not subscriptable\x1f{}[1:2]\x1e\
     error NameError: name 'x' is not defined\x1f[1][x:]\x1e\

@@ -252,7 +252,7 @@ pub(crate) const ROWS: &str = "\
     \"error\",\"outputs\":[{\"ename\":\"TypeError\",\"evalue\":\"bad index type: 'str'\",\"output_type\":\"error\",\"traceback\":[\"TypeError: bad index type: 'str'\"]}]\x1f[1]['a':]\x1e\
     \"error\",\"outputs\":[{\"ename\":\"TypeError\",\"evalue\":\"bad index type: 'str'\",\"output_type\":\"error\",\"traceback\":[\"TypeError: bad index type: 'str'\"]}]\x1f[1][:'b']\x1e\
     \"error\",\"outputs\":[{\"ename\":\"TypeError\",\"evalue\":\"bad index type: 'str'\",\"output_type\":\"error\",\"traceback\":[\"TypeError: bad index type: 'str'\"]}]\x1f[1][::'c']\x1e\
-    \"error\",\"outputs\":[{\"ename\":\"ValueError\",\"evalue\":\"step is zero\",\"output_type\":\"error\",\"traceback\":[\"ValueError: step is zero\"]}]\x1f[1]['a'::0]\x1e\
+    \"error\",\"outputs\":[{\"ename\":\"TypeError\",\"evalue\":\"bad index type: 'str'\",\"output_type\":\"error\",\"traceback\":[\"TypeError: bad index type: 'str'\"]}]\x1f[1]['a'::0]\x1e\
     \"error\",\"outputs\":[{\"ename\":\"TypeError\",\"evalue\":\"'int' object is not subscriptable\",\"output_type\":\"error\",\"traceback\":[\"TypeError: 'int' object is not subscriptable\"]}]\x1f1[1:2]\x1e\
     \"error\",\"outputs\":[{\"ename\":\"TypeError\",\"evalue\":\"'dict' object is not subscriptable\",\"output_type\":\"error\",\"traceback\":[\"TypeError: 'dict' object is not subscriptable\"]}]\x1f{}[1:2]\x1e\
     \"error\",\"outputs\":[{\"ename\":\"NameError\",\"evalue\":\"name 'x' is not defined\",\"output_type\":\"error\",\"traceback\":[\"NameError: name 'x' is not defined\"]}]\x1f[1][x:]\x1e\

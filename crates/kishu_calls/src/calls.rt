@@ -1,0 +1,386 @@
+// Calls of builtin functions, classes and methods (Library Reference, "Built-in Functions").
+ghost use Rattle.std.specs.Prelude.{IfOk, IsTrue, List, [], codes, length, map, slice_get, true, ◌*◌, ◌+◌, ◌<◌, ◌^◌, ◌∷◌, ◌≡◌, ◌≢◌, ◌≤◌};
+ghost use Rattle.kishu_model.specs.Builtins.{builtin_calls, of_none_or_one, of_one};
+ghost use Rattle.kishu_model.specs.Callees.{by_plain, call_builtin, construct, new_object, or_no_call, print_by, print_plain};
+ghost use Rattle.kishu_model.specs.Lines.{line_feed};
+ghost use Rattle.kishu_model.specs.Methods.{call_method, has_method};
+ghost use Rattle.kishu_model.specs.Refusals.{all_differ};
+ghost use Rattle.kishu_model.specs.Moment.{Moment, give, ◌>>=◌ as ◌⊳◌};
+ghost use Rattle.kishu_model.specs.Show.{repr_of, show};
+ghost use Rattle.kishu_model.specs.Sound.{are_sound, is_sound};
+ghost use Rattle.kishu_model.specs.Values.{value_of};
+ghost use Rattle.kishu_heap.specs.Cells.{attributes_of};
+ghost use Rattle.kishu_items.specs.Messages.{is_plain};
+ghost use Rattle.kishu_calls.specs.Calls.{PrintsBy, given_of, is_sound_given, named_of};
+ghost use Rattle.kishu_calls.specs.Forms.{plain_construct};
+ghost use Rattle.kishu_machine.specs.Machine.{Gives, GrownBy, HasRoomBy, IsSound, ReadsBy, moment_of};
+ghost use Rattle.kishu_model.specs.Values as model;
+
+use crate::callees::Given;
+use indexmap::IndexMap;
+use kishu_heap::Node;
+use kishu_machine::{
+    Fault, Machine, NAMESPACE, TEXT, bad_arguments, is_same_text, make, no_attribute, passed,
+    print, repr_of, shared, show,
+};
+use kishu_model::{Builtin, ClassId, Steps, Value, builtin_name, class_name};
+use std::alloc::{AllocError, Global};
+use std::rc::RcStr;
+use std::sync::ledger::Ledger;
+
+const PRINT: u8 = 10;
+
+const REPR: u8 = 11;
+
+// ---- `print`
+
+/// The separator and the end of a `print`, where they are given.
+#[derive(Drop)]
+struct Marks {
+    separator: RcStr,
+    end: RcStr,
+}
+
+// `sep` and `end` are texts.
+fn marks_in(alloc: Global, named: &[(RcStr, Value)]) -> Result<Marks, Fault>
+    ensures { (s : Moment) (vs : List model.Value) → PrintsBy result (named_of named.now) vs s }
+{
+    let mut separator = RcStr::from_str(alloc, " ")?;
+    let mut end = RcStr::from_str(alloc, "\n")?;
+    for (name, value) in named {
+        let Value::Text(text) = value else {
+            return bad_arguments(alloc, "print");
+        };
+        if is_same_text(name.as_str(), "sep") {
+            separator = text.clone()?;
+        } else if is_same_text(name.as_str(), "end") {
+            end = text.clone()?;
+        } else {
+            return bad_arguments(alloc, "print");
+        }
+    }
+    Ok(Marks { separator, end })
+}
+
+fn print_by<L: Ledger>(
+    machine: &mut Machine,
+    given: &Given,
+    steps: &mut Steps<L>,
+) -> Result<Value, Fault>
+    ensures gives { Gives value_of result (moment_of machine.new) (print_by (named_of given.now.named.items) (codes " ") (line_feed ∷ []) (map value_of given.now.plain.items) (moment_of machine.old)) }
+    ensures sound { IsSound (λ _. true) (length machine.new.heap) result }
+    ensures kept { GrownBy 0 machine.old steps.old machine.new steps.new }
+    ensures reads { ReadsBy (2 * length given.now.plain.items) machine.old steps.old machine.new steps.new }
+    ensures heap { machine.new.heap ≡ machine.old.heap }
+{
+    let marks = marks_in(machine.alloc, given.named.as_slice())?;
+    let (separator, end) = (marks.separator.as_str(), marks.end.as_str());
+    print(machine, separator, end, given.plain.as_slice(), steps)
+}
+
+// ---- builtin functions
+
+// `repr` of one value.
+fn repr_call<L: Ledger>(
+    machine: &mut Machine,
+    values: &[Value],
+    steps: &mut Steps<L>,
+) -> Result<Value, Fault>
+    ensures gives { Gives value_of result (moment_of machine.new) (of_one (codes "repr") (λ v. repr_of v ⊳ λ cs. give (model.text cs)) (map value_of values.now) (moment_of machine.old)) }
+    ensures sound { IsSound (λ _. true) (length machine.new.heap) result }
+    ensures kept { GrownBy 0 machine.old steps.old machine.new steps.new }
+    ensures reads { ReadsBy 8 machine.old steps.old machine.new steps.new }
+    ensures heap { machine.new.heap ≡ machine.old.heap }
+{
+    let [value] = values else {
+        return bad_arguments(machine.alloc, "repr");
+    };
+    let text = repr_of(machine, value, steps)?;
+    Ok(Value::Text(shared(text)?))
+}
+
+// A builtin function but `print` and `repr`, which takes no keywords.
+fn other_builtin<L: Ledger>(
+    machine: &mut Machine,
+    builtin: Builtin,
+    values: &[Value],
+    steps: &mut Steps<L>,
+) -> Result<Value, Fault>
+    requires room { HasRoomBy 1 machine.old }
+    requires sound_values { IsTrue (are_sound (length machine.old.heap) (map value_of values.now)) }
+    requires builtin { builtin.0 < 14 }
+    requires no_print { builtin.0 ≢ 10 }
+    requires no_repr { builtin.0 ≢ 11 }
+    ensures gives { Gives value_of result (moment_of machine.new) (or_no_call (slice_get (builtin_calls print_plain) builtin.0) (map value_of values.now) (moment_of machine.old)) }
+    ensures sound { IsSound (λ v. is_sound (length machine.new.heap) (value_of v)) (length machine.new.heap) result }
+    ensures kept { GrownBy 1 machine.old steps.old machine.new steps.new }
+    ensures reads { ReadsBy 3 machine.old steps.old machine.new steps.new }
+{
+    // The heap tells that each of its nodes is sound.
+    let _size = machine.heap.len();
+    passed(kishu_builtins::call_builtin(
+        machine.alloc,
+        builtin,
+        values,
+        &mut machine.heap,
+        &mut machine.budget,
+        steps,
+    ))
+}
+
+// A builtin function but `print`, which takes no keywords.
+fn plain_builtin<L: Ledger>(
+    machine: &mut Machine,
+    builtin: Builtin,
+    values: &[Value],
+    steps: &mut Steps<L>,
+) -> Result<Value, Fault>
+    requires room { HasRoomBy 1 machine.old }
+    requires sound_values { IsTrue (are_sound (length machine.old.heap) (map value_of values.now)) }
+    requires builtin { builtin.0 < 14 }
+    requires other { builtin.0 ≢ 10 }
+    ensures gives { Gives value_of result (moment_of machine.new) (or_no_call (slice_get (builtin_calls print_plain) builtin.0) (map value_of values.now) (moment_of machine.old)) }
+    ensures sound { IsSound (λ v. is_sound (length machine.new.heap) (value_of v)) (length machine.new.heap) result }
+    ensures kept { GrownBy 1 machine.old steps.old machine.new steps.new }
+    ensures reads { ReadsBy 8 machine.old steps.old machine.new steps.new }
+{
+    if builtin.0 == REPR {
+        return repr_call(machine, values, steps);
+    }
+    other_builtin(machine, builtin, values, steps)
+}
+
+/// What a builtin function gives.
+#[inline(never)]
+pub fn call_builtin<L: Ledger>(
+    machine: &mut Machine,
+    builtin: Builtin,
+    given: &Given,
+    steps: &mut Steps<L>,
+) -> Result<Value, Fault>
+    requires room { HasRoomBy 1 machine.old }
+    requires sound_given { IsTrue (is_sound_given (length machine.old.heap) (given_of given.now)) }
+    requires builtin { builtin.0 < 14 }
+    ensures gives { Gives value_of result (moment_of machine.new) (call_builtin builtin.0 (given_of given.now) (moment_of machine.old)) }
+    ensures sound { IsSound (λ v. is_sound (length machine.new.heap) (value_of v)) (length machine.new.heap) result }
+    ensures kept { GrownBy 1 machine.old steps.old machine.new steps.new }
+    ensures reads { ReadsBy (32 + 2 * length given.now.plain.items) machine.old steps.old machine.new steps.new }
+{
+    if builtin.0 == PRINT {
+        return print_by(machine, given, steps);
+    }
+    if !given.named.is_empty() {
+        return bad_arguments(machine.alloc, builtin_name(builtin));
+    }
+    plain_builtin(machine, builtin, given.plain.as_slice(), steps)
+}
+
+// ---- classes
+
+// The keywords as attributes, in order.
+fn attributes_of(
+    alloc: Global,
+    named: Vec<(RcStr, Value)>,
+) -> Result<IndexMap<RcStr, Value>, AllocError>
+    requires differ { IsTrue (all_differ (map (λ k. k.0) (named_of named.items))) }
+    ensures { IfOk result (λ m. attributes_of m.entries ≡ named_of named.items) }
+{
+    let mut attributes = IndexMap::new(alloc);
+    for (name, value) in named {
+        attributes.insert(name, value)?;
+    }
+    Ok(attributes)
+}
+
+// A new object with the keywords as its attributes.
+fn new_object(machine: &mut Machine, given: Given) -> Result<Value, Fault>
+    requires room { length machine.old.heap + 1 < 2 ^ 32 }
+    requires sound_given { IsTrue (is_sound_given (length machine.old.heap) (given_of given)) }
+    ensures gives { Gives value_of result (moment_of machine.new) (new_object (given_of given) (moment_of machine.old)) }
+    ensures sound { IsSound (λ v. is_sound (length machine.new.heap) (value_of v)) (length machine.new.heap) result }
+    ensures heap { length machine.old.heap ≤ length machine.new.heap }
+    ensures one { length machine.new.heap ≤ length machine.old.heap + 1 }
+    ensures budget { machine.new.budget ≡ machine.old.budget }
+{
+    if !given.plain.is_empty() {
+        return bad_arguments(machine.alloc, "SimpleNamespace");
+    }
+    let attributes = attributes_of(machine.alloc, given.named)?;
+    Ok(Value::Node(make(machine, Node::Object(attributes))?))
+}
+
+// `str` of one value, or the empty text.
+fn text_call<L: Ledger>(
+    machine: &mut Machine,
+    values: &[Value],
+    steps: &mut Steps<L>,
+) -> Result<Value, Fault>
+    ensures gives { Gives value_of result (moment_of machine.new) (of_none_or_one (codes "str") (give (model.text [])) (λ v. show v ⊳ λ cs. give (model.text cs)) (map value_of values.now) (moment_of machine.old)) }
+    ensures sound { IsSound (λ _. true) (length machine.new.heap) result }
+    ensures kept { GrownBy 0 machine.old steps.old machine.new steps.new }
+    ensures reads { ReadsBy 8 machine.old steps.old machine.new steps.new }
+    ensures heap { machine.new.heap ≡ machine.old.heap }
+{
+    match values {
+        [] => Ok(Value::Text(RcStr::from_str(machine.alloc, "")?)),
+        [value] => {
+            let text = show(machine, value, steps)?;
+            Ok(Value::Text(shared(text)?))
+        }
+        _ => bad_arguments(machine.alloc, "str"),
+    }
+}
+
+// A class but SimpleNamespace and `str`, which takes no keywords.
+fn other_class<L: Ledger>(
+    machine: &mut Machine,
+    class: ClassId,
+    values: &[Value],
+    steps: &mut Steps<L>,
+) -> Result<Value, Fault>
+    requires room { HasRoomBy 1 machine.old }
+    requires sound_values { IsTrue (are_sound (length machine.old.heap) (map value_of values.now)) }
+    requires class { class.0 < 25 }
+    requires no_namespace { class.0 ≢ 5 }
+    requires no_text { class.0 ≢ 6 }
+    ensures gives { Gives value_of result (moment_of machine.new) (plain_construct class.0 (map value_of values.now) (moment_of machine.old)) }
+    ensures sound { IsSound (λ v. is_sound (length machine.new.heap) (value_of v)) (length machine.new.heap) result }
+    ensures kept { GrownBy 1 machine.old steps.old machine.new steps.new }
+    ensures reads { ReadsBy 3 machine.old steps.old machine.new steps.new }
+{
+    // The heap tells that each of its nodes is sound.
+    let _size = machine.heap.len();
+    passed(kishu_builtins::construct(
+        machine.alloc,
+        class,
+        values,
+        &mut machine.heap,
+        &mut machine.budget,
+        steps,
+    ))
+}
+
+// A class but SimpleNamespace, which takes no keywords.
+fn plain_class<L: Ledger>(
+    machine: &mut Machine,
+    class: ClassId,
+    values: &[Value],
+    steps: &mut Steps<L>,
+) -> Result<Value, Fault>
+    requires room { HasRoomBy 1 machine.old }
+    requires sound_values { IsTrue (are_sound (length machine.old.heap) (map value_of values.now)) }
+    requires class { class.0 < 25 }
+    requires other { class.0 ≢ 5 }
+    ensures gives { Gives value_of result (moment_of machine.new) (plain_construct class.0 (map value_of values.now) (moment_of machine.old)) }
+    ensures sound { IsSound (λ v. is_sound (length machine.new.heap) (value_of v)) (length machine.new.heap) result }
+    ensures kept { GrownBy 1 machine.old steps.old machine.new steps.new }
+    ensures reads { ReadsBy 8 machine.old steps.old machine.new steps.new }
+{
+    if class.0 == TEXT.0 {
+        return text_call(machine, values, steps);
+    }
+    other_class(machine, class, values, steps)
+}
+
+/// What a class gives that is called.
+#[inline(never)]
+pub fn construct<L: Ledger>(
+    machine: &mut Machine,
+    class: ClassId,
+    given: Given,
+    steps: &mut Steps<L>,
+) -> Result<Value, Fault>
+    requires room { HasRoomBy 1 machine.old }
+    requires sound_given { IsTrue (is_sound_given (length machine.old.heap) (given_of given)) }
+    requires class { class.0 < 25 }
+    ensures gives { Gives value_of result (moment_of machine.new) (construct class.0 (given_of given) (moment_of machine.old)) }
+    ensures sound { IsSound (λ v. is_sound (length machine.new.heap) (value_of v)) (length machine.new.heap) result }
+    ensures kept { GrownBy 1 machine.old steps.old machine.new steps.new }
+    ensures reads { ReadsBy 32 machine.old steps.old machine.new steps.new }
+{
+    if class.0 == NAMESPACE.0 {
+        return new_object(machine, given);
+    }
+    if !given.named.is_empty() {
+        return bad_arguments(machine.alloc, class_name(class));
+    }
+    plain_class(machine, class, given.plain.as_slice(), steps)
+}
+
+// ---- methods
+
+// A method that the value has.
+fn known_method<L: Ledger>(
+    machine: &mut Machine,
+    receiver: &Value,
+    name: &str,
+    values: &[Value],
+    steps: &mut Steps<L>,
+) -> Result<Value, Fault>
+    requires room { HasRoomBy 1 machine.old }
+    requires sound_receiver { IsTrue (is_sound (length machine.old.heap) (value_of receiver.now)) }
+    requires sound_values { IsTrue (are_sound (length machine.old.heap) (map value_of values.now)) }
+    requires has { IsTrue (has_method machine.old.heap (value_of receiver.now) name.now) }
+    ensures gives { Gives value_of result (moment_of machine.new) (call_method (value_of receiver.now) name.now (map value_of values.now) (moment_of machine.old)) }
+    ensures sound { IsSound (λ v. is_sound (length machine.new.heap) (value_of v)) (length machine.new.heap) result }
+    ensures kept { GrownBy 1 machine.old steps.old machine.new steps.new }
+    ensures reads { ReadsBy 5 machine.old steps.old machine.new steps.new }
+{
+    // The heap tells that each of its nodes is sound.
+    let _size = machine.heap.len();
+    passed(kishu_methods::call_method(
+        machine.alloc,
+        receiver,
+        name,
+        values,
+        &mut machine.heap,
+        &mut machine.budget,
+        steps,
+    ))
+}
+
+// A method, which takes no keywords.
+fn plain_method<L: Ledger>(
+    machine: &mut Machine,
+    receiver: &Value,
+    name: &str,
+    values: &[Value],
+    steps: &mut Steps<L>,
+) -> Result<Value, Fault>
+    requires room { HasRoomBy 1 machine.old }
+    requires sound_receiver { IsTrue (is_sound (length machine.old.heap) (value_of receiver.now)) }
+    requires sound_values { IsTrue (are_sound (length machine.old.heap) (map value_of values.now)) }
+    ensures gives { Gives value_of result (moment_of machine.new) (call_method (value_of receiver.now) name.now (map value_of values.now) (moment_of machine.old)) }
+    ensures sound { IsSound (λ v. is_sound (length machine.new.heap) (value_of v)) (length machine.new.heap) result }
+    ensures kept { GrownBy 1 machine.old steps.old machine.new steps.new }
+    ensures reads { ReadsBy 6 machine.old steps.old machine.new steps.new }
+{
+    if !kishu_methods::has_method(receiver, name, &machine.heap, steps) {
+        return no_attribute(machine, receiver, name, steps);
+    }
+    known_method(machine, receiver, name, values, steps)
+}
+
+/// What a method of a value gives. The names of methods are ASCII.
+#[inline(never)]
+pub fn call_method<L: Ledger>(
+    machine: &mut Machine,
+    receiver: &Value,
+    name: &str,
+    given: &Given,
+    steps: &mut Steps<L>,
+) -> Result<Value, Fault>
+    requires room { HasRoomBy 1 machine.old }
+    requires sound_receiver { IsTrue (is_sound (length machine.old.heap) (value_of receiver.now)) }
+    requires sound_given { IsTrue (is_sound_given (length machine.old.heap) (given_of given.now)) }
+    requires ascii { IsTrue (is_plain name.now) }
+    ensures gives { Gives value_of result (moment_of machine.new) (by_plain name.now (named_of given.now.named.items) (call_method (value_of receiver.now) name.now (map value_of given.now.plain.items)) (moment_of machine.old)) }
+    ensures sound { IsSound (λ v. is_sound (length machine.new.heap) (value_of v)) (length machine.new.heap) result }
+    ensures kept { GrownBy 1 machine.old steps.old machine.new steps.new }
+    ensures reads { ReadsBy 32 machine.old steps.old machine.new steps.new }
+{
+    if !given.named.is_empty() {
+        return bad_arguments(machine.alloc, name);
+    }
+    plain_method(machine, receiver, name, given.plain.as_slice(), steps)
+}
