@@ -7,6 +7,8 @@ ghost use Rattle.std.specs.Prelude.{◌≡◌, ◌<◌};
 mod file;
 mod real;
 mod streams;
+#[cfg(test)]
+mod tests;
 mod words;
 
 use kishu_host::{Host, MemHost};

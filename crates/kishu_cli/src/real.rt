@@ -8,15 +8,24 @@ use kishu_host::{Failed, Host, Source};
 use std::fs::File;
 use std::io;
 
+/// A file that is opened where it is needed first.
+#[derive(Drop)]
+enum Store {
+    Unopened,
+    Open(File),
+    /// It couldn't be opened, and isn't tried again.
+    Failed,
+}
+
 /// The store file at a path, and standard output.
 ///
 /// The file is opened at the first call that needs it, so a run that needs none makes none. Where it
-/// can't be opened, each such call fails.
+/// can't be opened, this call and each later one that needs it fails.
 #[derive(Drop)]
 pub struct RealHost<'a> {
     rt: &'a HostRuntime,
     path: &'a str,
-    file: Option<File>,
+    store: Store,
     disk_faults: u64,
     out_faults: u64,
 }
@@ -26,21 +35,22 @@ impl<'a> RealHost<'a> {
         RealHost {
             rt,
             path,
-            file: None,
+            store: Store::Unopened,
             disk_faults: 0,
             out_faults: 0,
         }
     }
 }
 
-/// The file, which is opened where it isn't yet.
-fn opened<'f>(rt: &HostRuntime, path: &str, file: &'f mut Option<File>) -> io::Result<&'f File> {
-    if file.is_none() {
-        *file = Some(file::open(rt, path)?);
+/// The file, which is opened where that wasn't tried yet.
+fn opened<'f>(rt: &HostRuntime, path: &str, store: &'f mut Store) -> io::Result<&'f File> {
+    if matches!(store, Store::Unopened) {
+        *store = Store::Failed;
+        *store = Store::Open(file::open(rt, path)?);
     }
-    match file {
-        Some(file) => Ok(file),
-        None => Err(io::ErrorKind::Other.into()),
+    match store {
+        Store::Open(file) => Ok(file),
+        Store::Unopened | Store::Failed => Err(io::ErrorKind::Other.into()),
     }
 }
 
@@ -71,7 +81,7 @@ impl Host for RealHost<'_> {
     ghost only_now = { λ s c o told left. absurd (not_told told) };
 
     fn len(&mut self) -> Result<u64, Failed> {
-        let answer = match opened(self.rt, self.path, &mut self.file) {
+        let answer = match opened(self.rt, self.path, &mut self.store) {
             Ok(file) => file::length(file),
             Err(error) => Err(error),
         };
@@ -79,7 +89,7 @@ impl Host for RealHost<'_> {
     }
 
     fn read_at(&mut self, at: u64, into: &mut [u8]) -> Result<usize, Failed> {
-        let answer = match opened(self.rt, self.path, &mut self.file) {
+        let answer = match opened(self.rt, self.path, &mut self.store) {
             Ok(file) => file::read_all(file, at, into),
             Err(error) => Err(error),
         };
@@ -87,7 +97,7 @@ impl Host for RealHost<'_> {
     }
 
     fn write_at(&mut self, at: u64, bytes: &[u8]) -> Result<(), Failed> {
-        let answer = match opened(self.rt, self.path, &mut self.file) {
+        let answer = match opened(self.rt, self.path, &mut self.store) {
             Ok(file) => file::write_all(file, at, bytes),
             Err(error) => Err(error),
         };
@@ -95,7 +105,7 @@ impl Host for RealHost<'_> {
     }
 
     fn sync(&mut self) -> Result<(), Failed> {
-        let answer = match opened(self.rt, self.path, &mut self.file) {
+        let answer = match opened(self.rt, self.path, &mut self.store) {
             Ok(file) => file.sync_all(),
             Err(error) => Err(error),
         };

@@ -1,6 +1,6 @@
 -- What writes leave of a list that is `front`, one gate and the rest.
 use Rattle.std.proofs.Common.{◌≡◌, ◌<◌, ◌+◌, ℕ, List, [], ◌∷◌, ◌++◌, length, take, drop, get_or, refl, sym, ◌∙◌, ap, arith, length-append, append_assoc, take-append-drop}
-use Rattle.std.proofs.lemmas.List.{take_at, drop_at, drop_more, drop-drop, length_push}
+use Rattle.std.proofs.lemmas.List.{take_at, drop_at, drop_more, drop-drop, length_push, length-take-le, take-append-le}
 use Rattle.kishu_host.specs.Host.{overwrite, Torn}
 
 module _ (front : List ℕ) (gate : ℕ) (rest : List ℕ) where
@@ -49,3 +49,23 @@ module _ (front : List ℕ) (gate : ℕ) (rest : List ℕ) where
       ap (λ (l : List ℕ). l ++ (new ∷ []) ++ drop (length front + 1) (front ++ (gate ∷ rest))) (take_at front (gate ∷ rest) (length front) refl)
       ∙ ap (λ (l : List ℕ). front ++ (new ∷ []) ++ l) drop-gated
       ∙ append_assoc front (new ∷ []) rest
+
+-- a write behind a place, and then one at it, are one write
+pub twice : (at x : ℕ) (bytes old : List ℕ) → at < length old → overwrite at (x ∷ []) (overwrite (at + 1) bytes old) ≡ overwrite at (x ∷ bytes) old
+twice at x bytes old inside =
+    let behind = drop (at + 1 + length bytes) old in
+    let long : length (take (at + 1) old) ≡ at + 1 = length-take-le (at + 1) old (omega (arith, inside)) in
+    let joined : overwrite (at + 1) bytes old ≡ take (at + 1) old ++ (bytes ++ behind) = append_assoc (take (at + 1) old) bytes behind in
+    let first : take at (overwrite (at + 1) bytes old) ≡ take at old =
+    ap (λ (l : List ℕ). take at l) joined
+    ∙ take-append-le at (take (at + 1) old) (bytes ++ behind) (omega (arith, long))
+    ∙ sym (take-append-le at (take (at + 1) old) (drop (at + 1) old) (omega (arith, long)))
+    ∙ ap (λ (l : List ℕ). take at l) (take-append-drop (at + 1) old) in
+    let second : drop (at + 1) (overwrite (at + 1) bytes old) ≡ bytes ++ behind =
+    ap (λ (l : List ℕ). drop (at + 1) l) joined ∙ drop_at (take (at + 1) old) (bytes ++ behind) (at + 1) long in
+    let place : at + 1 + length bytes ≡ at + length (x ∷ bytes) = omega arith in
+    ap (λ (l : List ℕ). (l ++ (x ∷ [])) ++ drop (at + 1) (overwrite (at + 1) bytes old)) first
+    ∙ ap (λ (l : List ℕ). (take at old ++ (x ∷ [])) ++ l) second
+    ∙ append_assoc (take at old) (x ∷ []) (bytes ++ behind)
+    ∙ sym (append_assoc (take at old) (x ∷ bytes) behind)
+    ∙ ap (λ (n : ℕ). (take at old ++ (x ∷ bytes)) ++ drop n old) place

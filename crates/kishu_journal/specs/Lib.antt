@@ -1,3 +1,4 @@
 pub mod Stands
+pub mod Bytes
 pub mod Found
 pub mod Going

@@ -1,10 +1,11 @@
 ghost use Rattle.std.specs.Prelude.{◌≡◌, ◌≤◌, ◌<◌, ◌⊎◌, ◌+◌, ◌^◌, ◌++◌, ◌∷◌, [], ℕ, List, length, true, false, IfOk, OnOk, IfErr, IsErrOf, IsTrue, ◌↔◌};
-ghost use Rattle.kishu_host.specs.Host.{Told, Only, Elapses, ReadsMore, Rises, HasCause};
+ghost use Rattle.kishu_host.specs.Host.{Told, Only, Elapses, ReadsMore, Rises, HasCause, overwrite};
 ghost use Rattle.kishu_model.specs.Record.{Entry as Record, longest_body};
-ghost use Rattle.kishu_model.specs.Holds.{Ends, framed, end_of};
+ghost use Rattle.kishu_model.specs.Holds.{Ends, framed, end_of, open_gate};
 ghost use Rattle.kishu_journal.specs.Going.{WithOrWithout};
 ghost use Rattle.kishu_journal.specs.Stands.{Stands, IsNext, IsWhole, with_entry};
 ghost use Rattle.kishu_journal.specs.Found.{before_body};
+ghost use Rattle.kishu_journal.specs.Bytes.{appended};
 ghost use Rattle.kishu_journal.specs.declared.journal.JournalFault.TheVariants.{DiskFault, NoMemory};
 
 use crate::{Journal, JournalFault};
@@ -37,6 +38,7 @@ fn write_record<H: Host>(host: &mut H, place: u64, bytes: &[u8]) -> Result<(), F
 
     ensures written { OnOk result (Told (H.state host.old) ((entries : List Record) (e : Record) → IsWhole (H.state host.old).file place bytes.now entries e
         → Ends (H.state host.new).file (with_entry entries e))) }
+    ensures bytes { OnOk result (Told (H.state host.old) ((H.state host.new).file ≡ overwrite place (open_gate ∷ bytes.now) (H.state host.old).file)) }
     ensures durable { OnOk result (Told (H.state host.old) (Only (H.state host.new).file (H.state host.new).may_leave)) }
     ensures kept { (H.state host.new).out ≡ (H.state host.old).out }
     ensures stop { Told (H.state host.old) (Only (H.state host.old).file (H.state host.old).may_leave → (entries : List Record) (e : Record) → IsWhole (H.state host.old).file place bytes.now entries e
@@ -76,6 +78,9 @@ impl Journal {
 
         ensures stands { OnOk result (Told (H.state host.old) ((entries : List Record) (e : Record) → IsNext self.old (H.state host.old).file body.now entries e
             → Stands self.new (H.state host.new).file (with_entry entries e))) }
+
+        // The record's bytes stand from the gate on, and the gate behind it is 0. What stood further behind stays.
+        ensures bytes { OnOk result (Told (H.state host.old) ((H.state host.new).file ≡ appended self.old.place body.now (H.state host.old).file)) }
         ensures durable { OnOk result (Told (H.state host.old) (Only (H.state host.new).file (H.state host.new).may_leave)) }
         ensures out { (H.state host.new).out ≡ (H.state host.old).out }
 

@@ -1,14 +1,15 @@
 ghost use Rattle.std.specs.Prelude.{◌≡◌, ◌≢◌, ◌≤◌, ◌<◌, ◌⊎◌, ◌+◌, ◌-◌, ◌^◌, ◌++◌, ◌∷◌, [], ℕ, List, length, take, drop, true, false, IfOk, IfSome, OnOk, IfErr, IsErr, IsErrOf, None, Ok};
-ghost use Rattle.kishu_host.specs.Host.{Told, Now, Only, Elapses, Rises, HasCause};
+ghost use Rattle.kishu_host.specs.Host.{Told, Now, Only, Keeps, Elapses, Rises, HasCause};
 ghost use Rattle.kishu_model.specs.Graph.{Graph, new_graph};
 ghost use Rattle.kishu_model.specs.Record.{Entry as Record, body_of, longest_body, Fits, AreRecords};
 ghost use Rattle.kishu_model.specs.Step.{most_records};
-ghost use Rattle.kishu_model.specs.Holds.{header, fresh_length, open_gate, front, Ends, Holds, IsGood, end_of, graph_of, BeginsRecord, IsBroken, IsForeign};
+ghost use Rattle.kishu_model.specs.Holds.{header, fresh_length, open_gate, Ends, Holds, IsGood, end_of, graph_of, BeginsRecord, IsBroken, IsForeign};
 ghost use Rattle.kishu_model.specs.Laws.{IsLinear};
 ghost use Rattle.kishu_record.specs.Entries.{entry_of};
 ghost use Rattle.kishu_journal.specs.Going.{IsQuiet, LeavesShort, ReadsAtMost};
 ghost use Rattle.kishu_journal.specs.Found.{BeginsBody, before_body, entries_of, ArePlaced, AreBelow};
 ghost use Rattle.kishu_journal.specs.Stands.{Stands};
+ghost use Rattle.kishu_journal.specs.Bytes.{fresh};
 ghost use Rattle.kishu_journal.specs.declared.journal.JournalFault.TheVariants.{DiskFault, NoMemory, NotAJournal, Damaged};
 
 use crate::fit::fitting;
@@ -25,11 +26,12 @@ const FRESH: [u8; 17] = *b"KISHU-JOURNAL-1\n\0";
 #[tactic(auto, unfolding(kishu_model::specs::Holds::header))]
 fn begin<H: Host>(host: &mut H) -> Result<(), Failed>
     requires { Told (H.state host.old) (length (H.state host.old).file ≤ fresh_length) }
-    ensures fresh { OnOk result (Told (H.state host.old) ((H.state host.new).file ≡ front [] ++ 0 ∷ [])) }
+    ensures fresh { OnOk result (Told (H.state host.old) ((H.state host.new).file ≡ fresh)) }
     ensures durable { OnOk result (Told (H.state host.old) (Only (H.state host.new).file (H.state host.new).may_leave)) }
     ensures out { (H.state host.new).out ≡ (H.state host.old).out }
     ensures stop { Told (H.state host.old) (Only (H.state host.old).file (H.state host.old).may_leave → Elapses (H.state host.old) (H.state host.new) (LeavesShort (H.state host.old))) }
     ensures short { Told (H.state host.old) (Only (H.state host.old).file (H.state host.old).may_leave → length (H.state host.new).file ≤ fresh_length) }
+    ensures leaves { Told (H.state host.old) (Only (H.state host.old).file (H.state host.old).may_leave → (c : List ℕ) → (H.state host.new).may_leave c → length c ≤ fresh_length) }
     ensures tells { (H.state host.new).tells ≡ (H.state host.old).tells }
     ensures disk { HasCause (H.state host.old).disk_faults (H.state host.new).disk_faults result }
     ensures outs { (H.state host.old).out_faults ≤ (H.state host.new).out_faults }
@@ -170,6 +172,14 @@ impl Journal {
         ensures out { (H.state host.new).out ≡ (H.state host.old).out }
         ensures kept { Told (H.state host.old) (fresh_length < length (H.state host.old).file → (H.state host.new).file ≡ (H.state host.old).file) }
         ensures short { Told (H.state host.old) (length (H.state host.old).file ≤ fresh_length → length (H.state host.new).file ≤ fresh_length) }
+
+        // A short file is begun anew with a closed gate of 0.
+        ensures begun { OnOk result (Told (H.state host.old) (length (H.state host.old).file ≤ fresh_length → (H.state host.new).file ≡ fresh)) }
+
+        // Until a sync has succeeded all is as it was. Then a stop leaves the file as it reads, or a short one in the place of a short one.
+        ensures settled { Told (H.state host.old) ((IsErrOf result DiskFault × Keeps (H.state host.old) (H.state host.new))
+            ⊎ Only (H.state host.new).file (H.state host.new).may_leave
+            ⊎ ((length (H.state host.old).file ≤ fresh_length) × ((c : List ℕ) → (H.state host.new).may_leave c → length c ≤ fresh_length))) }
 
         // A stop leaves a file that a stop at its start could leave, or a short one in the place of a short one.
         ensures stop { Told (H.state host.old) (Elapses (H.state host.old) (H.state host.new)

@@ -12,17 +12,18 @@ use Rattle.kishu_model.specs.Answers.{Refusal, answer_line, ran_cell}
 use Rattle.kishu_model.specs.Step.{Request, Stepped, cell, step, committed, refused_with, charge_of}
 use Rattle.kishu_model.specs.Replay.{replay, IsFull}
 use Rattle.kishu_model.specs.Record.{Entry, commit, changed, longest_cell, IsCell, Fits, body_of}
-use Rattle.kishu_model.specs.Holds.{Holds, graph_of}
+use Rattle.kishu_model.specs.Holds.{Holds, end_of, graph_of}
 use Rattle.kishu_model.specs.Serve.{after, answer_of}
 use Rattle.kishu_model.specs.Growth.{step-cell, charge-cell, replay-with_commit, count-with_commit}
 use Rattle.kishu_model.specs.Laws.{changed-push, ends-holds}
 use Rattle.kishu_model.specs.Graph.{new_graph}
 use Rattle.kishu_journal.specs.Stands.{JournalState, Stands, IsNext, with_entry}
+use Rattle.kishu_journal.specs.Bytes.{appended}
 use Rattle.kishu_journal.specs.Going.{WithOrWithout}
 use Rattle.kishu_serve.specs.declared.session.Session.{Session}
 use Rattle.kishu_serve.specs.Lives.{state_of}
 use Rattle.kishu_serve.specs.Attached.{IsAttached}
-use Rattle.kishu_serve.specs.Headline.{IsPart}
+use Rattle.kishu_serve.specs.Headline.{IsPart, IsRecorded}
 use Rattle.kishu_serve.proofs.Parts.{part-append, part-put}
 
 -- a text that a commit may hold
@@ -59,6 +60,14 @@ module _ (session : Session) (s : State) (g : Graph) (text : List ℕ) (a : IsAt
       ∙ ap (λ (n : ℕ). answer_line (ran_cell (suc (newest g)) n (run One text (state_of session.live)).report)) count
       ∙ ap (λ (t : values.State). answer_line (ran_cell (suc (newest g)) (suc (count_of g g.head.commit)) (run One text t).report)) a.live
       ∙ ap (λ (x : Stepped). answer_line x.answer) (sym stepped)
+
+  pub recorded-is : (place : ℕ) (body new : List ℕ) → place ≡ session.journal.place → body ≡ body_of (entry_for session text) → new ≡ appended place body s.file → IsRecorded s.file new
+  recorded-is place body new here is e = (
+    a.entries,
+    entry_for session text,
+    a.stands.ends,
+    e ∙ ap (λ (n : ℕ). appended n body s.file) (here ∙ a.stands.place) ∙ ap (λ (b : List ℕ). appended (end_of a.entries) b s.file) is,
+  )
 
   pub charge-is : (m n : ℕ) → m + (run One text (state_of session.live)).charge ≤ n → m + charge_of g (cell text) ≤ n
   charge-is m n more = omega (arith, more, ap (λ (t : values.State). (run One text t).charge) a.live, charge-cell g text (omega (arith, a.records, a.commits)))

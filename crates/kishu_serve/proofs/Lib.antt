@@ -4,3 +4,4 @@ mod Readings
 mod Parts
 mod Commits
 mod Runs
+mod Rows

@@ -1,18 +1,21 @@
 -- A run: the opening, and then one request.
-use Rattle.std.proofs.Common.{◌≡◌, ◌⊎◌, ◌≤◌, ◌<◌, inl, inr, ⊎_elim, ℕ, List, [], ◌∷◌, ◌++◌, length, refl, sym, ◌∙◌, ap, subst, Result, Ok, Err, IsOk, OnOk, Option, Some, None, is_some, true}
+use Rattle.std.proofs.Common.{◌≡◌, ◌⊎◌, ◌≤◌, ◌<◌, inl, inr, ⊎_elim, ℕ, List, [], ◌∷◌, ◌++◌, length, refl, sym, ◌∙◌, ap, subst, arith, Result, Ok, Err, IsOk, OnOk, Option, Some, None, is_some, true}
 use Rattle.std.proofs.lemmas.Bool.{cases_lt}
+use Rattle.std.proofs.lemmas.Bool.Decides.{nat_tests}
+use Rattle.std.specs.Prelude.{Bool, false, if◌then◌else◌, nat_le}
 use Rattle.std.proofs.lemmas.List.{append-nil}
-use Rattle.kishu_host.specs.Host.{State, Now, Elapses}
+use Rattle.kishu_host.specs.Host.{State, Now, Only, Keeps, Elapses}
 use Rattle.kishu_host.specs.Going.{weaker, goes_on}
 use Rattle.kishu_model.specs.Graph.{Graph, new_graph}
 use Rattle.kishu_model.specs.Step.{Request}
 use Rattle.kishu_model.specs.Task.{Form, one_cell, cell_request, task}
 use Rattle.kishu_model.specs.Holds.{Holds}
 use Rattle.kishu_model.specs.Serve.{after, answer_of}
-use Rattle.kishu_model.specs.Laws.{ends-holds}
+use Rattle.kishu_model.specs.Laws.{ends-holds, one_graph}
+use Rattle.kishu_journal.specs.Bytes.{fresh}
 use Rattle.kishu_serve.specs.declared.session.Session.{Session}
 use Rattle.kishu_serve.specs.Attached.{IsAttached}
-use Rattle.kishu_serve.specs.Headline.{IsPart, IsWhole}
+use Rattle.kishu_serve.specs.Headline.{IsPart, IsWhole, IsRecorded, IsWritten, begun}
 use Rattle.kishu_serve.proofs.Parts.{part-none}
 
 -- what a stop of the whole run may leave
@@ -31,6 +34,20 @@ long-bad file bad = ⊎_elim (λ (l : 17 < length file). l) (λ (l : length file
 pub kept-holds : (old new : List ℕ) → (17 < length old → new ≡ old) → (length old ≤ 17 → length new ≤ 17) → (g : Graph) → Holds old g → Holds new g
 kept-holds old new kept short g (inl s) = inl (short s.0, s.1)
 kept-holds old new kept short g (inr l) = subst (λ (f : List ℕ). Holds f g) (sym (kept l.0)) (inr l)
+
+-- opening leaves each byte so
+pub begun-is : (old new : List ℕ) → (17 < length old → new ≡ old) → (length old ≤ 17 → new ≡ fresh) → new ≡ begun old
+begun-is old new kept anew =
+    ⊎_elim (λ (long : 17 < length old). let no : nat_le (length old) 17 ≡ false = grind (arith, nat_tests) in kept long ∙ sym (ap (λ (b : Bool). if b then fresh else old) no))
+    (λ (short : length old ≤ 17). let yes : nat_le (length old) 17 ≡ true = grind (arith, nat_tests) in anew short ∙ sym (ap (λ (b : Bool). if b then fresh else old) yes)) (cases_lt 17 (length old))
+
+-- What opening leaves to a stop: nothing new, or the graph.
+pub opening-settled : (D : Type 0) (s0 s1 : State) → (17 < length s0.file → s1.file ≡ s0.file) → (length s0.file ≤ 17 → length s1.file ≤ 17)
+    → (D × Keeps s0 s1) ⊎ Only s1.file s1.may_leave ⊎ ((length s0.file ≤ 17) × ((c : List ℕ) → s1.may_leave c → length c ≤ 17))
+    → (g : Graph) → Holds s0.file g → (D × Keeps s0 s1) ⊎ ((c : List ℕ) → s1.may_leave c → Holds c g)
+opening-settled D s0 s1 kept short (inl unsynced) g holds = inl unsynced
+opening-settled D s0 s1 kept short (inr (inl only)) g holds = inr (λ c now. subst (λ (f : List ℕ). Holds f g) (sym (only c now)) (kept-holds s0.file s1.file kept short g holds))
+opening-settled D s0 s1 kept short (inr (inr begun)) g holds = inr (λ c now. inl (begun.1 c now, one_graph s0.file g new_graph holds (inl (begun.0, refl))))
 
 pub attached-holds : (session : Session) (s : State) (g : Graph) → IsAttached session s g → Holds s.file g
 attached-holds session s g a = subst (λ (x : Graph). Holds s.file x) (sym a.graph) (ends-holds s.file a.entries a.stands.ends)
@@ -52,6 +69,11 @@ module _ (s0 s1 : State) (g : Graph) (q : Request) (opening : Elapses s0 s1 (Ope
       out_is = answered ∙ ap (λ (l : List ℕ). l ++ answer_of g q) same ∙ ap (λ (l : List ℕ). s0.out ++ l) (sym (append-nil (answer_of g q)));
       durable = a.durable;
     }
+
+-- what serving writes is written behind what opening leaves
+pub written : (old opened new : List ℕ) → opened ≡ begun old → (new ≡ opened) ⊎ IsRecorded opened new → IsWritten old new
+written old opened new is (inl same) = inl (same ∙ is)
+written old opened new is (inr one) = inr (subst (λ (f : List ℕ). IsRecorded f new) is one)
 
 -- what holds where a call succeeded, once it has
 pub succeeded : {T E P : Type 0} (r : Result T E) → IsOk r → OnOk r P → P

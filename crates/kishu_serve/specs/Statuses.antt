@@ -1,5 +1,5 @@
 -- How a run can end: the program's exit code and what it says on standard error.
-use Rattle.std.specs.Prelude.{ℕ, List, ◌++◌, codes, decimal}
+use Rattle.std.specs.Prelude.{ℕ, List, [], ◌++◌, codes, decimal}
 use Rattle.kishu_serve.specs.declared.status.Status.{Status}
 use Rattle.kishu_serve.specs.declared.status.Status.TheVariants.{Done, Usage, NotAJournal, Damaged, DiskFault, InputFault, OutputFault, NoMemory, InputTooLong, HeapFull}
 
@@ -16,7 +16,7 @@ code_of InputTooLong = 9
 code_of HeapFull = 11
 
 abbrev pub text_of : Status → List ℕ
-text_of Done = codes "done"
+text_of Done = []
 text_of Usage = codes "usage: kishu STORE COMMAND"
 text_of NotAJournal = codes "not a journal"
 text_of (Damaged at) = codes "damaged at " ++ decimal at

@@ -1,5 +1,5 @@
 ghost use Rattle.std.specs.Prelude.{◌≡◌, ◌≤◌, ◌<◌, ◌⊎◌, ◌+◌, ◌^◌, ◌++◌, ◌∷◌, [], ℕ, List, length, false, None, IfOk, OnOk, IsErrOf};
-ghost use Rattle.kishu_host.specs.Host.{State, Told, Now, Only, Elapses, Rises, DuringPut};
+ghost use Rattle.kishu_host.specs.Host.{State, Told, Now, Keeps, Elapses, Rises, DuringPut};
 ghost use Rattle.kishu_model.specs.Graph.{Graph};
 ghost use Rattle.kishu_model.specs.Record.{longest_cell};
 ghost use Rattle.kishu_model.specs.Replay.{replay, replay_charge, Fills, IsFull};
@@ -8,7 +8,7 @@ ghost use Rattle.kishu_model.specs.Step.{cell, step, refused_with, charge_of};
 ghost use Rattle.kishu_model.specs.Holds.{Holds, IsForeign, IsBroken};
 ghost use Rattle.kishu_model.specs.Serve.{after, answer_of};
 ghost use Rattle.kishu_lines.specs.Lines.{refusal_of};
-ghost use Rattle.kishu_serve.specs.Headline.{IsPart};
+ghost use Rattle.kishu_serve.specs.Headline.{IsPart, IsRecorded, begun};
 ghost use Rattle.kishu_serve.specs.Requests.{request_of, IsShort};
 ghost use Rattle.kishu_serve.specs.Attached.{IsAttached};
 ghost use Rattle.kishu_journal.specs.declared.journal.JournalFault.TheVariants.{NotAJournal, Damaged};
@@ -50,7 +50,9 @@ impl Session {
         ensures held { Told (H.state host.old) ((g : Graph) → Holds (H.state host.old).file g → Holds (H.state host.new).file g) }
         ensures bad { Told (H.state host.old) (((g : Graph) → Holds (H.state host.old).file g → ⊥) → (H.state host.new).file ≡ (H.state host.old).file) }
         ensures good { OnOk result (Told (H.state host.old) ((g : Graph) × Holds (H.state host.old).file g)) }
-        ensures durable { IsErrOf result (Unread NoDisk) ⊎ Told (H.state host.old) (Only (H.state host.new).file (H.state host.new).may_leave) }
+        ensures begun { OnOk result (Told (H.state host.old) ((H.state host.new).file ≡ begun (H.state host.old).file)) }
+        ensures settled { Told (H.state host.old) ((g : Graph) → Holds (H.state host.old).file g
+            → (IsErrOf result (Unread NoDisk) × Keeps (H.state host.old) (H.state host.new)) ⊎ ((c : List ℕ) → (H.state host.new).may_leave c → Holds c g)) }
         ensures out { (H.state host.new).out ≡ (H.state host.old).out }
         ensures stop { Told (H.state host.old) ((g : Graph) → Holds (H.state host.old).file g
             → Elapses (H.state host.old) (H.state host.new) (λ c o. Now (H.state host.old) c o ⊎ (Holds c g × (o ≡ (H.state host.old).out)))) }
@@ -120,6 +122,7 @@ impl Session {
         ensures attached { OnOk result (Told (H.state host.old) ((g : Graph) → IsAttached self.old (H.state host.old) g → IsAttached self.new (H.state host.new) (after g (cell text.now)))) }
         ensures answered { OnOk result (Told (H.state host.old) ((g : Graph) → IsAttached self.old (H.state host.old) g
             → (H.state host.new).out ≡ (H.state host.old).out ++ answer_of g (cell text.now))) }
+        ensures bytes { OnOk result (Told (H.state host.old) ((g : Graph) → IsAttached self.old (H.state host.old) g → IsRecorded (H.state host.old).file (H.state host.new).file)) }
         ensures least { OnOk result (Told (H.state host.old) ((g : Graph) → IsAttached self.old (H.state host.old) g → steps.old + charge_of g (cell text.now) ≤ steps.new)) }
         ensures full { IsErrOf result HeapFull → Told (H.state host.old) ((g : Graph) → IsAttached self.old (H.state host.old) g → IsFull (replay g g.head.commit)) }
         ensures stop { Told (H.state host.old) ((g : Graph) → IsAttached self.old (H.state host.old) g
@@ -166,6 +169,8 @@ impl Session {
         ensures attached { OnOk result (Told (H.state host.old) ((g : Graph) → IsAttached self.old (H.state host.old) g → IsAttached self.new (H.state host.new) (after g (request_of request.entry)))) }
         ensures answered { OnOk result (Told (H.state host.old) ((g : Graph) → IsAttached self.old (H.state host.old) g
             → (H.state host.new).out ≡ (H.state host.old).out ++ answer_of g (request_of request.entry))) }
+        ensures bytes { OnOk result (Told (H.state host.old) ((g : Graph) → IsAttached self.old (H.state host.old) g
+            → ((H.state host.new).file ≡ (H.state host.old).file) ⊎ IsRecorded (H.state host.old).file (H.state host.new).file)) }
         ensures least { OnOk result (Told (H.state host.old) ((g : Graph) → IsAttached self.old (H.state host.old) g → steps.old + charge_of g (request_of request.entry) ≤ steps.new)) }
         ensures full { IsErrOf result HeapFull → Told (H.state host.old) ((g : Graph) → IsAttached self.old (H.state host.old) g → IsFull (replay g g.head.commit)) }
         ensures stop { Told (H.state host.old) ((g : Graph) → IsAttached self.old (H.state host.old) g

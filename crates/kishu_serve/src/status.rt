@@ -46,12 +46,12 @@ impl Status {
         }
     }
 
-    /// What the program says on standard error, without a line feed. Done says nothing there.
+    /// What the program says on standard error, without a line feed: nothing at `Done`.
     pub fn text(&self, alloc: Global) -> Result<String, AllocError>
         ensures { IfOk result (λ t. string_bytes t ≡ text_of self.now) }
     {
         match self {
-            Status::Done => String::from_str(alloc, "done"),
+            Status::Done => Ok(String::new(alloc)),
             Status::Usage => String::from_str(alloc, "usage: kishu STORE COMMAND"),
             Status::NotAJournal => String::from_str(alloc, "not a journal"),
             Status::Damaged { at } => format!(in alloc; "damaged at {at}"),

@@ -1,5 +1,5 @@
 ghost use Rattle.std.specs.Prelude.{◌≡◌, ◌≤◌, ◌<◌, ◌⊎◌, ◌↔◌, ◌+◌, ◌^◌, ◌++◌, ◌∷◌, [], ℕ, List, length, true, false, Some, None, is_some, IfOk, OnOk, IsOk, IsSome, Err};
-ghost use Rattle.kishu_host.specs.Host.{State, Told, Now, Only, Elapses, Rises};
+ghost use Rattle.kishu_host.specs.Host.{State, Told, Now, Keeps, Elapses, Rises};
 ghost use Rattle.kishu_host.specs.Source.{SourceState};
 ghost use Rattle.kishu_model.specs.Graph.{Graph};
 ghost use Rattle.kishu_model.specs.Record.{longest_cell};
@@ -7,7 +7,7 @@ ghost use Rattle.kishu_model.specs.Replay.{replay_charge, Fills};
 ghost use Rattle.kishu_model.specs.Serve.{charges};
 ghost use Rattle.kishu_model.specs.Task.{task, one_cell};
 ghost use Rattle.kishu_model.specs.Holds.{Holds, IsForeign, IsBroken};
-ghost use Rattle.kishu_serve.specs.Headline.{IsPart, IsWhole, IsGiven};
+ghost use Rattle.kishu_serve.specs.Headline.{IsPart, IsWhole, IsGiven, IsWritten};
 ghost use Rattle.kishu_serve.specs.Requests.{request_of, IsShort};
 ghost use Rattle.kishu_serve.specs.Words.{texts, form_of};
 ghost use Rattle.kishu_serve.specs.declared.status.Status.TheVariants.{Done, Usage, NotAJournal, Damaged, DiskFault, InputFault, OutputFault, NoMemory, InputTooLong, HeapFull};
@@ -79,7 +79,9 @@ fn run_request<H: Host, L: Ledger>(
     ensures stop { Told (H.state host.old) ((g : Graph) → Holds (H.state host.old).file g
         → Elapses (H.state host.old) (H.state host.new) (λ c o. Now (H.state host.old) c o ⊎ IsPart (H.state host.old) g (request_of request.entry ∷ []) c o)) }
     ensures settled { Told (H.state host.old) ((g : Graph) → Holds (H.state host.old).file g
-        → (result ≡ DiskFault) ⊎ ((c : List ℕ) → (H.state host.new).may_leave c → IsPart (H.state host.old) g (request_of request.entry ∷ []) c (H.state host.new).out)) }
+        → ((result ≡ DiskFault) × Keeps (H.state host.old) (H.state host.new))
+        ⊎ ((c : List ℕ) → (H.state host.new).may_leave c → IsPart (H.state host.old) g (request_of request.entry ∷ []) c (H.state host.new).out)) }
+    ensures bytes { result ≡ Done → Told (H.state host.old) (IsWritten (H.state host.old).file (H.state host.new).file) }
     ensures good { result ≡ Done → Told (H.state host.old) ((g : Graph) × Holds (H.state host.old).file g) }
     ensures bad { Told (H.state host.old) (((g : Graph) → Holds (H.state host.old).file g → ⊥) → (H.state host.new).file ≡ (H.state host.old).file) }
 
@@ -127,10 +129,15 @@ pub fn kishu<H: Host, S: Source, L: Ledger>(
         → Elapses (H.state host.old) (H.state host.new)
         (λ c o. Now (H.state host.old) c o ⊎ IsPart (H.state host.old) g (task (form_of (texts words.now)) (S.source source.old).left) c o) }
 
-    // Once a sync has succeeded, a stop leaves nothing but that.
+    // Once a sync has succeeded, a stop leaves nothing but that. Where the disk failed before it, all is as it was, and a
+    // stop leaves nothing that a stop at the start couldn't leave.
     ensures settled { (g : Graph) → IsGiven (H.state host.old) (S.source source.old) g
-        → (host.new ≡ host.old) ⊎ (result ≡ DiskFault)
+        → (host.new ≡ host.old) ⊎ ((result ≡ DiskFault) × Keeps (H.state host.old) (H.state host.new))
         ⊎ ((c : List ℕ) → (H.state host.new).may_leave c → IsPart (H.state host.old) g (task (form_of (texts words.now)) (S.source source.old).left) c (H.state host.new).out) }
+
+    // Done: each byte of the file is that of the old one, which was begun anew where it was short, or that of the record
+    // that was written at its closed gate.
+    ensures bytes { result ≡ Done → Told (H.state host.old) (IsWritten (H.state host.old).file (H.state host.new).file) }
 
     // Each status has its cause.
     ensures usage { result ≡ Usage ↔ (form_of (texts words.now) ≡ None) }

@@ -1,13 +1,11 @@
-use Rattle.std.proofs.Common.{arith, inl, inr, ⊎_elim, ℕ, List, [], ◌∷◌, sym, ◌∙◌, ap, subst, Err}
-use Rattle.kishu_host.specs.Host.{Told, Only}
+use Rattle.std.proofs.Common.{arith, inl, inr, [], ◌∷◌, ◌∙◌, ap, Err}
 use Rattle.kishu_host.specs.Going.{now_has, now_each}
-use Rattle.kishu_model.specs.Holds.{Holds}
 use Rattle.kishu_model.specs.Laws.{broken-holds, foreign-holds}
 use Rattle.kishu_serve.specs.declared.serving.OpenFault.{OpenFault}
 use Rattle.kishu_serve.specs.Headline.{IsPart}
 use Rattle.kishu_serve.specs.Requests.{request_of}
 use Rattle.kishu_serve.proofs.Parts.{part-none, part-now}
-use Rattle.kishu_serve.proofs.Runs.{attached-holds, opening-stop, part-from, serving-stop, whole, succeeded}
+use Rattle.kishu_serve.proofs.Runs.{attached-holds, opening-stop, part-from, serving-stop, whole, written, succeeded}
 use Rattle.kishu_serve.proofs.top.run_request.Goals as goal
 
 pub returns-in-Ok-clause-stop : goal.returns-in-Ok-clause-stop
@@ -78,9 +76,18 @@ returns-in-Err-clause-settled g c told g' holds =
     let st = g.H.Host.state in
     let s0 = st c.args.host.now in
     let s1 = st c.open.new.host in
-    ⊎_elim (λ e. inl (c.unopened.ensures.disk (cc (e, c.in-Err.is))))
-    (λ (d : Told s0 (Only s1.file s1.may_leave)). inr (λ f now. part-none s0 g' (request_of c.args.request) f s1.out (subst (λ (x : List ℕ). Holds x g') (sym (d told f now)) (c.open.ensures.held told g' holds)) c.open.ensures.out))
-    c.open.ensures.durable
+    elim (c.open.ensures.settled told g' holds) [
+      | inl unsynced ↦ inl (c.unopened.ensures.disk (cc (unsynced.0, c.in-Err.is)), unsynced.1)
+      | inr each ↦ inr (λ f now. part-none s0 g' (request_of c.args.request) f s1.out (each f now) c.open.ensures.out)
+    ]
+
+pub returns-in-Ok-clause-bytes : goal.returns-in-Ok-clause-bytes
+returns-in-Ok-clause-bytes g c done told =
+    let st = g.H.Host.state in
+    let told1 = c.open.ensures.tells ∙ told in
+    let a = c.in-Ok.ensures.stands told in
+    let ok = c.served.ensures.done done in
+    written (st c.args.host.now).file (st c.open.new.host).file (st c.serve.new.host).file (c.in-Ok.ensures.begun told) (succeeded c.serve.result ok c.serve.ensures.bytes told1 a.0 a.1)
 
 pub returns-in-Err-clause-damaged : goal.returns-in-Err-clause-damaged
 returns-in-Err-clause-damaged g c at is told = c.open.ensures.damaged at (c.in-Err.is ∙ ap (λ (f : OpenFault). Err f) (c.unopened.ensures.damaged at is)) told

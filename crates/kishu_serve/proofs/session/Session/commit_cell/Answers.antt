@@ -1,7 +1,8 @@
 use Rattle.std.proofs.Common.{◌+◌, length, refl, ◌∙◌, ap, arith}
+use Rattle.kishu_journal.specs.Stands.{JournalState}
 use Rattle.kishu_model.specs.declared.profile.Profile.TheVariants.{One}
 use Rattle.kishu_serve.proofs.Bodies.{length-body_of}
-use Rattle.kishu_serve.proofs.Commits.{entry_for, cell-is, next-is, append-stop, put-stop, line-is, charge-is, attached-after}
+use Rattle.kishu_serve.proofs.Commits.{entry_for, cell-is, next-is, append-stop, put-stop, line-is, recorded-is, charge-is, attached-after}
 use Rattle.kishu_serve.proofs.session.Session.commit_cell.Goals as goal
 
 pub append-requires-clause-short : goal.append-requires-clause-short
@@ -79,3 +80,9 @@ returns-clause-attached g c told g' a =
 
 pub returns-clause-least : goal.returns-clause-least
 returns-clause-least g c told g' a = charge-is c.args.self.now (g.H.Host.state c.args.host.now) g' c.args.text.now a c.requires.room _ _ c.in-Ok.ensures.least
+
+pub returns-clause-bytes : goal.returns-clause-bytes
+returns-clause-bytes g c told g' a =
+    let place = ap (λ (j : JournalState). j.place) c.prepared.ensures.rest.0 in
+    let body = c.deref.ensures.value ∙ c.in-Ok.ensures.body in
+    recorded-is c.args.self.now (g.H.Host.state c.args.host.now) g' c.args.text.now a c.requires.room _ _ _ place body (c.put.ensures.kept ∙ c.in-Ok-append.ensures.bytes told)

@@ -1,4 +1,4 @@
-use Rattle.std.proofs.Common.{inl, ⊎_elim, ◌≡◌, List, length, sym, ◌∙◌, ap, subst, arith, Err}
+use Rattle.std.proofs.Common.{inl, inr, ⊎_elim, ◌≡◌, List, length, sym, ◌∙◌, ap, subst, arith, Err}
 use Rattle.std.proofs.lemmas.List.{length-map}
 use Rattle.kishu_host.specs.Host.{Told, Only}
 use Rattle.kishu_model.specs.Graph.{Graph, newest}
@@ -12,7 +12,7 @@ use Rattle.kishu_journal.specs.Found.{entries_of}
 use Rattle.kishu_serve.specs.declared.live.Unrun.{Unrun}
 use Rattle.kishu_serve.specs.Lives.{state_of}
 use Rattle.kishu_serve.specs.Midway.{Replayed}
-use Rattle.kishu_serve.proofs.Runs.{long-bad, kept-holds}
+use Rattle.kishu_serve.proofs.Runs.{long-bad, kept-holds, begun-is, opening-settled}
 use Rattle.kishu_serve.proofs.session.Session.open.Goals as goal
 
 pub returns-clause-attached : goal.returns-clause-attached
@@ -74,3 +74,38 @@ returns-clause-least g c told g' holds =
     subst (λ (x : Graph). Replayed x (state_of c.in-Ok-replay_stored.live) c.in-Ok-replay_stored.cells c.args.steps.now c.replay_stored.new.steps) same
     (subst (λ (l : List _). Replayed (graph_of (entries_of l)) (state_of c.in-Ok-replay_stored.live) c.in-Ok-replay_stored.cells c.args.steps.now c.replay_stored.new.steps) c.deref.ensures.value c.in-Ok-replay_stored.ensures.replayed) in
     replayed.charged
+
+pub returns-in-Err-clause-settled : goal.returns-in-Err-clause-settled
+returns-in-Err-clause-settled g c told g' holds =
+    let st = g.H.Host.state in
+    elim (opening-settled _ (st c.args.host.now) (st c.attach.new.host) (c.attach.ensures.kept told) (c.attach.ensures.short told) (c.attach.ensures.settled told) g' holds) [
+      | inl unsynced ↦ inl (cc (unsynced.0, c.in-Err.is), unsynced.1)
+      | inr each ↦ inr each
+    ]
+
+pub returns-in-Err-HeapFull-clause-settled : goal.returns-in-Err-HeapFull-clause-settled
+returns-in-Err-HeapFull-clause-settled g c told g' holds =
+    let st = g.H.Host.state in
+    elim (opening-settled _ (st c.args.host.now) (st c.attach.new.host) (c.attach.ensures.kept told) (c.attach.ensures.short told) (c.attach.ensures.settled told) g' holds) [
+      | inl unsynced ↦ absurd (cc (unsynced.0, c.in-Ok.is))
+      | inr each ↦ inr each
+    ]
+
+pub returns-in-Err-NoMemory-clause-settled : goal.returns-in-Err-NoMemory-clause-settled
+returns-in-Err-NoMemory-clause-settled g c told g' holds =
+    let st = g.H.Host.state in
+    elim (opening-settled _ (st c.args.host.now) (st c.attach.new.host) (c.attach.ensures.kept told) (c.attach.ensures.short told) (c.attach.ensures.settled told) g' holds) [
+      | inl unsynced ↦ absurd (cc (unsynced.0, c.in-Ok.is))
+      | inr each ↦ inr each
+    ]
+
+pub returns-clause-settled : goal.returns-clause-settled
+returns-clause-settled g c told g' holds =
+    let st = g.H.Host.state in
+    elim (opening-settled _ (st c.args.host.now) (st c.attach.new.host) (c.attach.ensures.kept told) (c.attach.ensures.short told) (c.attach.ensures.settled told) g' holds) [
+      | inl unsynced ↦ absurd (cc (unsynced.0, c.in-Ok.is))
+      | inr each ↦ inr each
+    ]
+
+pub returns-clause-begun : goal.returns-clause-begun
+returns-clause-begun g c told = begun-is _ _ (c.attach.ensures.kept told) (c.in-Ok.ensures.begun told)
