@@ -19,9 +19,11 @@ use std::sync::ledger::Ledger;
 pub enum Place {
     Named(RcStr),
     Attribute(Value, RcStr),
+    /// Of the first, at the second as its index.
     Item(Value, Value),
 }
 
+/// The value at a place.
 #[inline(never)]
 pub fn read_place<L: Ledger>(
     machine: &mut Machine,
@@ -42,6 +44,7 @@ pub fn read_place<L: Ledger>(
     }
 }
 
+/// Puts a value into a place.
 #[inline(never)]
 pub fn store_in<L: Ledger>(
     machine: &mut Machine,
@@ -63,6 +66,7 @@ pub fn store_in<L: Ledger>(
     }
 }
 
+/// Deletes a place, as `del` does (Python Language Reference 3, "The del statement").
 #[inline(never)]
 pub fn delete_place<L: Ledger>(
     machine: &mut Machine,

@@ -31,7 +31,7 @@ struct Places {
     len: usize,
 }
 
-/// The bounds of a slice as they stand, each None or a number.
+/// The bounds of a slice as they stand. `slice` takes None or a number for each, and raises at others.
 #[derive(Drop)]
 pub struct Bounds<'a> {
     pub start: &'a Value,

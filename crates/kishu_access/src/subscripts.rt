@@ -1,4 +1,4 @@
-// Items: read, stored and deleted (Python Language Reference 3, "Subscriptions").
+// Items that are read (Python Language Reference 3, "Subscriptions").
 ghost use Rattle.std.specs.Prelude.{IfOk, IfSome, IsTrue, Some, [], is_some, length, map, negsuc, option_and_then, option_map, pos, slice_get, true, ℕ, ◌*ℤ◌, ◌+ℤ◌, ◌+◌, ◌-ℤ◌, ◌-◌, ◌<ℤ◌, ◌<◌, ◌^◌, ◌∷◌, ◌≡◌, ◌≤ℤ◌, ◌≤◌};
 ghost use Rattle.std.specs.Str.{chars};
 ghost use Rattle.kishu_model.specs.Equal.{range_length};

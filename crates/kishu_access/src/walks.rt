@@ -388,7 +388,7 @@ fn number_at(start: i128, stop: i128, step: i128, k: usize) -> Option<Value>
     }
 }
 
-/// The item for this turn, where there is one more.
+/// The item for turn `k`, the first of which is 0, where there is one more.
 #[inline(never)]
 pub fn item_for<L: Ledger>(
     machine: &mut Machine,

@@ -206,10 +206,10 @@ fn called<L: Ledger>(
     }
 }
 
-/// What a builtin function but `print` and `repr` gives (Library Reference, "Built-in Functions").
-/// `Raise` is the exception's class and its text, `Spent` says that the budget's steps are taken.
-/// At most one node more than steps were taken is new, and none is gone. The nodes that were there are
-/// as before, of which `NoMemory` says nothing.
+/// What a builtin function but `print` and `repr` gives, called without keywords (Library Reference,
+/// "Built-in Functions"). `Raise` is the exception's class and its text, `Spent` says that the
+/// budget's steps are taken. At most one node more than steps were taken is new, and none is gone.
+/// The nodes that were there are as before, of which `NoMemory` says nothing.
 pub fn call_builtin<L: Ledger>(
     alloc: Global,
     which: Builtin,

@@ -361,7 +361,7 @@ fn plain_method<L: Ledger>(
     known_method(machine, receiver, name, values, steps)
 }
 
-/// What a method of a value gives. The names of methods are ASCII.
+/// What a method of a value gives. Its name must be ASCII, as those of all methods are.
 #[inline(never)]
 pub fn call_method<L: Ledger>(
     machine: &mut Machine,

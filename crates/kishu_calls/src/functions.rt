@@ -1,5 +1,5 @@
-// Functions: which names are local to a body, and what a call binds (Python Language Reference 3,
-// "Function definitions", "Calls" and "Naming and binding").
+// Functions: the one that a node is, and what a call binds (Python Language Reference 3, "Function
+// definitions" and "Calls").
 ghost use Rattle.std.specs.List.{list_all};
 ghost use Rattle.std.specs.Prelude.{IfOk, IfSome, IsTrue, MatchOption, OnOk, drop, length, map, not, option_map, slice_get, ◌+◌, ◌≡◌, ◌≤◌};
 ghost use Rattle.std.specs.Rc.{rc_str_bytes};
@@ -211,7 +211,7 @@ fn values_for(
     }
 }
 
-/// What a call binds; none where an argument is missing, repeated or unknown.
+/// What a call binds; none where an argument is missing, repeated or unknown, or one too many.
 #[inline(never)]
 #[tactic(auto, using(crate::specs::StatementRows::parameters_at))]
 pub fn bound_values(

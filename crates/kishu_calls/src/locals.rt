@@ -281,8 +281,8 @@ fn push_titles(own: &mut Vec<RcStr>, params: &[(RcStr, Option<Expr>)]) -> Result
     Ok(())
 }
 
-/// The names that are local to a function's body: its parameters, and the names that the body binds,
-/// unless they are declared global.
+/// The names that are local to a function's body: its parameters, and the names that the body binds
+/// or unbinds, unless they are declared global.
 #[inline(never)]
 #[tactic(auto, using(crate::specs::StatementRows::parameters_at, crate::specs::StatementRows::body_at))]
 pub fn own_names(alloc: Global, def: &Def) -> Result<Vec<RcStr>, AllocError>

@@ -27,7 +27,8 @@ pub enum Part {
     Viewed(NodeId, View),
 }
 
-/// A method is no value, and neither is a view of a dict.
+/// The value of a part. A method is none, and neither is a view of a dict: it raises
+/// `AttributeError` there.
 #[inline(never)]
 pub fn settled<L: Ledger>(
     machine: &mut Machine,

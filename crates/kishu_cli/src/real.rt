@@ -31,6 +31,7 @@ pub struct RealHost<'a> {
 }
 
 impl<'a> RealHost<'a> {
+    /// The file at `path`, which isn't opened yet, and standard output, without a fault so far.
     pub fn new(rt: &'a HostRuntime, path: &'a str) -> RealHost<'a> {
         RealHost {
             rt,
@@ -126,6 +127,7 @@ pub struct RealSource<'a> {
 }
 
 impl<'a> RealSource<'a> {
+    /// Standard input, without a fault so far.
     pub fn new(rt: &'a HostRuntime) -> RealSource<'a> {
         RealSource { rt, in_faults: 0 }
     }

@@ -24,7 +24,7 @@ pub trait Host {
 
     /// The file's length in bytes.
     ///
-    /// `Failed`: the file couldn't be asked; nothing has changed.
+    /// `Failed`: the file couldn't be asked; file and output are as they were.
     fn len(&mut self) -> Result<u64, Failed>
         ensures length { IfOk result (λ n. Told (state self.old) (n ≡ length (state self.old).file)) }
         ensures keeps { Keeps (state self.old) (state self.new) }
@@ -87,7 +87,7 @@ pub trait Host {
         ensures disk { (state self.old).disk_faults ≤ (state self.new).disk_faults }
         ensures out { HasCause (state self.old).out_faults (state self.new).out_faults result };
 
-    /// The pair as it reads now is one of those that a stop now may leave.
+    /// The file as it reads now is one of those that a stop now may leave.
     ghost reads_now: { (h : Self) → Told (state h) ((state h).may_leave (state h).file) };
 
     /// This moment is one of those since an earlier one.

@@ -22,7 +22,7 @@ impl MemSource {
     /// An input of these bytes, which fails at each call whose number stands in `fail`.
     ///
     /// Calls are numbered from 1, and a call past number 2^64-1 has that number.
-    /// It keeps the two vectors that it is given, and takes no memory: it answers `Ok`.
+    /// It keeps the two vectors that it is given. The error is want of memory.
     pub fn new(_alloc: Global, bytes: Vec<u8>, fail: Vec<u64>) -> Result<MemSource, AllocError>
         ensures source { IfOk result (λ s. ⟦<MemSource as Source>⟧.source s ≡ record { tells = true; left = bytes.items; in_faults = 0 }) }
         ensures input { IfOk result (λ s. input_of s ≡ record { left = bytes.items; fail = fail.items; calls = 0; in_faults = 0 }) }

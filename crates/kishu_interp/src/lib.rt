@@ -1,8 +1,7 @@
-//! Runs a cell: reads its text's tree, and runs that by steps over a heap and names. A run gives
-//! exactly the outcome, the outputs, the heap, the names and the record of accesses that
-//! `kishu_model`'s definition of a cell's run says, and it ends: each turn of a loop takes a step, and
-//! each call is one level deeper. A call recurses no deeper than the points under evaluation lie, a
-//! few frames for each level.
+//! Runs a cell: reads its text's tree, and runs that by steps over a heap and names. Unless memory
+//! runs out, a run gives exactly the outcome, the outputs, the heap, the names and the record of
+//! accesses that `kishu_model`'s definition of a cell's run says. It ends: each turn of a loop takes a
+//! step, and each call is one level deeper. How much of the stack it takes, no clause bounds.
 //!
 //! One cycle has a function for each form of the language, over what `kishu_machine`,
 //! `kishu_access` and `kishu_calls` do with values: `expressions`, with `displays`, `operators`,

@@ -80,8 +80,12 @@ fn syntax_fault(alloc: Global, line: u32) -> Result<CellResult, AllocError>
 /// takes 4,000,000 steps and needs one more is stopped. A text without a tree runs nothing: its
 /// output is a SyntaxError that names the line of its fault, and all stays.
 ///
-/// Each step of the budget is one of `steps`. The only error is want of memory: heap and names are
-/// valid then, and nothing else is said of them.
+/// At `Ok` `steps` has risen by at least the steps that the cell took, and by at most 128 times these
+/// and 128. The only error is want of memory: heap and names are valid then, and nothing else is said
+/// of them.
+///
+/// Its conditions are that the text has at most 1,048,576 bytes and the heap at most 2^31 nodes, and
+/// that the values of the names lead to nodes that are there.
 pub fn run_cell<L: Ledger>(
     alloc: Global,
     profile: Profile,

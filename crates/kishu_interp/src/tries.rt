@@ -144,7 +144,7 @@ fn is_for<L: Ledger>(
     }
 }
 
-// The exception is bound for the block, and its name unbound on each way out.
+// The exception is bound for the block, and its name unbound on each way out but for a spent budget.
 #[cycle(run)]
 #[inline(never)]
 fn handle<L: Ledger>(

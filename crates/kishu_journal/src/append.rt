@@ -56,16 +56,16 @@ fn write_record<H: Host>(host: &mut H, place: u64, bytes: &[u8]) -> Result<(), F
 }
 
 impl Journal {
-    /// Appends a record by its body, and answers the body's place. The body is that of an entry that
-    /// fits the graph of the store's records, and has at most 2^30 bytes.
+    /// Appends a record by its body, and answers the body's place in the file, in bytes. The body is
+    /// that of an entry that fits the graph of the store's records, and has at most 2^30 bytes.
     ///
-    /// It makes four calls of the host: it writes the body's length, the body and a closed gate
-    /// behind the gate at which the records end, syncs, opens that gate, and syncs. It takes its
-    /// memory before the first of them.
+    /// After `Ok` the gate at which the records ended is open, behind it stand the body's length, the
+    /// body and a closed gate, and a stop leaves just this. It reads no byte.
     ///
     /// - `DiskFault`: a call of the host failed. The journal is closed then; the file holds the
     ///   records as they were, or with the new one.
-    /// - `NoMemory`: there was no memory. Nothing has changed.
+    /// - `NoMemory`: there was no memory, or the records end at byte 2^62 or later.
+    ///   Nothing has changed.
     pub fn append<H: Host>(
         &mut self,
         alloc: Global,

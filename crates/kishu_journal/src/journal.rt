@@ -7,7 +7,7 @@ pub enum JournalFault {
     /// The file has more than 17 bytes and another header.
     #[error("not a journal")]
     NotAJournal,
-    /// The gate at that place is open, and no whole record that fits stands behind it.
+    /// The gate at byte `at` of the file is open, and no whole record that fits stands behind it.
     #[error("damaged at {at}")]
     Damaged { at: u64 },
     /// A call of the host failed.
@@ -18,7 +18,7 @@ pub enum JournalFault {
     NoMemory,
 }
 
-/// The place of the closed gate behind a store's records.
+/// The place of the closed gate behind a store's records, and whether an append failed on the disk.
 #[derive(Drop)]
 pub struct Journal {
     place: u64,
@@ -57,7 +57,7 @@ impl Journal {
         self.place
     }
 
-    /// Whether an append failed, so that no other may follow.
+    /// Whether an append ended with `DiskFault`, so that no other may follow.
     pub fn is_closed(&self) -> bool
         ensures { result ≡ self.now.closed }
     {

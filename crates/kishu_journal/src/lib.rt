@@ -1,10 +1,10 @@
 //! The store file, by its gates.
 //!
-//! A store is a header, a gate, and behind each open gate a record and the next gate. Nothing behind
-//! a closed gate is read. `Journal::attach` opens a store and answers its records; it opens only a
-//! file that holds a graph. `Journal::append` writes a record behind the closed gate, and opens the
-//! gate once the record is on the disk: a stop at any moment leaves the records before, with or
-//! without the new one. `one_graph` says what holds of every store file.
+//! A store is a header, a gate, and behind each open gate a record and the next gate. What stands
+//! behind a closed gate is no record of the store. `Journal::attach` opens a store and answers its
+//! records; it opens only a file that holds a graph. `Journal::append` writes a record behind the
+//! closed gate, and opens the gate once the record is on the disk: a stop at any moment leaves the
+//! records before, with or without the new one. `one_graph` says what holds of every store file.
 #![tactic(auto)]
 
 mod append;

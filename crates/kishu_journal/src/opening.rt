@@ -148,9 +148,9 @@ fn read_store<H: Host>(
 
 impl Journal {
     /// Opens a store, and answers a journal at its end and its records in order, each with the place
-    /// of its body. It begins with a sync. A file of at most 17 bytes, whatever they are, is begun
-    /// anew, with the header and a closed gate; a longer one stays as it is, and each of its bytes is
-    /// read once at most.
+    /// of its body in the file, in bytes. Unless it ends with `DiskFault`, a stop then leaves just the
+    /// file as it reads. A file of at most 17 bytes, whatever they are, is begun anew, with the header
+    /// and a closed gate; a longer one stays as it is. No more bytes are read than the file has.
     ///
     /// - `NotAJournal`: the file has more than 17 bytes and another header.
     /// - `Damaged`: at that place stands the first open gate behind which no whole record stands that

@@ -4,7 +4,7 @@ ghost use Rattle.kishu_lines.specs.Lines.{refusal_of};
 
 use kishu_model::CellResult;
 
-/// Why a request is refused. A refused request changes nothing.
+/// Why a request is refused.
 #[derive(Clone, Copy, Debug, PartialEq, Eq)]
 pub enum Refusal {
     /// The request has no reading.

@@ -4,7 +4,7 @@ use kishu_model::Value;
 use std::collections::BTreeMap;
 use std::rc::RcStr;
 
-/// The names that are local to a function's body, and those of them that have a value.
+/// The names that are local to a function's body, and the values of those that have one.
 #[derive(Drop)]
 pub struct Frame {
     pub own: Vec<RcStr>,

@@ -35,7 +35,7 @@ pub fn key_of<L: Ledger>(
     passed(key)
 }
 
-/// The value that a key is. A tuple is a new node, and takes its length.
+/// The value that a key is. A tuple is a new node, and takes its length in steps.
 pub fn value_of_key<L: Ledger>(
     machine: &mut Machine,
     key: &Key,

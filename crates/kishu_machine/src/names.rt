@@ -117,7 +117,9 @@ fn read_local(alloc: Global, locals: &Option<Frame>, name: &str) -> Result<Value
     }
 }
 
-/// The value of a name.
+/// The value of a name: a local one's, or else that to which it is bound, or the builtin function or
+/// class of that name. It raises `UnboundLocalError` for a local name without a value, and `NameError`
+/// where there is none of these.
 #[inline(never)]
 pub fn read(machine: &mut Machine, name: &str) -> Result<Value, Fault>
     ensures gives { Gives value_of result (moment_of machine.new) (read name.now (moment_of machine.old)) }
@@ -195,7 +197,8 @@ fn delete_local(alloc: Global, locals: &mut Option<Frame>, name: &str) -> Result
     }
 }
 
-/// Takes a name's value away (Python Language Reference 3, "The del statement").
+/// Takes a name's value away (Python Language Reference 3, "The del statement"). Where it has none it
+/// raises `UnboundLocalError` for a local name, and `NameError` for another.
 pub fn delete(machine: &mut Machine, name: &str) -> Result<(), Fault>
     ensures gives { Gives (λ u. u) result (moment_of machine.new) (delete name.now (moment_of machine.old)) }
     ensures sound { IsSound (λ _. true) (length machine.new.heap) result }

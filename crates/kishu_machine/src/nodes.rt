@@ -14,7 +14,7 @@ use kishu_heap::{Heap, Node};
 use kishu_model::{NodeId, Steps, Value};
 use std::sync::ledger::Ledger;
 
-/// The node of a value that has one. It takes one step of the counter.
+/// The node of a value that has one. It takes at most one step of the counter.
 pub fn node_at<'a, L: Ledger>(
     heap: &'a Heap,
     value: &Value,

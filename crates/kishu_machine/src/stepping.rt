@@ -11,7 +11,7 @@ use kishu_model::Steps;
 use std::alloc::Global;
 use std::sync::ledger::Ledger;
 
-/// Takes one step.
+/// Takes one step. `Stopped` where none is left.
 pub fn tick<L: Ledger>(machine: &mut Machine, steps: &mut Steps<L>) -> Result<(), Fault>
     ensures gives { Gives (λ u. u) result (moment_of machine.new) (tick (moment_of machine.old)) }
     ensures sound { IsSound (λ _. true) (length machine.new.heap) result }
@@ -28,7 +28,7 @@ pub fn tick<L: Ledger>(machine: &mut Machine, steps: &mut Steps<L>) -> Result<()
     Ok(())
 }
 
-/// Takes so many steps, and where there are fewer, all.
+/// Takes so many steps, and where there are fewer, all: `Stopped` then.
 pub fn spend<L: Ledger>(
     machine: &mut Machine,
     count: u128,

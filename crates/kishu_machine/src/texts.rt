@@ -15,7 +15,7 @@ pub(crate) fn push_text(out: &mut String, text: &str) -> Result<(), AllocError>
     out.push_str(text)
 }
 
-/// A text that was made.
+/// A text that was made, as values hold it: the same bytes. The error is want of memory.
 pub fn shared(text: String) -> Result<RcStr, AllocError>
     ensures { IfOk result (λ t. rc_str_bytes t ≡ string_bytes text) }
 {

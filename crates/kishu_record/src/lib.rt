@@ -1,7 +1,7 @@
 //! The bytes of a store's records.
 //!
-//! `encode` gives the body of an entry, and `decode` the entry that a body spells, or none where
-//! no entry has that body.
+//! `encode` gives the body of an entry, and `decode` the entry within the rules (at least one cell,
+//! each of at most 1,048,576 bytes of UTF-8) that a body spells, or none where no such entry has it.
 #![tactic(auto)]
 
 mod cursor;

@@ -86,11 +86,10 @@ fn commit_of(alloc: Global, head: &[u8]) -> Result<Option<Entry>, AllocError>
     }))
 }
 
-/// The entry that a record's body spells, or none where no entry has that body.
+/// The entry within the rules that a record's body spells, or none where no such entry has that body:
+/// it has a cell at least, each of UTF-8 and of at most 1,048,576 bytes.
 ///
-/// Its condition is that the body has at most 2^30 bytes. What is found has a cell at least, each of
-/// UTF-8 and of at most 1,048,576 bytes, and an entry of that kind is always found. The error is want
-/// of memory.
+/// Its condition is that the body has at most 2^30 bytes. The error is want of memory.
 #[tactic(auto, unfolding(kishu_model::specs::Record::body_of))]
 pub fn decode(alloc: Global, body: &[u8]) -> Result<Option<Entry>, AllocError>
     requires { length body.now ≤ 2 ^ 30 }

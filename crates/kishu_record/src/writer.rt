@@ -11,7 +11,7 @@ use std::rc::RcStr;
 
 /// The body of an entry's record.
 ///
-/// Its condition is that the entry's head has fewer than 2^32 bytes.
+/// Its condition is that the entry's head has fewer than 2^32 bytes. The error is want of memory.
 #[tactic(auto, unfolding(kishu_model::specs::Record::body_of))]
 pub fn encode(alloc: Global, entry: &Entry) -> Result<Vec<u8>, AllocError>
     requires { length (head_of (entry_of entry.now)) < 2 ^ 32 }

@@ -22,7 +22,7 @@ pub enum Status {
     OutputFault,
     /// Memory ran out.
     NoMemory,
-    /// The input has more bytes than a cell may have.
+    /// The input has more than 1,048,576 bytes, the most that a cell may have.
     InputTooLong,
     /// A cell would have begun with more than 2^31 nodes.
     HeapFull,
@@ -46,7 +46,8 @@ impl Status {
         }
     }
 
-    /// What the program says on standard error, without a line feed: nothing at `Done`.
+    /// What the program says on standard error, without a line feed: nothing at `Done`. The error is
+    /// want of memory.
     pub fn text(&self, alloc: Global) -> Result<String, AllocError>
         ensures { IfOk result (λ t. string_bytes t ≡ text_of self.now) }
     {

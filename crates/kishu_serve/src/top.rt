@@ -106,9 +106,13 @@ fn run_request<H: Host, L: Ledger>(
 ///
 /// The words are those of the command line without the program's name. `STORE cell` runs the whole
 /// input as one cell: it is committed to the store, and one line tells its number and its outputs.
-/// Input of more than 1,048,576 bytes isn't read to its end.
-/// At `Done` all is answered, and the store holds it whatever happens then. At any other status the
-/// store holds what it held, or the cell besides.
+/// Input that isn't UTF-8, and a cell for a store that holds 1,000,000 records, is refused in one line
+/// instead, and nothing is committed. Input of more than 1,048,576 bytes ends the run with
+/// `InputTooLong`, unless a fault of the input or want of memory comes before; of no input more than
+/// 1,052,672 bytes are taken.
+///
+/// At `Done` all is answered, and a stop from then on leaves the store with what was committed. At
+/// any other status the store holds what it held, or the cell besides.
 pub fn kishu<H: Host, S: Source, L: Ledger>(
     alloc: Global,
     words: &[String],
@@ -150,7 +154,7 @@ pub fn kishu<H: Host, S: Source, L: Ledger>(
     ensures output_fault { result ≡ OutputFault → Rises (H.state host.old).out_faults (H.state host.new).out_faults }
 
     // Input past the limit is told so once more than the limit was taken, unless the input fails or memory runs out
-    // before. Then no more is taken, and before it at most 4,096 bytes at once.
+    // before. At most 4,096 bytes past the limit are taken, however the run ends.
     ensures too_long { result ≡ InputTooLong → (S.source source.old).tells ≡ true → longest_cell + length (S.source source.new).left < length (S.source source.old).left }
     ensures limit { (S.source source.old).tells ≡ true → longest_cell < length (S.source source.old).left
         → (result ≡ InputTooLong) ⊎ (result ≡ Usage) ⊎ (result ≡ InputFault) ⊎ (result ≡ NoMemory) }
@@ -159,7 +163,7 @@ pub fn kishu<H: Host, S: Source, L: Ledger>(
     // The heap is full only where one of the cells that lead to the head, or the next one, would begin with more than 2^31 nodes.
     ensures heap_full { result ≡ HeapFull → Told (H.state host.old) ((g : Graph) × Holds (H.state host.old).file g × Fills g) }
 
-    // Where no fault came, it does its work, or memory ran out.
+    // Where no fault came, it does its work, unless memory ran out, the input is too long or the heap is full.
     ensures complete { (g : Graph) → IsGiven (H.state host.old) (S.source source.old) g → IsSome (form_of (texts words.now))
         → (Rises (H.state host.old).disk_faults (H.state host.new).disk_faults → ⊥)
         → (Rises (H.state host.old).out_faults (H.state host.new).out_faults → ⊥)
@@ -170,7 +174,8 @@ pub fn kishu<H: Host, S: Source, L: Ledger>(
     ensures good { result ≡ Done → Told (H.state host.old) ((g : Graph) × Holds (H.state host.old).file g) }
     ensures bad { Told (H.state host.old) (((g : Graph) → Holds (H.state host.old).file g → ⊥) → (H.state host.new).file ≡ (H.state host.old).file) }
 
-    // Each step of the cells that are run is counted, and none is where no store is opened.
+    // Done: each step of the cells that were run is counted. Where the words, a fault of the input or its length end
+    // the run, none is.
     ensures counted { result ≡ Done → (g : Graph) → IsGiven (H.state host.old) (S.source source.old) g
         → steps.old + replay_charge g g.head.commit + charges g (task (form_of (texts words.now)) (S.source source.old).left) ≤ steps.new }
     ensures idle { (result ≡ Usage) ⊎ (result ≡ InputFault) ⊎ (result ≡ InputTooLong) → steps.new ≡ steps.old }
