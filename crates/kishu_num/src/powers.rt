@@ -26,7 +26,7 @@ fn raise(base: i128, exponent: u128) -> Result<i128, NumFault>
 
 /// `a ** b` (Python Language Reference 3, "The power operator"), with 1 for `0 ** 0`.
 /// [`NumFault::NegativePower`] where `b` is negative, else [`NumFault::Overflow`] where the power
-/// lies outside -2^127 to 2^127-1. It takes at most two multiplications for each binary digit of `b`.
+/// lies outside -2^127 to 2^127-1.
 pub fn power(a: i128, b: i128) -> Result<i128, NumFault>
     ensures { result ≡ raised_to a b }
 {

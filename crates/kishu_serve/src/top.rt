@@ -133,8 +133,8 @@ pub fn kishu<H: Host, S: Source, L: Ledger>(
         → Elapses (H.state host.old) (H.state host.new)
         (λ c o. Now (H.state host.old) c o ⊎ IsPart (H.state host.old) g (task (form_of (texts words.now)) (S.source source.old).left) c o) }
 
-    // Once a sync has succeeded, a stop leaves nothing but that. Where the disk failed before it, all is as it was, and a
-    // stop leaves nothing that a stop at the start couldn't leave.
+    // At an exit a stop leaves nothing but that, unless the host was never called, or the disk failed and all is as it
+    // was: then a stop leaves nothing that a stop at the start couldn't leave.
     ensures settled { (g : Graph) → IsGiven (H.state host.old) (S.source source.old) g
         → (host.new ≡ host.old) ⊎ ((result ≡ DiskFault) × Keeps (H.state host.old) (H.state host.new))
         ⊎ ((c : List ℕ) → (H.state host.new).may_leave c → IsPart (H.state host.old) g (task (form_of (texts words.now)) (S.source source.old).left) c (H.state host.new).out) }
