@@ -75,7 +75,7 @@ impl Heap {
         &self.nodes[id.0 as usize]
     }
 
-    /// A node, where there is one of this number. It takes one step of the counter.
+    /// A node, where there is one of this number. It takes at most one step of the counter.
     pub(crate) fn node_at<L: Ledger>(&self, id: NodeId, steps: &mut Steps<L>) -> Option<&Node>
         ensures node { option_map (λ n. node_of n.now) result ≡ slice_get self.now id.0 }
         ensures counted { steps.new ≤ steps.old + 1 }
@@ -224,8 +224,8 @@ impl Heap {
     }
 
     /// Whether an item is a value: the same, or equal (Python Language Reference 3, "Membership test
-    /// operations"). The pair takes a step of the budget, and then those of `equal`; faults are as
-    /// there.
+    /// operations"). The pair takes a step of the budget. If the two are the same, only texts take
+    /// more, their code points; else the steps of `equal` follow. Faults are as there.
     pub fn is_item<L: Ledger>(
         &self,
         item: &Value,

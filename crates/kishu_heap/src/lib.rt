@@ -2,8 +2,8 @@
 //! them (Python Language Reference 3, "Objects, values and types" and "Value comparisons").
 //!
 //! Each call that changes the heap changes one node as its name says, or adds nodes at its end, and
-//! leaves it as it was where memory runs out. `node` is the only way to read a node, and takes one
-//! step of the counter.
+//! leaves it as it was where memory runs out. A node of another kind than the call is for stays as
+//! it is. `node` alone hands a node out, in one step of the counter.
 #![tactic(auto)]
 
 mod compare;

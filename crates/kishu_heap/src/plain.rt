@@ -127,7 +127,7 @@ fn steps_between(step: u128, from: i128, to: i128) -> u128
     }
 }
 
-/// How many numbers a range has (Library Reference, "Ranges").
+/// How many numbers a range has (Library Reference, "Ranges"): none where the step is 0.
 pub fn range_length(start: i128, stop: i128, step: i128) -> u128
     ensures { result ≡ range_length start stop step }
 {
@@ -203,7 +203,8 @@ pub(crate) fn is_less(a: &Value, b: &Value) -> Option<bool>
     is_less_text(a, b)
 }
 
-/// How many steps a comparison of two values takes by itself.
+/// How many steps a comparison of two values takes by itself: the code points of the shorter of two
+/// texts, and else none.
 pub fn pair_steps(a: &Value, b: &Value) -> usize
     ensures { result ≡ pair_steps (value_of a.now) (value_of b.now) }
 {

@@ -20,18 +20,25 @@ use std::alloc::{AllocError, Global};
 use std::rc::RcStr;
 use std::sync::ledger::Ledger;
 
+/// The class `OverflowError`.
 pub const OVERFLOW_ERROR: ClassId = ClassId(10);
 
+/// The class `ZeroDivisionError`.
 pub const ZERO_DIVISION_ERROR: ClassId = ClassId(11);
 
+/// The class `IndexError`.
 pub const INDEX_ERROR: ClassId = ClassId(15);
 
+/// The class `KeyError`.
 pub const KEY_ERROR: ClassId = ClassId(16);
 
+/// The class `RecursionError`.
 pub const RECURSION_ERROR: ClassId = ClassId(21);
 
+/// The class `TypeError`.
 pub const TYPE_ERROR: ClassId = ClassId(23);
 
+/// The class `ValueError`.
 pub const VALUE_ERROR: ClassId = ClassId(24);
 
 /// An exception of this class with this text.
@@ -111,7 +118,7 @@ fn both_quoted(alloc: Global, front: &str, left: &str, right: &str) -> Result<St
     format!(in alloc; "bad operand types for {front}: '{left}' and '{right}'")
 }
 
-/// What is said of two values that have no order.
+/// What is said of two values that an operator or a comparison of this sign doesn't take.
 pub fn bad_operands_text<L: Ledger>(
     alloc: Global,
     sign: &str,
@@ -164,7 +171,8 @@ pub fn unhashable_text<L: Ledger>(
     RcStr::from_string(quoted(alloc, "unhashable key: ", kind, "")?)
 }
 
-/// What a comparison answers, or how it ends without an answer.
+/// What a comparison answers, or how it ends without an answer: nodes that lie too deep are a
+/// RecursionError.
 pub fn compared<T>(alloc: Global, answer: Result<T, CompareFault>) -> Result<T, CallFault>
     ensures { (e : Counted T) (s : Moment) (left : _) → compared.Gives answer left e → Gives (λ x. x) result (record s { left = left }) (ended_in s e) }
 {

@@ -30,7 +30,7 @@ pub fn number_in(value: &Value) -> Option<i128>
     }
 }
 
-/// The whole number that an index is.
+/// The whole number that an index is, or a TypeError.
 pub fn index_of<L: Ledger>(
     alloc: Global,
     value: &Value,
@@ -48,7 +48,8 @@ pub fn index_of<L: Ledger>(
     }
 }
 
-/// The place among so many that an index says; a negative one counts from the end.
+/// The place among so many that an index says, where there is one; a negative one counts from the
+/// end.
 pub fn place_in(len: usize, index: i128) -> Option<usize>
     ensures { result ≡ place_in len index }
 {
@@ -76,7 +77,8 @@ pub fn place_of(alloc: Global, len: usize, index: i128) -> Result<usize, CallFau
     }
 }
 
-/// The place to which an index is brought, from 0 to the length.
+/// The place to which an index is brought, from 0 to the length; a negative one counts from the
+/// end.
 pub fn bound_in(len: usize, index: i128) -> usize
     ensures value { result ≡ bound_in len index }
     ensures within { result ≤ len }

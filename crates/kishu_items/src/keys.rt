@@ -128,7 +128,8 @@ fn node_key<L: Ledger>(
     }
 }
 
-/// The key that a value is, or a TypeError. A tuple takes its length.
+/// The key that a value is, or a TypeError. A tuple takes its length in steps, before its items are
+/// looked at.
 pub fn key_of<L: Ledger>(
     alloc: Global,
     value: &Value,
@@ -224,7 +225,7 @@ fn values_of_parts(alloc: Global, parts: &[KeyPart]) -> Result<Vec<Value>, Alloc
     Ok(values)
 }
 
-/// The value that a key is. A tuple is a new node, and takes its length.
+/// The value that a key is. A tuple is a new node, and takes its length in steps.
 pub fn value_of_key<L: Ledger>(
     alloc: Global,
     key: &Key,
@@ -272,7 +273,7 @@ fn new_tuple<L: Ledger>(
     Ok(Value::Node(heap.make(Node::Tuple(values))?))
 }
 
-/// The values that keys are, in order. Each tuple is a new node, and takes its length.
+/// The values that keys are, in order. Each tuple is a new node, and takes its length in steps.
 pub fn values_of_keys<L: Ledger>(
     alloc: Global,
     keys: &[Key],

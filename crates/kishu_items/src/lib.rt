@@ -1,6 +1,7 @@
 //! What the calls of methods, of builtin functions and of the interpreter share: values as keys of a
 //! dict, the items of sequences, indexes, truth, order, and the exceptions that tell a value's kind.
-//! Each step that is taken from the budget is counted.
+//! Each step that is taken from the budget is counted. An `AllocError`, or the fault `NoMemory`,
+//! says that no memory is left.
 #![tactic(auto)]
 
 mod faults;

@@ -173,7 +173,8 @@ pub fn not_iterable<L: Ledger>(
     raise(TYPE_ERROR, not_iterable_text(alloc, value, heap, steps)?)
 }
 
-/// The items of a sequence.
+/// The items of a sequence, or a TypeError: a dict has its keys, of which those that are tuples are
+/// new nodes and take their length in steps.
 pub fn items_of<L: Ledger>(
     alloc: Global,
     value: &Value,
@@ -204,7 +205,8 @@ pub fn items_of<L: Ledger>(
     }
 }
 
-/// The items of a sequence, after a step for each of them. Keys that are tuples are new nodes.
+/// The items of a sequence, after a step for each of them, or a TypeError. Keys that are tuples are
+/// new nodes, and take their length in steps besides.
 pub fn walked<L: Ledger>(
     alloc: Global,
     value: &Value,
@@ -229,7 +231,7 @@ pub fn walked<L: Ledger>(
     items_of(alloc, value, heap, budget, steps)
 }
 
-/// The same for a call whose answer is a value.
+/// The TypeError for a value that isn't a sequence, from a call whose answer is a value.
 pub fn not_iterable_value<L: Ledger>(
     alloc: Global,
     value: &Value,

@@ -28,7 +28,8 @@ fn binary_digits(number: u64) -> u64
     count
 }
 
-/// How many steps sorting takes.
+/// How many steps it takes to sort so many items: their number times the count of its binary
+/// digits, and their number once more.
 pub fn sort_steps(len: u64) -> u128
     ensures { result ≡ sort_steps len }
 {
@@ -107,7 +108,8 @@ fn sort_texts(items: &mut Vec<Value>) -> Result<(), AllocError>
     items.sort_by(|a, b| text_order(a, b))
 }
 
-/// The items in order, where all are numbers or all are texts.
+/// The items in order, where all are numbers or all are texts, and else `None` (Library Reference,
+/// "Built-in Functions": sorted).
 pub fn in_order(mut items: Vec<Value>) -> Result<Option<Vec<Value>>, AllocError>
     ensures { IfOk result (λ o. option_map (λ v. map value_of v.items) o ≡ in_order (map value_of items.items)) }
 {

@@ -8,7 +8,7 @@ use kishu_heap::CallFault;
 use kishu_model::{Budget, Steps};
 use std::sync::ledger::Ledger;
 
-/// Takes so many steps, and where there are fewer, all.
+/// Takes so many steps. Where there are fewer it takes all, and answers `Spent`.
 pub fn spend<L: Ledger>(
     count: u128,
     budget: &mut Budget,

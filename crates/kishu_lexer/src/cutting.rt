@@ -91,7 +91,7 @@ fn layout(alloc: Global, text: &[char]) -> Result<Vec<Token>, SyntaxFault>
 /// The tokens of a text of at most 1,048,576 bytes, under the rules of a profile (Python Language
 /// Reference 3, "Lexical analysis"). Their places count bytes of the text as `plain_lines` gives it;
 /// they are in order, at the edges of its characters. Syntax says that the text has no tokens, with
-/// the line, from 1, of the fault that comes first.
+/// the line, from 1, of the fault that comes first; NoMemory says nothing of the text.
 pub fn tokens(alloc: Global, profile: Profile, text: &str) -> Result<Vec<Token>, SyntaxFault>
     requires { length text.now ≤ 1048576 }
     ensures ok { IfOk result (λ v. tokens.tokens profile text.now ≡ Ok (tokens_of v.items)) }
@@ -104,8 +104,8 @@ pub fn tokens(alloc: Global, profile: Profile, text: &str) -> Result<Vec<Token>,
     ensures boundaries { IfOk result (λ v. Placed (encode_utf8_all (plain_lines (chars text.now))) v.items) }
 
     // They are those that the rules alone give: the rules of texts, numbers, names and operators, and
-    // those of lines, brackets and indentation, as languages; and where these rules give tokens, no
-    // fault is answered.
+    // those of lines, brackets and indentation, as relations in which nothing is read; and where
+    // these rules give tokens, the answer is those tokens or NoMemory.
     ensures rules { IfOk result (λ v. ByRules (plain_lines (chars text.now)) (tokens_of v.items)) }
     ensures only { (ts : List spec.Token) → ByRules (plain_lines (chars text.now)) ts → MatchResult result (λ v. tokens_of v.items ≡ ts) (λ e. e ≡ SyntaxFault.NoMemory) }
 

@@ -1,9 +1,10 @@
 use std::alloc::AllocError;
 
-/// Why a text has no tokens or no tree.
+/// Why a text isn't read: as tokens, as a tree, or as one function's code.
 #[derive(Debug, PartialEq, Eq, Drop)]
 pub enum SyntaxFault {
-    /// It breaks a rule of the language; `line`, from 1, is the line of the fault that comes first.
+    /// It isn't what the call reads. `line`, from 1, is the line of its fault, and each call says
+    /// which one that is.
     Syntax { line: u32 },
     /// Memory ran out. Nothing is said of the text.
     NoMemory,

@@ -1,6 +1,5 @@
 //! Cuts a text into its tokens (Python Language Reference 3, "Lexical analysis"): exactly those
-//! that `kishu_model`'s definition says, or the line of the fault that comes first in the text. No
-//! call recurses.
+//! that `kishu_model`'s definition says, or the line of the fault that comes first in the text.
 #![tactic(auto)]
 
 mod blanks;

@@ -76,7 +76,8 @@ pub(crate) fn text_of(alloc: Global, characters: &[char]) -> Result<String, Allo
     Ok(out)
 }
 
-/// A text in which each carriage return with a line feed, and each lone one, is one line feed.
+/// A text in which each carriage return with a line feed, and each lone one, is one line feed. An
+/// error says that no memory is left.
 pub fn plain_lines(alloc: Global, text: &str) -> Result<String, AllocError>
     ensures { IfOk result (λ s. string_bytes s ≡ encode_utf8_all (spec.plain_lines (chars text.now))) }
 {

@@ -110,7 +110,8 @@ fn doubled(next: char, longer: Mark, shorter: Mark) -> Option<(Mark, usize)>
     }
 }
 
-/// The longest operator or delimiter that begins with these three characters.
+/// The longest operator or delimiter with which these three characters begin, and how many of them
+/// it takes.
 #[tactic(auto, unfolding(kishu_model::specs::Marks::operator))]
 pub(crate) fn operator(b: char, c: char, d: char) -> Option<(Mark, usize)>
     ensures value { result ≡ spec.operator b c d }

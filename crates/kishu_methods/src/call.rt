@@ -62,9 +62,10 @@ fn node_method<L: Ledger>(
     }
 }
 
-/// What a method of a value gives (Library Reference, "Built-in Types"). `Raise` and `RaiseWith` are
-/// the exception's class and its text or value, `Spent` says that the budget's steps are taken. After
-/// these three the nodes that were there are as before; `NoMemory` says nothing of them.
+/// What a method of a value gives (Library Reference, "Built-in Types"); the value must have a
+/// method of this name. `Raise` and `RaiseWith` are the exception's class and its text or value,
+/// `Spent` says that the budget's steps are taken. After these three the nodes that were there are
+/// as before; `NoMemory` says nothing of them.
 pub fn call_method<L: Ledger>(
     alloc: Global,
     receiver: &Value,

@@ -92,7 +92,7 @@ pub struct Token {
     pub kind: TokenKind,
     /// The line on which it begins, from 1.
     pub line: u32,
-    /// The place of its first byte, in the text with plain line ends.
+    /// The place of its first byte, from 0, in the text with plain line ends.
     pub start: u32,
     /// The place behind its last byte.
     pub end: u32,

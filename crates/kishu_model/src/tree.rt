@@ -34,7 +34,7 @@ pub enum Comparison {
 }
 
 /// An expression, a target or several of them (Python Language Reference 3, "Expressions"). Each
-/// repetition is a list, so a tree is no deeper than a few levels for each nesting of its text.
+/// repetition is one list, so it is one level of the tree, however long it is.
 #[cycle(expression)]
 #[derive(Drop)]
 pub enum Expr {
@@ -122,9 +122,9 @@ pub struct Pair {
     pub value: Expr,
 }
 
-/// A statement (Python Language Reference 3, "Simple statements" and "Compound statements"). A
-/// block has one statement at least, so an empty list stands for an `else` or `finally` that is
-/// absent.
+/// A statement (Python Language Reference 3, "Simple statements" and "Compound statements"). The
+/// grammar wants one statement at least in a block, so an empty list stands for an `else` or
+/// `finally` that is absent.
 #[cycle(statement)]
 #[derive(Drop)]
 pub enum Stmt {
@@ -149,6 +149,7 @@ pub enum Stmt {
     While(Expr, Vec<Stmt>),
     /// The targets, what is walked, and the block.
     For(Expr, Expr, Vec<Stmt>),
+    /// The block, its handlers, the block of `else` (`other`) and that of `finally` (`last`).
     Try {
         body: Vec<Stmt>,
         handlers: Vec<Handler>,

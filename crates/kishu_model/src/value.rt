@@ -25,7 +25,7 @@ pub enum Value {
     /// A whole number of -2^127 to 2^127-1.
     Int(i128),
     Text(RcStr),
-    /// The start, the stop and the step, which isn't 0.
+    /// The start, the stop and the step. In a sound value (`specs/Sound`) the step isn't 0.
     Range(i128, i128, i128),
     Builtin(Builtin),
     Class(ClassId),
@@ -33,7 +33,7 @@ pub enum Value {
 }
 
 impl Value {
-    /// The same value once more. A text is shared.
+    /// The same value once more. An error says that no memory is left.
     pub fn copied(&self) -> Result<Value, AllocError>
         ensures { IfOk result (λ v. value_of v ≡ value_of self.now) }
     {

@@ -1,7 +1,7 @@
 //! The names that a session has bound, and the record of those that were accessed.
 //!
 //! `get`, `bind` and `unbind` record the name, also where it isn't bound; `restore` and `peek`
-//! don't. A look-up costs a logarithm of the number of names. `is_name` tells which texts are names.
+//! don't. `is_name` tells which texts are names.
 #![tactic(auto)]
 
 mod identifier;

@@ -155,7 +155,7 @@ impl Names {
         found(&self.bound, name)
     }
 
-    /// The names that are bound, in byte order and each once.
+    /// The names that are bound, in byte order and each once. An error says that no memory is left.
     pub fn names(&self) -> Result<Vec<RcStr>, AllocError>
         ensures names { IfOk result (λ names. map rc_str_bytes names.items ≡ map (λ b. b.0) self.now.bound) }
         ensures order { Rises (map (λ b. b.0) self.now.bound) }
@@ -182,7 +182,7 @@ impl Names {
     }
 
     /// Puts a record that was taken out in the place of the present one, whose names are added to it.
-    /// Where there is no memory for them, some aren't.
+    /// An error says that no memory is left, and nothing of which names the record has then.
     pub fn join_record(&mut self, earlier: Vec<RcStr>) -> Result<(), AllocError>
         requires order { Rises (texts_of earlier.items) }
         ensures bound { self.new.bound ≡ self.old.bound }

@@ -10,8 +10,7 @@
 //! - [`power`] answers [`NumFault::NegativePower`] exactly where the exponent is negative.
 //! - [`read_int`] reads the texts that its rule allows, and no other, and [`write_int`] writes the
 //!   decimal text.
-//! - No call but `write_int` takes memory, and `power` takes at most two multiplications for each
-//!   binary digit of the exponent.
+//! - No call but `write_int` can fail for want of memory.
 //!
 //! `specs/Numbers` of `kishu_model` says what the operators and the reading of a text mean, and
 //! `specs/NumberLaws` that quotient and remainder are the only ones. `specs/Results` has the answers.

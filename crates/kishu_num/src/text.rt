@@ -60,7 +60,7 @@ pub fn read_int(text: &str) -> Option<i128>
 }
 
 /// The decimal text of a number, as `str` writes it (Python Standard Library, "Built-in Types"): no
-/// leading zeros, and a `-` where the number is negative. It takes memory for the text alone.
+/// leading zeros, and a `-` where the number is negative. An error says that no memory is left.
 pub fn write_int(alloc: Global, n: i128) -> Result<String, AllocError>
     ensures { IfOk result (λ text. string_bytes text ≡ signed_decimal n) }
 {

@@ -1,6 +1,6 @@
 //! Reads the tree of a text (Python Language Reference 3, "Full Grammar specification"): exactly the
-//! one that `kishu_model`'s grammar says, or the line of its fault. It goes once through the tokens,
-//! and recurses no deeper than a few levels for each nesting, of which a text has at most 60.
+//! one that `kishu_model`'s grammar says, or the line of its fault. However long the text is, its
+//! tree is no higher than 611.
 #![tactic(auto)]
 
 mod blocks;

@@ -17,7 +17,7 @@ use std::alloc::{AllocError, Global};
 /// The tree of a text of at most 1,048,576 bytes, under the rules of a profile (Python Language
 /// Reference 3, "Full Grammar specification"). Syntax says that it has none, with the line of its
 /// fault: the line of the first fault of its tokens, else the line on which the first of its
-/// top-level pieces begins that the grammar doesn't read.
+/// top-level pieces begins that the grammar doesn't read. NoMemory says nothing of the text.
 pub fn parse(alloc: Global, profile: Profile, text: &str) -> Result<Program, SyntaxFault>
     requires { length text.now ≤ 1048576 }
     ensures found { IfOk result (λ p. Parse profile text.now (program_of p)) }
@@ -41,7 +41,8 @@ pub fn parse(alloc: Global, profile: Profile, text: &str) -> Result<Program, Syn
 }
 
 /// The top-level pieces of a text of at most 1,048,576 bytes, in order, each with the line on which
-/// it begins. Syntax says that it has no tree, with the line of its fault, as `parse` does.
+/// it begins. Syntax says that it has no tree, with the line of its fault, as `parse` does;
+/// NoMemory says nothing of the text.
 pub fn parse_pieces(alloc: Global, profile: Profile, text: &str) -> Result<Vec<Piece>, SyntaxFault>
     requires { length text.now ≤ 1048576 }
     ensures found { IfOk result (λ v. HasPieces profile text.now (map piece_of v.items)) }
@@ -65,7 +66,8 @@ pub fn parse_pieces(alloc: Global, profile: Profile, text: &str) -> Result<Vec<P
 
 /// The function whose code a text of at most 1,048,576 bytes is (Python Language Reference 3,
 /// "Function definitions"). Syntax says that it isn't one function's code and nothing else: with the
-/// line of its fault where it has no tree, else with line 1.
+/// line of its fault where it has no tree, as `parse` tells it, else with line 1. NoMemory says
+/// nothing of the text.
 pub fn parse_def(alloc: Global, profile: Profile, text: &str) -> Result<Def, SyntaxFault>
     requires { length text.now ≤ 1048576 }
     ensures found { IfOk result (λ d. ParseDef profile text.now (definition_of d)) }

@@ -26,7 +26,7 @@ use std::alloc::Global;
 use std::rc::RcStr;
 use std::sync::ledger::Ledger;
 
-/// A node, where there is one of this number. It takes one step of the counter.
+/// A node, where there is one of this number. It takes at most one step of the counter.
 pub(crate) fn node_at<'a, L: Ledger>(
     heap: &'a Heap,
     id: NodeId,
@@ -461,9 +461,9 @@ fn push_attribute<L: Ledger>(
 
 /// The repr of a value, as Python's `repr` makes it (Library Reference, "Built-in Functions": repr):
 /// lists, tuples, dicts and objects with what is in them, and a node that is being shown already as
-/// three dots in its brackets. Each code point is a step of the budget and of the counter. `Depth`
-/// comes where nodes lie deeper in one another than is allowed, `Spent` where no step is left, and
-/// `NoMemory` where memory is. The heap stays as it is.
+/// three dots in its brackets. Each code point takes a step of the budget, and the counter rises by
+/// at least these steps. `Depth` comes where nodes lie deeper in one another than is allowed,
+/// `Spent` where no step is left, and `NoMemory` where no memory is. The heap stays as it is.
 pub fn repr_of<L: Ledger>(
     alloc: Global,
     value: &Value,

@@ -1,6 +1,6 @@
-//! Work on texts by their code points: length, element, slice, occurrences of a part, white space
-//! and the repr. Each call gives exactly what `kishu_model`'s definition of it gives for the text's
-//! list of code points; places and lengths count code points, and never bytes. No call recurses.
+//! Work on texts by their code points: length, element, slice, order, occurrences of a part, white
+//! space and the repr. Each call gives exactly what its definition gives for the text's list of
+//! code points; places and lengths count code points, and never bytes.
 #![tactic(auto)]
 
 mod cursor;
