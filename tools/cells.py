@@ -6,7 +6,7 @@ Usage: tools/cells.py antt FOLDER                 (crates/kishu_rows/proofs, for
                                                    those over nodes, Node..Cells.antt and the
                                                    like, and those of functions and builtin functions)
        tools/cells.py rust CELLS                  (crates/kishu_tests/src/serve/cells.rt: answers in JSON)
-       tools/cells.py told CELLS                  (crates/kishu_tests/src/interp/cells.rt: the same in plain words)
+       tools/cells.py told CELLS                  (crates/kishu_interp_tests/src/interp/cells.rt: the same in plain words)
 
 A cell is read by CPython's `ast.parse` and run by the small machine of cell_machine.py and
 node_machine.py, which counts the steps. Each cell of SAME also runs in CPython, and prints, shows,

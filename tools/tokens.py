@@ -1,7 +1,7 @@
 #!/usr/bin/env python3
 """Makes the table of texts and their tokens by which the lexer is tested.
 
-Usage: tools/tokens.py rust      crates/kishu_tests/src/lexer/table.rt
+Usage: tools/tokens.py rust      crates/kishu_syntax_tests/src/lexer/table.rt
        tools/tokens.py antt      crates/kishu_rows/proofs/TokenExamples.antt
 
 Where the language agrees with Python the tokens come from CPython's `tokenize`, with their lines

@@ -4,7 +4,7 @@ tested.
 
 Usage: tools/trees.py antt TREES FAULTS OTHERS    (TreeExamples.antt, FaultExamples.antt and
                                                    OtherExamples.antt in crates/kishu_rows/proofs)
-       tools/trees.py rust                        (crates/kishu_tests/src/parser/table.rt)
+       tools/trees.py rust                        (crates/kishu_syntax_tests/src/parser/table.rt)
 
 The texts stand in tree_texts.py, and their trees come from CPython (python_trees.py). A text that
 CPython doesn't take as tree_texts.py says is told on standard error.
