@@ -1,5 +1,5 @@
 //! The store file of the operating system. Whatever a call leaves undone is an error.
-ghost use Rattle.std.specs.Prelude.{◌≡◌, ◌≤◌, ◌<ℤ◌, pos, false, length, IfOk};
+ghost use Rattle.std.specs.Prelude.{◌≡◌, ◌≤◌, ◌<ℤ◌, ◌≤ℤ◌, ◌+◌, pos, min, true, false, length, IfOk};
 ghost use Rattle.std.specs.Fd.{file_raw_fd};
 
 use std::fs::{File, OpenOptions};
@@ -47,7 +47,8 @@ fn open_once(rt: &HostRuntime, path: &str) -> io::Result<File> {
 }
 
 fn has_stream_number(file: &File) -> bool
-    ensures { result ≡ false → pos 2 <ℤ file_raw_fd file.now }
+    ensures stream { result ≡ true → file_raw_fd file.now ≤ℤ pos 2 }
+    ensures other { result ≡ false → pos 2 <ℤ file_raw_fd file.now }
 {
     file.as_raw_fd() <= LAST_STREAM
 }
@@ -86,7 +87,9 @@ pub fn write_all(file: &File, at: u64, bytes: &[u8]) -> io::Result<()> {
 }
 
 /// The place `count` bytes behind another. A place past 2^64-1, which no file has, is 2^64-1.
-fn place_behind(at: u64, count: usize) -> u64 {
+fn place_behind(at: u64, count: usize) -> u64
+    ensures { result ≡ min (at + count) 18446744073709551615 }
+{
     at.saturating_add(count as u64)
 }
 

@@ -32,7 +32,11 @@ pub struct RealHost<'a> {
 
 impl<'a> RealHost<'a> {
     /// The file at `path`, which isn't opened yet, and standard output, without a fault so far.
-    pub fn new(rt: &'a HostRuntime, path: &'a str) -> RealHost<'a> {
+    pub fn new(rt: &'a HostRuntime, path: &'a str) -> RealHost<'a>
+        ensures unopened { result.store ≡ Store.Unopened }
+        ensures disk { result.disk_faults ≡ 0 }
+        ensures out { result.out_faults ≡ 0 }
+    {
         RealHost {
             rt,
             path,
@@ -128,7 +132,9 @@ pub struct RealSource<'a> {
 
 impl<'a> RealSource<'a> {
     /// Standard input, without a fault so far.
-    pub fn new(rt: &'a HostRuntime) -> RealSource<'a> {
+    pub fn new(rt: &'a HostRuntime) -> RealSource<'a>
+        ensures { result.in_faults ≡ 0 }
+    {
         RealSource { rt, in_faults: 0 }
     }
 }
