@@ -1,2 +1,5 @@
 pub mod Silent
 pub mod Words
+pub mod Calls
+pub mod Faults
+pub mod Adapters

@@ -4,16 +4,20 @@
 
 ghost use Rattle.std.specs.Prelude.{◌≡◌, ◌<◌};
 
-mod file;
+mod call;
+mod os;
 mod real;
-mod streams;
+mod record;
+mod system;
 #[cfg(test)]
 mod tests;
+mod transfer;
 mod words;
 
 use kishu_host::{Host, MemHost};
 use kishu_model::Steps;
 use kishu_serve::{Status, kishu};
+use os::{Os, OsInput};
 use real::{RealHost, RealSource};
 use std::alloc::Global;
 use std::marker::Brand;
@@ -34,9 +38,9 @@ fn run(rt: &HostRuntime) -> Status {
         Ok(words) => words,
         Err(status) => return status,
     };
-    let mut source = RealSource::new(rt);
+    let mut source = RealSource::new(OsInput::new(rt));
     if let Some(path) = store_path(&words) {
-        let mut host = RealHost::new(rt, path);
+        let mut host = RealHost::new(Os::new(rt, path));
         return run_on(alloc, &words, &mut source, &mut host);
     }
     let Ok(mut host) = MemHost::new(alloc, Vec::new(alloc), 0, Vec::new(alloc), None) else {
@@ -49,7 +53,7 @@ fn run(rt: &HostRuntime) -> Status {
 fn run_on<H: Host>(
     alloc: Global,
     words: &[String],
-    source: &mut RealSource,
+    source: &mut RealSource<OsInput>,
     host: &mut H,
 ) -> Status {
     run_counted::<Brand, H>(alloc, words, source, host, Blank::new(1))
@@ -59,7 +63,7 @@ fn run_on<H: Host>(
 fn run_counted<L: Ledger, H: Host>(
     alloc: Global,
     words: &[String],
-    source: &mut RealSource,
+    source: &mut RealSource<OsInput>,
     host: &mut H,
     blank: Blank,
 ) -> Status

@@ -1,69 +1,81 @@
-//! The store file and the streams of the operating system as a host and a source. They tell nothing
-//! of content, since nothing is proved of what the system gives and takes.
-ghost use Rattle.std.specs.Prelude.{◌≡◌, ◌≤◌, Ok, IfOk, length};
+//! The store file and the streams of a system as a host and a source. They tell nothing of content. Their clauses tell which calls
+//! of the system they made, and what they answered by its answers.
+ghost use Rattle.std.specs.Prelude.{◌≡◌};
 ghost use Rattle.kishu_host.specs.Host.{HasCause};
+ghost use Rattle.kishu_cli.specs.Adapters.{Opens, passed, counted};
 
-use crate::{file, streams};
+use crate::system::{Input, System};
+use crate::transfer;
+use crate::transfer::Sink;
 use kishu_host::{Failed, Host, Source};
-use std::fs::File;
-use std::io;
 
-/// A file that is opened where it is needed first.
-#[derive(Drop)]
-enum Store {
+/// Whether the store file is open.
+#[derive(Clone, Copy)]
+pub enum Store {
+    /// It wasn't asked for yet.
     Unopened,
-    Open(File),
+    /// It is open.
+    Open,
     /// It couldn't be opened, and isn't tried again.
     Failed,
 }
 
-/// The store file at a path, and standard output.
+/// The store file and standard output of a system.
 ///
 /// The file is opened at the first call that needs it, so a run that needs none makes none. Where it
-/// can't be opened, this call and each later one that needs it fails.
+/// can't be opened, this call and each later one that needs it fails and is counted.
 #[derive(Drop)]
-pub struct RealHost<'a> {
-    rt: &'a HostRuntime,
-    path: &'a str,
+pub struct RealHost<S> {
+    system: S,
     store: Store,
     disk_faults: u64,
     out_faults: u64,
 }
 
-impl<'a> RealHost<'a> {
-    /// The file at `path`, which isn't opened yet, and standard output, without a fault so far.
-    pub fn new(rt: &'a HostRuntime, path: &'a str) -> RealHost<'a>
+impl<S: System> RealHost<S> {
+    /// The file, which isn't opened yet, and standard output, without a fault so far.
+    pub fn new(system: S) -> RealHost<S>
+        ensures system { result.system ≡ system }
         ensures unopened { result.store ≡ Store.Unopened }
         ensures disk { result.disk_faults ≡ 0 }
         ensures out { result.out_faults ≡ 0 }
     {
         RealHost {
-            rt,
-            path,
+            system,
             store: Store::Unopened,
             disk_faults: 0,
             out_faults: 0,
         }
     }
-}
 
-/// The file, which is opened where that wasn't tried yet.
-fn opened<'f>(rt: &HostRuntime, path: &str, store: &'f mut Store) -> io::Result<&'f File> {
-    if matches!(store, Store::Unopened) {
-        *store = Store::Failed;
-        *store = Store::Open(file::open(rt, path)?);
-    }
-    match store {
-        Store::Open(file) => Ok(file),
-        Store::Unopened | Store::Failed => Err(io::ErrorKind::Other.into()),
+    /// Opens the file where that wasn't tried yet, and answers whether it is open.
+    fn ensure_open(&mut self) -> bool
+        ensures opens { Opens self.old.store (S.history self.old.system) self.new.store (S.history self.new.system) result }
+        ensures disk { self.new.disk_faults ≡ self.old.disk_faults }
+        ensures out { self.new.out_faults ≡ self.old.out_faults }
+    {
+        match self.store {
+            Store::Open => true,
+            Store::Failed => false,
+            Store::Unopened => match self.system.open() {
+                Ok(()) => {
+                    self.store = Store::Open;
+                    true
+                }
+                Err(_) => {
+                    self.store = Store::Failed;
+                    false
+                }
+            },
+        }
     }
 }
 
 /// The answer of a call. An error raises the count, which stands still at 2^64-1.
-fn counted<T: Drop>(answer: io::Result<T>, count: &mut u64) -> Result<T, Failed>
-    ensures same { IfOk result (λ x. answer ≡ Ok x) }
+fn counted<T: Drop, E: Drop>(answer: Result<T, E>, count: &mut u64) -> Result<T, Failed>
+    ensures same { result ≡ passed answer }
     ensures cause { HasCause count.old count.new result }
-    ensures no_fall { count.old ≤ count.new }
+    ensures count { count.new ≡ counted result count.old }
 {
     match answer {
         Ok(x) => Ok(x),
@@ -74,7 +86,14 @@ fn counted<T: Drop>(answer: io::Result<T>, count: &mut u64) -> Result<T, Failed>
     }
 }
 
-impl Host for RealHost<'_> {
+impl<S: System> Host for RealHost<S> {
+    ghost use Rattle.std.specs.Prelude.{◌≡◌, ◌≤◌, ◌⊎◌, [], ◌∷◌, length, take, Ok, Err, IfOk, OnOk, OnErr};
+    ghost use Rattle.kishu_host.specs.Host.{HasCause};
+    ghost use Rattle.kishu_cli.specs.declared.call.Call.TheVariants.{Length, Sync, Flush};
+    ghost use Rattle.kishu_cli.specs.declared.call.Fault.{Fault};
+    ghost use Rattle.kishu_cli.specs.Calls.{History, HasRead, CannotRead, Sending, CannotSend};
+    ghost use Rattle.kishu_cli.specs.declared.transfer.Sink.TheVariants.{File, Output};
+    ghost use Rattle.kishu_cli.specs.Adapters.{OnFile, CannotOnFile, counted};
     ghost use Rattle.kishu_cli.specs.Silent.{silent_host, not_told};
 
     ghost state = { λ s. silent_host s.disk_faults s.out_faults };
@@ -85,67 +104,126 @@ impl Host for RealHost<'_> {
 
     ghost only_now = { λ s c o told left. absurd (not_told told) };
 
-    fn len(&mut self) -> Result<u64, Failed> {
-        let answer = match opened(self.rt, self.path, &mut self.store) {
-            Ok(file) => file::length(file),
-            Err(error) => Err(error),
-        };
+    /// Asks the system once, where the file is open.
+    fn len(&mut self) -> Result<u64, Failed>
+        ensures ok { IfOk result (λ n. OnFile self.old.store (S.history self.old.system) self.new.store (λ mid. S.history self.new.system ≡ (Length (Ok n), []) ∷ mid)) }
+        ensures err { OnErr result (CannotOnFile self.old.store (S.history self.old.system) self.new.store (S.history self.new.system) (λ mid. (e : Fault) × (S.history self.new.system ≡ (Length (Err e), []) ∷ mid))) }
+        ensures disk { HasCause self.old.disk_faults self.new.disk_faults result }
+        ensures disk_faults { self.new.disk_faults ≡ counted result self.old.disk_faults }
+        ensures out { self.new.out_faults ≡ self.old.out_faults }
+    {
+        if !self.ensure_open() {
+            return counted(Err(Failed), &mut self.disk_faults);
+        }
+        let answer = self.system.length();
         counted(answer, &mut self.disk_faults)
     }
 
-    fn read_at(&mut self, at: u64, into: &mut [u8]) -> Result<usize, Failed> {
-        let answer = match opened(self.rt, self.path, &mut self.store) {
-            Ok(file) => file::read_all(file, at, into),
-            Err(error) => Err(error),
-        };
+    /// Reads on until the room is full or the file ends, where the file is open. The bytes are those that came.
+    fn read_at(&mut self, at: u64, into: &mut [u8]) -> Result<usize, Failed>
+        ensures count { IfOk result (λ n. n ≤ length into.old) }
+        ensures ok { IfOk result (λ n. OnFile self.old.store (S.history self.old.system) self.new.store (λ mid. HasRead at (length into.old) mid (take n into.new) (S.history self.new.system))) }
+        ensures err { OnErr result (CannotOnFile self.old.store (S.history self.old.system) self.new.store (S.history self.new.system) (λ mid. CannotRead at (length into.old) mid (S.history self.new.system))) }
+        ensures disk { HasCause self.old.disk_faults self.new.disk_faults result }
+        ensures disk_faults { self.new.disk_faults ≡ counted result self.old.disk_faults }
+        ensures out { self.new.out_faults ≡ self.old.out_faults }
+    {
+        if !self.ensure_open() {
+            return counted(Err(Failed), &mut self.disk_faults);
+        }
+        let answer = transfer::read_all(&mut self.system, at, into);
         counted(answer, &mut self.disk_faults)
     }
 
-    fn write_at(&mut self, at: u64, bytes: &[u8]) -> Result<(), Failed> {
-        let answer = match opened(self.rt, self.path, &mut self.store) {
-            Ok(file) => file::write_all(file, at, bytes),
-            Err(error) => Err(error),
-        };
+    /// Writes on until all is taken, where the file is open.
+    fn write_at(&mut self, at: u64, bytes: &[u8]) -> Result<(), Failed>
+        ensures ok { OnOk result (OnFile self.old.store (S.history self.old.system) self.new.store (λ mid. Sending (File at) bytes.now mid (length bytes.now) (S.history self.new.system))) }
+        ensures err { OnErr result (CannotOnFile self.old.store (S.history self.old.system) self.new.store (S.history self.new.system) (λ mid. CannotSend (File at) bytes.now mid (S.history self.new.system))) }
+        ensures disk { HasCause self.old.disk_faults self.new.disk_faults result }
+        ensures disk_faults { self.new.disk_faults ≡ counted result self.old.disk_faults }
+        ensures out { self.new.out_faults ≡ self.old.out_faults }
+    {
+        if !self.ensure_open() {
+            return counted(Err(Failed), &mut self.disk_faults);
+        }
+        let answer = transfer::write_all(&mut self.system, Sink::File { at }, bytes);
         counted(answer, &mut self.disk_faults)
     }
 
-    fn sync(&mut self) -> Result<(), Failed> {
-        let answer = match opened(self.rt, self.path, &mut self.store) {
-            Ok(file) => file.sync_all(),
-            Err(error) => Err(error),
-        };
+    /// Asks the system once, where the file is open.
+    fn sync(&mut self) -> Result<(), Failed>
+        ensures ok { OnOk result (OnFile self.old.store (S.history self.old.system) self.new.store (λ mid. S.history self.new.system ≡ (Sync (Ok tt), []) ∷ mid)) }
+        ensures err { OnErr result (CannotOnFile self.old.store (S.history self.old.system) self.new.store (S.history self.new.system) (λ mid. (e : Fault) × (S.history self.new.system ≡ (Sync (Err e), []) ∷ mid))) }
+        ensures disk { HasCause self.old.disk_faults self.new.disk_faults result }
+        ensures disk_faults { self.new.disk_faults ≡ counted result self.old.disk_faults }
+        ensures out { self.new.out_faults ≡ self.old.out_faults }
+    {
+        if !self.ensure_open() {
+            return counted(Err(Failed), &mut self.disk_faults);
+        }
+        let answer = self.system.sync();
         counted(answer, &mut self.disk_faults)
     }
 
-    fn put(&mut self, bytes: &[u8]) -> Result<(), Failed> {
-        let answer = streams::put_all(self.rt, bytes);
+    /// Writes on until all is taken, and flushes. The file isn't touched.
+    fn put(&mut self, bytes: &[u8]) -> Result<(), Failed>
+        ensures ok { OnOk result ((mid : History) × Sending Output bytes.now (S.history self.old.system) (length bytes.now) mid
+            × (S.history self.new.system ≡ (Flush (Ok tt), []) ∷ mid)) }
+        ensures err { OnErr result (CannotSend Output bytes.now (S.history self.old.system) (S.history self.new.system)
+            ⊎ ((mid : History) × (e : Fault) × Sending Output bytes.now (S.history self.old.system) (length bytes.now) mid
+            × (S.history self.new.system ≡ (Flush (Err e), []) ∷ mid))) }
+        ensures store { self.new.store ≡ self.old.store }
+        ensures disk { self.new.disk_faults ≡ self.old.disk_faults }
+        ensures out { HasCause self.old.out_faults self.new.out_faults result }
+        ensures out_faults { self.new.out_faults ≡ counted result self.old.out_faults }
+    {
+        let answer = transfer::write_all(&mut self.system, Sink::Output, bytes);
+        if answer.is_err() {
+            return counted(answer, &mut self.out_faults);
+        }
+        let answer = self.system.flush();
         counted(answer, &mut self.out_faults)
     }
 }
 
-/// Standard input.
+/// The standard input of a system.
 #[derive(Drop)]
-pub struct RealSource<'a> {
-    rt: &'a HostRuntime,
+pub struct RealSource<I> {
+    input: I,
     in_faults: u64,
 }
 
-impl<'a> RealSource<'a> {
+impl<I: Input> RealSource<I> {
     /// Standard input, without a fault so far.
-    pub fn new(rt: &'a HostRuntime) -> RealSource<'a>
-        ensures { result.in_faults ≡ 0 }
+    pub fn new(input: I) -> RealSource<I>
+        ensures input { result.input ≡ input }
+        ensures faults { result.in_faults ≡ 0 }
     {
-        RealSource { rt, in_faults: 0 }
+        RealSource {
+            input,
+            in_faults: 0,
+        }
     }
 }
 
-impl Source for RealSource<'_> {
+impl<I: Input> Source for RealSource<I> {
+    ghost use Rattle.std.specs.Prelude.{◌≡◌, ◌≤◌, length, take, IfOk, OnErr};
+    ghost use Rattle.kishu_host.specs.Host.{HasCause};
+    ghost use Rattle.kishu_cli.specs.Calls.{HasTaken, CannotTake};
+    ghost use Rattle.kishu_cli.specs.Adapters.{counted};
     ghost use Rattle.kishu_cli.specs.Silent.{silent_source};
 
     ghost source = { λ s. silent_source s.in_faults };
 
-    fn take(&mut self, into: &mut [u8]) -> Result<usize, Failed> {
-        let answer = streams::take_some(self.rt, into);
+    /// Takes what is ready. The bytes are those that came.
+    fn take(&mut self, into: &mut [u8]) -> Result<usize, Failed>
+        ensures count { IfOk result (λ n. n ≤ length into.old) }
+        ensures ok { IfOk result (λ n. HasTaken (length into.old) (I.history self.old.input) (take n into.new) (I.history self.new.input)) }
+        ensures err { OnErr result (CannotTake (length into.old) (I.history self.old.input) (I.history self.new.input)) }
+        ensures cause { HasCause self.old.in_faults self.new.in_faults result }
+        ensures in_faults { self.new.in_faults ≡ counted result self.old.in_faults }
+    {
+        let answer = transfer::take_some(&mut self.input, into);
         counted(answer, &mut self.in_faults)
     }
 }

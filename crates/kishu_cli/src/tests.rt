@@ -1,4 +1,5 @@
 // The real host over a real file, and the real source over the standard input of a test.
+use crate::os::{Os, OsInput};
 use crate::real::{RealHost, RealSource};
 use kishu_host::{Failed, Host, Source};
 use std::fs;
@@ -12,7 +13,7 @@ const PATH: &str = "kishu_cli_test/store";
 fn a_real_file(rt: HostRuntime) -> Result<(), Fail> {
     let _ = fs::remove_dir_all(&rt, FOLDER);
     fs::create_dir(&rt, FOLDER)?;
-    let mut host = RealHost::new(&rt, PATH);
+    let mut host = RealHost::new(Os::new(&rt, PATH));
     assert!(rt; !fs::exists(&rt, PATH)?);
     assert_eq!(rt; host.sync(), Ok(()));
     assert_eq!(rt; host.len(), Ok(0));
@@ -33,7 +34,7 @@ fn a_real_file(rt: HostRuntime) -> Result<(), Fail> {
 #[test]
 fn a_file_that_cannot_be_opened(rt: HostRuntime) -> Result<(), Fail> {
     let _ = fs::remove_dir_all(&rt, "kishu_cli_none");
-    let mut host = RealHost::new(&rt, "kishu_cli_none/store");
+    let mut host = RealHost::new(Os::new(&rt, "kishu_cli_none/store"));
     assert_eq!(rt; host.sync(), Err(Failed));
     // It isn't tried again.
     fs::create_dir(&rt, "kishu_cli_none")?;
@@ -47,7 +48,7 @@ fn a_file_that_cannot_be_opened(rt: HostRuntime) -> Result<(), Fail> {
 
 #[test]
 fn the_standard_input(rt: HostRuntime) -> Result<(), Fail> {
-    let mut source = RealSource::new(&rt);
+    let mut source = RealSource::new(OsInput::new(&rt));
     let mut some = [7; 4];
     assert_eq!(rt; source.take(&mut some), Ok(0));
     assert_eq!(rt; some, [7; 4]);
