@@ -1,9 +1,7 @@
 -- One call more in a piece of work, where an equation tells what the history is then.
-use Rattle.std.proofs.Common.{◌≡◌, ◌≤◌, ◌<◌, ℕ, ◌+◌, List, [], ◌∷◌, ◌++◌, length, take, drop, sym, ap, ◌∙◌, subst, arith, Bool, true, false, IfOk, OnErr}
+use Rattle.std.proofs.Common.{◌≡◌, ◌≤◌, ◌<◌, ℕ, ◌+◌, List, [], ◌∷◌, ◌++◌, length, take, drop, sym, ap, ◌∙◌, subst, arith, ◌⊎◌, inl, inr, IfOk, OnErr}
 use Rattle.std.proofs.Math.Seq.{take-append-add}
 use Rattle.std.proofs.lemmas.List.{take-append-le, length-take-le}
-use Rattle.std.specs.Prelude.{◌==◌, if◌then◌else◌}
-use Rattle.kishu_host.specs.declared.host.Failed.{Failed}
 use borrow.Rule.Slice.PartMut.{put_mid}
 use Rattle.std.specs.declared.result.Result.{Result}
 use Rattle.std.specs.declared.result.Result.TheVariants.{Ok, Err}
@@ -11,7 +9,7 @@ use Rattle.kishu_cli.specs.declared.call.Call.{Call}
 use Rattle.kishu_cli.specs.declared.call.Fault.{Fault}
 use Rattle.kishu_cli.specs.declared.call.Fault.TheVariants.{Interrupted, Other}
 use Rattle.kishu_cli.specs.declared.transfer.Sink.{Sink}
-use Rattle.kishu_cli.specs.Calls.{History, Reading, HasRead, CannotRead, Sending, CannotSend, read_on, write_on, taken, more, again, failed, ended}
+use Rattle.kishu_cli.specs.Calls.{History, Reading, HasRead, ReadFailed, Writing, WriteFailed, read_on, write_on, more, again, failed, stuck, ended}
 
 pub one_longer : (call : Call × List ℕ) (now new : History) (n : ℕ) (old : History) → new ≡ call ∷ now → length now ≡ n + length old → length new ≡ n + 1 + length old
 one_longer call now new n old is long = ap (λ (h : History). length h) is ∙ omega (arith, long)
@@ -20,28 +18,24 @@ pub on-err : {T E P : Type 0} (r : Result T E) → P → OnErr r P
 on-err (Ok x) p = tt
 on-err (Err e) p = p
 
-abbrev count_of : Result ℕ Failed → ℕ
-count_of (Ok n) = n
-count_of (Err e) = 0
+abbrev pub Took : Result ℕ Fault → ℕ → Type 0
+Took answer n = ((answer ≡ Ok n) × (0 < n)) ⊎ ((answer ≡ Err Interrupted) × (n ≡ 0))
 
-most-if : (is_none : Bool) (n most : ℕ) → n ≤ most → count_of (if is_none then Err record {} else Ok n) ≤ most
-most-if true n most fits = omega arith
-most-if false n most fits = fits
+abbrev pub TookNone : Result ℕ Fault → Type 0
+TookNone answer = (answer ≡ Ok 0) ⊎ (answer ≡ Err Other)
 
-most-taken : (answer : Result ℕ Fault) (most : ℕ) → IfOk answer (λ n. n ≤ most) → count_of (taken answer) ≤ most
-most-taken (Ok n) most fits = most-if (n == 0) n most fits
-most-taken (Err Interrupted) most fits = omega arith
-most-taken (Err Other) most fits = omega arith
+pub taken-fits : (answer : Result ℕ Fault) (most n : ℕ) → IfOk answer (λ k. k ≤ most) → Took answer n → n ≤ most
+taken-fits answer most n fits (inl some) = subst (λ (r : Result ℕ Fault). IfOk r (λ k. k ≤ most)) some.0 fits
+taken-fits answer most n fits (inr none) = omega (arith, none.1)
 
-pub taken-fits : (answer : Result ℕ Fault) (most n : ℕ) → IfOk answer (λ k. k ≤ most) → taken answer ≡ Ok n → n ≤ most
-taken-fits answer most n fits is = subst (λ (k : ℕ). k ≤ most) (ap (λ (r : Result ℕ Failed). count_of r) is) (most-taken answer most fits)
+module _ (to : Sink) (bytes : List ℕ) (old now new : History) (done : ℕ) (answer : Result ℕ Fault) (so_far : Writing to bytes old done now) (left : done < length bytes) (is : new ≡ (write_on to done answer, drop done bytes) ∷ now) where
+  pub write-more : (n : ℕ) → Took answer n → Writing to bytes old (done + n) new
+  write-more n (inl some) = subst (λ (h : History). Writing to bytes old (done + n) h) (sym (is ∙ ap (λ (r : Result ℕ Fault). (write_on to done r, drop done bytes) ∷ now) some.0)) (more done n now so_far left some.1)
+  write-more n (inr none) = subst (λ (d : ℕ). Writing to bytes old d new) (omega (arith, none.1)) (subst (λ (h : History). Writing to bytes old done h) (sym (is ∙ ap (λ (r : Result ℕ Fault). (write_on to done r, drop done bytes) ∷ now) none.0)) (again done now so_far left))
 
-module _ (to : Sink) (bytes : List ℕ) (old now new : History) (done : ℕ) (answer : Result ℕ Fault) (so_far : Sending to bytes old done now) (left : done < length bytes) (is : new ≡ (write_on to done answer, drop done bytes) ∷ now) where
-  pub sent-more : (n : ℕ) → taken answer ≡ Ok n → Sending to bytes old (done + n) new
-  sent-more n took = subst (λ (h : History). Sending to bytes old (done + n) h) (sym is) (more done n answer now so_far left took)
-
-  pub send-failed : taken answer ≡ Err record {} → CannotSend to bytes old new
-  send-failed took = subst (λ (h : History). CannotSend to bytes old h) (sym is) (failed done answer now so_far left took)
+  pub write-failed : TookNone answer → WriteFailed to bytes old new
+  write-failed (inl none) = subst (λ (h : History). WriteFailed to bytes old h) (sym (is ∙ ap (λ (r : Result ℕ Fault). (write_on to done r, drop done bytes) ∷ now) none)) (stuck done now so_far left)
+  write-failed (inr other) = subst (λ (h : History). WriteFailed to bytes old h) (sym (is ∙ ap (λ (r : Result ℕ Fault). (write_on to done r, drop done bytes) ∷ now) other)) (failed done now so_far left)
 
 module _ (at room : ℕ) (old now new : History) (got : List ℕ) (done : ℕ) (so_far : Reading at room old got now) (is_done : length got ≡ done) (left : done < room) where
   pub read-more : (bytes all : List ℕ) (n : ℕ) → length bytes ≡ n → (n ≡ 0 → ⊥) → new ≡ (read_on at room done (Ok n), bytes) ∷ now → all ≡ got ++ bytes → Reading at room old all new
@@ -60,10 +54,10 @@ module _ (at room : ℕ) (old now new : History) (got : List ℕ) (done : ℕ) (
       let is' = is ∙ ap (λ (k : ℕ). (read_on at room k (Ok 0), []) ∷ now) (sym is_done) in
       subst (λ (g : List ℕ). HasRead at room old g new) (sym same) (subst (λ (h : History). HasRead at room old got h) (sym is') (ended now so_far (subst (λ (k : ℕ). k < room) (sym is_done) left)))
 
-  pub read-failed : new ≡ (read_on at room done (Err Other), []) ∷ now → CannotRead at room old new
+  pub read-failed : new ≡ (read_on at room done (Err Other), []) ∷ now → ReadFailed at room old new
   read-failed is =
       let is' = is ∙ ap (λ (k : ℕ). (read_on at room k (Err Other), []) ∷ now) (sym is_done) in
-      subst (λ (h : History). CannotRead at room old h) (sym is') (failed got now so_far (subst (λ (k : ℕ). k < room) (sym is_done) left))
+      subst (λ (h : History). ReadFailed at room old h) (sym is') (failed got now so_far (subst (λ (k : ℕ). k < room) (sym is_done) left))
 
 -- what a slice holds after n bytes were written at its place a
 pub take-put_more : (a k n : ℕ) (xs ys : List ℕ) → a ≤ length xs → n ≤ length ys → take (a + n) (put_mid a k xs ys) ≡ take a xs ++ take n ys

@@ -23,8 +23,8 @@ abbrev pub OnFile : Store → History → Store → (History → Type 0) → Typ
 OnFile store old new_store Done = (mid : History) × Opens store old new_store mid true × Done mid
 
 -- the file isn't open, and nothing more was done; or it is, and then this was done
-abbrev pub CannotOnFile : Store → History → Store → History → (History → Type 0) → Type 0
-CannotOnFile store old new_store new Done = Opens store old new_store new false ⊎ OnFile store old new_store Done
+abbrev pub FailedOnFile : Store → History → Store → History → (History → Type 0) → Type 0
+FailedOnFile store old new_store new Done = Opens store old new_store new false ⊎ OnFile store old new_store Done
 
 -- an answer, without what its error was
 abbrev pub passed : {T E : Type 0} → Result T E → Result T Failed

@@ -1,11 +1,10 @@
 -- What a history of calls of the operating system tells. The last call stands first.
 --
--- `came`: the bytes of one read. `Reading`, `HasRead`, `CannotRead`: a piece of work by reads. `Sending`, `CannotSend`: one by writes,
--- each of which took what `taken` says. `Retried`, `HasTaken`, `CannotTake`: one take from standard input.
-use Rattle.std.specs.Prelude.{◌≡◌, ◌<◌, ℕ, ◌+◌, ◌-◌, ◌==◌, min, if◌then◌else◌, List, [], ◌∷◌, ◌++◌, length, take, drop}
+-- `came`: the bytes of one read. `Reading`, `HasRead`, `ReadFailed`: a piece of work by reads. `Writing`, `WriteFailed`: one by
+-- writes. `Retried`, `HasTaken`, `TakeFailed`: one take from standard input.
+use Rattle.std.specs.Prelude.{◌≡◌, ◌<◌, ℕ, ◌+◌, ◌-◌, min, List, [], ◌∷◌, ◌++◌, length, take, drop}
 use Rattle.std.specs.declared.result.Result.{Result}
 use Rattle.std.specs.declared.result.Result.TheVariants.{Ok, Err}
-use Rattle.kishu_host.specs.declared.host.Failed.{Failed}
 use Rattle.kishu_cli.specs.declared.call.Call.{Call}
 use Rattle.kishu_cli.specs.declared.call.Call.TheVariants.{Read, Write, Put, Take}
 use Rattle.kishu_cli.specs.declared.call.Fault.{Fault}
@@ -48,17 +47,11 @@ pub data HasRead (at room : ℕ) (old : History) (got : List ℕ) : History → 
       → HasRead at room old got ((read_on at room (length got) (Ok 0), []) ∷ now)
 
 -- There is room left, and the last read failed, or 2^64-1 were made.
-pub data CannotRead (at room : ℕ) (old : History) : History → Type 0 where
+pub data ReadFailed (at room : ℕ) (old : History) : History → Type 0 where
   failed : (got : List ℕ) (now : History) → Reading at room old got now → length got < room
-      → CannotRead at room old ((read_on at room (length got) (Err Other), []) ∷ now)
+      → ReadFailed at room old ((read_on at room (length got) (Err Other), []) ∷ now)
   given_up : (got : List ℕ) (now : History) → Reading at room old got now → length got < room
-      → length now ≡ greatest + length old → CannotRead at room old now
-
--- how many bytes a write took of a piece that isn't empty; one that was interrupted took none, and one that takes none failed
-abbrev pub taken : Result ℕ Fault → Result ℕ Failed
-taken (Ok n) = if n == 0 then Err record {} else Ok n
-taken (Err Interrupted) = Ok 0
-taken (Err Other) = Err record {}
+      → length now ≡ greatest + length old → ReadFailed at room old now
 
 -- a write, after so many bytes were taken
 abbrev pub write_on : Sink → ℕ → Result ℕ Fault → Call
@@ -67,17 +60,21 @@ write_on Output done answer = Put answer
 
 -- Writes of the bytes, each of what those before it left, since an older history: how many bytes were taken, and the history with
 -- these writes.
-pub data Sending (to : Sink) (bytes : List ℕ) (old : History) : ℕ → History → Type 0 where
-  begun : Sending to bytes old 0 old
-  more : (done n : ℕ) (answer : Result ℕ Fault) (now : History) → Sending to bytes old done now → done < length bytes
-      → taken answer ≡ Ok n → Sending to bytes old (done + n) ((write_on to done answer, drop done bytes) ∷ now)
+pub data Writing (to : Sink) (bytes : List ℕ) (old : History) : ℕ → History → Type 0 where
+  begun : Writing to bytes old 0 old
+  more : (done n : ℕ) (now : History) → Writing to bytes old done now → done < length bytes → 0 < n
+      → Writing to bytes old (done + n) ((write_on to done (Ok n), drop done bytes) ∷ now)
+  again : (done : ℕ) (now : History) → Writing to bytes old done now → done < length bytes
+      → Writing to bytes old done ((write_on to done (Err Interrupted), drop done bytes) ∷ now)
 
 -- There are bytes left, and the last write failed or took nothing, or 2^64-1 were made.
-pub data CannotSend (to : Sink) (bytes : List ℕ) (old : History) : History → Type 0 where
-  failed : (done : ℕ) (answer : Result ℕ Fault) (now : History) → Sending to bytes old done now → done < length bytes
-      → taken answer ≡ Err record {} → CannotSend to bytes old ((write_on to done answer, drop done bytes) ∷ now)
-  given_up : (done : ℕ) (now : History) → Sending to bytes old done now → done < length bytes
-      → length now ≡ greatest + length old → CannotSend to bytes old now
+pub data WriteFailed (to : Sink) (bytes : List ℕ) (old : History) : History → Type 0 where
+  failed : (done : ℕ) (now : History) → Writing to bytes old done now → done < length bytes
+      → WriteFailed to bytes old ((write_on to done (Err Other), drop done bytes) ∷ now)
+  stuck : (done : ℕ) (now : History) → Writing to bytes old done now → done < length bytes
+      → WriteFailed to bytes old ((write_on to done (Ok 0), drop done bytes) ∷ now)
+  given_up : (done : ℕ) (now : History) → Writing to bytes old done now → done < length bytes
+      → length now ≡ greatest + length old → WriteFailed to bytes old now
 
 -- Takes from standard input that a signal interrupted, since an older history.
 pub data Retried (room : ℕ) (old : History) : History → Type 0 where
@@ -89,6 +86,6 @@ pub data HasTaken (room : ℕ) (old : History) (bytes : List ℕ) : History → 
   took : (now : History) → Retried room old now → HasTaken room old bytes ((Take room (Ok (length bytes)), bytes) ∷ now)
 
 -- The last take failed, or 2^64-1 were made.
-pub data CannotTake (room : ℕ) (old : History) : History → Type 0 where
-  failed : (now : History) → Retried room old now → CannotTake room old ((Take room (Err Other), []) ∷ now)
-  given_up : (now : History) → Retried room old now → length now ≡ greatest + length old → CannotTake room old now
+pub data TakeFailed (room : ℕ) (old : History) : History → Type 0 where
+  failed : (now : History) → Retried room old now → TakeFailed room old ((Take room (Err Other), []) ∷ now)
+  given_up : (now : History) → Retried room old now → length now ≡ greatest + length old → TakeFailed room old now

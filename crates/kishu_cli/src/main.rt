@@ -5,9 +5,9 @@
 ghost use Rattle.std.specs.Prelude.{◌≡◌, ◌<◌};
 
 mod call;
+mod call_log;
 mod os;
 mod real;
-mod record;
 mod system;
 #[cfg(test)]
 mod tests;

@@ -7,7 +7,7 @@ ghost use Rattle.kishu_cli.specs.Calls.{came};
 ghost use Rattle.kishu_cli.specs.Faults.{told};
 
 use crate::call::{Call, Fault};
-use crate::record::Record;
+use crate::call_log::CallLog;
 use crate::system::{Input, System};
 use std::fs::{File, OpenOptions};
 use std::io;
@@ -31,7 +31,7 @@ pub struct Os<'a> {
     rt: &'a HostRuntime,
     path: &'a str,
     file: Option<StoreFile>,
-    history: Record,
+    history: CallLog,
 }
 
 impl<'a> Os<'a> {
@@ -45,7 +45,7 @@ impl<'a> Os<'a> {
             rt,
             path,
             file: None,
-            history: Record::new(),
+            history: CallLog::new(),
         }
     }
 }
@@ -184,7 +184,7 @@ impl System for Os<'_> {
 #[derive(Drop)]
 pub struct OsInput<'a> {
     rt: &'a HostRuntime,
-    history: Record,
+    history: CallLog,
 }
 
 impl<'a> OsInput<'a> {
@@ -194,7 +194,7 @@ impl<'a> OsInput<'a> {
     {
         OsInput {
             rt,
-            history: Record::new(),
+            history: CallLog::new(),
         }
     }
 }

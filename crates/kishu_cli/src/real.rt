@@ -91,9 +91,9 @@ impl<S: System> Host for RealHost<S> {
     ghost use Rattle.kishu_host.specs.Host.{HasCause};
     ghost use Rattle.kishu_cli.specs.declared.call.Call.TheVariants.{Length, Sync, Flush};
     ghost use Rattle.kishu_cli.specs.declared.call.Fault.{Fault};
-    ghost use Rattle.kishu_cli.specs.Calls.{History, HasRead, CannotRead, Sending, CannotSend};
+    ghost use Rattle.kishu_cli.specs.Calls.{History, HasRead, ReadFailed, Writing, WriteFailed};
     ghost use Rattle.kishu_cli.specs.declared.transfer.Sink.TheVariants.{File, Output};
-    ghost use Rattle.kishu_cli.specs.Adapters.{OnFile, CannotOnFile, counted};
+    ghost use Rattle.kishu_cli.specs.Adapters.{OnFile, FailedOnFile, counted};
     ghost use Rattle.kishu_cli.specs.Silent.{silent_host, not_told};
 
     ghost state = { λ s. silent_host s.disk_faults s.out_faults };
@@ -107,7 +107,7 @@ impl<S: System> Host for RealHost<S> {
     /// Asks the system once, where the file is open.
     fn len(&mut self) -> Result<u64, Failed>
         ensures ok { IfOk result (λ n. OnFile self.old.store (S.history self.old.system) self.new.store (λ mid. S.history self.new.system ≡ (Length (Ok n), []) ∷ mid)) }
-        ensures err { OnErr result (CannotOnFile self.old.store (S.history self.old.system) self.new.store (S.history self.new.system) (λ mid. (e : Fault) × (S.history self.new.system ≡ (Length (Err e), []) ∷ mid))) }
+        ensures err { OnErr result (FailedOnFile self.old.store (S.history self.old.system) self.new.store (S.history self.new.system) (λ mid. (e : Fault) × (S.history self.new.system ≡ (Length (Err e), []) ∷ mid))) }
         ensures disk { HasCause self.old.disk_faults self.new.disk_faults result }
         ensures disk_faults { self.new.disk_faults ≡ counted result self.old.disk_faults }
         ensures out { self.new.out_faults ≡ self.old.out_faults }
@@ -123,7 +123,7 @@ impl<S: System> Host for RealHost<S> {
     fn read_at(&mut self, at: u64, into: &mut [u8]) -> Result<usize, Failed>
         ensures count { IfOk result (λ n. n ≤ length into.old) }
         ensures ok { IfOk result (λ n. OnFile self.old.store (S.history self.old.system) self.new.store (λ mid. HasRead at (length into.old) mid (take n into.new) (S.history self.new.system))) }
-        ensures err { OnErr result (CannotOnFile self.old.store (S.history self.old.system) self.new.store (S.history self.new.system) (λ mid. CannotRead at (length into.old) mid (S.history self.new.system))) }
+        ensures err { OnErr result (FailedOnFile self.old.store (S.history self.old.system) self.new.store (S.history self.new.system) (λ mid. ReadFailed at (length into.old) mid (S.history self.new.system))) }
         ensures disk { HasCause self.old.disk_faults self.new.disk_faults result }
         ensures disk_faults { self.new.disk_faults ≡ counted result self.old.disk_faults }
         ensures out { self.new.out_faults ≡ self.old.out_faults }
@@ -137,8 +137,8 @@ impl<S: System> Host for RealHost<S> {
 
     /// Writes on until all is taken, where the file is open.
     fn write_at(&mut self, at: u64, bytes: &[u8]) -> Result<(), Failed>
-        ensures ok { OnOk result (OnFile self.old.store (S.history self.old.system) self.new.store (λ mid. Sending (File at) bytes.now mid (length bytes.now) (S.history self.new.system))) }
-        ensures err { OnErr result (CannotOnFile self.old.store (S.history self.old.system) self.new.store (S.history self.new.system) (λ mid. CannotSend (File at) bytes.now mid (S.history self.new.system))) }
+        ensures ok { OnOk result (OnFile self.old.store (S.history self.old.system) self.new.store (λ mid. Writing (File at) bytes.now mid (length bytes.now) (S.history self.new.system))) }
+        ensures err { OnErr result (FailedOnFile self.old.store (S.history self.old.system) self.new.store (S.history self.new.system) (λ mid. WriteFailed (File at) bytes.now mid (S.history self.new.system))) }
         ensures disk { HasCause self.old.disk_faults self.new.disk_faults result }
         ensures disk_faults { self.new.disk_faults ≡ counted result self.old.disk_faults }
         ensures out { self.new.out_faults ≡ self.old.out_faults }
@@ -153,7 +153,7 @@ impl<S: System> Host for RealHost<S> {
     /// Asks the system once, where the file is open.
     fn sync(&mut self) -> Result<(), Failed>
         ensures ok { OnOk result (OnFile self.old.store (S.history self.old.system) self.new.store (λ mid. S.history self.new.system ≡ (Sync (Ok tt), []) ∷ mid)) }
-        ensures err { OnErr result (CannotOnFile self.old.store (S.history self.old.system) self.new.store (S.history self.new.system) (λ mid. (e : Fault) × (S.history self.new.system ≡ (Sync (Err e), []) ∷ mid))) }
+        ensures err { OnErr result (FailedOnFile self.old.store (S.history self.old.system) self.new.store (S.history self.new.system) (λ mid. (e : Fault) × (S.history self.new.system ≡ (Sync (Err e), []) ∷ mid))) }
         ensures disk { HasCause self.old.disk_faults self.new.disk_faults result }
         ensures disk_faults { self.new.disk_faults ≡ counted result self.old.disk_faults }
         ensures out { self.new.out_faults ≡ self.old.out_faults }
@@ -167,10 +167,10 @@ impl<S: System> Host for RealHost<S> {
 
     /// Writes on until all is taken, and flushes. The file isn't touched.
     fn put(&mut self, bytes: &[u8]) -> Result<(), Failed>
-        ensures ok { OnOk result ((mid : History) × Sending Output bytes.now (S.history self.old.system) (length bytes.now) mid
+        ensures ok { OnOk result ((mid : History) × Writing Output bytes.now (S.history self.old.system) (length bytes.now) mid
             × (S.history self.new.system ≡ (Flush (Ok tt), []) ∷ mid)) }
-        ensures err { OnErr result (CannotSend Output bytes.now (S.history self.old.system) (S.history self.new.system)
-            ⊎ ((mid : History) × (e : Fault) × Sending Output bytes.now (S.history self.old.system) (length bytes.now) mid
+        ensures err { OnErr result (WriteFailed Output bytes.now (S.history self.old.system) (S.history self.new.system)
+            ⊎ ((mid : History) × (e : Fault) × Writing Output bytes.now (S.history self.old.system) (length bytes.now) mid
             × (S.history self.new.system ≡ (Flush (Err e), []) ∷ mid))) }
         ensures store { self.new.store ≡ self.old.store }
         ensures disk { self.new.disk_faults ≡ self.old.disk_faults }
@@ -209,7 +209,7 @@ impl<I: Input> RealSource<I> {
 impl<I: Input> Source for RealSource<I> {
     ghost use Rattle.std.specs.Prelude.{◌≡◌, ◌≤◌, length, take, IfOk, OnErr};
     ghost use Rattle.kishu_host.specs.Host.{HasCause};
-    ghost use Rattle.kishu_cli.specs.Calls.{HasTaken, CannotTake};
+    ghost use Rattle.kishu_cli.specs.Calls.{HasTaken, TakeFailed};
     ghost use Rattle.kishu_cli.specs.Adapters.{counted};
     ghost use Rattle.kishu_cli.specs.Silent.{silent_source};
 
@@ -219,7 +219,7 @@ impl<I: Input> Source for RealSource<I> {
     fn take(&mut self, into: &mut [u8]) -> Result<usize, Failed>
         ensures count { IfOk result (λ n. n ≤ length into.old) }
         ensures ok { IfOk result (λ n. HasTaken (length into.old) (I.history self.old.input) (take n into.new) (I.history self.new.input)) }
-        ensures err { OnErr result (CannotTake (length into.old) (I.history self.old.input) (I.history self.new.input)) }
+        ensures err { OnErr result (TakeFailed (length into.old) (I.history self.old.input) (I.history self.new.input)) }
         ensures cause { HasCause self.old.in_faults self.new.in_faults result }
         ensures in_faults { self.new.in_faults ≡ counted result self.old.in_faults }
     {

@@ -1,20 +1,19 @@
 //! What the program asks of the operating system, one call at a time.
-ghost use Rattle.std.specs.Prelude.{◌≡◌, ◌≤◌, ℕ, List, [], ◌∷◌, length, IfOk};
-ghost use Rattle.kishu_cli.specs.declared.call.Call.{Call};
+ghost use Rattle.std.specs.Prelude.{◌≡◌, ◌≤◌, [], ◌∷◌, length, IfOk};
 ghost use Rattle.kishu_cli.specs.declared.call.Call.TheVariants.{Open, Length, Read, Write, Sync, Put, Flush, Take};
-ghost use Rattle.kishu_cli.specs.Calls.{came};
+ghost use Rattle.kishu_cli.specs.Calls.{History, came};
 
 use crate::call::Fault;
 
 /// A store file and standard output, with the history of what was asked of them.
 ///
-/// The history has the last call first, each with its answer and its bytes: those that came, or those that it was given. Of an
-/// answer is said only that a count is at most the room, or the number of bytes that were given; what it is is the system's.
+/// The history has the last call first, each with its answer and its bytes: those that came, or those that it was given. What a
+/// call answers is left to the system; only a count is never above the room, or the number of bytes that were given.
 ///
 /// `Fault`: the system couldn't, or the file isn't open.
 pub trait System {
     /// What was asked so far.
-    ghost history: { Self → List (Call × List ℕ) };
+    ghost history: { Self → History };
 
     /// Opens the file, and makes it where there is none.
     fn open(&mut self) -> Result<(), Fault>
@@ -52,7 +51,7 @@ pub trait System {
 /// Standard input, with the history of what was asked of it, told as a [`System`] tells its own.
 pub trait Input {
     /// What was asked so far.
-    ghost history: { Self → List (Call × List ℕ) };
+    ghost history: { Self → History };
 
     /// Takes what is ready into the front of `into`, and answers the number of bytes. Where `into` isn't empty, 0 means the end.
     /// The rest of `into`, and all of it after a fault, may hold anything.

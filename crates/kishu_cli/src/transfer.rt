@@ -1,7 +1,8 @@
 //! Pieces of work that may take several calls of the system. A call that a signal interrupts is made again; after 2^64-1 calls a
 //! piece of work is given up.
-ghost use Rattle.std.specs.Prelude.{◌≡◌, ◌≤◌, ◌∷◌, take, length, IfOk, OnOk, OnErr};
-ghost use Rattle.kishu_cli.specs.Calls.{HasRead, CannotRead, HasTaken, CannotTake, Sending, CannotSend, after, write_on, taken};
+ghost use Rattle.std.specs.Prelude.{◌≡◌, ◌≤◌, ◌<◌, ◌∷◌, ◌⊎◌, Ok, Err, take, length, IfOk, OnOk, OnErr};
+ghost use Rattle.kishu_cli.specs.declared.call.Fault.TheVariants.{Interrupted, Other};
+ghost use Rattle.kishu_cli.specs.Calls.{HasRead, ReadFailed, HasTaken, TakeFailed, Writing, WriteFailed, after, write_on};
 
 use crate::call::Fault;
 use crate::system::{Input, System};
@@ -22,7 +23,7 @@ pub enum Sink {
 pub fn read_all<S: System>(system: &mut S, at: u64, into: &mut [u8]) -> Result<usize, Failed>
     ensures count { IfOk result (λ n. n ≤ length into.old) }
     ensures ok { IfOk result (λ n. HasRead at (length into.old) (S.history system.old) (take n into.new) (S.history system.new)) }
-    ensures err { OnErr result (CannotRead at (length into.old) (S.history system.old) (S.history system.new)) }
+    ensures err { OnErr result (ReadFailed at (length into.old) (S.history system.old) (S.history system.new)) }
 {
     let mut done = 0;
     let mut calls: u64 = 0;
@@ -45,8 +46,8 @@ pub fn read_all<S: System>(system: &mut S, at: u64, into: &mut [u8]) -> Result<u
 ///
 /// `Failed`: a write failed or took nothing, or 2^64-1 were made.
 pub fn write_all<S: System>(system: &mut S, to: Sink, bytes: &[u8]) -> Result<(), Failed>
-    ensures ok { OnOk result (Sending to bytes.now (S.history system.old) (length bytes.now) (S.history system.new)) }
-    ensures err { OnErr result (CannotSend to bytes.now (S.history system.old) (S.history system.new)) }
+    ensures ok { OnOk result (Writing to bytes.now (S.history system.old) (length bytes.now) (S.history system.new)) }
+    ensures err { OnErr result (WriteFailed to bytes.now (S.history system.old) (S.history system.new)) }
 {
     let mut done = 0;
     let mut calls: u64 = 0;
@@ -80,7 +81,8 @@ fn write_some<S: System>(
 ///
 /// `Failed`: it failed, or took nothing.
 fn taken(answer: Result<usize, Fault>) -> Result<usize, Failed>
-    ensures { result ≡ taken answer }
+    ensures ok { IfOk result (λ n. ((answer ≡ Ok n) × (0 < n)) ⊎ ((answer ≡ Err Interrupted) × (n ≡ 0))) }
+    ensures err { OnErr result ((answer ≡ Ok 0) ⊎ (answer ≡ Err Other)) }
 {
     match answer {
         Ok(0) | Err(Fault::Other) => Err(Failed),
@@ -103,7 +105,7 @@ fn place_after(at: u64, count: usize) -> u64
 pub fn take_some<I: Input>(input: &mut I, into: &mut [u8]) -> Result<usize, Failed>
     ensures count { IfOk result (λ n. n ≤ length into.old) }
     ensures ok { IfOk result (λ n. HasTaken (length into.old) (I.history input.old) (take n into.new) (I.history input.new)) }
-    ensures err { OnErr result (CannotTake (length into.old) (I.history input.old) (I.history input.new)) }
+    ensures err { OnErr result (TakeFailed (length into.old) (I.history input.old) (I.history input.new)) }
 {
     for _ in 0..u64::MAX {
         match input.take(into) {

@@ -3,7 +3,7 @@ use Rattle.std.proofs.lemmas.List.{length-take-le}
 use Rattle.std.specs.declared.result.Result.TheVariants.{Ok, Err}
 use Rattle.kishu_cli.specs.declared.call.Call.TheVariants.{Take}
 use Rattle.kishu_cli.specs.declared.call.Fault.{Fault}
-use Rattle.kishu_cli.specs.Calls.{History, Retried, HasTaken, CannotTake, begun, again, took, failed, given_up}
+use Rattle.kishu_cli.specs.Calls.{History, Retried, HasTaken, TakeFailed, begun, again, took, failed, given_up}
 use Rattle.kishu_cli.proofs.Transfers.{one_longer}
 use Rattle.kishu_cli.proofs.transfer.take_some.Goals as goal
 
@@ -22,7 +22,7 @@ pub returns-in-Err-Other-clause-err : goal.returns-in-Err-Other-clause-err
 returns-in-Err-Other-clause-err g c =
     let past = g.I.Input.history c.loop.input in let room = length c.args.into.now in
     let is = c.in-Err-Other.ensures.history ∙ ap (λ (r : ℕ). (Take r (Err c.in-Err-Other.field-0), []) ∷ past) c.loop.auto.into ∙ ap (λ (e : Fault). (Take room (Err e), []) ∷ past) c.in-Err-Other.field-0-is in
-    subst (λ (now : History). CannotTake room (g.I.Input.history c.args.input.now) now) (sym is) (failed past c.loop.invariant.calls)
+    subst (λ (now : History). TakeFailed room (g.I.Input.history c.args.input.now) now) (sym is) (failed past c.loop.invariant.calls)
 
 pub loop-preserved : goal.loop-preserved
 loop-preserved g c =

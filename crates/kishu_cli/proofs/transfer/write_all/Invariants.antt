@@ -1,11 +1,11 @@
 use Rattle.std.proofs.Common.{◌≡◌, ◌≤◌, ◌+◌, ◌-◌, length}
-use Rattle.kishu_cli.specs.Calls.{Sending}
+use Rattle.kishu_cli.specs.Calls.{Writing}
 use Rattle.kishu_cli.proofs.transfer.write_all.Given as goal
 
 abbrev pub invariant-loop-done : goal.invariant-loop-done
 invariant-loop-done g l = record {
   bound : l.done ≤ length l.bytes;
-  sent : Sending l.to l.bytes (g.S.System.history l.initial.system) l.done (g.S.System.history l.system);
+  written : Writing l.to l.bytes (g.S.System.history l.initial.system) l.done (g.S.System.history l.system);
   count : length (g.S.System.history l.system) ≡ l.calls + length (g.S.System.history l.initial.system);
 }
 

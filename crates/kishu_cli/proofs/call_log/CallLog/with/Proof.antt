@@ -17,13 +17,13 @@ use denote.Shadow.{pure_i}
 use denote.Signature.{plain, types_at}
 use denote.Triple.Entry.{alive}
 use denote.Triple.Walked.{says, stay_none_ref, stay_none_slice, Goes-none_ref, Goes-none_slice, Stays, walk_of, ends_at}
-use Rattle.kishu_cli.specs.declared.record.Record.{Record}
+use Rattle.kishu_cli.specs.declared.call_log.CallLog.{CallLog}
 use Rattle.kishu_cli.specs.contracts.call.Call as noted
-use Rattle.kishu_cli.specs.contracts.record.Record as made
-use Rattle.kishu_cli.specs.contracts.record.Record.with as f
-use Rattle.kishu_cli.specs.contracts.record.Record.with.Key.{name as key}
-use Rattle.kishu_cli.proofs.record.Record.with.Statement.{statement}
-use Rattle.kishu_cli.proofs.record.Record.with.Code as code
+use Rattle.kishu_cli.specs.contracts.call_log.CallLog as made
+use Rattle.kishu_cli.specs.contracts.call_log.CallLog.with as f
+use Rattle.kishu_cli.specs.contracts.call_log.CallLog.with.Key.{name as key}
+use Rattle.kishu_cli.proofs.call_log.CallLog.with.Statement.{statement}
+use Rattle.kishu_cli.proofs.call_log.CallLog.with.Code as code
 
 abbrev stayed : Stays f.ended.signature.params f.ended.kept
 stayed = (
@@ -41,7 +41,7 @@ with_spec 𝓤 𝓛 𝓜 𝓡 wired =
     (λ κs. (shr_Tells (named 0) κs.0 made.the_row, (shr_Tells (named 1) κs.1.0 noted.the_row, (shr_slice_Tells (named 2) κs.1.1.0 u8, tt))))
     (λ κs qs bounds a g are.
     let y : (walk_of 𝓛 f.ended stayed c).Ghost = ((κs, qs, bounds, a, (shr_vals a.0, (shr_vals a.1.0, (shr_slice_vals a.1.1.0, tt)))), g) in
-    let all : Record = record { calls = (a.1.0.now, a.1.1.0.now) ∷ a.0.now.calls } in
+    let all : CallLog = record { calls = (a.1.0.now, a.1.1.0.now) ∷ a.0.now.calls } in
     qed 𝓛 ((raw (alive 𝓛 f.signature κs qs) ⊛ ‵ (owns (types_at f.signature.params κs) a y.0.4)) ∷ ‵ ftrue ∷ []) ∵ split ! $ keep ! (0 ∷ 1 ∷ []) $
     enter ! _ _ _ _ _ $ alloc_all ! (λ l. pass_all ! refl ((tt, tt), ((tt, tt), ((tt, (tt, (record { fits = are.1.1.0.0.1.0 }, tt))), tt))) $
     sets ! (agg ! (no_more !)) refl (tt, tt) $

@@ -11,12 +11,12 @@ use denote.RattleType.{owns}
 use denote.Shadow.{pure_i}
 use denote.Triple.Entry.{alive}
 use denote.Triple.Walked.{says, Stays, walk_of, ends_at}
-use Rattle.kishu_cli.specs.declared.record.Record.{Record}
-use Rattle.kishu_cli.specs.contracts.record.Record as made
-use Rattle.kishu_cli.specs.contracts.record.Record.new as f
-use Rattle.kishu_cli.specs.contracts.record.Record.new.Key.{name as key}
-use Rattle.kishu_cli.proofs.record.Record.new.Statement.{statement}
-use Rattle.kishu_cli.proofs.record.Record.new.Code as code
+use Rattle.kishu_cli.specs.declared.call_log.CallLog.{CallLog}
+use Rattle.kishu_cli.specs.contracts.call_log.CallLog as made
+use Rattle.kishu_cli.specs.contracts.call_log.CallLog.new as f
+use Rattle.kishu_cli.specs.contracts.call_log.CallLog.new.Key.{name as key}
+use Rattle.kishu_cli.proofs.call_log.CallLog.new.Statement.{statement}
+use Rattle.kishu_cli.proofs.call_log.CallLog.new.Code as code
 
 abbrev stayed : Stays f.ended.signature.params f.ended.kept
 stayed = tt
@@ -25,7 +25,7 @@ pub new_spec : {M : Type 1} → statement M
 new_spec 𝓤 𝓛 𝓜 𝓡 wired =
     let c = f.clauses 𝓛 𝓜.mem 𝓡.returns in
     proved 𝓛 f.ended stayed c 𝓜 𝓡 tt key code.function (code.unfolded 𝓤 𝓛.H 𝓜 𝓡 wired) (λ κs. tt) (λ κs. tt) (λ κs qs bounds a g are.
-    let y : (walk_of 𝓛 f.ended stayed c).Ghost = ((κs, qs, bounds, a, tt), g) in let none : Record = record { calls = [] } in
+    let y : (walk_of 𝓛 f.ended stayed c).Ghost = ((κs, qs, bounds, a, tt), g) in let none : CallLog = record { calls = [] } in
     qed 𝓛 ((raw (alive 𝓛 f.signature κs qs) ⊛ ‵ (owns [] tt tt)) ∷ ‵ ftrue ∷ []) ∵ split ! $ keep ! (0 ∷ 1 ∷ []) $
     enter ! _ _ _ _ _ $ alloc_all ! (λ l. pass_all ! refl tt $ sets ! (agg ! (no_more !)) refl (tt, tt) $
     returns ! (look_at ! 0 refl) $ free_all ! refl $

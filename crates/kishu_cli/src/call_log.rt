@@ -1,7 +1,7 @@
-//! A record of calls that only clauses read.
-ghost use Rattle.std.specs.Prelude.{◌≡◌, ℕ, List, [], ◌∷◌};
+//! A log of calls that only clauses read.
+ghost use Rattle.std.specs.Prelude.{◌≡◌, [], ◌∷◌};
 ghost use Rattle.std.specs.Borrow.{ftrue};
-ghost use Rattle.kishu_cli.specs.declared.call.Call.{Call as Noted};
+ghost use Rattle.kishu_cli.specs.Calls.{History};
 
 use crate::call::Call;
 use std::marker::Model;
@@ -11,20 +11,20 @@ use std::marker::Model;
 /// Nothing ties a note to what was done: whoever notes a call is to be read. `new` and `with` are proved by hand, since no
 /// memory holds the calls; no other function may be.
 #[derive(Drop)]
-pub struct Record {
-    pub ghost calls: { List (Noted × List ℕ) },
+pub struct CallLog {
+    pub ghost calls: { History },
 }
 
-impl Model for Record {
+impl Model for CallLog {
     ghost also_owns = { λ _. ftrue };
 }
 
-impl Record {
+impl CallLog {
     /// No call.
-    pub fn new() -> Record
+    pub fn new() -> CallLog
         ensures { result.calls ≡ [] }
     {
-        Record {}
+        CallLog {}
     }
 
     /// Notes a call.
@@ -34,10 +34,10 @@ impl Record {
         *self = self.with(&call, bytes);
     }
 
-    /// The record with one call more.
-    fn with(&self, _call: &Call, _bytes: &[u8]) -> Record
+    /// The log with one call more.
+    fn with(&self, _call: &Call, _bytes: &[u8]) -> CallLog
         ensures { result.calls ≡ (_call.now, _bytes.now) ∷ self.now.calls }
     {
-        Record {}
+        CallLog {}
     }
 }
