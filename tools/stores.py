@@ -5,7 +5,8 @@ Usage: tools/stores.py PROGRAM [COUNT [SEED]]      1000 cases of seed 1 where no
 
 PROGRAM is the built program. A case is a store file, the words of a command line and an input. Its files have records that fit
 and ones that don't, gates, lengths and headers that were changed, bytes taken out and put in, and ends cut off. Compared are the
-status, its text, the output and every byte of the file afterwards. The exit is 1 where something differed.
+status, its text, the output and every byte of the file afterwards. The exit is 1 where something differed. A store of 1,000,000
+records and a body of 2^30 bytes aren't tried.
 
 `expected` and what it calls stand on docs/STORE.md and on the rules of docs/RULES.md, and on nothing of the program. The cells
 are ones that CPython runs alike, so their outputs are its.

@@ -18,9 +18,11 @@ pub on-err : {T E P : Type 0} (r : Result T E) → P → OnErr r P
 on-err (Ok x) p = tt
 on-err (Err e) p = p
 
+-- a write took so many bytes, or was interrupted and took none
 abbrev pub Took : Result ℕ Fault → ℕ → Type 0
 Took answer n = ((answer ≡ Ok n) × (0 < n)) ⊎ ((answer ≡ Err Interrupted) × (n ≡ 0))
 
+-- a write failed, or took nothing
 abbrev pub TookNone : Result ℕ Fault → Type 0
 TookNone answer = (answer ≡ Ok 0) ⊎ (answer ≡ Err Other)
 
