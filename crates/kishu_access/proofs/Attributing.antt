@@ -2,13 +2,13 @@
 use Rattle.std.proofs.Common.{◌≡◌, refl, ap, sym, ℕ, Bool, true, false, List, Option, Some, None}
 use Rattle.std.specs.Prelude.{option_and_then, if◌then◌else◌, codes, is_some}
 use Rattle.std.specs.Str.{bytes_eq}
-use Rattle.kishu_model.specs.Kinds.{no_attribute}
-use Rattle.kishu_model.specs.Moment.{Moment, fine, or_else, change}
-use Rattle.kishu_model.specs.Nodes as nodes
-use Rattle.kishu_model.specs.Nodes.{set_attr, remove_attr}
-use Rattle.kishu_model.specs.Operators.{new_tuple}
-use Rattle.kishu_model.specs.Subscripts.{node_attribute, store_on_node, delete_on_node, where_found}
-use Rattle.kishu_model.specs.Values.{Value, node, Node, list, tuple, dict, object, function, exception}
+use Rattle.kishu_meaning.specs.values.Kinds.{no_attribute}
+use Rattle.kishu_meaning.specs.moments.Moment.{Moment, fine, or_else, change}
+use Rattle.kishu_meaning.specs.values.Nodes as nodes
+use Rattle.kishu_meaning.specs.values.Nodes.{set_attr, remove_attr}
+use Rattle.kishu_meaning.specs.calls.Operators.{new_tuple}
+use Rattle.kishu_meaning.specs.items.Subscripts.{node_attribute, store_on_node, delete_on_node, where_found}
+use Rattle.kishu_meaning.specs.values.Values.{Value, node, Node, list, tuple, dict, object, function, exception}
 use Rattle.kishu_access.specs.Forms.{arguments_at, is_object}
 
 no_arguments : (b : Bool) (vs : List Value) → Some vs ≡ (if b then None else None) → ⊥

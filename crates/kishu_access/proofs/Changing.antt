@@ -3,13 +3,13 @@ use Rattle.std.proofs.Common.{◌≡◌, ◌∙◌, refl, ap, sym, arith, ℕ, z
 use Rattle.std.specs.Prelude.{slice_get, unwrap_or, OnErr}
 use Rattle.std.specs.List.{list_all, remove}
 use Rattle.std.proofs.lemmas.List.{map-append, take-map, drop-map, append-nil}
-use Rattle.kishu_model.specs.declared.value.Value as rust
-use Rattle.kishu_model.specs.Moment.{Locals}
-use Rattle.kishu_model.specs.Nodes.{changed, on_list, push, replace_list}
-use Rattle.kishu_model.specs.Operators.{list_from}
-use Rattle.kishu_model.specs.Subscripts.{without_place}
-use Rattle.kishu_model.specs.Values.{Value, value_of, Names, Node, list, tuple, dict, object, function, exception}
-use Rattle.kishu_model.specs.Walks.{or_none_there}
+use Rattle.kishu_meaning.specs.declared.value.Value as rust
+use Rattle.kishu_meaning.specs.moments.Moment.{Locals}
+use Rattle.kishu_meaning.specs.values.Nodes.{changed, on_list, push, replace_list}
+use Rattle.kishu_meaning.specs.calls.Operators.{list_from}
+use Rattle.kishu_meaning.specs.items.Subscripts.{without_place}
+use Rattle.kishu_meaning.specs.values.Values.{Value, value_of, Names, Node, list, tuple, dict, object, function, exception}
+use Rattle.kishu_meaning.specs.items.Walks.{or_none_there}
 use Rattle.kishu_items.specs.Gathering.{dropped}
 use Rattle.kishu_items.specs.Holding.{both, first, second}
 use Rattle.kishu_machine.specs.Frames.{is_sound_run}

@@ -2,10 +2,10 @@
 use Rattle.std.proofs.Common.{◌≡◌, refl, ap, sym, subst, ℕ, Bool, true, IsTrue, List, [], ◌∷◌, ◌++◌, Result, Ok, Err, IfOk}
 use Rattle.std.specs.Prelude.{codes}
 use Rattle.std.specs.Str.{chars}
-use Rattle.kishu_model.specs.Kinds.{in_quotes, kind_in, not_iterable, no_attribute}
-use Rattle.kishu_model.specs.Subscripts.{not_subscriptable}
-use Rattle.kishu_model.specs.Values.{Value, text}
-use Rattle.kishu_model.specs.Moment.{Moment, M, Ends, raised, Thrown, fresh}
+use Rattle.kishu_meaning.specs.values.Kinds.{in_quotes, kind_in, not_iterable, no_attribute}
+use Rattle.kishu_meaning.specs.items.Subscripts.{not_subscriptable}
+use Rattle.kishu_meaning.specs.values.Values.{Value, text}
+use Rattle.kishu_meaning.specs.moments.Moment.{Moment, M, Ends, raised, Thrown, fresh}
 use Rattle.kishu_heap.specs.declared.fault.CallFault.{CallFault}
 use Rattle.kishu_heap.specs.declared.fault.CallFault.TheVariants as calls
 use Rattle.kishu_items.specs.Called as called

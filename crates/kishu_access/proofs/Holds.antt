@@ -1,11 +1,11 @@
 -- What a sound node holds is sound.
 use Rattle.std.proofs.Common.{◌≡◌, ℕ, ◌&&◌, IsTrue, List, Some}
 use Rattle.std.specs.List.{list_all}
-use Rattle.kishu_model.specs.Keys.{Key}
-use Rattle.kishu_model.specs.Names.{is_name}
-use Rattle.kishu_model.specs.Nodes.{dict_in, object_in}
-use Rattle.kishu_model.specs.Sound.{is_sound, are_sound, is_sound_node, is_exception_class}
-use Rattle.kishu_model.specs.Values.{Value, Node, list, tuple, dict, object, function, exception}
+use Rattle.kishu_meaning.specs.values.Keys.{Key}
+use Rattle.kishu_language.specs.tokens.Names.{is_name}
+use Rattle.kishu_meaning.specs.values.Nodes.{dict_in, object_in}
+use Rattle.kishu_meaning.specs.values.Sound.{is_sound, are_sound, is_sound_node, is_exception_class}
+use Rattle.kishu_meaning.specs.values.Values.{Value, Node, list, tuple, dict, object, function, exception}
 use Rattle.kishu_items.specs.Holding.{second}
 use Rattle.kishu_access.specs.Forms.{arguments_in}
 

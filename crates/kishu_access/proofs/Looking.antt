@@ -6,12 +6,12 @@ use denote.Bor.{Bor}
 use Rattle.std.specs.Option.{option_copied}
 use Rattle.std.specs.Map.{lookup}
 use Rattle.std.specs.Str.{bytes_eq}
-use Rattle.kishu_model.specs.declared.value.Value as rust
-use Rattle.kishu_model.specs.Keys.{Key, is_one}
-use Rattle.kishu_model.specs.Names.{is_name}
-use Rattle.kishu_model.specs.Nodes.{value_at, value_under, attribute, dict_in, object_in}
-use Rattle.kishu_model.specs.Sound.{is_sound}
-use Rattle.kishu_model.specs.Values.{Value, value_of, Node}
+use Rattle.kishu_meaning.specs.declared.value.Value as rust
+use Rattle.kishu_meaning.specs.values.Keys.{Key, is_one}
+use Rattle.kishu_language.specs.tokens.Names.{is_name}
+use Rattle.kishu_meaning.specs.values.Nodes.{value_at, value_under, attribute, dict_in, object_in}
+use Rattle.kishu_meaning.specs.values.Sound.{is_sound}
+use Rattle.kishu_meaning.specs.values.Values.{Value, value_of, Node}
 use Rattle.kishu_items.specs.Holding.{first, second}
 
 module _ {K J : Type 0} (key_of : K → J) (is_key : J → J → Bool) where

@@ -3,14 +3,14 @@ use Rattle.std.proofs.Common.{◌≡◌, refl, List, ℕ}
 use Rattle.std.specs.Prelude.{ℤ}
 use Rattle.std.specs.declared.alloc.Global.{Global}
 use Rattle.std.specs.declared.rc.RcStr.{RcStr}
-use Rattle.kishu_model.specs.declared.value.NodeId.{NodeId}
-use Rattle.kishu_model.specs.declared.value.Value as rust
-use Rattle.kishu_model.specs.declared.value.Value.TheVariants as values
-use Rattle.kishu_model.specs.Kinds.{not_iterable, no_attribute}
-use Rattle.kishu_model.specs.Moment.{Moment}
-use Rattle.kishu_model.specs.Subscripts.{item, slice, store_item, delete_item, store_attribute, delete_attribute, not_subscriptable}
-use Rattle.kishu_model.specs.Values.{Value, value_of}
-use Rattle.kishu_model.specs.Walks.{walk_of}
+use Rattle.kishu_meaning.specs.declared.value.NodeId.{NodeId}
+use Rattle.kishu_meaning.specs.declared.value.Value as rust
+use Rattle.kishu_meaning.specs.declared.value.Value.TheVariants as values
+use Rattle.kishu_meaning.specs.values.Kinds.{not_iterable, no_attribute}
+use Rattle.kishu_meaning.specs.moments.Moment.{Moment}
+use Rattle.kishu_meaning.specs.items.Subscripts.{item, slice, store_item, delete_item, store_attribute, delete_attribute, not_subscriptable}
+use Rattle.kishu_meaning.specs.values.Values.{Value, value_of}
+use Rattle.kishu_meaning.specs.items.Walks.{walk_of}
 
 pub no_item : (v : rust.Value) (i : Value) (s : Moment) → ((t : RcStr Global) → v ≡ values.Text t → ⊥) → ((a b c : ℤ) → v ≡ values.Range a b c → ⊥) → ((k : NodeId) → v ≡ values.Node k → ⊥) → item (value_of v) i s ≡ not_subscriptable (value_of v) s
 no_item values.None i s h1 h2 h3 = refl

@@ -3,10 +3,10 @@ use Rattle.std.proofs.Common.{◌≡◌, ◌∙◌, ◌<◌, ◌^◌, ap, sym, r
 use lib.Signed.{non_neg}
 use Rattle.std.proofs.lemmas.Int.{ints}
 use Rattle.std.specs.List.{cons_option, filter_map}
-use Rattle.kishu_model.specs.declared.value.Value as rust
-use Rattle.kishu_model.specs.Subscripts.{at_place}
-use Rattle.kishu_model.specs.Texts.{places, LieWithin, picked, code_point_at}
-use Rattle.kishu_model.specs.Values.{Value, value_of}
+use Rattle.kishu_meaning.specs.declared.value.Value as rust
+use Rattle.kishu_meaning.specs.items.Subscripts.{at_place}
+use Rattle.kishu_meaning.specs.values.Texts.{places, LieWithin, picked, code_point_at}
+use Rattle.kishu_meaning.specs.values.Values.{Value, value_of}
 use Rattle.kishu_access.proofs.Taking.{at_index}
 
 pub first_within : (size : ℕ) (start step : ℤ) (m : ℕ) → 0 < m → LieWithin size (places start step m) → (pos 0 ≤ℤ start) × (start <ℤ pos size)

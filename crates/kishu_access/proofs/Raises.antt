@@ -1,11 +1,11 @@
 -- What the rules of items, slices and attributes raise is sound.
 use Rattle.std.proofs.Common.{refl, ℕ}
 use Rattle.std.specs.Prelude.{ℤ}
-use Rattle.kishu_model.specs.Equal.{number_in}
-use Rattle.kishu_model.specs.Indexes.{index_of, place_in, place_of, out_of_range}
-use Rattle.kishu_model.specs.Kinds.{bad_index}
-use Rattle.kishu_model.specs.Subscripts.{position}
-use Rattle.kishu_model.specs.Values.{Value}
+use Rattle.kishu_meaning.specs.comparing.Equal.{number_in}
+use Rattle.kishu_meaning.specs.items.Indexes.{index_of, place_in, place_of, out_of_range}
+use Rattle.kishu_meaning.specs.values.Kinds.{bad_index}
+use Rattle.kishu_meaning.specs.items.Subscripts.{position}
+use Rattle.kishu_meaning.specs.values.Values.{Value}
 use Rattle.kishu_machine.specs.Raising.{RaisesSound, then_raises, or_else_raises}
 
 module _ (n : ℕ) where

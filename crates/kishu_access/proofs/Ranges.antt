@@ -4,7 +4,7 @@ use lib.Signed.{mag}
 use Rattle.std.specs.Prelude.{ℤ, pos, negsuc, ◌+ℤ◌, ◌-ℤ◌, ◌<ℤ◌, ◌≤ℤ◌, int_lt, unsigned_abs, if◌then◌else◌}
 use Rattle.std.proofs.lemmas.Int.{ints}
 use Rattle.std.proofs.Math.Nat.{mul-le-mul_left}
-use Rattle.kishu_model.specs.Equal.{steps_between, range_length}
+use Rattle.kishu_meaning.specs.comparing.Equal.{steps_between, range_length}
 
 -- As many whole steps as there are don't pass the way.
 within_way : (k d n : ℕ) → k < (d - 1) / suc n + 1 → 0 < d → k * suc n < d

@@ -6,18 +6,18 @@ use Rattle.std.specs.declared.alloc.Global.{Global}
 use Rattle.std.specs.declared.vec.Vec.{Vec}
 use Rattle.std.proofs.lemmas.Bool.{cases_lt}
 use Rattle.std.proofs.lemmas.Int.{ints}
-use Rattle.kishu_model.specs.declared.value.Value as rust
-use Rattle.kishu_model.specs.declared.value.Value.TheVariants as values
-use Rattle.kishu_model.specs.Equal.{range_length}
-use Rattle.kishu_model.specs.EqualLaws.{number_at, range_counts}
-use Rattle.kishu_model.specs.Indexes.{index_of}
-use Rattle.kishu_model.specs.Moment.{Moment, Thrown, Ends, fine, raised, stopped, M, and_then, ◌>>=◌, give, spend}
-use Rattle.kishu_model.specs.Operators.{list_from, new_list, new_tuple}
-use Rattle.kishu_model.specs.Sound.{is_sound, are_sound}
-use Rattle.kishu_model.specs.Walks.{or_none_there}
-use Rattle.kishu_model.specs.Subscripts.{bound_of, step_from, lowest, highest, counted_from_end, brought, limit, first_limit, last_limit, places_between, slice_places, at_place, picked, node_slice, not_subscriptable}
-use Rattle.kishu_model.specs.Texts.{places, LieWithin}
-use Rattle.kishu_model.specs.Values.{Value, value_of, Node, list, tuple, dict, object, function, exception}
+use Rattle.kishu_meaning.specs.declared.value.Value as rust
+use Rattle.kishu_meaning.specs.declared.value.Value.TheVariants as values
+use Rattle.kishu_meaning.specs.comparing.Equal.{range_length}
+use Rattle.kishu_meaning_laws.specs.EqualLaws.{number_at, range_counts}
+use Rattle.kishu_meaning.specs.items.Indexes.{index_of}
+use Rattle.kishu_meaning.specs.moments.Moment.{Moment, Thrown, Ends, fine, raised, stopped, M, and_then, ◌>>=◌, give, spend}
+use Rattle.kishu_meaning.specs.calls.Operators.{list_from, new_list, new_tuple}
+use Rattle.kishu_meaning.specs.values.Sound.{is_sound, are_sound}
+use Rattle.kishu_meaning.specs.items.Walks.{or_none_there}
+use Rattle.kishu_meaning.specs.items.Subscripts.{bound_of, step_from, lowest, highest, counted_from_end, brought, limit, first_limit, last_limit, places_between, slice_places, at_place, picked, node_slice, not_subscriptable}
+use Rattle.kishu_meaning.specs.values.Texts.{places, LieWithin}
+use Rattle.kishu_meaning.specs.values.Values.{Value, value_of, Node, list, tuple, dict, object, function, exception}
 use Rattle.kishu_machine.specs.declared.fault.Fault.{Fault}
 use Rattle.kishu_machine.specs.declared.fault.Fault.TheVariants as faults
 use Rattle.kishu_machine.specs.Composing.{fails_on}

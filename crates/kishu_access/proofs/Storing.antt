@@ -1,18 +1,18 @@
 -- Items that are stored and deleted, as the rules say.
 use Rattle.std.proofs.Common.{◌≡◌, ◌∙◌, refl, ap, sym, ℕ, ◌<◌, true, false, List, length, Option, Some, None}
 use Rattle.std.specs.Prelude.{option_and_then, is_some, IfSome}
-use Rattle.kishu_model.specs.Keys.{Key}
-use Rattle.kishu_model.specs.KeyOf.{key_of_value}
-use Rattle.kishu_model.specs.Kinds.{no_key}
-use Rattle.kishu_model.specs.Moment.{Moment, Ends, fine, M, and_then, change}
-use Rattle.kishu_model.specs.Nodes.{set_item, insert, remove, on_list, list_in, value_under}
-use Rattle.kishu_model.specs.Subscripts.{position, store_in_node, delete_in_node, not_subscriptable, where_found, without_place}
-use Rattle.kishu_model.specs.Values.{Value, node, Node, list, tuple, dict, object, function, exception}
+use Rattle.kishu_meaning.specs.values.Keys.{Key}
+use Rattle.kishu_meaning.specs.items.KeyOf.{key_of_value}
+use Rattle.kishu_meaning.specs.values.Kinds.{no_key}
+use Rattle.kishu_meaning.specs.moments.Moment.{Moment, Ends, fine, M, and_then, change}
+use Rattle.kishu_meaning.specs.values.Nodes.{set_item, insert, remove, on_list, list_in, value_under}
+use Rattle.kishu_meaning.specs.items.Subscripts.{position, store_in_node, delete_in_node, not_subscriptable, where_found, without_place}
+use Rattle.kishu_meaning.specs.values.Values.{Value, node, Node, list, tuple, dict, object, function, exception}
 use Rattle.kishu_machine.specs.declared.fault.Fault.{Fault}
 use Rattle.kishu_machine.specs.Composing.{fails_on}
 use Rattle.kishu_machine.specs.Machine.{Fails}
-use Rattle.kishu_model.specs.Operators.{list_from}
-use Rattle.kishu_model.specs.Walks.{or_none_there}
+use Rattle.kishu_meaning.specs.calls.Operators.{list_from}
+use Rattle.kishu_meaning.specs.items.Walks.{or_none_there}
 use Rattle.kishu_access.specs.declared.stores.Container.TheVariants as containers
 use Rattle.kishu_access.specs.Access.{container_of}
 

@@ -2,17 +2,17 @@
 use Rattle.std.proofs.Common.{◌≡◌, ◌∙◌, refl, ap, sym, arith, ℕ, zero, suc, ◌<◌, false, IsTrue, List, [], ◌∷◌, length, map, get_or, Option, Some, None}
 use Rattle.std.specs.Prelude.{slice_get, IfSome, option_map, option_and_then, ℤ, pos, ◌+ℤ◌, ◌*ℤ◌}
 use Rattle.std.proofs.lemmas.Bool.{false≢true}
-use Rattle.kishu_model.specs.declared.value.Value as rust
-use Rattle.kishu_model.specs.Equal.{range_length}
-use Rattle.kishu_model.specs.Indexes.{index_of, place_in, place_of, out_of_range}
-use Rattle.kishu_model.specs.Keys.{Key}
-use Rattle.kishu_model.specs.KeyOf.{key_of_value}
-use Rattle.kishu_model.specs.Kinds.{no_key}
-use Rattle.kishu_model.specs.Moment.{Moment, Ends, fine, M, and_then, or_else, give}
-use Rattle.kishu_model.specs.Nodes.{value_under}
-use Rattle.kishu_model.specs.Sound.{is_sound, are_sound}
-use Rattle.kishu_model.specs.Subscripts.{position, taken, item, node_item, not_subscriptable}
-use Rattle.kishu_model.specs.Values.{Value, integer, text, range, value_of, Node, list, tuple, dict, object, function, exception}
+use Rattle.kishu_meaning.specs.declared.value.Value as rust
+use Rattle.kishu_meaning.specs.comparing.Equal.{range_length}
+use Rattle.kishu_meaning.specs.items.Indexes.{index_of, place_in, place_of, out_of_range}
+use Rattle.kishu_meaning.specs.values.Keys.{Key}
+use Rattle.kishu_meaning.specs.items.KeyOf.{key_of_value}
+use Rattle.kishu_meaning.specs.values.Kinds.{no_key}
+use Rattle.kishu_meaning.specs.moments.Moment.{Moment, Ends, fine, M, and_then, or_else, give}
+use Rattle.kishu_meaning.specs.values.Nodes.{value_under}
+use Rattle.kishu_meaning.specs.values.Sound.{is_sound, are_sound}
+use Rattle.kishu_meaning.specs.items.Subscripts.{position, taken, item, node_item, not_subscriptable}
+use Rattle.kishu_meaning.specs.values.Values.{Value, integer, text, range, value_of, Node, list, tuple, dict, object, function, exception}
 use Rattle.kishu_items.specs.Holding.{first, second}
 use Rattle.kishu_machine.specs.declared.fault.Fault.{Fault}
 use Rattle.kishu_machine.specs.Composing.{fails_on}

@@ -1,13 +1,13 @@
 -- What `op=` stores, as the rules say.
 use Rattle.std.proofs.Common.{◌≡◌, refl, ap, ℕ, Option, Some, None}
 use Rattle.std.specs.Prelude.{slice_get}
-use Rattle.kishu_model.specs.declared.tree.Operator.{Operator}
-use Rattle.kishu_model.specs.declared.tree.Operator.TheVariants as operators
-use Rattle.kishu_model.specs.Meaning.{add_to, updated}
-use Rattle.kishu_model.specs.Moment.{Moment, and_then, give}
-use Rattle.kishu_model.specs.Operators.{operate, list_from}
-use Rattle.kishu_model.specs.Sequences.{extended}
-use Rattle.kishu_model.specs.Values.{Value, none, bool, integer, text, range, builtin, class, node, Node, list, tuple, dict, object, function, exception}
+use Rattle.kishu_language.specs.declared.tree.Operator.{Operator}
+use Rattle.kishu_language.specs.declared.tree.Operator.TheVariants as operators
+use Rattle.kishu_meaning.specs.cells.Meaning.{add_to, updated}
+use Rattle.kishu_meaning.specs.moments.Moment.{Moment, and_then, give}
+use Rattle.kishu_meaning.specs.calls.Operators.{operate, list_from}
+use Rattle.kishu_meaning.specs.items.Sequences.{extended}
+use Rattle.kishu_meaning.specs.values.Values.{Value, none, bool, integer, text, range, builtin, class, node, Node, list, tuple, dict, object, function, exception}
 use Rattle.kishu_access.specs.Forms.{list_number, number_if_list}
 
 module _ (w : Value) (s : Moment) where

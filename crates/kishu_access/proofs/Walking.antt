@@ -9,17 +9,17 @@ use Rattle.std.specs.String.{string_bytes}
 use Rattle.std.specs.declared.alloc.Global.{Global}
 use Rattle.std.specs.declared.string.String.{String}
 use Rattle.std.proofs.lemmas.Str.{chars-IsAscii}
-use Rattle.kishu_model.specs.declared.key.Key as rust_key
-use Rattle.kishu_model.specs.declared.value.Value as rust
-use Rattle.kishu_model.specs.Keys.{Key, key_of}
-use Rattle.kishu_model.specs.Sound.{is_sound}
-use Rattle.kishu_model.specs.Kinds.{not_iterable, value_error}
-use Rattle.kishu_model.specs.Moment.{Moment, Ends, fine, M, and_then, ◌>>=◌, or_else, spend}
-use Rattle.kishu_model.specs.Nodes.{dict_in}
-use Rattle.kishu_model.specs.Operators.{list_from, tuple_from}
-use Rattle.kishu_model.specs.Sequences.{count_in, items_of}
-use Rattle.kishu_model.specs.Values.{Value, value_of, node, Node, list, tuple, dict, object, function, exception}
-use Rattle.kishu_model.specs.Walks.{unpacked, Walk, View, keys, along_list, along_dict, along_tuple, node_walk, item_for, entry_seen, size_changed, or_none_there}
+use Rattle.kishu_meaning.specs.declared.key.Key as rust_key
+use Rattle.kishu_meaning.specs.declared.value.Value as rust
+use Rattle.kishu_meaning.specs.values.Keys.{Key, key_of}
+use Rattle.kishu_meaning.specs.values.Sound.{is_sound}
+use Rattle.kishu_meaning.specs.values.Kinds.{not_iterable, value_error}
+use Rattle.kishu_meaning.specs.moments.Moment.{Moment, Ends, fine, M, and_then, ◌>>=◌, or_else, spend}
+use Rattle.kishu_meaning.specs.values.Nodes.{dict_in}
+use Rattle.kishu_meaning.specs.calls.Operators.{list_from, tuple_from}
+use Rattle.kishu_meaning.specs.items.Sequences.{count_in, items_of}
+use Rattle.kishu_meaning.specs.values.Values.{Value, value_of, node, Node, list, tuple, dict, object, function, exception}
+use Rattle.kishu_meaning.specs.items.Walks.{unpacked, Walk, View, keys, along_list, along_dict, along_tuple, node_walk, item_for, entry_seen, size_changed, or_none_there}
 use Rattle.kishu_machine.specs.declared.fault.Fault.{Fault}
 use Rattle.kishu_machine.specs.Composing.{fails_on}
 use Rattle.kishu_machine.specs.Machine.{Fails}

@@ -3,13 +3,13 @@ use Rattle.std.specs.Prelude.{ℕ, ℤ, Bool, true, ◌&&◌, List, map, length,
 use Rattle.std.specs.Rc.{rc_str_bytes}
 use Rattle.std.specs.declared.alloc.Global.{Global}
 use Rattle.std.specs.declared.vec.Vec.{Vec}
-use Rattle.kishu_model.specs.declared.value.Value as rust
-use Rattle.kishu_model.specs.Texts.{places, LieWithin}
-use Rattle.kishu_model.specs.Names.{is_name}
-use Rattle.kishu_model.specs.Values.{node, Node, list, dict, value_of}
-use Rattle.kishu_model.specs.Sound.{is_sound, are_sound}
-use Rattle.kishu_model.specs.Walks.{View, keys, values, items, Walk, along_list, along_dict, along_tuple, along_text, along_range}
-use Rattle.kishu_model.specs.Meaning.{Place, named, attribute_of, item_of}
+use Rattle.kishu_meaning.specs.declared.value.Value as rust
+use Rattle.kishu_meaning.specs.values.Texts.{places, LieWithin}
+use Rattle.kishu_language.specs.tokens.Names.{is_name}
+use Rattle.kishu_meaning.specs.values.Values.{node, Node, list, dict, value_of}
+use Rattle.kishu_meaning.specs.values.Sound.{is_sound, are_sound}
+use Rattle.kishu_meaning.specs.items.Walks.{View, keys, values, items, Walk, along_list, along_dict, along_tuple, along_text, along_range}
+use Rattle.kishu_meaning.specs.cells.Meaning.{Place, named, attribute_of, item_of}
 use Rattle.kishu_access.specs.declared.places.Place as rust_place
 use Rattle.kishu_access.specs.declared.places.Place.TheVariants as rust_places
 use Rattle.kishu_access.specs.declared.slices.Places.{Places}

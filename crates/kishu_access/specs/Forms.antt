@@ -1,9 +1,9 @@
 -- Forms that the code's functions have, where they cut a rule of the language into parts.
 use Rattle.std.specs.Prelude.{ℕ, Bool, true, false, if◌then◌else◌, List, slice_get, codes, Option, Some, None, option_and_then}
 use Rattle.std.specs.Str.{bytes_eq}
-use Rattle.kishu_model.specs.Values.{Value, node, Node, list, tuple, dict, object, function, exception}
-use Rattle.kishu_model.specs.Moment.{M, ◌>>=◌, give}
-use Rattle.kishu_model.specs.Subscripts.{picked}
+use Rattle.kishu_meaning.specs.values.Values.{Value, node, Node, list, tuple, dict, object, function, exception}
+use Rattle.kishu_meaning.specs.moments.Moment.{M, ◌>>=◌, give}
+use Rattle.kishu_meaning.specs.items.Subscripts.{picked}
 
 -- what stands at the places of a slice, where there are items
 abbrev pub maybe_picked : Option (List Value) → Value → Value → Value → M (Option (List Value))

@@ -1,8 +1,8 @@
 // Places: a name, an attribute, or an item (Python Language Reference 3, "Assignment statements").
 ghost use Rattle.std.specs.Prelude.{IsTrue, length, true};
-ghost use Rattle.kishu_model.specs.Meaning.{delete_place, read_place, store_in};
-ghost use Rattle.kishu_model.specs.Sound.{is_sound};
-ghost use Rattle.kishu_model.specs.Values.{value_of};
+ghost use Rattle.kishu_meaning.specs.cells.Meaning.{delete_place, read_place, store_in};
+ghost use Rattle.kishu_meaning.specs.values.Sound.{is_sound};
+ghost use Rattle.kishu_meaning.specs.values.Values.{value_of};
 ghost use Rattle.kishu_access.specs.Access.{is_sound_place, place_of, place_reads};
 ghost use Rattle.kishu_machine.specs.Machine.{Gives, GrownBy, HasRoomBy, IsSound, ReadsBy, moment_of};
 
@@ -10,7 +10,7 @@ use crate::attributes::{attribute, delete_attribute, store_attribute};
 use crate::stores::{delete_item, store_item};
 use crate::subscripts::item;
 use kishu_machine::{Fault, Machine, assign, delete, read};
-use kishu_model::{Steps, Value};
+use kishu_meaning::{Steps, Value};
 use std::rc::RcStr;
 use std::sync::ledger::Ledger;
 

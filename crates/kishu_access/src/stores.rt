@@ -1,21 +1,21 @@
 // Stores into items, and deletions of them (Python Language Reference 3, "Assignment statements" and "The del statement").
 ghost use Rattle.std.specs.Prelude.{IfOk, IsTrue, OnOk, Some, is_some, length, map, option_and_then, slice_get, true, ◌+◌, ◌-◌, ◌<◌, ◌≡◌, ◌≤◌};
-ghost use Rattle.kishu_model.specs.Keys.{key_of};
-ghost use Rattle.kishu_model.specs.Kinds.{no_key};
-ghost use Rattle.kishu_model.specs.Moment.{change, node_at, node_now, ◌>>=◌ as ◌⊳◌};
-ghost use Rattle.kishu_model.specs.Nodes.{changed, on_list, remove, value_under};
-ghost use Rattle.kishu_model.specs.Operators.{list_from};
-ghost use Rattle.kishu_model.specs.Sound.{are_sound, is_sound};
-ghost use Rattle.kishu_model.specs.Subscripts.{delete_in_node, delete_item, item, position, store_in_node, store_item, where_found, without_place};
-ghost use Rattle.kishu_model.specs.Values.{node, value_of};
-ghost use Rattle.kishu_model.specs.Walks.{or_none_there};
+ghost use Rattle.kishu_meaning.specs.values.Keys.{key_of};
+ghost use Rattle.kishu_meaning.specs.values.Kinds.{no_key};
+ghost use Rattle.kishu_meaning.specs.moments.Moment.{change, node_at, node_now, ◌>>=◌ as ◌⊳◌};
+ghost use Rattle.kishu_meaning.specs.values.Nodes.{changed, on_list, remove, value_under};
+ghost use Rattle.kishu_meaning.specs.calls.Operators.{list_from};
+ghost use Rattle.kishu_meaning.specs.values.Sound.{are_sound, is_sound};
+ghost use Rattle.kishu_meaning.specs.items.Subscripts.{delete_in_node, delete_item, item, position, store_in_node, store_item, where_found, without_place};
+ghost use Rattle.kishu_meaning.specs.values.Values.{node, value_of};
+ghost use Rattle.kishu_meaning.specs.items.Walks.{or_none_there};
 ghost use Rattle.kishu_access.specs.Access.{container_of};
 ghost use Rattle.kishu_machine.specs.Machine.{Gives, GrownBy, IsSound, ReadsBy, moment_of};
 
 use crate::subscripts::{found, position};
 use kishu_heap::{Heap, Node};
 use kishu_machine::{Fault, Machine, key_of, list_at, no_key, node_at, not_subscriptable};
-use kishu_model::{Key, NodeId, Steps, Value};
+use kishu_meaning::{Key, NodeId, Steps, Value};
 use std::alloc::{AllocError, Global};
 use std::sync::ledger::Ledger;
 

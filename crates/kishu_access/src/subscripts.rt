@@ -1,20 +1,20 @@
 // Items that are read (Python Language Reference 3, "Subscriptions").
 ghost use Rattle.std.specs.Prelude.{IfOk, IfSome, IsTrue, Some, [], is_some, length, map, negsuc, option_and_then, option_map, pos, slice_get, true, ℕ, ◌*ℤ◌, ◌+ℤ◌, ◌+◌, ◌-ℤ◌, ◌-◌, ◌<ℤ◌, ◌<◌, ◌^◌, ◌∷◌, ◌≡◌, ◌≤ℤ◌, ◌≤◌};
 ghost use Rattle.std.specs.Str.{chars};
-ghost use Rattle.kishu_model.specs.Equal.{range_length};
-ghost use Rattle.kishu_model.specs.Indexes.{index_of, place_in, place_of};
-ghost use Rattle.kishu_model.specs.Keys.{is_one, key_of};
-ghost use Rattle.kishu_model.specs.Kinds.{no_key};
-ghost use Rattle.kishu_model.specs.Moment.{Moment, node_at, node_now, ◌>>=◌ as ◌⊳◌};
-ghost use Rattle.kishu_model.specs.Nodes.{value_at, value_under};
-ghost use Rattle.kishu_model.specs.Operators.{list_from};
-ghost use Rattle.kishu_model.specs.Sound.{are_sound, is_sound};
-ghost use Rattle.kishu_model.specs.Subscripts.{item, node_item, position, taken};
-ghost use Rattle.kishu_model.specs.Values.{node, value_of};
+ghost use Rattle.kishu_meaning.specs.comparing.Equal.{range_length};
+ghost use Rattle.kishu_meaning.specs.items.Indexes.{index_of, place_in, place_of};
+ghost use Rattle.kishu_meaning.specs.values.Keys.{is_one, key_of};
+ghost use Rattle.kishu_meaning.specs.values.Kinds.{no_key};
+ghost use Rattle.kishu_meaning.specs.moments.Moment.{Moment, node_at, node_now, ◌>>=◌ as ◌⊳◌};
+ghost use Rattle.kishu_meaning.specs.values.Nodes.{value_at, value_under};
+ghost use Rattle.kishu_meaning.specs.calls.Operators.{list_from};
+ghost use Rattle.kishu_meaning.specs.values.Sound.{are_sound, is_sound};
+ghost use Rattle.kishu_meaning.specs.items.Subscripts.{item, node_item, position, taken};
+ghost use Rattle.kishu_meaning.specs.values.Values.{node, value_of};
 ghost use Rattle.kishu_access.specs.Forms.{is_dict, items_from};
 ghost use Rattle.kishu_heap.specs.Cells.{entries_of};
 ghost use Rattle.kishu_machine.specs.Machine.{Gives, GrownBy, IsSound, ReadsBy, moment_of};
-ghost use Rattle.kishu_model.specs.Values as model;
+ghost use Rattle.kishu_meaning.specs.values.Values as model;
 
 use indexmap::IndexMap;
 use kishu_heap::{Heap, Node, range_length};
@@ -22,7 +22,7 @@ use kishu_items::character_text;
 use kishu_machine::{
     Fault, Machine, key_of, list_at, no_key, node_at, not_subscriptable, out_of_range, passed,
 };
-use kishu_model::{Key, Steps, Value};
+use kishu_meaning::{Key, Steps, Value};
 use std::alloc::{AllocError, Global};
 use std::sync::ledger::Ledger;
 

@@ -1,15 +1,16 @@
 // What `op=` stores (Python Language Reference 3, "Augmented assignment statements").
 ghost use Rattle.std.specs.Prelude.{IfSome, IsTrue, length, option_map, ◌+◌, ◌<◌, ◌≡◌, ◌≤◌};
-ghost use Rattle.kishu_model.specs.Meaning.{updated};
-ghost use Rattle.kishu_model.specs.declared.tree.Operator.TheVariants as operators;
-ghost use Rattle.kishu_model.specs.Sound.{is_sound};
-ghost use Rattle.kishu_model.specs.Values.{value_of};
+ghost use Rattle.kishu_meaning.specs.cells.Meaning.{updated};
+ghost use Rattle.kishu_language.specs.declared.tree.Operator.TheVariants as operators;
+ghost use Rattle.kishu_meaning.specs.values.Sound.{is_sound};
+ghost use Rattle.kishu_meaning.specs.values.Values.{value_of};
 ghost use Rattle.kishu_access.specs.Forms.{list_number};
 ghost use Rattle.kishu_machine.specs.Machine.{Gives, GrownBy, HasRoomBy, IsSound, ReadsBy, moment_of};
 
 use crate::walks::extend;
+use kishu_language::Operator;
 use kishu_machine::{Fault, Machine, list_at, operate};
-use kishu_model::{NodeId, Operator, Steps, Value};
+use kishu_meaning::{NodeId, Steps, Value};
 use std::sync::ledger::Ledger;
 
 // The list that a value is.

@@ -4,20 +4,20 @@ ghost use Rattle.std.specs.Prelude.{IfOk, IfSome, IsTrue, None, OnOk, Some, [], 
 ghost use Rattle.std.specs.Str.{chars};
 ghost use Rattle.std.specs.String.{string_bytes};
 ghost use Rattle.kishu_heap.specs.Cells.{entries_of};
-ghost use Rattle.kishu_model.specs.Equal.{range_length};
-ghost use Rattle.kishu_model.specs.Keys.{key_of};
-ghost use Rattle.kishu_model.specs.Moment.{fine, node_now, ◌>>=◌ as ◌⊳◌};
-ghost use Rattle.kishu_model.specs.Nodes.{changed, dict_in, on_list};
-ghost use Rattle.kishu_model.specs.Operators.{list_from, tuple_from};
-ghost use Rattle.kishu_model.specs.Sequences.{extended};
-ghost use Rattle.kishu_model.specs.Sound.{are_sound, is_sound};
-ghost use Rattle.kishu_model.specs.Values.{node, value_of};
-ghost use Rattle.kishu_model.specs.Walks.{along_dict, along_text, item_for, node_walk, or_none_there, seen, unpacked, walk_view};
+ghost use Rattle.kishu_meaning.specs.comparing.Equal.{range_length};
+ghost use Rattle.kishu_meaning.specs.values.Keys.{key_of};
+ghost use Rattle.kishu_meaning.specs.moments.Moment.{fine, node_now, ◌>>=◌ as ◌⊳◌};
+ghost use Rattle.kishu_meaning.specs.values.Nodes.{changed, dict_in, on_list};
+ghost use Rattle.kishu_meaning.specs.calls.Operators.{list_from, tuple_from};
+ghost use Rattle.kishu_meaning.specs.items.Sequences.{extended};
+ghost use Rattle.kishu_meaning.specs.values.Sound.{are_sound, is_sound};
+ghost use Rattle.kishu_meaning.specs.values.Values.{node, value_of};
+ghost use Rattle.kishu_meaning.specs.items.Walks.{along_dict, along_text, item_for, node_walk, or_none_there, seen, unpacked, walk_view};
 ghost use Rattle.kishu_access.specs.Access.{is_sound_maybe, is_sound_walk, view_of, walk_of};
 ghost use Rattle.kishu_machine.specs.Lists.{values_in};
 ghost use Rattle.kishu_machine.specs.Machine.{Gives, GrownBy, HasRoom, HasRoomBy, IsRaised, IsSound, ReadsBy, moment_of};
-ghost use Rattle.kishu_model.specs.Values as model;
-ghost use Rattle.kishu_model.specs.Walks as walks;
+ghost use Rattle.kishu_meaning.specs.values.Values as model;
+ghost use Rattle.kishu_meaning.specs.items.Walks as walks;
 
 use crate::subscripts::{is_list, range_number};
 use indexmap::IndexMap;
@@ -27,7 +27,7 @@ use kishu_machine::{
     Fault, Machine, RUNTIME_ERROR, items_of, list_at, new_tuple, node_at, not_iterable, raise,
     spend, tuple_at, value_of_key, walked,
 };
-use kishu_model::{Key, NodeId, Steps, Value};
+use kishu_meaning::{Key, NodeId, Steps, Value};
 use std::alloc::{AllocError, Global};
 use std::rc::RcStr;
 use std::sync::ledger::Ledger;
@@ -42,7 +42,7 @@ pub enum View {
 
 impl View {
     ghost use Rattle.std.specs.Prelude.{◌≡◌};
-    ghost use Rattle.kishu_model.specs.Walks.{view_name};
+    ghost use Rattle.kishu_meaning.specs.items.Walks.{view_name};
     ghost use Rattle.kishu_access.specs.Access.{view_of};
 
     /// The view's name.

@@ -1,10 +1,10 @@
 -- Texts of one code point, and the numbers that are code points.
 use Rattle.std.proofs.Common.{◌≡◌, ap, sym, refl, ℕ, true, false, List, [], ◌∷◌, Some, None}
 use Rattle.std.specs.Prelude.{slice_get, unwrap_or, codes, pos}
-use Rattle.kishu_model.specs.Builtins.{code_point, character, is_character}
-use Rattle.kishu_model.specs.Kinds.{bad_arguments, value_error}
-use Rattle.kishu_model.specs.Moment.{Moment, fine}
-use Rattle.kishu_model.specs.Values.{text, integer}
+use Rattle.kishu_meaning.specs.calls.Builtins.{code_point, character, is_character}
+use Rattle.kishu_meaning.specs.values.Kinds.{bad_arguments, value_error}
+use Rattle.kishu_meaning.specs.moments.Moment.{Moment, fine}
+use Rattle.kishu_meaning.specs.values.Values.{text, integer}
 
 pub only_one : (cs : List ℕ) (c : ℕ) (s : Moment) → Some c ≡ slice_get cs 0 → None ≡ slice_get cs 1 → code_point (text cs) s ≡ fine (integer (pos c)) s
 only_one [] c s e f = absurd cc

@@ -2,16 +2,16 @@
 use Rattle.std.proofs.Common.{◌≡◌, ◌≤◌, refl, ℕ, Bool, IsTrue, List, Option, Some, None, Result, Ok, Err}
 use Rattle.std.specs.Prelude.{nat_lt}
 use Rattle.std.specs.List.{list_all}
-use Rattle.kishu_model.specs.Comparing.{compare, comparison_sign}
-use Rattle.kishu_model.specs.Counting.{Count, answer, too_deep, spent}
-use Rattle.kishu_model.specs.CountingLaws.{Falls}
+use Rattle.kishu_meaning.specs.comparing.Comparing.{compare, comparison_sign}
+use Rattle.kishu_meaning.specs.moments.Counting.{Count, answer, too_deep, spent}
+use Rattle.kishu_meaning_laws.specs.CountingLaws.{Falls}
 use Rattle.kishu_heap.specs.Compared.{Orders}
 use Rattle.kishu_heap.specs.declared.fault.CompareFault.{CompareFault}
 use Rattle.kishu_heap.specs.declared.fault.CompareFault.TheVariants as faults
-use Rattle.kishu_model.specs.Moment.{fine, stopped, recursion_error}
-use Rattle.kishu_model.specs.Operators.{bad_operands}
-use Rattle.kishu_model.specs.Values.{Value, Node}
-use Rattle.kishu_model.specs.Bare.{bare}
+use Rattle.kishu_meaning.specs.moments.Moment.{fine, stopped, recursion_error}
+use Rattle.kishu_meaning.specs.calls.Operators.{bad_operands}
+use Rattle.kishu_meaning.specs.values.Values.{Value, Node}
+use Rattle.kishu_meaning_laws.specs.Bare.{bare}
 use Rattle.kishu_builtins.specs.declared.best.Extreme.{Extreme}
 use Rattle.kishu_builtins.specs.declared.best.Extreme.TheVariants.{Greatest, Least}
 use Rattle.kishu_builtins.specs.Extremes.{comparison_of, best_name, before_in}

@@ -1,11 +1,11 @@
 -- Copies of a dict.
 use Rattle.std.proofs.Common.{◌≡◌, ap, sym, List, length, Some}
 use Rattle.std.specs.Prelude.{unwrap_or}
-use Rattle.kishu_model.specs.Keys.{Key}
-use Rattle.kishu_model.specs.Builtins.{copied_dict}
-use Rattle.kishu_model.specs.Moment.{◌>>◌, spend, make}
-use Rattle.kishu_model.specs.Nodes.{dict_in}
-use Rattle.kishu_model.specs.Values.{Value, Node, list, tuple, dict, object, function, exception}
+use Rattle.kishu_meaning.specs.values.Keys.{Key}
+use Rattle.kishu_meaning.specs.calls.Builtins.{copied_dict}
+use Rattle.kishu_meaning.specs.moments.Moment.{◌>>◌, spend, make}
+use Rattle.kishu_meaning.specs.values.Nodes.{dict_in}
+use Rattle.kishu_meaning.specs.values.Values.{Value, Node, list, tuple, dict, object, function, exception}
 
 pub copied_as : (n : Node) (es : List (Key × Value)) → Some es ≡ dict_in n → copied_dict (Some n) ≡ (spend (length es) >> make (dict es))
 copied_as (list vs) es e = absurd cc

@@ -1,11 +1,11 @@
 -- What a call leaves that has ended, by the laws of the definition.
 use Rattle.std.proofs.Common.{◌≡◌, ◌∙◌, ap, sym, refl, arith, ℕ, ◌+◌, ◌-◌, IsTrue, List, [], ◌∷◌, length, length-append, Result, Ok, Err, IfOk}
-use Rattle.kishu_model.specs.declared.budget.Budget.{Budget}
-use Rattle.kishu_model.specs.declared.value.Value as rust
-use Rattle.kishu_model.specs.Moment.{Moment, Ends, fresh}
-use Rattle.kishu_model.specs.MakingLaws.{end_of, Within}
-use Rattle.kishu_model.specs.Sound.{is_sound}
-use Rattle.kishu_model.specs.Values.{Value, value_of, none, bool, integer, text, range, builtin, class, node, Node}
+use Rattle.kishu_meaning.specs.declared.budget.Budget.{Budget}
+use Rattle.kishu_meaning.specs.declared.value.Value as rust
+use Rattle.kishu_meaning.specs.moments.Moment.{Moment, Ends, fresh}
+use Rattle.kishu_meaning_laws.specs.MakingLaws.{end_of, Within}
+use Rattle.kishu_meaning.specs.values.Sound.{is_sound}
+use Rattle.kishu_meaning.specs.values.Values.{Value, value_of, none, bool, integer, text, range, builtin, class, node, Node}
 use Rattle.kishu_heap.specs.declared.fault.CallFault.{CallFault}
 use Rattle.kishu_heap.specs.declared.fault.CallFault.TheVariants as faults
 use Rattle.kishu_items.specs.Contents.{IsGrown}

@@ -3,18 +3,18 @@ use Rattle.std.proofs.Common.{◌≡◌, ◌∙◌, ◌≢◌, ap, ap₂, sym, r
 use Rattle.std.specs.Prelude.{ℤ, codes, ◌==◌, if◌then◌else◌}
 use Rattle.std.proofs.lemmas.Bool.Decides.{nat_tests}
 use Rattle.std.proofs.lemmas.List.{length-map}
-use Rattle.kishu_model.specs.declared.tree.Comparison.{Comparison}
-use Rattle.kishu_model.specs.declared.value.Value as rust
-use Rattle.kishu_model.specs.Builtins.{of_one, of_two, of_none_or_one, best, best_of, range_from}
-use Rattle.kishu_model.specs.Callees.{construct, empty_object}
-use Rattle.kishu_model.specs.Classes.{namespace_number}
-use Rattle.kishu_model.specs.Equal.{number_in}
-use Rattle.kishu_model.specs.Kinds.{bad_arguments}
-use Rattle.kishu_model.specs.Moment.{M, make}
-use Rattle.kishu_model.specs.Names.{class_names}
-use Rattle.kishu_model.specs.Sound.{is_sound, are_sound, is_exception_class, classes}
-use Rattle.kishu_model.specs.Values.{Value, value_of, object, exception}
-use Rattle.kishu_model.specs.Walks.{along_tuple}
+use Rattle.kishu_language.specs.declared.tree.Comparison.{Comparison}
+use Rattle.kishu_meaning.specs.declared.value.Value as rust
+use Rattle.kishu_meaning.specs.calls.Builtins.{of_one, of_two, of_none_or_one, best, best_of, range_from}
+use Rattle.kishu_meaning.specs.calls.Callees.{construct, empty_object}
+use Rattle.kishu_meaning.specs.values.Classes.{namespace_number}
+use Rattle.kishu_meaning.specs.comparing.Equal.{number_in}
+use Rattle.kishu_meaning.specs.values.Kinds.{bad_arguments}
+use Rattle.kishu_meaning.specs.moments.Moment.{M, make}
+use Rattle.kishu_meaning.specs.values.BuiltinNames.{class_names}
+use Rattle.kishu_meaning.specs.values.Sound.{is_sound, are_sound, is_exception_class, classes}
+use Rattle.kishu_meaning.specs.values.Values.{Value, value_of, object, exception}
+use Rattle.kishu_meaning.specs.items.Walks.{along_tuple}
 use Rattle.kishu_items.specs.Holding.{first, second}
 use Rattle.kishu_builtins.specs.Called.{plainly}
 

@@ -4,9 +4,9 @@ use Rattle.std.specs.Prelude.{unwrap_or, if◌then◌else◌}
 use Rattle.std.specs.Cmp.Lexicographic.{slice_cmp}
 use Rattle.std.specs.List.{list_all}
 use Rattle.std.specs.Ordering.{int_cmp, nat_cmp, is_lt}
-use Rattle.kishu_model.specs.Sorting.{is_number, is_text, number_key, text_key, sorted_by, in_order}
-use Rattle.kishu_model.specs.Sound.{is_sound, are_sound}
-use Rattle.kishu_model.specs.Values.{Value}
+use Rattle.kishu_meaning.specs.items.Sorting.{is_number, is_text, number_key, text_key, sorted_by, in_order}
+use Rattle.kishu_meaning.specs.values.Sound.{is_sound, are_sound}
+use Rattle.kishu_meaning.specs.values.Values.{Value}
 use Rattle.kishu_items.specs.Orders.{all_sorted}
 
 found_sound : (n : ℕ) (a b : Bool) (xs ys us : List Value) → IsTrue (are_sound n xs) → IsTrue (are_sound n ys) → Some us ≡ (if a then Some xs else if b then Some ys else None) → IsTrue (are_sound n us)

@@ -2,13 +2,13 @@
 use Rattle.std.proofs.Common.{◌≡◌, ◌∙◌, ap, sym, arith, refl, ℕ, zero, suc, true, IsTrue, List, [], ◌∷◌, length, Option, Some, None}
 use Rattle.std.specs.Prelude.{slice_get, IfSome, option_map, option_and_then, ◌==◌, if◌then◌else◌}
 use Rattle.std.proofs.lemmas.Bool.Decides.{nat_tests}
-use Rattle.kishu_model.specs.declared.value.Value as rust
-use Rattle.kishu_model.specs.Keys.{Key}
-use Rattle.kishu_model.specs.Moment.{Moment}
-use Rattle.kishu_model.specs.Sound.{is_sound, are_sound}
-use Rattle.kishu_model.specs.Values.{Value, value_of, Node, dict}
-use Rattle.kishu_model.specs.Nodes.{dict_in}
-use Rattle.kishu_model.specs.Walks.{entry_seen, item_for, keys, or_none_there, size_changed}
+use Rattle.kishu_meaning.specs.declared.value.Value as rust
+use Rattle.kishu_meaning.specs.values.Keys.{Key}
+use Rattle.kishu_meaning.specs.moments.Moment.{Moment}
+use Rattle.kishu_meaning.specs.values.Sound.{is_sound, are_sound}
+use Rattle.kishu_meaning.specs.values.Values.{Value, value_of, Node, dict}
+use Rattle.kishu_meaning.specs.values.Nodes.{dict_in}
+use Rattle.kishu_meaning.specs.items.Walks.{entry_seen, item_for, keys, or_none_there, size_changed}
 use Rattle.kishu_items.specs.Holding.{first, second}
 use Rattle.kishu_builtins.specs.Walking.{walk_at}
 

@@ -3,11 +3,11 @@ use Rattle.std.proofs.Common.{◌≡◌, ◌∙◌, ap, sym, refl, Bool, true, f
 use Rattle.std.specs.Prelude.{codes, is_some, ◌||◌}
 use Rattle.std.specs.List.{list_all, list_any}
 use Rattle.std.proofs.lemmas.List.Folds.{list_all-map}
-use Rattle.kishu_model.specs.declared.value.Value as rust
-use Rattle.kishu_model.specs.Builtins.{class_in, is_of_class, is_of_one}
-use Rattle.kishu_model.specs.Kinds.{bad_arguments}
-use Rattle.kishu_model.specs.Moment.{Moment, fine, node_at}
-use Rattle.kishu_model.specs.Values.{Value, value_of, bool}
+use Rattle.kishu_meaning.specs.declared.value.Value as rust
+use Rattle.kishu_meaning.specs.calls.Builtins.{class_in, is_of_class, is_of_one}
+use Rattle.kishu_meaning.specs.values.Kinds.{bad_arguments}
+use Rattle.kishu_meaning.specs.moments.Moment.{Moment, fine, node_at}
+use Rattle.kishu_meaning.specs.values.Values.{Value, value_of, bool}
 
 any_mapped : (p : Value → Bool) (cs : List rust.Value) → list_any p (map value_of cs) ≡ list_any (λ c. p (value_of c)) cs
 any_mapped p [] = refl

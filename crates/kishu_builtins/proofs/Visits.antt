@@ -2,11 +2,11 @@
 use Rattle.std.proofs.Common.{◌≡◌, ◌∙◌, ap, refl, arith, ℕ, suc, ◌+◌, ◌-◌, ◌<◌, Bool, true, false, Option, Some, None}
 use Rattle.std.specs.Prelude.{not, if◌then◌else◌}
 use Rattle.std.specs.Bool.{beq}
-use Rattle.kishu_model.specs.Builtins.{and_next, decided, folded}
-use Rattle.kishu_model.specs.Moment.{M, Moment, Ends, fine, raised, stopped, and_then, ◌>>=◌, give, tick}
-use Rattle.kishu_model.specs.Operators.{truth}
-use Rattle.kishu_model.specs.Values.{Value, bool}
-use Rattle.kishu_model.specs.Walks.{Walk, item_for}
+use Rattle.kishu_meaning.specs.calls.Builtins.{and_next, decided, folded}
+use Rattle.kishu_meaning.specs.moments.Moment.{M, Moment, Ends, fine, raised, stopped, and_then, ◌>>=◌, give, tick}
+use Rattle.kishu_meaning.specs.calls.Operators.{truth}
+use Rattle.kishu_meaning.specs.values.Values.{Value, bool}
+use Rattle.kishu_meaning.specs.items.Walks.{Walk, item_for}
 use Rattle.kishu_heap.specs.declared.fault.CallFault.{CallFault}
 use Rattle.kishu_builtins.specs.Called.{Fails}
 pub use Rattle.kishu_items.specs.Failing.{fails_through}

@@ -5,12 +5,12 @@ use Rattle.std.specs.Ordering.{int_eq}
 use Rattle.std.proofs.lemmas.Bool.Decides.{nat_tests}
 use Rattle.kishu_num.specs.declared.fault.NumFault.TheVariants.{Overflow, ZeroDivisor}
 use Rattle.kishu_num.specs.Results.{in_range, divided_by}
-use Rattle.kishu_model.specs.Numbers.{is_whole, floor_quotient, floor_remainder}
-use Rattle.kishu_model.specs.declared.tree.Operator.TheVariants as operators
-use Rattle.kishu_model.specs.Values.{integer}
-use Rattle.kishu_model.specs.Moment.{Moment, fine, and_then, ◌>>=◌, give, raise}
-use Rattle.kishu_model.specs.Operators.{whole, operate, new_tuple}
-use Rattle.kishu_model.specs.Builtins.{quotient_and_remainder}
+use Rattle.kishu_meaning.specs.values.Numbers.{is_whole, floor_quotient, floor_remainder}
+use Rattle.kishu_language.specs.declared.tree.Operator.TheVariants as operators
+use Rattle.kishu_meaning.specs.values.Values.{integer}
+use Rattle.kishu_meaning.specs.moments.Moment.{Moment, fine, and_then, ◌>>=◌, give, raise}
+use Rattle.kishu_meaning.specs.calls.Operators.{whole, operate, new_tuple}
+use Rattle.kishu_meaning.specs.calls.Builtins.{quotient_and_remainder}
 use Rattle.kishu_builtins.specs.Answered.{answered}
 
 in_range_by : (b : Bool) (z : ℤ) (s : Moment) → answered (if b then Ok z else Err Overflow) s ≡ (if b then give (integer z) else raise 10 (codes "whole number too large")) s

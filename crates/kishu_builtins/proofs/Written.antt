@@ -7,9 +7,9 @@ use Rattle.std.proofs.lemmas.Bool.Decides.{nat_tests}
 use Rattle.std.proofs.lemmas.List.{reverse-append}
 use Rattle.std.proofs.lemmas.List.Folds.{list_all-append}
 use Rattle.std.proofs.lemmas.Str.{encodes-chars, encodes-IsAscii}
-use Rattle.kishu_model.specs.Names.{is_digit}
-use Rattle.kishu_model.specs.White.{is_white, without_front, without_back, stripped}
-use Rattle.kishu_model.specs.Numbers.{unsigned_read, signed_read, if_whole, number_read}
+use Rattle.kishu_language.specs.tokens.Names.{is_digit}
+use Rattle.kishu_meaning.specs.values.White.{is_white, without_front, without_back, stripped}
+use Rattle.kishu_meaning.specs.values.Numbers.{unsigned_read, signed_read, if_whole, number_read}
 use Rattle.kishu_items.specs.Messages.{is_plain, plain-IsAscii, chars-plain}
 
 -- ---- white space and digits are plain

@@ -1,8 +1,8 @@
 -- What an operation on numbers answers, as the end of a call.
 use Rattle.std.specs.Prelude.{ℤ, codes, Result, Ok, Err}
-use Rattle.kishu_model.specs.Kinds.{value_error}
-use Rattle.kishu_model.specs.Moment.{M, give, raise}
-use Rattle.kishu_model.specs.Values.{Value, integer}
+use Rattle.kishu_meaning.specs.values.Kinds.{value_error}
+use Rattle.kishu_meaning.specs.moments.Moment.{M, give, raise}
+use Rattle.kishu_meaning.specs.values.Values.{Value, integer}
 use Rattle.kishu_num.specs.declared.fault.NumFault.{NumFault}
 use Rattle.kishu_num.specs.declared.fault.NumFault.TheVariants as faults
 

@@ -6,36 +6,36 @@ use Rattle.std.proofs.lemmas.Bool.Decides.{nat_tests}
 use Rattle.std.specs.Bool.{beq}
 use Rattle.std.specs.List.{list_any}
 use Rattle.std.specs.Ordering.{int_eq}
-use Rattle.kishu_model.specs.declared.tree.Operator.TheVariants as operators
-use Rattle.kishu_model.specs.declared.tree.Comparison.{Comparison}
-use Rattle.kishu_model.specs.declared.tree.Comparison.TheVariants as comparisons
-use Rattle.kishu_model.specs.Keys as ks
-use Rattle.kishu_model.specs.Keys.{Key}
-use Rattle.kishu_model.specs.Nodes.{dict_in}
-use Rattle.kishu_model.specs.Numbers.{is_whole, number_read, floor_quotient, floor_remainder}
-use Rattle.kishu_model.specs.Values.{Value, none, bool, integer, text, range, builtin, class, node, Node, list, tuple, dict, object, exception}
-use Rattle.kishu_model.specs.Moment.{Moment, Ends, fine, raised, stopped, Thrown, fresh, M, and_then, ◌>>=◌, ◌>>◌, give, or_else, spend, tick, look, make, node_now, raise, later}
-use Rattle.kishu_model.specs.Kinds.{not_iterable}
-use Rattle.kishu_model.specs.Equal.{number_in, range_length, less, less_in}
-use Rattle.kishu_model.specs.Operators.{bad_arguments, bad_operands, list_from, truth, whole, divided, operate, new_list, new_tuple}
-use Rattle.kishu_model.specs.Comparing.{compare, or_unordered, comparison_sign}
-use Rattle.kishu_model.specs.Walks as walks
-use Rattle.kishu_model.specs.Walks.{Walk, along_list, along_dict, along_tuple, along_text, along_range, View, keys, values, items, walk_of, item_for, seen, entry_seen, items_now, entries_now}
-use Rattle.kishu_model.specs.Sequences.{count_in, count_of, node_items, items_of, walked}
-use Rattle.kishu_model.specs.Sorting.{in_order, sort_steps}
-use Rattle.kishu_model.specs.Show.{repr_in, repr_of, show_in, show}
-use Rattle.kishu_model.specs.Builtins as builtins
-use Rattle.kishu_model.specs.Builtins.{Call, of_one, of_two, of_none_or_one, of_number, by_number, and_next, decided, decide, folded, fold, better, best_of, best, added, builtin_calls, class_calls, class_in, is_of_one}
-use Rattle.kishu_model.specs.Classes.{namespace_number, runtime_error_class}
-use Rattle.kishu_model.specs.Sound.{is_exception_class}
-use Rattle.kishu_model.specs.Callees as callees
-use Rattle.kishu_model.specs.KeyOf.{value_of_key, values_of_keys}
-use Rattle.kishu_model.specs.Bare.{IsBare}
+use Rattle.kishu_language.specs.declared.tree.Operator.TheVariants as operators
+use Rattle.kishu_language.specs.declared.tree.Comparison.{Comparison}
+use Rattle.kishu_language.specs.declared.tree.Comparison.TheVariants as comparisons
+use Rattle.kishu_meaning.specs.values.Keys as ks
+use Rattle.kishu_meaning.specs.values.Keys.{Key}
+use Rattle.kishu_meaning.specs.values.Nodes.{dict_in}
+use Rattle.kishu_meaning.specs.values.Numbers.{is_whole, number_read, floor_quotient, floor_remainder}
+use Rattle.kishu_meaning.specs.values.Values.{Value, none, bool, integer, text, range, builtin, class, node, Node, list, tuple, dict, object, exception}
+use Rattle.kishu_meaning.specs.moments.Moment.{Moment, Ends, fine, raised, stopped, Thrown, fresh, M, and_then, ◌>>=◌, ◌>>◌, give, or_else, spend, tick, look, make, node_now, raise, later}
+use Rattle.kishu_meaning.specs.values.Kinds.{not_iterable}
+use Rattle.kishu_meaning.specs.comparing.Equal.{number_in, range_length, less, less_in}
+use Rattle.kishu_meaning.specs.calls.Operators.{bad_arguments, bad_operands, list_from, truth, whole, divided, operate, new_list, new_tuple}
+use Rattle.kishu_meaning.specs.comparing.Comparing.{compare, or_unordered, comparison_sign}
+use Rattle.kishu_meaning.specs.items.Walks as walks
+use Rattle.kishu_meaning.specs.items.Walks.{Walk, along_list, along_dict, along_tuple, along_text, along_range, View, keys, values, items, walk_of, item_for, seen, entry_seen, items_now, entries_now}
+use Rattle.kishu_meaning.specs.items.Sequences.{count_in, count_of, node_items, items_of, walked}
+use Rattle.kishu_meaning.specs.items.Sorting.{in_order, sort_steps}
+use Rattle.kishu_meaning.specs.comparing.Show.{repr_in, repr_of, show_in, show}
+use Rattle.kishu_meaning.specs.calls.Builtins as builtins
+use Rattle.kishu_meaning.specs.calls.Builtins.{Call, of_one, of_two, of_none_or_one, of_number, by_number, and_next, decided, decide, folded, fold, better, best_of, best, added, builtin_calls, class_calls, class_in, is_of_one}
+use Rattle.kishu_meaning.specs.values.Classes.{namespace_number, runtime_error_class}
+use Rattle.kishu_meaning.specs.values.Sound.{is_exception_class}
+use Rattle.kishu_meaning.specs.calls.Callees as callees
+use Rattle.kishu_meaning.specs.items.KeyOf.{value_of_key, values_of_keys}
+use Rattle.kishu_meaning_laws.specs.Bare.{IsBare}
 use Rattle.kishu_builtins.specs.Called.{plainly}
-use Rattle.kishu_model.specs.BareLaws.{then_bare, give_bare, look_bare, make_bare, raise_bare, spend_bare, counted_bare}
-use Rattle.kishu_model.specs.MakingLaws.{end_of}
-use Rattle.kishu_model.specs.Counting.{Count, Counted, answer, too_deep, spent, ended_in, counted}
-use Rattle.kishu_model.specs.CountingLaws.{left_of, Falls, less_in_falls, repr_falls, show_falls}
+use Rattle.kishu_meaning_laws.specs.BareLaws.{then_bare, give_bare, look_bare, make_bare, raise_bare, spend_bare, counted_bare}
+use Rattle.kishu_meaning_laws.specs.MakingLaws.{end_of}
+use Rattle.kishu_meaning.specs.moments.Counting.{Count, Counted, answer, too_deep, spent, ended_in, counted}
+use Rattle.kishu_meaning_laws.specs.CountingLaws.{left_of, Falls, less_in_falls, repr_falls, show_falls}
 
 -- an exception with a text
 abbrev pub is_text_thrown : Thrown → Bool

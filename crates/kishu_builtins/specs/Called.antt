@@ -1,8 +1,8 @@
 -- When a call of a builtin function or a class gives what the definition says.
 use Rattle.std.specs.Prelude.{ℕ, List, [], IsTrue, Result, Ok, Err}
-use Rattle.kishu_model.specs.Sound.{is_sound}
-use Rattle.kishu_model.specs.Values.{Value, value_of}
-use Rattle.kishu_model.specs.Callees.{Given}
+use Rattle.kishu_meaning.specs.values.Sound.{is_sound}
+use Rattle.kishu_meaning.specs.values.Values.{Value, value_of}
+use Rattle.kishu_meaning.specs.calls.Callees.{Given}
 use Rattle.kishu_heap.specs.declared.fault.CallFault.{CallFault}
 use Rattle.kishu_heap.specs.declared.fault.CallFault.TheVariants as faults
 pub use Rattle.kishu_items.specs.Called.{moment_of, Fails, Gives}

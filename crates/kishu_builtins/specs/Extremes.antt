@@ -1,10 +1,10 @@
 -- `max` and `min`: what they are called, and how a value is compared with the best so far.
 use Rattle.std.specs.Prelude.{ℕ, List, Bool, Option, codes}
-use Rattle.kishu_model.specs.declared.tree.Comparison.{Comparison}
-use Rattle.kishu_model.specs.declared.tree.Comparison.TheVariants as comparisons
-use Rattle.kishu_model.specs.Counting.{Count}
-use Rattle.kishu_model.specs.Equal.{less_in}
-use Rattle.kishu_model.specs.Values.{Value, Node}
+use Rattle.kishu_language.specs.declared.tree.Comparison.{Comparison}
+use Rattle.kishu_language.specs.declared.tree.Comparison.TheVariants as comparisons
+use Rattle.kishu_meaning.specs.moments.Counting.{Count}
+use Rattle.kishu_meaning.specs.comparing.Equal.{less_in}
+use Rattle.kishu_meaning.specs.values.Values.{Value, Node}
 use Rattle.kishu_builtins.specs.declared.best.Extreme.{Extreme}
 use Rattle.kishu_builtins.specs.declared.best.Extreme.TheVariants.{Greatest, Least}
 

@@ -7,31 +7,31 @@ use Rattle.std.specs.Bool.{beq}
 use Rattle.std.specs.Int.Digits.{digits_of}
 use Rattle.std.specs.List.{list_any}
 use Rattle.std.specs.Ordering.{int_eq}
-use Rattle.kishu_model.specs.declared.tree.Operator.TheVariants as operators
-use Rattle.kishu_model.specs.declared.tree.Comparison.{Comparison}
-use Rattle.kishu_model.specs.declared.tree.Comparison.TheVariants as comparisons
-use Rattle.kishu_model.specs.Keys.{Key}
-use Rattle.kishu_model.specs.Nodes.{dict_in}
-use Rattle.kishu_model.specs.Numbers.{is_whole, number_read, floor_quotient, floor_remainder}
-use Rattle.kishu_model.specs.Values.{Value, none, bool, integer, text, range, builtin, class, node, Node, list, tuple, dict, object, exception}
-use Rattle.kishu_model.specs.Moment.{Moment, Ends, fine, raised, stopped, M, and_then, ◌>>=◌, ◌>>◌, give, or_else, spend, tick, make, node_now, raise}
-use Rattle.kishu_model.specs.Kinds.{not_iterable}
-use Rattle.kishu_model.specs.Equal.{number_in, range_length, less, less_in}
-use Rattle.kishu_model.specs.Operators.{bad_arguments, list_from, is_full_at, truth, whole, divided, operate, new_list, new_tuple}
-use Rattle.kishu_model.specs.Comparing.{compare, or_unordered}
-use Rattle.kishu_model.specs.Walks as walks
-use Rattle.kishu_model.specs.Walks.{Walk, along_list, along_dict, along_tuple, along_text, along_range, View, keys, values, items, walk_of, item_for, entry_seen, items_now, entries_now}
-use Rattle.kishu_model.specs.KeyOf.{value_of_key, values_of_keys}
-use Rattle.kishu_model.specs.Sequences.{node_count, count_in, node_items, items_of, walked}
-use Rattle.kishu_model.specs.Sorting.{in_order, sort_steps}
-use Rattle.kishu_model.specs.Show.{repr_of, show}
-use Rattle.kishu_model.specs.Classes.{namespace_number, runtime_error_class}
-use Rattle.kishu_model.specs.Sound.{is_exception_class}
-use Rattle.kishu_model.specs.Builtins as builtins
-use Rattle.kishu_model.specs.Builtins.{Call, of_one, of_two, of_none_or_one, of_number, by_number, and_next, decided, decide, folded, fold, better, best_of, best, added, builtin_calls, class_calls, is_of_one}
-use Rattle.kishu_model.specs.Callees as callees
-use Rattle.kishu_model.specs.CountingLaws.{less_in_falls}
-use Rattle.kishu_model.specs.MakingLaws.{Within, Grows, then_grows, then_pays, both_pay, with_more, give_grows, raise_grows, make_grows, spend_grows, or_else_grows, counted_grows, repr_grows, show_grows, value_grows, values_grow, walked_grows}
+use Rattle.kishu_language.specs.declared.tree.Operator.TheVariants as operators
+use Rattle.kishu_language.specs.declared.tree.Comparison.{Comparison}
+use Rattle.kishu_language.specs.declared.tree.Comparison.TheVariants as comparisons
+use Rattle.kishu_meaning.specs.values.Keys.{Key}
+use Rattle.kishu_meaning.specs.values.Nodes.{dict_in}
+use Rattle.kishu_meaning.specs.values.Numbers.{is_whole, number_read, floor_quotient, floor_remainder}
+use Rattle.kishu_meaning.specs.values.Values.{Value, none, bool, integer, text, range, builtin, class, node, Node, list, tuple, dict, object, exception}
+use Rattle.kishu_meaning.specs.moments.Moment.{Moment, Ends, fine, raised, stopped, M, and_then, ◌>>=◌, ◌>>◌, give, or_else, spend, tick, make, node_now, raise}
+use Rattle.kishu_meaning.specs.values.Kinds.{not_iterable}
+use Rattle.kishu_meaning.specs.comparing.Equal.{number_in, range_length, less, less_in}
+use Rattle.kishu_meaning.specs.calls.Operators.{bad_arguments, list_from, is_full_at, truth, whole, divided, operate, new_list, new_tuple}
+use Rattle.kishu_meaning.specs.comparing.Comparing.{compare, or_unordered}
+use Rattle.kishu_meaning.specs.items.Walks as walks
+use Rattle.kishu_meaning.specs.items.Walks.{Walk, along_list, along_dict, along_tuple, along_text, along_range, View, keys, values, items, walk_of, item_for, entry_seen, items_now, entries_now}
+use Rattle.kishu_meaning.specs.items.KeyOf.{value_of_key, values_of_keys}
+use Rattle.kishu_meaning.specs.items.Sequences.{node_count, count_in, node_items, items_of, walked}
+use Rattle.kishu_meaning.specs.items.Sorting.{in_order, sort_steps}
+use Rattle.kishu_meaning.specs.comparing.Show.{repr_of, show}
+use Rattle.kishu_meaning.specs.values.Classes.{namespace_number, runtime_error_class}
+use Rattle.kishu_meaning.specs.values.Sound.{is_exception_class}
+use Rattle.kishu_meaning.specs.calls.Builtins as builtins
+use Rattle.kishu_meaning.specs.calls.Builtins.{Call, of_one, of_two, of_none_or_one, of_number, by_number, and_next, decided, decide, folded, fold, better, best_of, best, added, builtin_calls, class_calls, is_of_one}
+use Rattle.kishu_meaning.specs.calls.Callees as callees
+use Rattle.kishu_meaning_laws.specs.CountingLaws.{less_in_falls}
+use Rattle.kishu_meaning_laws.specs.MakingLaws.{Within, Grows, then_grows, then_pays, both_pay, with_more, give_grows, raise_grows, make_grows, spend_grows, or_else_grows, counted_grows, repr_grows, show_grows, value_grows, values_grow, walked_grows}
 use Rattle.kishu_builtins.specs.CallLaws.{Extreme, greatest, least}
 use Rattle.kishu_builtins.specs.Called.{plainly}
 

@@ -5,21 +5,21 @@ use Rattle.std.proofs.lemmas.Bool.Decides.{nat_tests}
 use Rattle.std.specs.Bool.{beq}
 use Rattle.std.specs.List.{list_any}
 use Rattle.std.specs.Ordering.{int_eq}
-use Rattle.kishu_model.specs.declared.tree.Operator.TheVariants as operators
-use Rattle.kishu_model.specs.Numbers.{is_whole, number_read, floor_quotient, floor_remainder}
-use Rattle.kishu_model.specs.Values.{Value, bool, integer, text, range, class, node, Node, list, tuple, dict, object, exception}
-use Rattle.kishu_model.specs.Moment.{Moment, Ends, fine, raised, stopped, M, and_then, ◌>>=◌, ◌>>◌, give, or_else, spend, tick, make, node_at, node_now, raise}
-use Rattle.kishu_model.specs.Equal.{number_in, range_length}
-use Rattle.kishu_model.specs.Operators.{bad_arguments, value_error, truth, whole, divided, operate, new_list, new_tuple}
-use Rattle.kishu_model.specs.Walks.{Walk, walk_of, item_for}
-use Rattle.kishu_model.specs.Sequences.{count_of, items_of, walked}
-use Rattle.kishu_model.specs.Sorting.{in_order, sort_steps}
-use Rattle.kishu_model.specs.Show.{repr_of, show}
-use Rattle.kishu_model.specs.Classes.{namespace_number}
-use Rattle.kishu_model.specs.Sound.{is_sound, are_sound, is_exception_class}
-use Rattle.kishu_model.specs.Builtins as builtins
-use Rattle.kishu_model.specs.Builtins.{of_one, of_two, of_none_or_one, of_number, by_number, and_next, decided, decide, folded, fold, added, builtin_calls, class_calls, is_of_one}
-use Rattle.kishu_model.specs.Callees as callees
+use Rattle.kishu_language.specs.declared.tree.Operator.TheVariants as operators
+use Rattle.kishu_meaning.specs.values.Numbers.{is_whole, number_read, floor_quotient, floor_remainder}
+use Rattle.kishu_meaning.specs.values.Values.{Value, bool, integer, text, range, class, node, Node, list, tuple, dict, object, exception}
+use Rattle.kishu_meaning.specs.moments.Moment.{Moment, Ends, fine, raised, stopped, M, and_then, ◌>>=◌, ◌>>◌, give, or_else, spend, tick, make, node_at, node_now, raise}
+use Rattle.kishu_meaning.specs.comparing.Equal.{number_in, range_length}
+use Rattle.kishu_meaning.specs.calls.Operators.{bad_arguments, value_error, truth, whole, divided, operate, new_list, new_tuple}
+use Rattle.kishu_meaning.specs.items.Walks.{Walk, walk_of, item_for}
+use Rattle.kishu_meaning.specs.items.Sequences.{count_of, items_of, walked}
+use Rattle.kishu_meaning.specs.items.Sorting.{in_order, sort_steps}
+use Rattle.kishu_meaning.specs.comparing.Show.{repr_of, show}
+use Rattle.kishu_meaning.specs.values.Classes.{namespace_number}
+use Rattle.kishu_meaning.specs.values.Sound.{is_sound, are_sound, is_exception_class}
+use Rattle.kishu_meaning.specs.calls.Builtins as builtins
+use Rattle.kishu_meaning.specs.calls.Builtins.{of_one, of_two, of_none_or_one, of_number, by_number, and_next, decided, decide, folded, fold, added, builtin_calls, class_calls, is_of_one}
+use Rattle.kishu_meaning.specs.calls.Callees as callees
 use Rattle.kishu_items.specs.Holding.{first}
 use Rattle.kishu_builtins.specs.Called.{plainly}
 

@@ -1,10 +1,10 @@
 -- Visits of the items of a sequence.
 use Rattle.std.specs.Prelude.{ℕ, nat_lt, Bool, true, List, [], length, map, Option, Some, None, slice_get}
-use Rattle.kishu_model.specs.Builtins.{and_next}
-use Rattle.kishu_model.specs.Moment.{M, ◌>>=◌, give}
-use Rattle.kishu_model.specs.Sound.{are_sound}
-use Rattle.kishu_model.specs.Values.{Value, value_of, Node, list, tuple, dict}
-use Rattle.kishu_model.specs.Walks.{Walk, along_list, along_tuple, along_dict, along_text, along_range, keys, item_for}
+use Rattle.kishu_meaning.specs.calls.Builtins.{and_next}
+use Rattle.kishu_meaning.specs.moments.Moment.{M, ◌>>=◌, give}
+use Rattle.kishu_meaning.specs.values.Sound.{are_sound}
+use Rattle.kishu_meaning.specs.values.Values.{Value, value_of, Node, list, tuple, dict}
+use Rattle.kishu_meaning.specs.items.Walks.{Walk, along_list, along_tuple, along_dict, along_text, along_range, keys, item_for}
 use Rattle.kishu_builtins.specs.declared.walk.Walk as rust
 use Rattle.kishu_builtins.specs.declared.walk.Walk.TheVariants as walks
 

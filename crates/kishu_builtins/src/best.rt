@@ -1,27 +1,27 @@
 // `max` and `min`.
 ghost use Rattle.std.specs.Prelude.{◌*◌, ◌-◌, ◌≡◌, suc, Some, None, ◌∷◌, [], ◌+◌, ◌<◌, ◌≤◌, ◌^◌, List, IsTrue, IfOk, IfSome, OnOk, length, map, option_map};
-ghost use Rattle.kishu_model.specs.Builtins.{folded, better, best_of, or_empty_argument};
-ghost use Rattle.kishu_model.specs.Comparing.{compare, comparison_sign};
-ghost use Rattle.kishu_model.specs.Counting.{Counted, ended_in};
-ghost use Rattle.kishu_model.specs.Equal.{less_in};
-ghost use Rattle.kishu_model.specs.Moment.{Moment, and_then};
-ghost use Rattle.kishu_model.specs.Operators.{bad_operands};
-ghost use Rattle.kishu_model.specs.Sound.{is_sound, are_sound};
-ghost use Rattle.kishu_model.specs.Values.{Node, value_of};
-ghost use Rattle.kishu_model.specs.Values as model;
-ghost use Rattle.kishu_model.specs.Walks.{walk_of, along_tuple};
+ghost use Rattle.kishu_meaning.specs.calls.Builtins.{folded, better, best_of, or_empty_argument};
+ghost use Rattle.kishu_meaning.specs.comparing.Comparing.{compare, comparison_sign};
+ghost use Rattle.kishu_meaning.specs.moments.Counting.{Counted, ended_in};
+ghost use Rattle.kishu_meaning.specs.comparing.Equal.{less_in};
+ghost use Rattle.kishu_meaning.specs.moments.Moment.{Moment, and_then};
+ghost use Rattle.kishu_meaning.specs.calls.Operators.{bad_operands};
+ghost use Rattle.kishu_meaning.specs.values.Sound.{is_sound, are_sound};
+ghost use Rattle.kishu_meaning.specs.values.Values.{Node, value_of};
+ghost use Rattle.kishu_meaning.specs.values.Values as model;
+ghost use Rattle.kishu_meaning.specs.items.Walks.{walk_of, along_tuple};
 ghost use Rattle.kishu_heap.specs.Compared.{Orders};
 ghost use Rattle.kishu_builtins.specs.Called.{moment_of, Gives};
 ghost use Rattle.kishu_builtins.specs.Extremes.{comparison_of, before_in, best_name};
 ghost use Rattle.kishu_builtins.specs.Walking.{walk_in, is_there};
-ghost use Rattle.kishu_model.specs.declared.budget.Budget.{Budget};
+ghost use Rattle.kishu_meaning.specs.declared.budget.Budget.{Budget};
 
 use crate::walk::{Walk, visited, walk_of};
 use kishu_heap::{CallFault, CompareFault, Heap};
 use kishu_items::{
     RECURSION_ERROR, TYPE_ERROR, VALUE_ERROR, bad_operands_text, copied_all, plain_text, raise,
 };
-use kishu_model::{Budget, Steps, Value};
+use kishu_meaning::{Budget, Steps, Value};
 use std::alloc::Global;
 use std::sync::ledger::Ledger;
 

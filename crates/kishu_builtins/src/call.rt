@@ -1,14 +1,14 @@
 // Calls of builtin functions.
 ghost use Rattle.std.specs.Prelude.{◌*◌, ◌-◌, ◌≡◌, ◌≢◌, ◌∷◌, [], ◌+◌, ◌<◌, ◌≤◌, ◌^◌, List, IsTrue, IfOk, codes, length, map};
-ghost use Rattle.kishu_model.specs.declared.budget.Budget.{Budget};
-ghost use Rattle.kishu_model.specs.Builtins as builtins;
-ghost use Rattle.kishu_model.specs.Builtins.{of_two, divided_by, is_instance};
-ghost use Rattle.kishu_model.specs.Callees.{call_builtin};
-ghost use Rattle.kishu_model.specs.Moment.{Moment};
-ghost use Rattle.kishu_model.specs.Sound as soundness;
-ghost use Rattle.kishu_model.specs.Sound.{is_sound, are_sound};
-ghost use Rattle.kishu_model.specs.Values as model;
-ghost use Rattle.kishu_model.specs.Values.{value_of};
+ghost use Rattle.kishu_meaning.specs.declared.budget.Budget.{Budget};
+ghost use Rattle.kishu_meaning.specs.calls.Builtins as builtins;
+ghost use Rattle.kishu_meaning.specs.calls.Builtins.{of_two, divided_by, is_instance};
+ghost use Rattle.kishu_meaning.specs.calls.Callees.{call_builtin};
+ghost use Rattle.kishu_meaning.specs.moments.Moment.{Moment};
+ghost use Rattle.kishu_meaning.specs.values.Sound as soundness;
+ghost use Rattle.kishu_meaning.specs.values.Sound.{is_sound, are_sound};
+ghost use Rattle.kishu_meaning.specs.values.Values as model;
+ghost use Rattle.kishu_meaning.specs.values.Values.{value_of};
 ghost use Rattle.kishu_builtins.specs.Called.{moment_of, Gives, plainly, Unlimited, ThrowsSound};
 ghost use Rattle.kishu_items.specs.Contents.{IsGrown};
 ghost use Rattle.kishu_builtins.specs.Extremes.{comparison_of, best_name};
@@ -23,7 +23,7 @@ use crate::sorted::sorted_items;
 use crate::sums::sum_of;
 use kishu_heap::{CallFault, Heap};
 use kishu_items::bad_arguments;
-use kishu_model::{Budget, Builtin, Steps, Value};
+use kishu_meaning::{Budget, Builtin, Steps, Value};
 use std::alloc::Global;
 use std::sync::ledger::Ledger;
 

@@ -1,17 +1,17 @@
 // `chr` and `ord`.
 ghost use Rattle.std.specs.Prelude.{◌≡◌, ◌≤ℤ◌, ◌<ℤ◌, ◌^◌, pos, codes};
 ghost use Rattle.std.specs.Str.{chars};
-ghost use Rattle.kishu_model.specs.Builtins.{by_number, character, code_point};
-ghost use Rattle.kishu_model.specs.Equal.{number_in};
-ghost use Rattle.kishu_model.specs.Kinds.{value_error};
-ghost use Rattle.kishu_model.specs.Moment.{Moment};
-ghost use Rattle.kishu_model.specs.Values as model;
-ghost use Rattle.kishu_model.specs.Values.{value_of};
+ghost use Rattle.kishu_meaning.specs.calls.Builtins.{by_number, character, code_point};
+ghost use Rattle.kishu_meaning.specs.comparing.Equal.{number_in};
+ghost use Rattle.kishu_meaning.specs.values.Kinds.{value_error};
+ghost use Rattle.kishu_meaning.specs.moments.Moment.{Moment};
+ghost use Rattle.kishu_meaning.specs.values.Values as model;
+ghost use Rattle.kishu_meaning.specs.values.Values.{value_of};
 ghost use Rattle.kishu_builtins.specs.Called.{Gives};
 
 use kishu_heap::CallFault;
 use kishu_items::{VALUE_ERROR, bad_arguments, character_text, number_in, plain_text, raise};
-use kishu_model::Value;
+use kishu_meaning::Value;
 use kishu_text::at;
 use std::alloc::Global;
 

@@ -1,13 +1,13 @@
 // Calls of classes.
 ghost use Rattle.std.specs.Prelude.{◌*◌, ◌-◌, ◌≡◌, ◌≢◌, ◌∷◌, [], ◌+◌, ◌<◌, ◌≤◌, ◌^◌, List, IsTrue, IfOk, length, map};
-ghost use Rattle.kishu_model.specs.declared.budget.Budget.{Budget};
-ghost use Rattle.kishu_model.specs.Builtins.{range_from};
-ghost use Rattle.kishu_model.specs.Callees.{construct, empty_object};
-ghost use Rattle.kishu_model.specs.Equal.{number_in};
-ghost use Rattle.kishu_model.specs.Moment.{Moment};
-ghost use Rattle.kishu_model.specs.Sound.{is_sound, are_sound, classes};
-ghost use Rattle.kishu_model.specs.Values as model;
-ghost use Rattle.kishu_model.specs.Values.{value_of};
+ghost use Rattle.kishu_meaning.specs.declared.budget.Budget.{Budget};
+ghost use Rattle.kishu_meaning.specs.calls.Builtins.{range_from};
+ghost use Rattle.kishu_meaning.specs.calls.Callees.{construct, empty_object};
+ghost use Rattle.kishu_meaning.specs.comparing.Equal.{number_in};
+ghost use Rattle.kishu_meaning.specs.moments.Moment.{Moment};
+ghost use Rattle.kishu_meaning.specs.values.Sound.{is_sound, are_sound, classes};
+ghost use Rattle.kishu_meaning.specs.values.Values as model;
+ghost use Rattle.kishu_meaning.specs.values.Values.{value_of};
 ghost use Rattle.kishu_builtins.specs.Called.{moment_of, Gives, plainly, Unlimited, ThrowsSound};
 ghost use Rattle.kishu_items.specs.Contents.{IsGrown};
 
@@ -17,7 +17,7 @@ use crate::making::{
 use crate::reading::{bool_of, number_from, range_between, range_by, range_to};
 use kishu_heap::{CallFault, Heap};
 use kishu_items::bad_arguments;
-use kishu_model::{Budget, ClassId, Steps, Value};
+use kishu_meaning::{Budget, ClassId, Steps, Value};
 use std::alloc::Global;
 use std::sync::ledger::Ledger;
 

@@ -1,15 +1,15 @@
 // `all` and `any`.
 ghost use Rattle.std.specs.Prelude.{◌*◌, ◌-◌, ◌≡◌, suc, ◌+◌, ◌<◌, ◌≤◌, ◌^◌, IsTrue, length};
-ghost use Rattle.kishu_model.specs.Builtins.{decided, decide};
-ghost use Rattle.kishu_model.specs.Sound.{is_sound};
-ghost use Rattle.kishu_model.specs.Values.{value_of};
+ghost use Rattle.kishu_meaning.specs.calls.Builtins.{decided, decide};
+ghost use Rattle.kishu_meaning.specs.values.Sound.{is_sound};
+ghost use Rattle.kishu_meaning.specs.values.Values.{value_of};
 ghost use Rattle.kishu_builtins.specs.Called.{moment_of, Gives};
 ghost use Rattle.kishu_builtins.specs.Walking.{walk_in, is_there};
 
 use crate::walk::{Walk, visited, walk_of};
 use kishu_heap::{CallFault, Heap};
 use kishu_items::is_true;
-use kishu_model::{Budget, Steps, Value};
+use kishu_meaning::{Budget, Steps, Value};
 use std::alloc::Global;
 use std::sync::ledger::Ledger;
 

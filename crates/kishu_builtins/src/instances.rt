@@ -1,19 +1,19 @@
 // `isinstance`.
 ghost use Rattle.std.specs.Prelude.{◌≡◌, ◌+◌, ◌<◌, ◌≤◌, Some, IsTrue, is_some, length, map, option_map};
 ghost use Rattle.std.specs.List.{list_all, list_any};
-ghost use Rattle.kishu_model.specs.declared.budget.Budget.{Budget};
-ghost use Rattle.kishu_model.specs.Builtins.{is_instance, is_of, is_of_class, is_of_one, node_is_of, class_in};
-ghost use Rattle.kishu_model.specs.Classes.{class_above, is_within};
-ghost use Rattle.kishu_model.specs.Moment.{node_at};
-ghost use Rattle.kishu_model.specs.Sound.{is_sound};
-ghost use Rattle.kishu_model.specs.Values as model;
-ghost use Rattle.kishu_model.specs.Values.{value_of, node};
+ghost use Rattle.kishu_meaning.specs.declared.budget.Budget.{Budget};
+ghost use Rattle.kishu_meaning.specs.calls.Builtins.{is_instance, is_of, is_of_class, is_of_one, node_is_of, class_in};
+ghost use Rattle.kishu_meaning.specs.values.Classes.{class_above, is_within};
+ghost use Rattle.kishu_meaning.specs.moments.Moment.{node_at};
+ghost use Rattle.kishu_meaning.specs.values.Sound.{is_sound};
+ghost use Rattle.kishu_meaning.specs.values.Values as model;
+ghost use Rattle.kishu_meaning.specs.values.Values.{value_of, node};
 ghost use Rattle.kishu_heap.specs.Cells.{node_of};
 ghost use Rattle.kishu_builtins.specs.Called.{moment_of, Gives};
 
 use kishu_heap::{CallFault, Heap, Node};
 use kishu_items::bad_arguments;
-use kishu_model::{ClassId, NodeId, Steps, Value};
+use kishu_meaning::{ClassId, NodeId, Steps, Value};
 use std::alloc::Global;
 use std::sync::ledger::Ledger;
 

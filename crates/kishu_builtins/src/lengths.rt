@@ -1,15 +1,15 @@
 // `len`.
 ghost use Rattle.std.specs.Prelude.{◌≤◌, ◌+◌, IsTrue, length};
-ghost use Rattle.kishu_model.specs.declared.budget.Budget.{Budget};
-ghost use Rattle.kishu_model.specs.Builtins.{length_of};
-ghost use Rattle.kishu_model.specs.Sound.{is_sound};
-ghost use Rattle.kishu_model.specs.Values.{value_of};
+ghost use Rattle.kishu_meaning.specs.declared.budget.Budget.{Budget};
+ghost use Rattle.kishu_meaning.specs.calls.Builtins.{length_of};
+ghost use Rattle.kishu_meaning.specs.values.Sound.{is_sound};
+ghost use Rattle.kishu_meaning.specs.values.Values.{value_of};
 ghost use Rattle.kishu_builtins.specs.Called.{moment_of, Gives};
 
 use crate::numbers::whole;
 use kishu_heap::{CallFault, Heap};
 use kishu_items::{bad_arguments, count_in};
-use kishu_model::{Steps, Value};
+use kishu_meaning::{Steps, Value};
 use std::alloc::Global;
 use std::sync::ledger::Ledger;
 

@@ -1,19 +1,19 @@
 // Classes that make a node: `dict`, `list`, `tuple`, objects and exceptions.
 ghost use Rattle.std.specs.Prelude.{◌*◌, ◌-◌, ◌≡◌, [], ◌+◌, ◌<◌, ◌≤◌, ◌^◌, IsTrue, length, map, slice_get};
 ghost use Rattle.std.specs.List.{list_all};
-ghost use Rattle.kishu_model.specs.declared.budget.Budget.{Budget};
-ghost use Rattle.kishu_model.specs.Builtins.{copied_dict, all_items, tuple_of};
-ghost use Rattle.kishu_model.specs.Moment.{and_then, make, node_now};
-ghost use Rattle.kishu_model.specs.Operators.{new_list, new_tuple};
-ghost use Rattle.kishu_model.specs.Sound.{is_sound, are_sound, is_exception_class};
-ghost use Rattle.kishu_model.specs.Values.{value_of, node, dict, object, exception};
+ghost use Rattle.kishu_meaning.specs.declared.budget.Budget.{Budget};
+ghost use Rattle.kishu_meaning.specs.calls.Builtins.{copied_dict, all_items, tuple_of};
+ghost use Rattle.kishu_meaning.specs.moments.Moment.{and_then, make, node_now};
+ghost use Rattle.kishu_meaning.specs.calls.Operators.{new_list, new_tuple};
+ghost use Rattle.kishu_meaning.specs.values.Sound.{is_sound, are_sound, is_exception_class};
+ghost use Rattle.kishu_meaning.specs.values.Values.{value_of, node, dict, object, exception};
 ghost use Rattle.kishu_heap.specs.Cells.{entries_of};
 ghost use Rattle.kishu_builtins.specs.Called.{moment_of, Gives};
 
 use indexmap::IndexMap;
 use kishu_heap::{CallFault, Heap, Node};
 use kishu_items::{bad_arguments, copied_all, copied_map, spend, walked};
-use kishu_model::{Budget, ClassId, Key, NodeId, Steps, Value};
+use kishu_meaning::{Budget, ClassId, Key, NodeId, Steps, Value};
 use std::alloc::Global;
 use std::sync::ledger::Ledger;
 

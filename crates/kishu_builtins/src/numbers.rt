@@ -1,12 +1,12 @@
 // `abs`, `divmod`, and whole numbers.
 ghost use Rattle.std.specs.Prelude.{◌≡◌, pos, ◌∷◌, [], ◌+◌, ◌<◌, ◌≤◌, ◌^◌, unsigned_abs, codes, length};
-ghost use Rattle.kishu_model.specs.declared.budget.Budget.{Budget};
-ghost use Rattle.kishu_model.specs.declared.tree.Operator.TheVariants as operators;
-ghost use Rattle.kishu_model.specs.Builtins.{by_number, divided_by, quotient_and_remainder};
-ghost use Rattle.kishu_model.specs.Equal.{number_in};
-ghost use Rattle.kishu_model.specs.Moment.{Moment};
-ghost use Rattle.kishu_model.specs.Operators.{whole, operate, new_tuple};
-ghost use Rattle.kishu_model.specs.Values.{value_of, integer};
+ghost use Rattle.kishu_meaning.specs.declared.budget.Budget.{Budget};
+ghost use Rattle.kishu_language.specs.declared.tree.Operator.TheVariants as operators;
+ghost use Rattle.kishu_meaning.specs.calls.Builtins.{by_number, divided_by, quotient_and_remainder};
+ghost use Rattle.kishu_meaning.specs.comparing.Equal.{number_in};
+ghost use Rattle.kishu_meaning.specs.moments.Moment.{Moment};
+ghost use Rattle.kishu_meaning.specs.calls.Operators.{whole, operate, new_tuple};
+ghost use Rattle.kishu_meaning.specs.values.Values.{value_of, integer};
 ghost use Rattle.kishu_builtins.specs.Called.{moment_of, Gives};
 ghost use Rattle.kishu_builtins.specs.Answered.{answered};
 
@@ -14,7 +14,7 @@ use kishu_heap::{CallFault, Heap, Node};
 use kishu_items::{
     OVERFLOW_ERROR, VALUE_ERROR, ZERO_DIVISION_ERROR, bad_arguments, number_in, plain_text, raise,
 };
-use kishu_model::Value;
+use kishu_meaning::Value;
 use kishu_num::{NumFault, floor_div, modulo};
 use std::alloc::Global;
 

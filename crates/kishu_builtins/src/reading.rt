@@ -1,19 +1,19 @@
 // Classes of plain values: `bool`, `int` and `range`.
 ghost use Rattle.std.specs.Prelude.{◌*◌, ◌≡◌, ◌∷◌, [], ◌+◌, ◌≤◌, List, IsTrue, length};
 ghost use Rattle.std.specs.Str.{chars};
-ghost use Rattle.kishu_model.specs.declared.budget.Budget.{Budget};
-ghost use Rattle.kishu_model.specs.Builtins.{number_from, range_from, checked_range};
-ghost use Rattle.kishu_model.specs.Equal.{number_in};
-ghost use Rattle.kishu_model.specs.Moment.{Moment, and_then, give};
-ghost use Rattle.kishu_model.specs.Operators.{truth};
-ghost use Rattle.kishu_model.specs.Sound.{is_sound};
-ghost use Rattle.kishu_model.specs.Values as model;
-ghost use Rattle.kishu_model.specs.Values.{Node, value_of, bool};
+ghost use Rattle.kishu_meaning.specs.declared.budget.Budget.{Budget};
+ghost use Rattle.kishu_meaning.specs.calls.Builtins.{number_from, range_from, checked_range};
+ghost use Rattle.kishu_meaning.specs.comparing.Equal.{number_in};
+ghost use Rattle.kishu_meaning.specs.moments.Moment.{Moment, and_then, give};
+ghost use Rattle.kishu_meaning.specs.calls.Operators.{truth};
+ghost use Rattle.kishu_meaning.specs.values.Sound.{is_sound};
+ghost use Rattle.kishu_meaning.specs.values.Values as model;
+ghost use Rattle.kishu_meaning.specs.values.Values.{Node, value_of, bool};
 ghost use Rattle.kishu_builtins.specs.Called.{moment_of, Gives};
 
 use kishu_heap::{CallFault, Heap};
 use kishu_items::{VALUE_ERROR, bad_arguments, is_true, number_in, plain_text, raise, spend};
-use kishu_model::{Budget, Steps, Value};
+use kishu_meaning::{Budget, Steps, Value};
 use kishu_num::read_int;
 use kishu_text::count;
 use std::alloc::Global;

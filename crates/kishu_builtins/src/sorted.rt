@@ -1,22 +1,22 @@
 // `sorted`.
 ghost use Rattle.std.specs.Prelude.{◌*◌, List, ◌≡◌, ◌+◌, ◌-◌, ◌<◌, ◌≤◌, ◌^◌, IsTrue, OnOk, codes, length, map, unwrap_or};
-ghost use Rattle.kishu_model.specs.Builtins.{sorted};
-ghost use Rattle.kishu_model.specs.Kinds.{bad_arguments};
-ghost use Rattle.kishu_model.specs.Moment.{and_then, or_else, spend};
-ghost use Rattle.kishu_model.specs.Operators.{new_list};
-ghost use Rattle.kishu_model.specs.Sequences.{count_in};
-ghost use Rattle.kishu_model.specs.Sorting.{in_order, sort_steps};
-ghost use Rattle.kishu_model.specs.Sound.{is_sound, are_sound};
-ghost use Rattle.kishu_model.specs.Values as model;
-ghost use Rattle.kishu_model.specs.Values.{value_of};
-ghost use Rattle.kishu_model.specs.declared.budget.Budget.{Budget};
+ghost use Rattle.kishu_meaning.specs.calls.Builtins.{sorted};
+ghost use Rattle.kishu_meaning.specs.values.Kinds.{bad_arguments};
+ghost use Rattle.kishu_meaning.specs.moments.Moment.{and_then, or_else, spend};
+ghost use Rattle.kishu_meaning.specs.calls.Operators.{new_list};
+ghost use Rattle.kishu_meaning.specs.items.Sequences.{count_in};
+ghost use Rattle.kishu_meaning.specs.items.Sorting.{in_order, sort_steps};
+ghost use Rattle.kishu_meaning.specs.values.Sound.{is_sound, are_sound};
+ghost use Rattle.kishu_meaning.specs.values.Values as model;
+ghost use Rattle.kishu_meaning.specs.values.Values.{value_of};
+ghost use Rattle.kishu_meaning.specs.declared.budget.Budget.{Budget};
 ghost use Rattle.kishu_builtins.specs.Called.{moment_of, Gives};
 
 use kishu_heap::{CallFault, Heap, Node};
 use kishu_items::{
     bad_arguments, count_in, in_order, items_of, not_iterable_value, sort_steps, spend,
 };
-use kishu_model::{Budget, Steps, Value};
+use kishu_meaning::{Budget, Steps, Value};
 use std::alloc::Global;
 use std::sync::ledger::Ledger;
 

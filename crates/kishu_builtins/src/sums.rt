@@ -1,10 +1,10 @@
 // `sum`.
 ghost use Rattle.std.specs.Prelude.{◌*◌, ◌-◌, ◌≡◌, pos, suc, ◌+◌, ◌<◌, ◌≤◌, ◌^◌, IsTrue, length};
-ghost use Rattle.kishu_model.specs.Builtins.{folded, fold, added};
-ghost use Rattle.kishu_model.specs.Moment.{Moment, and_then};
-ghost use Rattle.kishu_model.specs.Sound.{is_sound};
-ghost use Rattle.kishu_model.specs.Values.{value_of, integer};
-ghost use Rattle.kishu_model.specs.Walks.{walk_of};
+ghost use Rattle.kishu_meaning.specs.calls.Builtins.{folded, fold, added};
+ghost use Rattle.kishu_meaning.specs.moments.Moment.{Moment, and_then};
+ghost use Rattle.kishu_meaning.specs.values.Sound.{is_sound};
+ghost use Rattle.kishu_meaning.specs.values.Values.{value_of, integer};
+ghost use Rattle.kishu_meaning.specs.items.Walks.{walk_of};
 ghost use Rattle.kishu_builtins.specs.Called.{moment_of, Gives};
 ghost use Rattle.kishu_builtins.specs.Walking.{walk_in, is_there};
 
@@ -12,7 +12,7 @@ use crate::numbers::number_or_raise;
 use crate::walk::{Walk, visited, walk_of};
 use kishu_heap::{CallFault, Heap};
 use kishu_items::{TYPE_ERROR, bad_arguments_text, number_in, raise};
-use kishu_model::{Budget, Steps, Value};
+use kishu_meaning::{Budget, Steps, Value};
 use kishu_num::add;
 use std::alloc::Global;
 use std::sync::ledger::Ledger;

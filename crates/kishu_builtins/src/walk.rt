@@ -1,15 +1,15 @@
 // Sequences that are visited item by item.
 ghost use Rattle.std.specs.Prelude.{◌*◌, ◌≡◌, ℕ, ◌∷◌, [], ◌+◌, ◌-◌, ◌*ℤ◌, ◌+ℤ◌, ◌-ℤ◌, ◌<ℤ◌, ◌≤ℤ◌, pos, negsuc, ◌<◌, ◌≤◌, ◌^◌, IsTrue, IfOk, IfSome, OnOk, map, option_map, length, slice_get};
 ghost use Rattle.std.specs.Str.{chars};
-ghost use Rattle.kishu_model.specs.declared.budget.Budget.{Budget};
-ghost use Rattle.kishu_model.specs.Equal.{range_length};
-ghost use Rattle.kishu_model.specs.Keys.{key_of};
-ghost use Rattle.kishu_model.specs.Kinds.{not_iterable};
-ghost use Rattle.kishu_model.specs.Moment.{Moment, fine};
-ghost use Rattle.kishu_model.specs.Sound.{is_sound};
-ghost use Rattle.kishu_model.specs.Values as model;
-ghost use Rattle.kishu_model.specs.Values.{value_of, node};
-ghost use Rattle.kishu_model.specs.Walks.{walk_of, item_for, along_range, along_text, entry_seen, keys as by_keys};
+ghost use Rattle.kishu_meaning.specs.declared.budget.Budget.{Budget};
+ghost use Rattle.kishu_meaning.specs.comparing.Equal.{range_length};
+ghost use Rattle.kishu_meaning.specs.values.Keys.{key_of};
+ghost use Rattle.kishu_meaning.specs.values.Kinds.{not_iterable};
+ghost use Rattle.kishu_meaning.specs.moments.Moment.{Moment, fine};
+ghost use Rattle.kishu_meaning.specs.values.Sound.{is_sound};
+ghost use Rattle.kishu_meaning.specs.values.Values as model;
+ghost use Rattle.kishu_meaning.specs.values.Values.{value_of, node};
+ghost use Rattle.kishu_meaning.specs.items.Walks.{walk_of, item_for, along_range, along_text, entry_seen, keys as by_keys};
 ghost use Rattle.kishu_heap.specs.Cells.{entries_of};
 ghost use Rattle.kishu_builtins.specs.Called.{moment_of, Gives};
 ghost use Rattle.kishu_items.specs.Contents.{IsGrown};
@@ -20,7 +20,7 @@ use kishu_heap::{CallFault, Heap, Node, range_length};
 use kishu_items::{
     TYPE_ERROR, character_text, copied_key, not_iterable_text, raise, spend, value_of_key,
 };
-use kishu_model::{Budget, Key, NodeId, Steps, Value};
+use kishu_meaning::{Budget, Key, NodeId, Steps, Value};
 use std::alloc::{AllocError, Global};
 use std::sync::ledger::Ledger;
 

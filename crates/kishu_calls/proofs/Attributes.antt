@@ -9,11 +9,11 @@ use Rattle.std.specs.declared.rc.RcStr.{RcStr}
 use Rattle.indexmap.specs.IndexMap.{insert_entry}
 use Rattle.kishu_heap.specs.Cells.{attributes_of}
 use Rattle.kishu_items.specs.Holding.{first, second}
-use Rattle.kishu_model.specs.Names.{is_among}
-use Rattle.kishu_model.specs.Refusals.{all_differ}
-use Rattle.kishu_model.specs.Tree.{Text}
-use Rattle.kishu_model.specs.Values.{Names, value_of}
-use Rattle.kishu_model.specs.declared.value.Value as rust
+use Rattle.kishu_language.specs.tokens.Names.{is_among}
+use Rattle.kishu_language.specs.grammar.Refusals.{all_differ}
+use Rattle.kishu_language.specs.trees.Tree.{Text}
+use Rattle.kishu_meaning.specs.values.Values.{Names, value_of}
+use Rattle.kishu_meaning.specs.declared.value.Value as rust
 use Rattle.kishu_calls.specs.Calls.{named_of}
 
 abbrev Pair : Type 0

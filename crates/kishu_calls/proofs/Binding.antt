@@ -18,16 +18,16 @@ use Rattle.std.specs.Cmp.Lexicographic.{slice_cmp}
 use Rattle.std.specs.BTreeMap.{insert_entry}
 use Rattle.std.proofs.lemmas.Map.Text.{is_eq-slice_cmp}
 use Rattle.std.proofs.lemmas.Slice.Eq.{bytes_eq-Decides}
-use Rattle.kishu_model.specs.declared.value.Value as rust
-use Rattle.kishu_model.specs.Functions.{with_defaults, with_value, values_for, or_default}
-use Rattle.kishu_model.specs.Names.{is_among}
-use Rattle.kishu_model.specs.Refusals.{titles}
-use Rattle.kishu_model.specs.declared.profile.Profile.{Profile}
-use Rattle.kishu_model.specs.declared.tree.Expr.{Expr}
-use Rattle.kishu_model.specs.Parse.{ParseDef}
-use Rattle.kishu_model.specs.Tree.{Text, Parameter, definition_of, expression_of, parameter_of, value_of as tree_value}
+use Rattle.kishu_meaning.specs.declared.value.Value as rust
+use Rattle.kishu_meaning.specs.calls.Functions.{with_defaults, with_value, values_for, or_default}
+use Rattle.kishu_language.specs.tokens.Names.{is_among}
+use Rattle.kishu_language.specs.grammar.Refusals.{titles}
+use Rattle.kishu_language.specs.declared.profile.Profile.{Profile}
+use Rattle.kishu_language.specs.declared.tree.Expr.{Expr}
+use Rattle.kishu_language.specs.grammar.Parse.{ParseDef}
+use Rattle.kishu_language.specs.trees.Tree.{Text, Parameter, definition_of, expression_of, parameter_of, value_of as tree_value}
 use Rattle.kishu_items.specs.Gathering.{dropped}
-use Rattle.kishu_model.specs.Values.{Value, Names, Node, function, find, bind, value_of}
+use Rattle.kishu_meaning.specs.values.Values.{Value, Names, Node, function, find, bind, value_of}
 use Rattle.kishu_calls.specs.declared.functions.Function as rust_function
 use Rattle.kishu_calls.specs.Calls.{IsFunction}
 use Rattle.kishu_machine.specs.Frames.{names_of}

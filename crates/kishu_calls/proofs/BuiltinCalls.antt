@@ -2,16 +2,16 @@
 use Rattle.std.proofs.Common.{◌≡◌, refl, subst, arith, ℕ, ◌≤◌, ◌≢◌, false, IsTrue, List, length, Result}
 use Rattle.std.specs.Prelude.{slice_get, ◌==◌}
 use Rattle.std.proofs.lemmas.Bool.Decides.{nat_tests}
-use Rattle.kishu_model.specs.declared.budget.Budget.{Budget}
-use Rattle.kishu_model.specs.declared.value.Value as rust
-use Rattle.kishu_model.specs.Bare.{bare}
-use Rattle.kishu_model.specs.BareLaws.{method_bare}
-use Rattle.kishu_model.specs.Builtins.{builtin_calls}
-use Rattle.kishu_model.specs.Callees.{call_builtin, construct, or_no_call, print_plain}
-use Rattle.kishu_model.specs.Methods.{call_method}
-use Rattle.kishu_model.specs.Moment.{Moment, Ends}
-use Rattle.kishu_model.specs.Sound.{is_sound, are_sound, is_sound_heap}
-use Rattle.kishu_model.specs.Values.{Value, value_of, Node}
+use Rattle.kishu_meaning.specs.declared.budget.Budget.{Budget}
+use Rattle.kishu_meaning.specs.declared.value.Value as rust
+use Rattle.kishu_meaning_laws.specs.Bare.{bare}
+use Rattle.kishu_meaning_laws.specs.BareLaws.{method_bare}
+use Rattle.kishu_meaning.specs.calls.Builtins.{builtin_calls}
+use Rattle.kishu_meaning.specs.calls.Callees.{call_builtin, construct, or_no_call, print_plain}
+use Rattle.kishu_meaning.specs.calls.Methods.{call_method}
+use Rattle.kishu_meaning.specs.moments.Moment.{Moment, Ends}
+use Rattle.kishu_meaning.specs.values.Sound.{is_sound, are_sound, is_sound_heap}
+use Rattle.kishu_meaning.specs.values.Values.{Value, value_of, Node}
 use Rattle.kishu_heap.specs.declared.fault.CallFault.{CallFault}
 use Rattle.kishu_items.specs.Called as called
 use Rattle.kishu_builtins.specs.Called.{plainly}

@@ -8,18 +8,18 @@ use Rattle.std.proofs.lemmas.Bool.Decides.{nat_tests}
 use Rattle.std.proofs.lemmas.List.{length-map}
 use Rattle.std.specs.Str.{bytes_eq}
 use Rattle.std.proofs.lemmas.Slice.Eq.{bytes_eq-Decides}
-use Rattle.kishu_model.specs.Callees.{Callee, function, method, dict_callee, node_callee, dotted_callee, method_of, by_plain, view_in}
-use Rattle.kishu_model.specs.Kinds.{bad_arguments, no_attribute}
-use Rattle.kishu_model.specs.Methods as m
-use Rattle.kishu_model.specs.Methods.{Method, method_name, method_named, methods_in, has_method, call_method}
-use Rattle.kishu_model.specs.Moment.{Moment, M, fine, ◌>>=◌, give, or_else, node_at}
-use Rattle.kishu_model.specs.Subscripts.{attribute}
-use Rattle.kishu_model.specs.Values.{Value, none, bool, integer, text, range, builtin, class, node, Node, list, tuple, dict, object, exception}
-use Rattle.kishu_model.specs.Values as v
-use Rattle.kishu_model.specs.Values.{value_of}
-use Rattle.kishu_model.specs.declared.tree.Argument as rust_argument
-use Rattle.kishu_model.specs.declared.value.Value as rust
-use Rattle.kishu_model.specs.Walks.{View}
+use Rattle.kishu_meaning.specs.calls.Callees.{Callee, function, method, dict_callee, node_callee, dotted_callee, method_of, by_plain, view_in}
+use Rattle.kishu_meaning.specs.values.Kinds.{bad_arguments, no_attribute}
+use Rattle.kishu_meaning.specs.calls.Methods as m
+use Rattle.kishu_meaning.specs.calls.Methods.{Method, method_name, method_named, methods_in, has_method, call_method}
+use Rattle.kishu_meaning.specs.moments.Moment.{Moment, M, fine, ◌>>=◌, give, or_else, node_at}
+use Rattle.kishu_meaning.specs.items.Subscripts.{attribute}
+use Rattle.kishu_meaning.specs.values.Values.{Value, none, bool, integer, text, range, builtin, class, node, Node, list, tuple, dict, object, exception}
+use Rattle.kishu_meaning.specs.values.Values as v
+use Rattle.kishu_meaning.specs.values.Values.{value_of}
+use Rattle.kishu_language.specs.declared.tree.Argument as rust_argument
+use Rattle.kishu_meaning.specs.declared.value.Value as rust
+use Rattle.kishu_meaning.specs.items.Walks.{View}
 use Rattle.kishu_items.specs.Messages.{is_plain}
 use Rattle.kishu_calls.specs.Calls.{named_of}
 use Rattle.kishu_calls.specs.Forms.{view_at, viewed_or}

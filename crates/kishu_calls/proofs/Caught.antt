@@ -1,10 +1,10 @@
 -- Which exceptions a class or a tuple of classes catches.
 use Rattle.std.proofs.Common.{◌≡◌, refl, ap, ℕ, Bool, true, false, ◌||◌}
-use Rattle.kishu_model.specs.Classes.{is_within}
-use Rattle.kishu_model.specs.Moment.{Moment, fine, node_at}
-use Rattle.kishu_model.specs.Operators.{tuple_from}
-use Rattle.kishu_model.specs.Values.{Value, none, bool, integer, text, range, builtin, class, node}
-use Rattle.kishu_model.specs.Ways.{is_caught_by, is_class_of_exceptions, caught_among, caught_by}
+use Rattle.kishu_meaning.specs.values.Classes.{is_within}
+use Rattle.kishu_meaning.specs.moments.Moment.{Moment, fine, node_at}
+use Rattle.kishu_meaning.specs.calls.Operators.{tuple_from}
+use Rattle.kishu_meaning.specs.values.Values.{Value, none, bool, integer, text, range, builtin, class, node}
+use Rattle.kishu_meaning.specs.cells.Ways.{is_caught_by, is_class_of_exceptions, caught_among, caught_by}
 
 or_no : (b : Bool) → (b || false) ≡ b
 or_no true = refl

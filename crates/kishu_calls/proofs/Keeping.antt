@@ -2,13 +2,13 @@
 use Rattle.std.proofs.Common.{◌≡◌, refl, ap, arith, ℕ, zero, suc, ◌+◌, ◌-◌, ◌<◌, ◌≤◌, Bool, true, false, IsTrue, List, [], ◌∷◌, ◌++◌, length, length-append, Option, Some, None}
 use Rattle.std.specs.Prelude.{nat_le, nat_lt, if◌then◌else◌}
 use Rattle.std.proofs.lemmas.Bool.Decides.{nat_tests}
-use Rattle.kishu_model.specs.Values.{Value, Node}
-use Rattle.kishu_model.specs.Nodes.{changed}
-use Rattle.kishu_model.specs.Sound.{is_sound, are_sound, is_sound_node, are_sound_nodes, is_sound_heap, is_exception_class}
-use Rattle.kishu_model.specs.Moment.{Moment, Ends, fine, raised, stopped, M, and_then, ◌>>=◌, ◌>>◌, give, or_else, raise, raise_with, spend, look, make, change}
-use Rattle.kishu_model.specs.Counting.{Counted, Count, answer, too_deep, spent, counted, ended_in}
-use Rattle.kishu_model.specs.Kinds.{not_iterable, bad_index, unhashable, no_attribute, bad_arguments}
-use Rattle.kishu_model.specs.MakingLaws.{end_of}
+use Rattle.kishu_meaning.specs.values.Values.{Value, Node}
+use Rattle.kishu_meaning.specs.values.Nodes.{changed}
+use Rattle.kishu_meaning.specs.values.Sound.{is_sound, are_sound, is_sound_node, are_sound_nodes, is_sound_heap, is_exception_class}
+use Rattle.kishu_meaning.specs.moments.Moment.{Moment, Ends, fine, raised, stopped, M, and_then, ◌>>=◌, ◌>>◌, give, or_else, raise, raise_with, spend, look, make, change}
+use Rattle.kishu_meaning.specs.moments.Counting.{Counted, Count, answer, too_deep, spent, counted, ended_in}
+use Rattle.kishu_meaning.specs.values.Kinds.{not_iterable, bad_index, unhashable, no_attribute, bad_arguments}
+use Rattle.kishu_meaning_laws.specs.MakingLaws.{end_of}
 use Rattle.kishu_items.specs.Holding.{both, first, second}
 use Rattle.kishu_machine.specs.Machine.{is_sound_thrown}
 use Rattle.kishu_machine.specs.SoundMore.{sound_more, sound_more_all, sound_more_node}

@@ -5,28 +5,28 @@ use Rattle.std.specs.Bool.{beq}
 use Rattle.std.specs.List.{list_all, list_any}
 use Rattle.std.specs.Cmp.Lexicographic.{slice_cmp}
 use Rattle.std.specs.Ordering.{is_lt, int_cmp, nat_cmp, int_eq}
-use Rattle.kishu_model.specs.declared.tree.Operator.TheVariants as operators
-use Rattle.kishu_model.specs.declared.tree.Comparison.{Comparison}
-use Rattle.kishu_model.specs.declared.tree.Comparison.TheVariants as comparisons
-use Rattle.kishu_model.specs.Values.{Value, none, bool, integer, text, range, builtin, class, node, Node, list, tuple, dict, object, exception}
-use Rattle.kishu_model.specs.Keys.{Key}
-use Rattle.kishu_model.specs.Moment.{Moment, Ends, M, ◌>>=◌, ◌>>◌, give, or_else, later, spend, tick, node_at, node_now, make}
-use Rattle.kishu_model.specs.MakingLaws.{end_of}
-use Rattle.kishu_model.specs.Equal.{number_in, less, less_in, range_length}
-use Rattle.kishu_model.specs.Numbers.{is_whole, number_read, floor_quotient, floor_remainder}
-use Rattle.kishu_model.specs.Operators.{bad_operands, is_full_at, truth, whole, divided, operate, list_from, new_list, new_tuple}
-use Rattle.kishu_model.specs.Kinds.{bad_arguments, value_error}
-use Rattle.kishu_model.specs.Comparing.{compare, or_unordered}
-use Rattle.kishu_model.specs.KeyOf.{value_of_key}
-use Rattle.kishu_model.specs.Nodes.{dict_in}
-use Rattle.kishu_model.specs.Walks.{View, keys, values, items, Walk, along_list, along_dict, along_tuple, along_text, along_range, node_walk, walk_of, or_none_there, items_now, entries_now, seen, entry_seen, size_changed, item_for}
-use Rattle.kishu_model.specs.Sequences.{count_of, items_of, walked}
-use Rattle.kishu_model.specs.Sorting.{sort_steps, in_order, is_number, is_text, number_key, text_key, sorted_by}
-use Rattle.kishu_model.specs.Show.{repr_in, repr_of, show_in, show}
-use Rattle.kishu_model.specs.Sound.{is_sound, are_sound, is_sound_node, is_sound_heap, is_exception_class}
-use Rattle.kishu_model.specs.Callees.{or_no_call, print_plain, empty_object}
-use Rattle.kishu_model.specs.Builtins as b
-use Rattle.kishu_model.specs.Builtins.{Call}
+use Rattle.kishu_language.specs.declared.tree.Operator.TheVariants as operators
+use Rattle.kishu_language.specs.declared.tree.Comparison.{Comparison}
+use Rattle.kishu_language.specs.declared.tree.Comparison.TheVariants as comparisons
+use Rattle.kishu_meaning.specs.values.Values.{Value, none, bool, integer, text, range, builtin, class, node, Node, list, tuple, dict, object, exception}
+use Rattle.kishu_meaning.specs.values.Keys.{Key}
+use Rattle.kishu_meaning.specs.moments.Moment.{Moment, Ends, M, ◌>>=◌, ◌>>◌, give, or_else, later, spend, tick, node_at, node_now, make}
+use Rattle.kishu_meaning_laws.specs.MakingLaws.{end_of}
+use Rattle.kishu_meaning.specs.comparing.Equal.{number_in, less, less_in, range_length}
+use Rattle.kishu_meaning.specs.values.Numbers.{is_whole, number_read, floor_quotient, floor_remainder}
+use Rattle.kishu_meaning.specs.calls.Operators.{bad_operands, is_full_at, truth, whole, divided, operate, list_from, new_list, new_tuple}
+use Rattle.kishu_meaning.specs.values.Kinds.{bad_arguments, value_error}
+use Rattle.kishu_meaning.specs.comparing.Comparing.{compare, or_unordered}
+use Rattle.kishu_meaning.specs.items.KeyOf.{value_of_key}
+use Rattle.kishu_meaning.specs.values.Nodes.{dict_in}
+use Rattle.kishu_meaning.specs.items.Walks.{View, keys, values, items, Walk, along_list, along_dict, along_tuple, along_text, along_range, node_walk, walk_of, or_none_there, items_now, entries_now, seen, entry_seen, size_changed, item_for}
+use Rattle.kishu_meaning.specs.items.Sequences.{count_of, items_of, walked}
+use Rattle.kishu_meaning.specs.items.Sorting.{sort_steps, in_order, is_number, is_text, number_key, text_key, sorted_by}
+use Rattle.kishu_meaning.specs.comparing.Show.{repr_in, repr_of, show_in, show}
+use Rattle.kishu_meaning.specs.values.Sound.{is_sound, are_sound, is_sound_node, is_sound_heap, is_exception_class}
+use Rattle.kishu_meaning.specs.calls.Callees.{or_no_call, print_plain, empty_object}
+use Rattle.kishu_meaning.specs.calls.Builtins as b
+use Rattle.kishu_meaning.specs.calls.Builtins.{Call}
 use Rattle.kishu_items.specs.Holding.{both, first, second}
 use Rattle.kishu_items.specs.Orders.{all_sorted}
 use Rattle.kishu_access.specs.Access.{is_sound_walk}

@@ -2,18 +2,18 @@
 use Rattle.std.proofs.Common.{refl, ℕ, zero, suc, ◌≤◌, Bool, true, false, IsTrue, List, [], ◌∷◌, length, map, Option, Some, None}
 use Rattle.std.specs.Prelude.{ℤ, slice_get, get_or, if◌then◌else◌}
 use Rattle.std.specs.List.{list_all}
-use Rattle.kishu_model.specs.Keys as k
-use Rattle.kishu_model.specs.Keys.{KeyPart, Key}
-use Rattle.kishu_model.specs.Values.{Value, integer, text, range, node, Node, list, tuple, dict}
-use Rattle.kishu_model.specs.Texts.{places}
-use Rattle.kishu_model.specs.Nodes.{value_at, last_of}
-use Rattle.kishu_model.specs.Sound.{is_sound, are_sound, is_sound_node, are_sound_nodes}
-use Rattle.kishu_model.specs.Moment.{◌>>=◌, ◌>>◌, or_else, spend, look, make}
-use Rattle.kishu_model.specs.Equal.{range_length}
-use Rattle.kishu_model.specs.Kinds.{not_iterable, unhashable, bad_index, index_error}
-use Rattle.kishu_model.specs.Indexes.{index_of, place_of}
-use Rattle.kishu_model.specs.KeyOf.{part_in, parts_of, tuple_key, key_by, key_of_value, value_of_part, value_of_key, values_of_keys}
-use Rattle.kishu_model.specs.Sequences.{count_in, count_of, text_items, range_items, node_items, items_of, walked}
+use Rattle.kishu_meaning.specs.values.Keys as k
+use Rattle.kishu_meaning.specs.values.Keys.{KeyPart, Key}
+use Rattle.kishu_meaning.specs.values.Values.{Value, integer, text, range, node, Node, list, tuple, dict}
+use Rattle.kishu_meaning.specs.values.Texts.{places}
+use Rattle.kishu_meaning.specs.values.Nodes.{value_at, last_of}
+use Rattle.kishu_meaning.specs.values.Sound.{is_sound, are_sound, is_sound_node, are_sound_nodes}
+use Rattle.kishu_meaning.specs.moments.Moment.{◌>>=◌, ◌>>◌, or_else, spend, look, make}
+use Rattle.kishu_meaning.specs.comparing.Equal.{range_length}
+use Rattle.kishu_meaning.specs.values.Kinds.{not_iterable, unhashable, bad_index, index_error}
+use Rattle.kishu_meaning.specs.items.Indexes.{index_of, place_of}
+use Rattle.kishu_meaning.specs.items.KeyOf.{part_in, parts_of, tuple_key, key_by, key_of_value, value_of_part, value_of_key, values_of_keys}
+use Rattle.kishu_meaning.specs.items.Sequences.{count_in, count_of, text_items, range_items, node_items, items_of, walked}
 use Rattle.kishu_items.specs.Holding.{both, first, second}
 use Rattle.kishu_machine.specs.SoundMore.{sound_more}
 use Rattle.kishu_calls.proofs.Keeping.{Keeps, anything, holds_in, then_keeps, any_keeps, both_keep, plain_keeps, value_keeps, items_keep, raise_keeps, look_keeps, looked_keeps, spend_keeps, or_other_keeps, make_keeps, not_iterable_keeps, bad_index_keeps, unhashable_keeps}

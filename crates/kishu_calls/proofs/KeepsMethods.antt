@@ -1,21 +1,21 @@
 -- What a method gives or raises is sound, where its arguments are, and no node goes.
 use Rattle.std.proofs.Common.{refl, ℕ, Bool, true, false, IsTrue, List, [], ◌∷◌, length, map, Option, Some, None}
 use Rattle.std.specs.Prelude.{ℤ, if◌then◌else◌, codes, slice_get}
-use Rattle.kishu_model.specs.Keys.{Key, is_one}
-use Rattle.kishu_model.specs.Values.{Value, none, text, node, Node, list, tuple, dict}
-use Rattle.kishu_model.specs.Texts.{is_nonempty, joined, pieces, words, occurrences, replaced}
-use Rattle.kishu_model.specs.Nodes.{value_at, last_of, replace_list, insert}
-use Rattle.kishu_model.specs.Sound.{is_sound, are_sound, is_sound_node}
-use Rattle.kishu_model.specs.Moment.{M, ◌>>=◌, ◌>>◌, give, or_else, spend, look, make, change}
-use Rattle.kishu_model.specs.Kinds.{value_error, index_error, no_key, no_attribute, bad_arguments}
-use Rattle.kishu_model.specs.Show.{key_error}
-use Rattle.kishu_model.specs.Indexes.{index_of, place_of}
-use Rattle.kishu_model.specs.KeyOf.{key_of_value}
-use Rattle.kishu_model.specs.Sequences.{walked, extended}
-use Rattle.kishu_model.specs.Finding.{place_from, count_from, place_among, count_among}
-use Rattle.kishu_model.specs.Sorting.{in_order, sort_steps}
-use Rattle.kishu_model.specs.Methods as m
-use Rattle.kishu_model.specs.Methods.{Method, call_method}
+use Rattle.kishu_meaning.specs.values.Keys.{Key, is_one}
+use Rattle.kishu_meaning.specs.values.Values.{Value, none, text, node, Node, list, tuple, dict}
+use Rattle.kishu_meaning.specs.values.Texts.{is_nonempty, joined, pieces, words, occurrences, replaced}
+use Rattle.kishu_meaning.specs.values.Nodes.{value_at, last_of, replace_list, insert}
+use Rattle.kishu_meaning.specs.values.Sound.{is_sound, are_sound, is_sound_node}
+use Rattle.kishu_meaning.specs.moments.Moment.{M, ◌>>=◌, ◌>>◌, give, or_else, spend, look, make, change}
+use Rattle.kishu_meaning.specs.values.Kinds.{value_error, index_error, no_key, no_attribute, bad_arguments}
+use Rattle.kishu_meaning.specs.comparing.Show.{key_error}
+use Rattle.kishu_meaning.specs.items.Indexes.{index_of, place_of}
+use Rattle.kishu_meaning.specs.items.KeyOf.{key_of_value}
+use Rattle.kishu_meaning.specs.items.Sequences.{walked, extended}
+use Rattle.kishu_meaning.specs.items.Finding.{place_from, count_from, place_among, count_among}
+use Rattle.kishu_meaning.specs.items.Sorting.{in_order, sort_steps}
+use Rattle.kishu_meaning.specs.calls.Methods as m
+use Rattle.kishu_meaning.specs.calls.Methods.{Method, call_method}
 use Rattle.kishu_items.specs.Holding.{first, second}
 use Rattle.kishu_machine.specs.SoundMore.{sound_more_all}
 use Rattle.kishu_calls.proofs.Keeping.{Leaves, Keeps, anything, holds_in, as_leaves, then_leaves, any_leaves, any_keeps, both_leave, both_keep, plain_keeps, value_keeps, raise_keeps, raise_with_keeps, looked_keeps, spend_keeps, given_keeps, or_else_keeps, or_other_keeps, counted_keeps, make_keeps, change_leaves, give_leaves, no_attribute_keeps, bad_arguments_keeps}

@@ -2,11 +2,11 @@
 use Rattle.std.proofs.Common.{◌≡◌, ℕ, ◌+◌, ◌<◌, max, List, [], ◌∷◌, ◌++◌, map, length, drop, get_or, refl, sym, ap, ◌∙◌, arith, append_assoc}
 use Rattle.std.specs.Prelude.{Result, Ok, Err, OnOk}
 use Rattle.std.specs.List.{flat_map}
-use Rattle.kishu_model.specs.declared.tree.Arm.{Arm as Arm'}
-use Rattle.kishu_model.specs.declared.tree.Handler.{Handler as Handler'}
-use Rattle.kishu_model.specs.Tree.{Text, Expression, expressions, expression_of, statements, statement_of, arms, handlers, value_of, text_of}
-use Rattle.kishu_model.specs.Functions.{names_in, bound_by, all_bound_by, bound_in_block, bound_in_arms, bound_in_handlers, declared_in_block, declared_in_arms, declared_in_handlers}
-use Rattle.kishu_model.specs.Height.{of_expression, of_statements, of_arms, of_handlers, of_optional}
+use Rattle.kishu_language.specs.declared.tree.Arm.{Arm as Arm'}
+use Rattle.kishu_language.specs.declared.tree.Handler.{Handler as Handler'}
+use Rattle.kishu_language.specs.trees.Tree.{Text, Expression, expressions, expression_of, statements, statement_of, arms, handlers, value_of, text_of}
+use Rattle.kishu_meaning.specs.calls.Functions.{names_in, bound_by, all_bound_by, bound_in_block, bound_in_arms, bound_in_handlers, declared_in_block, declared_in_arms, declared_in_handlers}
+use Rattle.kishu_language.specs.trees.Height.{of_expression, of_statements, of_arms, of_handlers, of_optional}
 use Rattle.kishu_items.specs.Gathering.{dropped}
 use Rattle.kishu_calls.specs.Trees.{arm_of, handler_of}
 use Rattle.kishu_calls.specs.StatementRows.{arm_is, handler_is}

@@ -7,13 +7,13 @@ use Rattle.std.specs.declared.rc.RcStr.{RcStr}
 use Rattle.std.proofs.lemmas.List.{drop_more}
 use Rattle.std.specs.Str.{bytes_eq, chars}
 use Rattle.kishu_items.specs.Messages.{chars-plain}
-use Rattle.kishu_model.specs.Callees.{print_by}
-use Rattle.kishu_model.specs.Kinds.{bad_arguments}
-use Rattle.kishu_model.specs.Lines.{line_feed}
-use Rattle.kishu_model.specs.Moment.{Moment, raised}
-use Rattle.kishu_model.specs.Values.{Value, text, Names, value_of}
-use Rattle.kishu_model.specs.declared.value.Value as rust
-use Rattle.kishu_model.specs.declared.value.Value.TheVariants as variants
+use Rattle.kishu_meaning.specs.calls.Callees.{print_by}
+use Rattle.kishu_meaning.specs.values.Kinds.{bad_arguments}
+use Rattle.kishu_language.specs.tokens.Lines.{line_feed}
+use Rattle.kishu_meaning.specs.moments.Moment.{Moment, raised}
+use Rattle.kishu_meaning.specs.values.Values.{Value, text, Names, value_of}
+use Rattle.kishu_meaning.specs.declared.value.Value as rust
+use Rattle.kishu_meaning.specs.declared.value.Value.TheVariants as variants
 use Rattle.kishu_machine.specs.declared.fault.Fault.{Fault}
 use Rattle.kishu_machine.specs.declared.fault.Fault.TheVariants as faults
 use Rattle.kishu_machine.specs.Machine.{IsRaised}

@@ -2,12 +2,12 @@
 use Rattle.std.proofs.Common.{◌≡◌, refl, ap, sym, subst, ℕ, Bool, IsTrue, List, [], ◌∷◌, ◌++◌, length, Option, Some, Result, Ok, Err, IfOk}
 use Rattle.std.specs.Prelude.{codes}
 use Rattle.std.specs.Str.{chars}
-use Rattle.kishu_model.specs.declared.budget.Budget.{Budget}
-use Rattle.kishu_model.specs.Kinds.{in_quotes, kind_in, no_attribute}
-use Rattle.kishu_model.specs.Values.{Value, text, range, node, Node, list, tuple, dict}
-use Rattle.kishu_model.specs.Walks.{keys, along_list, along_dict, along_tuple, along_text, along_range, node_walk, walk_of}
-use Rattle.kishu_model.specs.Bare.{bare, IsBare}
-use Rattle.kishu_model.specs.Moment.{Moment, Thrown, fresh, Ends, fine, raised, stopped, M, node_at, node_now}
+use Rattle.kishu_meaning.specs.declared.budget.Budget.{Budget}
+use Rattle.kishu_meaning.specs.values.Kinds.{in_quotes, kind_in, no_attribute}
+use Rattle.kishu_meaning.specs.values.Values.{Value, text, range, node, Node, list, tuple, dict}
+use Rattle.kishu_meaning.specs.items.Walks.{keys, along_list, along_dict, along_tuple, along_text, along_range, node_walk, walk_of}
+use Rattle.kishu_meaning_laws.specs.Bare.{bare, IsBare}
+use Rattle.kishu_meaning.specs.moments.Moment.{Moment, Thrown, fresh, Ends, fine, raised, stopped, M, node_at, node_now}
 use Rattle.kishu_heap.specs.declared.fault.CallFault.{CallFault}
 use Rattle.kishu_items.specs.Called as called
 use Rattle.kishu_machine.specs.declared.fault.Fault.{Fault}

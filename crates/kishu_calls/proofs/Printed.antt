@@ -7,13 +7,13 @@ use Rattle.std.specs.String.{string_bytes}
 use Rattle.std.specs.declared.alloc.Global.{Global}
 use Rattle.std.specs.declared.string.String.{String}
 use Rattle.std.proofs.lemmas.Str.{chars-nil, encodes-chars, IsUtf8-string_bytes}
-use Rattle.kishu_model.specs.declared.result.Outcome.TheVariants as outcomes
-use Rattle.kishu_model.specs.declared.result.Output as rust
-use Rattle.kishu_model.specs.Meaning.{ended, printed, shown_output, uncaught}
-use Rattle.kishu_model.specs.Moment.{Moment, Thrown, Ends, fine, raised}
-use Rattle.kishu_model.specs.Show.{class_name}
-use Rattle.kishu_model.specs.Values.{fault, stream, shown, output_of}
-use Rattle.kishu_model.specs.Ways.{kind_of_thrown}
+use Rattle.kishu_meaning.specs.declared.result.Outcome.TheVariants as outcomes
+use Rattle.kishu_meaning.specs.declared.result.Output as rust
+use Rattle.kishu_meaning.specs.cells.Meaning.{ended, printed, shown_output, uncaught}
+use Rattle.kishu_meaning.specs.moments.Moment.{Moment, Thrown, Ends, fine, raised}
+use Rattle.kishu_meaning.specs.comparing.Show.{class_name}
+use Rattle.kishu_meaning.specs.values.Values.{fault, stream, shown, output_of}
+use Rattle.kishu_meaning.specs.cells.Ways.{kind_of_thrown}
 use Rattle.kishu_machine.specs.Machine.{outputs_in}
 
 no_bytes : (bs : List ℕ) → length bs ≡ 0 → [] ≡ printed (chars bs)

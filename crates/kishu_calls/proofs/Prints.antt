@@ -2,15 +2,15 @@
 use Rattle.std.proofs.Common.{refl, subst, ℕ, ◌+◌, ◌*◌, ◌-◌, Bool, true, false, IsTrue, List, [], ◌∷◌, ◌++◌, length, Result, Ok, Err}
 use Rattle.std.specs.Prelude.{codes, if◌then◌else◌}
 use Rattle.std.specs.Str.{bytes_eq}
-use Rattle.kishu_model.specs.Callees.{print, print_by}
-use Rattle.kishu_model.specs.Kinds.{bad_arguments}
-use Rattle.kishu_model.specs.Lines.{line_feed}
-use Rattle.kishu_model.specs.Moment.{Moment, Ends, fine, raised, stopped, M, and_then, ◌>>◌, give, put_out, spend}
-use Rattle.kishu_model.specs.Show.{show_all}
-use Rattle.kishu_model.specs.Sound.{is_sound}
-use Rattle.kishu_model.specs.Texts.{joined}
-use Rattle.kishu_model.specs.Values.{Value, none, bool, integer, text, range, builtin, class, node, Names, value_of}
-use Rattle.kishu_model.specs.declared.value.Value as rust
+use Rattle.kishu_meaning.specs.calls.Callees.{print, print_by}
+use Rattle.kishu_meaning.specs.values.Kinds.{bad_arguments}
+use Rattle.kishu_language.specs.tokens.Lines.{line_feed}
+use Rattle.kishu_meaning.specs.moments.Moment.{Moment, Ends, fine, raised, stopped, M, and_then, ◌>>◌, give, put_out, spend}
+use Rattle.kishu_meaning.specs.comparing.Show.{show_all}
+use Rattle.kishu_meaning.specs.values.Sound.{is_sound}
+use Rattle.kishu_meaning.specs.values.Texts.{joined}
+use Rattle.kishu_meaning.specs.values.Values.{Value, none, bool, integer, text, range, builtin, class, node, Names, value_of}
+use Rattle.kishu_meaning.specs.declared.value.Value as rust
 use Rattle.kishu_machine.specs.declared.fault.Fault.{Fault}
 use Rattle.kishu_machine.specs.declared.fault.Fault.TheVariants as faults
 use Rattle.kishu_machine.specs.Machine.{Gives, IsSound}

@@ -7,16 +7,16 @@ use Rattle.std.proofs.lemmas.List.{length-map}
 use Rattle.std.specs.Str.{chars}
 use Rattle.std.proofs.lemmas.Str.{chars-nil}
 use Rattle.kishu_items.specs.Messages.{chars-plain, is_plain}
-use Rattle.kishu_model.specs.Builtins.{of_none_or_one, of_one}
-use Rattle.kishu_model.specs.Callees.{Given, call_builtin, construct, new_object}
-use Rattle.kishu_model.specs.Kinds.{bad_arguments}
-use Rattle.kishu_model.specs.Names.{builtin_names, class_names}
-use Rattle.kishu_model.specs.Show.{builtin_name, class_name, or_empty}
+use Rattle.kishu_meaning.specs.calls.Builtins.{of_none_or_one, of_one}
+use Rattle.kishu_meaning.specs.calls.Callees.{Given, call_builtin, construct, new_object}
+use Rattle.kishu_meaning.specs.values.Kinds.{bad_arguments}
+use Rattle.kishu_meaning.specs.values.BuiltinNames.{builtin_names, class_names}
+use Rattle.kishu_meaning.specs.comparing.Show.{builtin_name, class_name, or_empty}
 use Rattle.kishu_items.specs.Holding.{first, second}
 use Rattle.kishu_calls.proofs.Called.{some_named}
-use Rattle.kishu_model.specs.Moment.{Moment, Ends, fine, M, give}
-use Rattle.kishu_model.specs.Values.{Value, text, value_of}
-use Rattle.kishu_model.specs.declared.value.Value as rust
+use Rattle.kishu_meaning.specs.moments.Moment.{Moment, Ends, fine, M, give}
+use Rattle.kishu_meaning.specs.values.Values.{Value, text, value_of}
+use Rattle.kishu_meaning.specs.declared.value.Value as rust
 use Rattle.kishu_machine.specs.declared.fault.Fault.{Fault}
 use Rattle.kishu_machine.specs.Machine.{Gives, IsRaised}
 use Rattle.kishu_machine.specs.Raising.{raises_text}

@@ -1,11 +1,11 @@
 -- What is added to a sum is a number.
 use Rattle.std.proofs.Common.{◌≡◌, ◌∙◌, refl, ap, Option, Some, None}
 use Rattle.std.specs.Prelude.{ℤ, ◌+ℤ◌, codes, slice_get}
-use Rattle.kishu_model.specs.declared.tree.Operator.TheVariants as operators
-use Rattle.kishu_model.specs.Values.{Value, none, bool, integer, text, range, builtin, class, node, Node}
-use Rattle.kishu_model.specs.Moment.{Moment, M}
-use Rattle.kishu_model.specs.Equal.{number_in, by_both}
-use Rattle.kishu_model.specs.Operators.{bad_operands, whole, operate, sum_of_nodes, list_from, tuple_from, both, new_list, new_tuple}
+use Rattle.kishu_language.specs.declared.tree.Operator.TheVariants as operators
+use Rattle.kishu_meaning.specs.values.Values.{Value, none, bool, integer, text, range, builtin, class, node, Node}
+use Rattle.kishu_meaning.specs.moments.Moment.{Moment, M}
+use Rattle.kishu_meaning.specs.comparing.Equal.{number_in, by_both}
+use Rattle.kishu_meaning.specs.calls.Operators.{bad_operands, whole, operate, sum_of_nodes, list_from, tuple_from, both, new_list, new_tuple}
 
 -- the sum of two numbers
 abbrev pub summed : Option ℤ → Value → ℤ → M Value

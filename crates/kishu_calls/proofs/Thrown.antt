@@ -1,10 +1,10 @@
 -- What `raise` raises.
 use Rattle.std.proofs.Common.{◌≡◌, refl, subst, sym, true, false, ℕ, List, Result}
 use Rattle.std.specs.Prelude.{codes}
-use Rattle.kishu_model.specs.Moment.{Moment, Ends, raised, thrown_object, node_at}
-use Rattle.kishu_model.specs.Values.{Value, none, bool, integer, text, range, builtin, class, node}
-use Rattle.kishu_model.specs.Ways.{is_exception, no_exception, throw_object, throw_value}
-use Rattle.kishu_model.specs.Sound.{is_exception_class}
+use Rattle.kishu_meaning.specs.moments.Moment.{Moment, Ends, raised, thrown_object, node_at}
+use Rattle.kishu_meaning.specs.values.Values.{Value, none, bool, integer, text, range, builtin, class, node}
+use Rattle.kishu_meaning.specs.cells.Ways.{is_exception, no_exception, throw_object, throw_value}
+use Rattle.kishu_meaning.specs.values.Sound.{is_exception_class}
 use Rattle.kishu_machine.specs.declared.fault.Fault.{Fault}
 use Rattle.kishu_machine.specs.Machine.{Gives, IsRaised, IsSound}
 use Rattle.kishu_machine.specs.Raising.{raises_text, sound_text}

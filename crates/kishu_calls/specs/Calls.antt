@@ -5,18 +5,18 @@ use Rattle.std.specs.Rc.{rc_str_bytes}
 use Rattle.std.specs.Str.{chars, IsUtf8}
 use Rattle.std.specs.declared.alloc.Global.{Global}
 use Rattle.std.specs.declared.rc.RcStr.{RcStr}
-use Rattle.kishu_model.specs.declared.value.Value as rust
-use Rattle.kishu_model.specs.Names.{is_name}
-use Rattle.kishu_model.specs.Lines.{line_feed}
-use Rattle.kishu_model.specs.Refusals.{all_differ}
-use Rattle.kishu_model.specs.Parse.{ParseDef}
-use Rattle.kishu_model.specs.Tree.{definition_of}
-use Rattle.kishu_model.specs.Moment.{Moment, raised}
-use Rattle.kishu_model.specs.Values.{Value, node, Node, function, value_of, Names}
-use Rattle.kishu_model.specs.Sound.{is_sound, are_sound}
-use Rattle.kishu_model.specs.Callees.{Given, Part, whole, dotted, viewed, Callee, method, view, print, print_by}
-use Rattle.kishu_model.specs.Callees as c
-use Rattle.kishu_model.specs.Ways.{Flow, onward, broke, continued, returned}
+use Rattle.kishu_meaning.specs.declared.value.Value as rust
+use Rattle.kishu_language.specs.tokens.Names.{is_name}
+use Rattle.kishu_language.specs.tokens.Lines.{line_feed}
+use Rattle.kishu_language.specs.grammar.Refusals.{all_differ}
+use Rattle.kishu_language.specs.grammar.Parse.{ParseDef}
+use Rattle.kishu_language.specs.trees.Tree.{definition_of}
+use Rattle.kishu_meaning.specs.moments.Moment.{Moment, raised}
+use Rattle.kishu_meaning.specs.values.Values.{Value, node, Node, function, value_of, Names}
+use Rattle.kishu_meaning.specs.values.Sound.{is_sound, are_sound}
+use Rattle.kishu_meaning.specs.calls.Callees.{Given, Part, whole, dotted, viewed, Callee, method, view, print, print_by}
+use Rattle.kishu_meaning.specs.calls.Callees as c
+use Rattle.kishu_meaning.specs.cells.Ways.{Flow, onward, broke, continued, returned}
 use Rattle.kishu_calls.specs.declared.callees.Callee as rust_callee
 use Rattle.kishu_calls.specs.declared.callees.Callee.TheVariants as callees
 use Rattle.kishu_calls.specs.declared.callees.Given as rust_given

@@ -1,13 +1,13 @@
 -- Forms that the code's functions have, where they cut a rule of the language into parts.
 use Rattle.std.specs.Prelude.{ℕ, Bool, true, false, if◌then◌else◌, List, [], ◌∷◌, slice_get, Option, Some, None}
-use Rattle.kishu_model.specs.Tree.{Text}
-use Rattle.kishu_model.specs.Sound.{is_exception_class}
-use Rattle.kishu_model.specs.Values.{Value, Node, function, exception, find, bind, Names}
-use Rattle.kishu_model.specs.Moment.{M, give, make}
-use Rattle.kishu_model.specs.Callees.{Given, Callee, view, or_no_call, empty_object}
-use Rattle.kishu_model.specs.Builtins.{class_calls}
-use Rattle.kishu_model.specs.Walks.{View}
-use Rattle.kishu_model.specs.Functions.{or_default}
+use Rattle.kishu_language.specs.trees.Tree.{Text}
+use Rattle.kishu_meaning.specs.values.Sound.{is_exception_class}
+use Rattle.kishu_meaning.specs.values.Values.{Value, Node, function, exception, find, bind, Names}
+use Rattle.kishu_meaning.specs.moments.Moment.{M, give, make}
+use Rattle.kishu_meaning.specs.calls.Callees.{Given, Callee, view, or_no_call, empty_object}
+use Rattle.kishu_meaning.specs.calls.Builtins.{class_calls}
+use Rattle.kishu_meaning.specs.items.Walks.{View}
+use Rattle.kishu_meaning.specs.calls.Functions.{or_default}
 
 abbrev pub is_function : Option Node → Bool
 is_function (Some (function profile code vs)) = true

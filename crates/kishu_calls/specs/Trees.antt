@@ -1,19 +1,19 @@
 -- What the parts of the code's trees stand for.
 use Rattle.std.specs.Prelude.{List, map}
-use Rattle.kishu_model.specs.declared.tree.Operator.{Operator}
-use Rattle.kishu_model.specs.declared.tree.Comparison.{Comparison}
-use Rattle.kishu_model.specs.declared.tree.Expr.{Expr}
-use Rattle.kishu_model.specs.declared.tree.Arm as rust_arm
-use Rattle.kishu_model.specs.declared.tree.Handler as rust_handler
-use Rattle.kishu_model.specs.declared.tree.Stmt.{Stmt}
-use Rattle.kishu_model.specs.declared.tree.Stmt.TheFolds.{fold-Arm, fold-Handler}
-use Rattle.kishu_model.specs.declared.tree.Link.{Link}
-use Rattle.kishu_model.specs.declared.tree.Operand.{Operand}
-use Rattle.kishu_model.specs.declared.tree.Pair.{Pair}
-use Rattle.kishu_model.specs.declared.tree.Trailer as rust_trailer
-use Rattle.kishu_model.specs.declared.tree.Argument as rust_argument
-use Rattle.kishu_model.specs.declared.tree.Argument.TheFolds.{fold-Argument, fold-Trailer, fold-Link, fold-Operand, fold-Pair}
-use Rattle.kishu_model.specs.Tree.{Expression, Expressions, Operands, Links, Trailer, Trailers, Argument, Arguments, Statement, Statements, Arm, Arms, Definition, Handler, Handlers, Pairs, expressions, operands, links, pairs, trailers, arguments, statements, arms, handlers, expression_of, statement_of, argument_step, expression_step, trailer_step, link_step, operand_step, pair_step, statement_step, arm_step, definition_step, handler_step}
+use Rattle.kishu_language.specs.declared.tree.Operator.{Operator}
+use Rattle.kishu_language.specs.declared.tree.Comparison.{Comparison}
+use Rattle.kishu_language.specs.declared.tree.Expr.{Expr}
+use Rattle.kishu_language.specs.declared.tree.Arm as rust_arm
+use Rattle.kishu_language.specs.declared.tree.Handler as rust_handler
+use Rattle.kishu_language.specs.declared.tree.Stmt.{Stmt}
+use Rattle.kishu_language.specs.declared.tree.Stmt.TheFolds.{fold-Arm, fold-Handler}
+use Rattle.kishu_language.specs.declared.tree.Link.{Link}
+use Rattle.kishu_language.specs.declared.tree.Operand.{Operand}
+use Rattle.kishu_language.specs.declared.tree.Pair.{Pair}
+use Rattle.kishu_language.specs.declared.tree.Trailer as rust_trailer
+use Rattle.kishu_language.specs.declared.tree.Argument as rust_argument
+use Rattle.kishu_language.specs.declared.tree.Argument.TheFolds.{fold-Argument, fold-Trailer, fold-Link, fold-Operand, fold-Pair}
+use Rattle.kishu_language.specs.trees.Tree.{Expression, Expressions, Operands, Links, Trailer, Trailers, Argument, Arguments, Statement, Statements, Arm, Arms, Definition, Handler, Handlers, Pairs, expressions, operands, links, pairs, trailers, arguments, statements, arms, handlers, expression_of, statement_of, argument_step, expression_step, trailer_step, link_step, operand_step, pair_step, statement_step, arm_step, definition_step, handler_step}
 
 unfoldable pub link_of : Link → Comparison × Expression
 link_of = fold-Link Argument Expression Trailer (Comparison × Expression) (Operator × Expression) (Expression × Expression) argument_step expression_step trailer_step link_step operand_step pair_step

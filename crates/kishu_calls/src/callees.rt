@@ -1,25 +1,26 @@
 // What is called, and what it is given (Python Language Reference 3, "Calls").
 ghost use Rattle.std.specs.Prelude.{IsTrue, length, option_map, ◌*◌, ◌+◌, ◌<◌, ◌≡◌, ◌≤◌};
 ghost use Rattle.std.specs.Rc.{rc_str_bytes};
-ghost use Rattle.kishu_model.specs.Callees.{callee, dotted_callee, method_of, view_in, view_named};
-ghost use Rattle.kishu_model.specs.Methods.{has_method};
-ghost use Rattle.kishu_model.specs.Moment.{give, ◌>>=◌ as ◌⊳◌};
-ghost use Rattle.kishu_model.specs.Sound.{is_sound};
-ghost use Rattle.kishu_model.specs.Subscripts.{attribute};
-ghost use Rattle.kishu_model.specs.Values.{value_of};
+ghost use Rattle.kishu_meaning.specs.calls.Callees.{callee, dotted_callee, method_of, view_in, view_named};
+ghost use Rattle.kishu_meaning.specs.calls.Methods.{has_method};
+ghost use Rattle.kishu_meaning.specs.moments.Moment.{give, ◌>>=◌ as ◌⊳◌};
+ghost use Rattle.kishu_meaning.specs.values.Sound.{is_sound};
+ghost use Rattle.kishu_meaning.specs.items.Subscripts.{attribute};
+ghost use Rattle.kishu_meaning.specs.values.Values.{value_of};
 ghost use Rattle.kishu_access.specs.Access.{view_of};
 ghost use Rattle.kishu_access.specs.Forms.{dict_number};
 ghost use Rattle.kishu_calls.specs.Calls.{callee_of, is_sound_callee, is_sound_part, owed, part_of};
 ghost use Rattle.kishu_calls.specs.Forms.{view_at, viewed_or};
 ghost use Rattle.kishu_calls.specs.Trees.{arguments_of};
 ghost use Rattle.kishu_machine.specs.Machine.{Gives, GrownBy, HasRoomBy, IsSound, ReadsBy, moment_of};
-ghost use Rattle.kishu_model.specs.Callees as c;
+ghost use Rattle.kishu_meaning.specs.calls.Callees as c;
 
 use crate::parts::{Part, settled};
 use kishu_access::{View, attribute, is_object};
 use kishu_heap::{Heap, Node};
+use kishu_language::Argument;
 use kishu_machine::{Fault, Machine, is_same_text, no_attribute, node_at};
-use kishu_model::{Argument, NodeId, Steps, Value};
+use kishu_meaning::{NodeId, Steps, Value};
 use std::rc::RcStr;
 use std::sync::ledger::Ledger;
 

@@ -1,20 +1,20 @@
 // Calls of builtin functions, classes and methods (Library Reference, "Built-in Functions").
 ghost use Rattle.std.specs.Prelude.{IfOk, IsTrue, List, [], codes, length, map, slice_get, true, ◌*◌, ◌+◌, ◌<◌, ◌^◌, ◌∷◌, ◌≡◌, ◌≢◌, ◌≤◌};
-ghost use Rattle.kishu_model.specs.Builtins.{builtin_calls, of_none_or_one, of_one};
-ghost use Rattle.kishu_model.specs.Callees.{by_plain, call_builtin, construct, new_object, or_no_call, print_by, print_plain};
-ghost use Rattle.kishu_model.specs.Lines.{line_feed};
-ghost use Rattle.kishu_model.specs.Methods.{call_method, has_method};
-ghost use Rattle.kishu_model.specs.Refusals.{all_differ};
-ghost use Rattle.kishu_model.specs.Moment.{Moment, give, ◌>>=◌ as ◌⊳◌};
-ghost use Rattle.kishu_model.specs.Show.{repr_of, show};
-ghost use Rattle.kishu_model.specs.Sound.{are_sound, is_sound};
-ghost use Rattle.kishu_model.specs.Values.{value_of};
+ghost use Rattle.kishu_meaning.specs.calls.Builtins.{builtin_calls, of_none_or_one, of_one};
+ghost use Rattle.kishu_meaning.specs.calls.Callees.{by_plain, call_builtin, construct, new_object, or_no_call, print_by, print_plain};
+ghost use Rattle.kishu_language.specs.tokens.Lines.{line_feed};
+ghost use Rattle.kishu_meaning.specs.calls.Methods.{call_method, has_method};
+ghost use Rattle.kishu_language.specs.grammar.Refusals.{all_differ};
+ghost use Rattle.kishu_meaning.specs.moments.Moment.{Moment, give, ◌>>=◌ as ◌⊳◌};
+ghost use Rattle.kishu_meaning.specs.comparing.Show.{repr_of, show};
+ghost use Rattle.kishu_meaning.specs.values.Sound.{are_sound, is_sound};
+ghost use Rattle.kishu_meaning.specs.values.Values.{value_of};
 ghost use Rattle.kishu_heap.specs.Cells.{attributes_of};
 ghost use Rattle.kishu_items.specs.Messages.{is_plain};
 ghost use Rattle.kishu_calls.specs.Calls.{PrintsBy, given_of, is_sound_given, named_of};
 ghost use Rattle.kishu_calls.specs.Forms.{plain_construct};
 ghost use Rattle.kishu_machine.specs.Machine.{Gives, GrownBy, HasRoomBy, IsSound, ReadsBy, moment_of};
-ghost use Rattle.kishu_model.specs.Values as model;
+ghost use Rattle.kishu_meaning.specs.values.Values as model;
 
 use crate::callees::Given;
 use indexmap::IndexMap;
@@ -23,7 +23,7 @@ use kishu_machine::{
     Fault, Machine, NAMESPACE, TEXT, bad_arguments, is_same_text, make, no_attribute, passed,
     print, repr_of, shared, show,
 };
-use kishu_model::{Builtin, ClassId, Steps, Value, builtin_name, class_name};
+use kishu_meaning::{Builtin, ClassId, Steps, Value, builtin_name, class_name};
 use std::alloc::{AllocError, Global};
 use std::rc::RcStr;
 use std::sync::ledger::Ledger;

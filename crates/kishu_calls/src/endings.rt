@@ -1,15 +1,15 @@
 // What a cell gives whose run ended.
 ghost use Rattle.std.specs.Prelude.{IfOk, List, OnOk, Option, [], map, ℕ, ◌++◌, ◌-◌, ◌∷◌, ◌≡◌};
 ghost use Rattle.std.specs.Str.{chars};
-ghost use Rattle.kishu_model.specs.Meaning.{ended, finished, printed, spent, uncaught};
-ghost use Rattle.kishu_model.specs.Moment.{Ends, fine, most_steps};
-ghost use Rattle.kishu_model.specs.Show.{class_name, show_thrown};
-ghost use Rattle.kishu_model.specs.Values.{fault, output_of, report_of, shown};
+ghost use Rattle.kishu_meaning.specs.cells.Meaning.{ended, finished, printed, spent, uncaught};
+ghost use Rattle.kishu_meaning.specs.moments.Moment.{Ends, fine, most_steps};
+ghost use Rattle.kishu_meaning.specs.comparing.Show.{class_name, show_thrown};
+ghost use Rattle.kishu_meaning.specs.values.Values.{fault, output_of, report_of, shown};
 ghost use Rattle.kishu_machine.specs.Machine.{Gives, GrownBy, ReadsBy, moment_of, outputs_in, shown_of, state_of, thrown_of};
 
 use crate::ways::kind_of_thrown;
 use kishu_machine::{Fault, Machine, Thrown, show_thrown};
-use kishu_model::{CellResult, ClassId, Outcome, Output, Steps, class_name};
+use kishu_meaning::{CellResult, ClassId, Outcome, Output, Steps, class_name};
 use std::alloc::{AllocError, Global};
 use std::rc::RcStr;
 use std::sync::ledger::Ledger;

@@ -2,15 +2,15 @@
 ghost use Rattle.std.specs.List.{filter};
 ghost use Rattle.std.specs.Prelude.{IfOk, OnOk, [], map, not, ◌++◌, ◌+◌, ◌∷◌, ◌≡◌};
 ghost use Rattle.std.specs.Rc.{rc_str_bytes};
-ghost use Rattle.kishu_model.specs.Functions.{all_bound_by, bound_by, bound_in, bound_in_arms, bound_in_block, bound_in_handlers, declared_in, declared_in_arms, declared_in_block, declared_in_handlers, names_in, or_class_name, own_names};
-ghost use Rattle.kishu_model.specs.Names.{is_among};
-ghost use Rattle.kishu_model.specs.Refusals.{titles};
-ghost use Rattle.kishu_model.specs.Tree.{definition_of, expression_of, parameter_of, statement_of, text_of};
+ghost use Rattle.kishu_meaning.specs.calls.Functions.{all_bound_by, bound_by, bound_in, bound_in_arms, bound_in_block, bound_in_handlers, declared_in, declared_in_arms, declared_in_block, declared_in_handlers, names_in, or_class_name, own_names};
+ghost use Rattle.kishu_language.specs.tokens.Names.{is_among};
+ghost use Rattle.kishu_language.specs.grammar.Refusals.{titles};
+ghost use Rattle.kishu_language.specs.trees.Tree.{definition_of, expression_of, parameter_of, statement_of, text_of};
 ghost use Rattle.kishu_calls.specs.Trees.{arms_of, expressions_of, handlers_of, statements_of};
 ghost use Rattle.kishu_machine.specs.Frames.{texts_of};
 
+use kishu_language::{Arm, Def, Expr, Handler, Stmt};
 use kishu_machine::is_among;
-use kishu_model::{Arm, Def, Expr, Handler, Stmt};
 use std::alloc::{AllocError, Global};
 use std::rc::RcStr;
 

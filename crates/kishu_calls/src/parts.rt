@@ -1,19 +1,19 @@
 // Parts of primaries (Python Language Reference 3, "Primaries").
 ghost use Rattle.std.specs.Prelude.{IsTrue, length, ◌*◌, ◌+◌};
 ghost use Rattle.std.specs.Rc.{rc_str_bytes};
-ghost use Rattle.kishu_model.specs.Callees.{settled};
-ghost use Rattle.kishu_model.specs.Meaning.{Calls, walked_by};
-ghost use Rattle.kishu_model.specs.Moment.{give, ◌>>=◌ as ◌⊳◌, ◌>>◌};
-ghost use Rattle.kishu_model.specs.Sound.{is_sound};
-ghost use Rattle.kishu_model.specs.Values.{value_of};
+ghost use Rattle.kishu_meaning.specs.calls.Callees.{settled};
+ghost use Rattle.kishu_meaning.specs.cells.Meaning.{Calls, walked_by};
+ghost use Rattle.kishu_meaning.specs.moments.Moment.{give, ◌>>=◌ as ◌⊳◌, ◌>>◌};
+ghost use Rattle.kishu_meaning.specs.values.Sound.{is_sound};
+ghost use Rattle.kishu_meaning.specs.values.Values.{value_of};
 ghost use Rattle.kishu_access.specs.Access.{is_sound_walk, walk_of};
 ghost use Rattle.kishu_calls.specs.Calls.{OwesReads, Owing, is_sound_part, owed, part_of};
 ghost use Rattle.kishu_machine.specs.Machine.{Gives, GrownBy, HasRoomBy, IsSound, ReadsBy, moment_of};
-ghost use Rattle.kishu_model.specs.Callees as c;
+ghost use Rattle.kishu_meaning.specs.calls.Callees as c;
 
 use kishu_access::{View, Walk, attribute, walk_of, walk_view};
 use kishu_machine::{Fault, Machine, no_attribute};
-use kishu_model::{NodeId, Steps, Value};
+use kishu_meaning::{NodeId, Steps, Value};
 use std::rc::RcStr;
 use std::sync::ledger::Ledger;
 

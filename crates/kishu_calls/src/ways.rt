@@ -2,16 +2,16 @@
 // try statement").
 ghost use Rattle.std.specs.List.{list_all, list_any};
 ghost use Rattle.std.specs.Prelude.{IfOk, IsTrue, length, map, true, ◌+◌, ◌<◌, ◌^◌, ◌≡◌, ◌≤◌};
-ghost use Rattle.kishu_model.specs.Classes.{class_above, is_within};
-ghost use Rattle.kishu_model.specs.Moment.{node_at};
-ghost use Rattle.kishu_model.specs.Sound.{is_exception_class, is_sound};
-ghost use Rattle.kishu_model.specs.Values.{node, value_of};
-ghost use Rattle.kishu_model.specs.Ways.{is_caught, is_caught_by, is_class_of_exceptions, is_exception, kind_of_thrown, object_of, throw_again, throw_object, throw_value};
+ghost use Rattle.kishu_meaning.specs.values.Classes.{class_above, is_within};
+ghost use Rattle.kishu_meaning.specs.moments.Moment.{node_at};
+ghost use Rattle.kishu_meaning.specs.values.Sound.{is_exception_class, is_sound};
+ghost use Rattle.kishu_meaning.specs.values.Values.{node, value_of};
+ghost use Rattle.kishu_meaning.specs.cells.Ways.{is_caught, is_caught_by, is_class_of_exceptions, is_exception, kind_of_thrown, object_of, throw_again, throw_object, throw_value};
 ghost use Rattle.kishu_machine.specs.Machine.{Gives, GrownBy, HasRoomBy, IsSound, ReadsBy, is_sound_thrown, moment_of, thrown_of};
 
 use kishu_heap::{Heap, Node};
 use kishu_machine::{ANY_EXCEPTION, Fault, Machine, Thrown, make, no_exception, node_at, tuple_at};
-use kishu_model::{ClassId, NodeId, Steps, Value};
+use kishu_meaning::{ClassId, NodeId, Steps, Value};
 use std::sync::ledger::Ledger;
 
 /// How a statement ended that raised nothing.

@@ -1,8 +1,8 @@
 -- One node in the place of another is a change of that node.
 use Rattle.std.proofs.Common.{◌≡◌, ap, refl, arith, ℕ, zero, suc, ◌+◌, ◌<◌, List, [], ◌∷◌, ◌++◌, length, map}
 use Rattle.std.specs.Prelude.{slice_set, slice_index_or, Option, Some, None, option_map, option_to_list, MatchOption}
-use Rattle.kishu_model.specs.Values.{Node}
-use Rattle.kishu_model.specs.Nodes.{changed, last_of, without_last}
+use Rattle.kishu_meaning.specs.values.Values.{Node}
+use Rattle.kishu_meaning.specs.values.Nodes.{changed, last_of, without_last}
 use Rattle.kishu_heap.specs.declared.node.Node as rust
 use Rattle.kishu_heap.specs.Cells.{node_of}
 

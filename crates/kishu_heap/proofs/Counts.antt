@@ -2,7 +2,7 @@
 use Rattle.std.proofs.Common.{◌≡◌, refl, arith, ℕ, ◌-◌, ◌<◌, ◌≤◌, true, false, Err}
 use Rattle.std.specs.Prelude.{nat_le}
 use Rattle.std.proofs.lemmas.Bool.Decides.{nat_tests}
-use Rattle.kishu_model.specs.Counting.{Counted, Count, answer, spent, and_then, spend}
+use Rattle.kishu_meaning.specs.moments.Counting.{Counted, Count, answer, spent, and_then, spend}
 use Rattle.kishu_heap.specs.declared.fault.CompareFault.{CompareFault}
 use Rattle.kishu_heap.specs.declared.fault.CompareFault.TheVariants as faults
 use Rattle.kishu_heap.specs.Compared.{Gives}

@@ -5,9 +5,9 @@ use denote.Bor.{Bor}
 use Rattle.std.specs.Option.{option_copied}
 use Rattle.std.specs.Map.{lookup, remove_entry}
 use Rattle.indexmap.specs.IndexMap.{insert_entry}
-use Rattle.kishu_model.specs.declared.value.Value as rust
-use Rattle.kishu_model.specs.Values.{Value, value_of}
-use Rattle.kishu_model.specs.Nodes.{value_at, with_entry, without_entry}
+use Rattle.kishu_meaning.specs.declared.value.Value as rust
+use Rattle.kishu_meaning.specs.values.Values.{Value, value_of}
+use Rattle.kishu_meaning.specs.values.Nodes.{value_at, with_entry, without_entry}
 
 module _ {K J : Type 0} (key_of : K → J) (is_key : J → J → Bool) where
   abbrev Entry : Type 0

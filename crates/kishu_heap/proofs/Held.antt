@@ -2,9 +2,9 @@
 use Rattle.std.proofs.Common.{◌≡◌, ◌∙◌, ap, sym, refl, subst, arith, ℕ, zero, suc, ◌+◌, ◌<◌, Bool, true, false, IsTrue, List, [], ◌∷◌, ◌++◌, length, length-append, length-set, map, Result, Ok, Err, OnOk, OnErr}
 use Rattle.std.proofs.lemmas.List.{length-map, map-append}
 use Rattle.std.specs.Prelude.{slice_set, slice_index_or, Option, if◌then◌else◌}
-use Rattle.kishu_model.specs.Values.{Node}
-use Rattle.kishu_model.specs.Nodes.{changed, found}
-use Rattle.kishu_model.specs.Sound.{is_sound_node, are_sound_nodes, is_sound_heap}
+use Rattle.kishu_meaning.specs.values.Values.{Node}
+use Rattle.kishu_meaning.specs.values.Nodes.{changed, found}
+use Rattle.kishu_meaning.specs.values.Sound.{is_sound_node, are_sound_nodes, is_sound_heap}
 use Rattle.kishu_heap.specs.declared.node.Node as rust
 use Rattle.kishu_heap.specs.Cells.{node_of}
 use Rattle.kishu_heap.proofs.Changes.{changed_set, unchanged_set, length_changed}

@@ -3,10 +3,10 @@ use Rattle.std.proofs.Common.{◌≡◌, ◌∙◌, refl, arith, ℕ, zero, suc,
 use Rattle.std.specs.Prelude.{min, nat_lt, if◌then◌else◌}
 use Rattle.std.proofs.lemmas.Option.{slice_get_read}
 use Rattle.std.proofs.lemmas.Bool.Decides.{nat_tests}
-use Rattle.kishu_model.specs.declared.value.Value as rust
-use Rattle.kishu_model.specs.Values.{value_of}
-use Rattle.kishu_model.specs.Counting.{Counted, Count, answer, and_then}
-use Rattle.kishu_model.specs.Equal.{pair_equal, less_by, items_less}
+use Rattle.kishu_meaning.specs.declared.value.Value as rust
+use Rattle.kishu_meaning.specs.values.Values.{value_of}
+use Rattle.kishu_meaning.specs.moments.Counting.{Counted, Count, answer, and_then}
+use Rattle.kishu_meaning.specs.comparing.Equal.{pair_equal, less_by, items_less}
 use Rattle.kishu_heap.specs.declared.fault.CompareFault.{CompareFault}
 use Rattle.kishu_heap.specs.declared.fault.CompareFault.TheVariants as faults
 use Rattle.kishu_heap.specs.Compared.{Gives, Orders}

@@ -5,11 +5,11 @@ use Rattle.std.specs.List.{list_all}
 use Rattle.std.specs.Str.{bytes_eq}
 use Rattle.std.proofs.lemmas.Bool.{false≢true}
 use Rattle.std.proofs.lemmas.Bool.Decides.{nat_tests}
-use Rattle.kishu_model.specs.Keys.{Key, is_one}
-use Rattle.kishu_model.specs.Names.{is_name}
-use Rattle.kishu_model.specs.Values.{Value, none, bool, integer, text, range, builtin, class, node, Node, list, tuple, dict, object, function, exception}
-use Rattle.kishu_model.specs.Nodes.{on_dict, with_entry, without_entry, changed, set_item, push, pop, replace_list, insert, remove, set_attr, remove_attr, without_last}
-use Rattle.kishu_model.specs.Sound.{is_sound, are_sound, is_sound_node, are_sound_nodes, is_exception_class}
+use Rattle.kishu_meaning.specs.values.Keys.{Key, is_one}
+use Rattle.kishu_language.specs.tokens.Names.{is_name}
+use Rattle.kishu_meaning.specs.values.Values.{Value, none, bool, integer, text, range, builtin, class, node, Node, list, tuple, dict, object, function, exception}
+use Rattle.kishu_meaning.specs.values.Nodes.{on_dict, with_entry, without_entry, changed, set_item, push, pop, replace_list, insert, remove, set_attr, remove_attr, without_last}
+use Rattle.kishu_meaning.specs.values.Sound.{is_sound, are_sound, is_sound_node, are_sound_nodes, is_exception_class}
 
 pub both : (a b : Bool) → IsTrue a → IsTrue b → IsTrue (a && b)
 both true b p q = q

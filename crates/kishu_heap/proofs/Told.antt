@@ -1,7 +1,7 @@
 -- What the answer of `==` tells of ranges and of keys.
 use Rattle.std.proofs.Common.{◌≡◌, ℕ, Bool, List, Result, Ok, Err, IfOk, subst}
-use Rattle.kishu_model.specs.Values.{Value, Node}
-use Rattle.kishu_model.specs.Equal.{equal_by, equal_nodes, room_at}
+use Rattle.kishu_meaning.specs.values.Values.{Value, Node}
+use Rattle.kishu_meaning.specs.comparing.Equal.{equal_by, equal_nodes, room_at}
 use Rattle.kishu_heap.specs.Tells.{TellsOfRanges, TellsOfKeys, equal_tells_of_ranges, equal_tells_of_keys}
 use Rattle.kishu_heap.specs.declared.fault.CompareFault.{CompareFault}
 use Rattle.kishu_heap.specs.Compared.{Gives}

@@ -2,11 +2,11 @@
 use Rattle.std.proofs.Common.{◌≡◌, ◌∙◌, ap, sym, refl, arith, ℕ, zero, suc, ◌-◌, ◌+◌, ◌<◌, Bool, true, false, List, ◌∷◌, length, map, drop, get_or, drop-cons, add-one, Option, Some, Result, Err}
 use Rattle.std.specs.Prelude.{slice_get, if◌then◌else◌}
 use Rattle.std.proofs.lemmas.Option.{slice_get_within, get_or_from_slice_get}
-use Rattle.kishu_model.specs.declared.value.Value as rust
-use Rattle.kishu_model.specs.Values.{Value, value_of, Node}
-use Rattle.kishu_model.specs.Nodes.{value_at}
-use Rattle.kishu_model.specs.Counting.{Count, answer, and_then, give}
-use Rattle.kishu_model.specs.Equal.{node_in, equal_by, pair_equal, items_equal, value_equal, entries_equal, nodes_equal, equal_nodes}
+use Rattle.kishu_meaning.specs.declared.value.Value as rust
+use Rattle.kishu_meaning.specs.values.Values.{Value, value_of, Node}
+use Rattle.kishu_meaning.specs.values.Nodes.{value_at}
+use Rattle.kishu_meaning.specs.moments.Counting.{Count, answer, and_then, give}
+use Rattle.kishu_meaning.specs.comparing.Equal.{node_in, equal_by, pair_equal, items_equal, value_equal, entries_equal, nodes_equal, equal_nodes}
 use Rattle.kishu_heap.specs.declared.fault.CompareFault.{CompareFault}
 use Rattle.kishu_heap.specs.Compared.{Gives}
 use Rattle.kishu_heap.proofs.Counts.{fault_through}

@@ -3,10 +3,10 @@ use Rattle.std.specs.Prelude.{List, map, ℕ}
 use Rattle.std.specs.Rc.{rc_str_bytes}
 use Rattle.std.specs.declared.alloc.Global.{Global}
 use Rattle.std.specs.declared.rc.RcStr.{RcStr}
-use Rattle.kishu_model.specs.declared.key.Key as rust_key
-use Rattle.kishu_model.specs.declared.value.Value as rust_value
-use Rattle.kishu_model.specs.Keys.{Key, key_of}
-use Rattle.kishu_model.specs.Values.{Value, value_of, Node, list, tuple, dict, object, function, exception}
+use Rattle.kishu_meaning.specs.declared.key.Key as rust_key
+use Rattle.kishu_meaning.specs.declared.value.Value as rust_value
+use Rattle.kishu_meaning.specs.values.Keys.{Key, key_of}
+use Rattle.kishu_meaning.specs.values.Values.{Value, value_of, Node, list, tuple, dict, object, function, exception}
 use Rattle.kishu_heap.specs.declared.node.Node as rust
 use Rattle.kishu_heap.specs.declared.node.Node.TheVariants as nodes
 

@@ -1,6 +1,6 @@
 -- How the calls that compare answer, and what they count.
 use Rattle.std.specs.Prelude.{◌≡◌, ℕ, Bool, Option, Some, None, Result, Ok, Err}
-use Rattle.kishu_model.specs.Counting.{Counted, answer, too_deep, spent}
+use Rattle.kishu_meaning.specs.moments.Counting.{Counted, answer, too_deep, spent}
 use Rattle.kishu_heap.specs.declared.fault.CompareFault.{CompareFault}
 use Rattle.kishu_heap.specs.declared.fault.CompareFault.TheVariants as faults
 

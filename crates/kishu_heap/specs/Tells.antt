@@ -1,11 +1,11 @@
 -- What the answer of `==` tells of ranges and of keys (Library Reference, "Ranges" and "Mapping Types").
 use Rattle.std.specs.Prelude.{◌≡◌, ℕ, Bool, List}
 use Rattle.std.specs.Bool.{Decides}
-use Rattle.kishu_model.specs.Keys.{Key, is_one}
-use Rattle.kishu_model.specs.Values.{Value, Node}
-use Rattle.kishu_model.specs.Counting.{answer}
-use Rattle.kishu_model.specs.Equal.{equal_in}
-use Rattle.kishu_model.specs.EqualLaws.{IsRange, HaveSameNumbers, IsValueOf, equal_just_where_one, equal_just_where_same_numbers}
+use Rattle.kishu_meaning.specs.values.Keys.{Key, is_one}
+use Rattle.kishu_meaning.specs.values.Values.{Value, Node}
+use Rattle.kishu_meaning.specs.moments.Counting.{answer}
+use Rattle.kishu_meaning.specs.comparing.Equal.{equal_in}
+use Rattle.kishu_meaning_laws.specs.EqualLaws.{IsRange, HaveSameNumbers, IsValueOf, equal_just_where_one, equal_just_where_same_numbers}
 
 -- Of two ranges, this is true just where they have the same numbers.
 abbrev pub TellsOfRanges : Value → Value → Bool → Type 0

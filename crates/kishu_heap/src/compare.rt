@@ -2,10 +2,10 @@
 // comparisons").
 ghost use Rattle.std.specs.Prelude.{◌≡◌, ℕ, ◌+◌, ◌*◌, ◌<◌, ◌≤◌, OnOk, length, map, option_map, slice_get};
 ghost use Rattle.std.specs.Str.{bytes_eq};
-ghost use Rattle.kishu_model.specs.Keys.{key_of, is_one};
-ghost use Rattle.kishu_model.specs.Values.{value_of};
-ghost use Rattle.kishu_model.specs.Nodes.{value_at};
-ghost use Rattle.kishu_model.specs.Equal.{node_in, equal_by, pair_equal, items_equal, lists_equal, value_equal, entries_equal, maps_equal, nodes_equal, equal_nodes};
+ghost use Rattle.kishu_meaning.specs.values.Keys.{key_of, is_one};
+ghost use Rattle.kishu_meaning.specs.values.Values.{value_of};
+ghost use Rattle.kishu_meaning.specs.values.Nodes.{value_at};
+ghost use Rattle.kishu_meaning.specs.comparing.Equal.{node_in, equal_by, pair_equal, items_equal, lists_equal, value_equal, entries_equal, maps_equal, nodes_equal, equal_nodes};
 ghost use Rattle.kishu_heap.specs.Cells.{entries_of, attributes_of};
 ghost use Rattle.kishu_heap.specs.Compared.{Gives};
 
@@ -14,7 +14,7 @@ use crate::heap::Heap;
 use crate::plain::{is_equal, is_same, pair_steps};
 use crate::taken::take_steps;
 use indexmap::IndexMap;
-use kishu_model::{Key, NodeId, Steps, Value};
+use kishu_meaning::{Key, NodeId, Steps, Value};
 use std::rc::RcStr;
 use std::sync::ledger::Ledger;
 

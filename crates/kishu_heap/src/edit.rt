@@ -1,13 +1,13 @@
 // What changes one node. A node of another kind stays.
 ghost use Rattle.std.specs.Prelude.{◌≡◌, ◌<◌, [], IfSome, OnOk, OnErr, length, map, option_map};
 ghost use Rattle.std.specs.Rc.{rc_str_bytes};
-ghost use Rattle.kishu_model.specs.Keys.{key_of};
-ghost use Rattle.kishu_model.specs.Values.{value_of};
-ghost use Rattle.kishu_model.specs.Nodes.{on_dict, list_in, last_item, value_under, attribute, set_item, push, pop, replace_list, insert, remove, set_attr, remove_attr};
+ghost use Rattle.kishu_meaning.specs.values.Keys.{key_of};
+ghost use Rattle.kishu_meaning.specs.values.Values.{value_of};
+ghost use Rattle.kishu_meaning.specs.values.Nodes.{on_dict, list_in, last_item, value_under, attribute, set_item, push, pop, replace_list, insert, remove, set_attr, remove_attr};
 ghost use Rattle.kishu_heap.specs.Cells.{node_of};
 
 use crate::node::Node;
-use kishu_model::{Key, Value};
+use kishu_meaning::{Key, Value};
 use std::alloc::AllocError;
 use std::rc::RcStr;
 

@@ -1,5 +1,5 @@
 // Faults.
-use kishu_model::{ClassId, Value};
+use kishu_meaning::{ClassId, Value};
 use std::alloc::{AllocError, AllocFailed};
 use std::rc::RcStr;
 

@@ -1,11 +1,12 @@
 // Functions.
 ghost use Rattle.std.specs.Prelude.{◌≡◌, ◌≤◌, length};
 ghost use Rattle.std.specs.Rc.{rc_str_bytes};
-ghost use Rattle.kishu_model.specs.Parse.{ParseDef};
-ghost use Rattle.kishu_model.specs.Sound.{default_count};
-ghost use Rattle.kishu_model.specs.Tree.{definition_of};
+ghost use Rattle.kishu_language.specs.grammar.Parse.{ParseDef};
+ghost use Rattle.kishu_meaning.specs.values.Sound.{default_count};
+ghost use Rattle.kishu_language.specs.trees.Tree.{definition_of};
 
-use kishu_model::{Def, Profile, Value};
+use kishu_language::{Def, Profile};
+use kishu_meaning::Value;
 use std::rc::{Rc, RcStr};
 
 /// A function: its code with the profile under which it is read, its tree, and the values of its

@@ -2,13 +2,13 @@
 ghost use Rattle.std.specs.Prelude.{◌≡◌, ◌+◌, ◌-◌, ◌*◌, ◌<◌, ◌≤◌, ◌^◌, ◌∷◌, [], ◌++◌, IsTrue, IfSome, IfOk, OnOk, OnErr, Some, length, map, option_map, slice_get};
 ghost use Rattle.std.specs.Rc.{rc_str_bytes};
 ghost use Rattle.std.specs.Vec.{vec_len};
-ghost use Rattle.kishu_model.specs.Keys.{key_of};
-ghost use Rattle.kishu_model.specs.Names.{is_name};
-ghost use Rattle.kishu_model.specs.Values.{value_of};
-ghost use Rattle.kishu_model.specs.Nodes.{on_dict, changed, found, list_in, last_item, value_under, attribute, set_item, push, pop, replace_list, insert, remove, set_attr, remove_attr};
-ghost use Rattle.kishu_model.specs.Sound.{is_sound, are_sound, is_sound_node, are_sound_nodes, is_sound_heap};
-ghost use Rattle.kishu_model.specs.Equal.{pair_equal, equal_nodes, equal_in, less_in, room_at};
-ghost use Rattle.kishu_model.specs.EqualLaws.{value_under_equal, insert_by_values};
+ghost use Rattle.kishu_meaning.specs.values.Keys.{key_of};
+ghost use Rattle.kishu_language.specs.tokens.Names.{is_name};
+ghost use Rattle.kishu_meaning.specs.values.Values.{value_of};
+ghost use Rattle.kishu_meaning.specs.values.Nodes.{on_dict, changed, found, list_in, last_item, value_under, attribute, set_item, push, pop, replace_list, insert, remove, set_attr, remove_attr};
+ghost use Rattle.kishu_meaning.specs.values.Sound.{is_sound, are_sound, is_sound_node, are_sound_nodes, is_sound_heap};
+ghost use Rattle.kishu_meaning.specs.comparing.Equal.{pair_equal, equal_nodes, equal_in, less_in, room_at};
+ghost use Rattle.kishu_meaning_laws.specs.EqualLaws.{value_under_equal, insert_by_values};
 ghost use Rattle.kishu_heap.specs.Cells.{node_of};
 ghost use Rattle.kishu_heap.specs.Compared.{Gives, Orders};
 ghost use Rattle.kishu_heap.specs.Tells.{TellsOfRanges, TellsOfKeys};
@@ -18,7 +18,7 @@ use crate::edit;
 use crate::fault::CompareFault;
 use crate::less::less_values;
 use crate::node::Node;
-use kishu_model::{Budget, Key, NodeId, Steps, Value};
+use kishu_meaning::{Budget, Key, NodeId, Steps, Value};
 use std::alloc::{AllocError, Global};
 use std::marker::Model;
 use std::rc::RcStr;
@@ -35,8 +35,8 @@ pub struct Heap {
 
 impl Model for Heap {
     ghost use Rattle.std.specs.Prelude.{◌<◌, ◌^◌, IsTrue, List, length, map};
-    ghost use Rattle.kishu_model.specs.Values as model;
-    ghost use Rattle.kishu_model.specs.Sound.{is_sound_heap};
+    ghost use Rattle.kishu_meaning.specs.values.Values as model;
+    ghost use Rattle.kishu_meaning.specs.values.Sound.{is_sound_heap};
     ghost use Rattle.kishu_heap.specs.Cells.{node_of};
 
     ghost Value = { List model.Node };

@@ -1,9 +1,9 @@
 // The order of values over the nodes to which they lead (Python Language Reference 3, "Value
 // comparisons").
 ghost use Rattle.std.specs.Prelude.{◌≡◌, ◌+◌, ◌*◌, ◌≤◌, length, map, slice_get};
-ghost use Rattle.kishu_model.specs.Values.{value_of};
-ghost use Rattle.kishu_model.specs.Counting.{and_then, give, spend};
-ghost use Rattle.kishu_model.specs.Equal.{equal_nodes, less_plain, pair_steps, less_by, items_less, nodes_less, less_nodes};
+ghost use Rattle.kishu_meaning.specs.values.Values.{value_of};
+ghost use Rattle.kishu_meaning.specs.moments.Counting.{and_then, give, spend};
+ghost use Rattle.kishu_meaning.specs.comparing.Equal.{equal_nodes, less_plain, pair_steps, less_by, items_less, nodes_less, less_nodes};
 ghost use Rattle.kishu_heap.specs.Compared.{Orders};
 
 use crate::compare::{equal_pair, node_in};
@@ -11,7 +11,7 @@ use crate::fault::CompareFault;
 use crate::heap::Heap;
 use crate::plain::{is_less, pair_steps};
 use crate::taken::take_steps;
-use kishu_model::{NodeId, Steps, Value};
+use kishu_meaning::{NodeId, Steps, Value};
 use std::sync::ledger::Ledger;
 
 /// Whether a value is less than another by itself.

@@ -1,11 +1,11 @@
 // Nodes.
 ghost use Rattle.std.specs.Prelude.{◌≡◌, map, option_map};
-ghost use Rattle.kishu_model.specs.Values.{value_of};
-ghost use Rattle.kishu_model.specs.Nodes.{list_in, tuple_in, dict_in, object_in};
+ghost use Rattle.kishu_meaning.specs.values.Values.{value_of};
+ghost use Rattle.kishu_meaning.specs.values.Nodes.{list_in, tuple_in, dict_in, object_in};
 
 use crate::function::FunctionNode;
 use indexmap::IndexMap;
-use kishu_model::{ClassId, Key, Value};
+use kishu_meaning::{ClassId, Key, Value};
 use std::rc::RcStr;
 
 /// A node of the heap: what has an identity and can be changed.

@@ -1,10 +1,10 @@
 // Comparisons of two values by themselves.
 ghost use Rattle.std.specs.Prelude.{◌≡◌, ◌<◌, ◌-ℤ◌, Some};
 ghost use Rattle.std.specs.Str.{bytes_eq, chars};
-ghost use Rattle.kishu_model.specs.Values.{value_of, bool, integer, text, range, builtin, class, node};
-ghost use Rattle.kishu_model.specs.Equal.{number_in, is_same, pair_steps, steps_between, range_length, numbers_in, same_numbers, is_like, is_equal, less_texts, less_plain};
+ghost use Rattle.kishu_meaning.specs.values.Values.{value_of, bool, integer, text, range, builtin, class, node};
+ghost use Rattle.kishu_meaning.specs.comparing.Equal.{number_in, is_same, pair_steps, steps_between, range_length, numbers_in, same_numbers, is_like, is_equal, less_texts, less_plain};
 
-use kishu_model::{Builtin, ClassId, NodeId, Value};
+use kishu_meaning::{Builtin, ClassId, NodeId, Value};
 use kishu_text::{count, order};
 
 /// The whole number that a value counts as, where it counts as one.

@@ -1,10 +1,10 @@
 // Steps of the budget, each counted.
 ghost use Rattle.std.specs.Prelude.{◌≡◌, ◌+◌, ◌≤◌};
-ghost use Rattle.kishu_model.specs.Counting.{spend};
+ghost use Rattle.kishu_meaning.specs.moments.Counting.{spend};
 ghost use Rattle.kishu_heap.specs.Compared.{Gives};
 
 use crate::fault::CompareFault;
-use kishu_model::Steps;
+use kishu_meaning::Steps;
 use std::sync::ledger::Ledger;
 
 /// Takes so many steps of `left`, each counted. Where there are fewer it takes all, and answers

@@ -4,14 +4,14 @@ use Rattle.std.specs.Str.{chars}
 use Rattle.std.specs.declared.alloc.Global.{Global}
 use Rattle.std.specs.declared.string.String.{String}
 use Rattle.std.proofs.lemmas.Str.{chars-nil}
-use Rattle.kishu_model.specs.declared.profile.Profile.{Profile}
-use Rattle.kishu_model.specs.declared.result.Output as rust
-use Rattle.kishu_model.specs.ExactText.{read_only, line_only}
-use Rattle.kishu_model.specs.Meaning.{run, run_tree, unread, begun, cell, printed}
-use Rattle.kishu_model.specs.Moment.{Moment}
-use Rattle.kishu_model.specs.Parse.{Parse, Line}
-use Rattle.kishu_model.specs.Tree.{Text, Statement}
-use Rattle.kishu_model.specs.Values.{Names, Node, Output, State, output_of}
+use Rattle.kishu_language.specs.declared.profile.Profile.{Profile}
+use Rattle.kishu_meaning.specs.declared.result.Output as rust
+use Rattle.kishu_language_laws.specs.reading.ExactText.{read_only, line_only}
+use Rattle.kishu_meaning.specs.cells.Meaning.{run, run_tree, unread, begun, cell, printed}
+use Rattle.kishu_meaning.specs.moments.Moment.{Moment}
+use Rattle.kishu_language.specs.grammar.Parse.{Parse, Line}
+use Rattle.kishu_language.specs.trees.Tree.{Text, Statement}
+use Rattle.kishu_meaning.specs.values.Values.{Names, Node, Output, State, output_of}
 use Rattle.kishu_lexer.specs.declared.fault.SyntaxFault.{SyntaxFault}
 use Rattle.kishu_lexer.specs.declared.fault.SyntaxFault.TheVariants.{Syntax}
 use Rattle.kishu_parser.specs.Statements.{FaultOf}

@@ -1,22 +1,23 @@
 // Texts that run.
 ghost use Rattle.std.specs.Prelude.{IfOk, IsTrue, Ok, OnOk, length, ◌+◌, ◌<◌, ◌^◌, ◌≡◌, ◌≤◌, ◌*◌};
-ghost use Rattle.kishu_model.specs.Accesses.{with_accesses};
-ghost use Rattle.kishu_model.specs.Height.{of_statements};
-ghost use Rattle.kishu_model.specs.Meaning.{run, run_tree, unread};
-ghost use Rattle.kishu_model.specs.Sound.{are_sound_names};
-ghost use Rattle.kishu_model.specs.Tree.{program_of};
-ghost use Rattle.kishu_model.specs.Values.{State, report_of};
+ghost use Rattle.kishu_meaning.specs.moments.Accesses.{with_accesses};
+ghost use Rattle.kishu_language.specs.trees.Height.{of_statements};
+ghost use Rattle.kishu_meaning.specs.cells.Meaning.{run, run_tree, unread};
+ghost use Rattle.kishu_meaning.specs.values.Sound.{are_sound_names};
+ghost use Rattle.kishu_language.specs.trees.Tree.{program_of};
+ghost use Rattle.kishu_meaning.specs.values.Values.{State, report_of};
 ghost use Rattle.kishu_calls.specs.Trees.{statements_of};
-ghost use Rattle.kishu_model.specs.Fits.{StatementsFit};
+ghost use Rattle.kishu_language.specs.trees.Fits.{StatementsFit};
 ghost use Rattle.kishu_machine.specs.Machine.{state_in};
 
-use crate::cell::run_statements;
 use kishu_calls::{ended, fault_output, finish};
 use kishu_heap::Heap;
+use kishu_language::{Profile, Program};
 use kishu_machine::{MOST_STEPS, Machine};
-use kishu_model::{Budget, CellResult, Outcome, Profile, Program, Steps};
+use kishu_meaning::{Budget, CellResult, Outcome, Steps};
 use kishu_names::Names;
 use kishu_parser::{SyntaxFault, parse};
+use kishu_statements::run_statements;
 use std::alloc::{AllocError, Global};
 use std::mem;
 use std::sync::ledger::Ledger;

@@ -1,12 +1,13 @@
 // Cells as texts, with what they give.
 ghost use Rattle.std.specs.Prelude.{IsTrue, length, ◌≡◌, ◌<◌};
-ghost use Rattle.kishu_model.specs.Sound.{are_sound_names};
+ghost use Rattle.kishu_meaning.specs.values.Sound.{are_sound_names};
 
 mod cells;
 
 use kishu_heap::Heap;
 use kishu_interp::run_cell;
-use kishu_model::{CellResult, Outcome, Output, Profile, Steps};
+use kishu_language::Profile;
+use kishu_meaning::{CellResult, Outcome, Output, Steps};
 use kishu_names::Names;
 use std::alloc::{AllocError, Global};
 use std::marker::Brand;

@@ -8,11 +8,11 @@ use Rattle.std.proofs.lemmas.Map.Keys.{IsDistinct-head, IsDistinct-tail}
 use Rattle.std.proofs.lemmas.Option.{slice_get_within, get_or_from_slice_get}
 use Rattle.std.proofs.Math.Seq.{take-suc}
 use Rattle.indexmap.specs.IndexMap.{insert_entry}
-use Rattle.kishu_model.specs.declared.key.Key as rust_key
-use Rattle.kishu_model.specs.declared.value.Value as rust_value
-use Rattle.kishu_model.specs.Keys.{Key, key_of, is_one, same_key}
-use Rattle.kishu_model.specs.KeyLaws.{is_one_equiv}
-use Rattle.kishu_model.specs.Values.{Value, value_of}
+use Rattle.kishu_meaning.specs.declared.key.Key as rust_key
+use Rattle.kishu_meaning.specs.declared.value.Value as rust_value
+use Rattle.kishu_meaning.specs.values.Keys.{Key, key_of, is_one, same_key}
+use Rattle.kishu_meaning.specs.values.KeyLaws.{is_one_equiv}
+use Rattle.kishu_meaning.specs.values.Values.{Value, value_of}
 use Rattle.kishu_heap.specs.Cells.{entries_of}
 
 abbrev Entry : Type 0

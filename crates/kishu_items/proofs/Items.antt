@@ -1,11 +1,11 @@
 -- Items that lead to no nodes.
 use Rattle.std.proofs.Common.{refl, ℕ, IsTrue, List, [], ◌∷◌, map}
 use Rattle.std.specs.Prelude.{ℤ}
-use Rattle.kishu_model.specs.Equal.{range_length}
-use Rattle.kishu_model.specs.Sequences.{text_items, range_items}
-use Rattle.kishu_model.specs.Sound.{is_sound, are_sound}
-use Rattle.kishu_model.specs.Texts.{places}
-use Rattle.kishu_model.specs.Values.{text, integer}
+use Rattle.kishu_meaning.specs.comparing.Equal.{range_length}
+use Rattle.kishu_meaning.specs.items.Sequences.{text_items, range_items}
+use Rattle.kishu_meaning.specs.values.Sound.{is_sound, are_sound}
+use Rattle.kishu_meaning.specs.values.Texts.{places}
+use Rattle.kishu_meaning.specs.values.Values.{text, integer}
 use Rattle.kishu_items.specs.Holding.{both}
 
 pub texts_sound : (n : ℕ) (cs : List ℕ) → IsTrue (are_sound n (text_items cs))

@@ -1,8 +1,8 @@
 -- The values that parts of a key are lead to no nodes.
 use Rattle.std.proofs.Common.{refl, ℕ, IsTrue, List, [], ◌∷◌, map}
-use Rattle.kishu_model.specs.Keys.{KeyPart, none, bool, integer, text}
-use Rattle.kishu_model.specs.KeyOf.{value_of_part}
-use Rattle.kishu_model.specs.Sound.{is_sound, are_sound}
+use Rattle.kishu_meaning.specs.values.Keys.{KeyPart, none, bool, integer, text}
+use Rattle.kishu_meaning.specs.items.KeyOf.{value_of_part}
+use Rattle.kishu_meaning.specs.values.Sound.{is_sound, are_sound}
 use Rattle.kishu_items.specs.Holding.{both}
 
 part_sound : (n : ℕ) (p : KeyPart) → IsTrue (is_sound n (value_of_part p))

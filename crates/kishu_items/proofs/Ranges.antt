@@ -5,10 +5,10 @@ use Rattle.std.specs.Int.{w128}
 use Rattle.std.proofs.lemmas.Int.{ints}
 use Rattle.std.proofs.lemmas.List.{map-append}
 use Rattle.std.proofs.Math.Nat.{mul-le-mul_left, add-div_right}
-use Rattle.kishu_model.specs.declared.value.Value as rust
-use Rattle.kishu_model.specs.Equal.{steps_between, range_length}
-use Rattle.kishu_model.specs.Texts.{places}
-use Rattle.kishu_model.specs.Values.{Value, value_of, integer}
+use Rattle.kishu_meaning.specs.declared.value.Value as rust
+use Rattle.kishu_meaning.specs.comparing.Equal.{steps_between, range_length}
+use Rattle.kishu_meaning.specs.values.Texts.{places}
+use Rattle.kishu_meaning.specs.values.Values.{Value, value_of, integer}
 
 -- As many whole steps as there are don't pass the way.
 within_way : (k d n : ℕ) → k < (d - 1) / suc n + 1 → 0 < d → k * suc n < d

@@ -1,6 +1,6 @@
 -- What fails in front of something.
 use Rattle.std.proofs.Common.{refl}
-use Rattle.kishu_model.specs.Moment.{M, Moment, Ends, and_then}
+use Rattle.kishu_meaning.specs.moments.Moment.{M, Moment, Ends, and_then}
 use Rattle.kishu_heap.specs.declared.fault.CallFault.{CallFault}
 use Rattle.kishu_heap.specs.declared.fault.CallFault.TheVariants as faults
 use Rattle.kishu_items.specs.Called.{Fails}

@@ -2,10 +2,10 @@
 use Rattle.std.proofs.Common.{◌≡◌, ◌∙◌, ap, sym, refl, arith, ℕ, zero, suc, ◌+◌, ◌<◌, ◌≤◌, true, IsTrue, List, [], ◌∷◌, ◌++◌, length, map, drop, get_or, drop-cons, add-one, append_assoc, length-append, rules}
 use Rattle.std.specs.Prelude.{nat_lt}
 use Rattle.std.proofs.lemmas.Bool.Decides.{nat_tests}
-use Rattle.kishu_model.specs.declared.value.Value as rust
-use Rattle.kishu_model.specs.Values.{value_of, Value, none, bool, integer, text, range, builtin, class, node, Node}
-use Rattle.kishu_model.specs.Moment.{M, Moment, Ends, fine, raised, stopped, and_then, ◌>>=◌, give}
-use Rattle.kishu_model.specs.Sound.{is_sound, are_sound}
+use Rattle.kishu_meaning.specs.declared.value.Value as rust
+use Rattle.kishu_meaning.specs.values.Values.{value_of, Value, none, bool, integer, text, range, builtin, class, node, Node}
+use Rattle.kishu_meaning.specs.moments.Moment.{M, Moment, Ends, fine, raised, stopped, and_then, ◌>>=◌, give}
+use Rattle.kishu_meaning.specs.values.Sound.{is_sound, are_sound}
 use Rattle.kishu_items.specs.Contents.{IsGrown}
 use Rattle.kishu_heap.specs.declared.fault.CallFault.{CallFault}
 use Rattle.kishu_items.specs.Called.{Fails}

@@ -10,10 +10,10 @@ use Rattle.std.specs.Cmp.{IsTotalOrder}
 use Rattle.std.specs.Cmp.Lexicographic.{slice_cmp}
 use Rattle.std.specs.Ordering.{is_lt, int_cmp, nat_cmp}
 use Rattle.std.specs.declared.cmp.Ordering.{Ordering}
-use Rattle.kishu_model.specs.declared.value.Value as rust
-use Rattle.kishu_model.specs.Values.{Value, value_of}
-use Rattle.kishu_model.specs.Sorting.{placed, sorted, sorted_by, is_number, is_text, number_key, text_key, in_order}
-use Rattle.kishu_model.specs.SortingLaws.{keys_in_order, sorted_by_only}
+use Rattle.kishu_meaning.specs.declared.value.Value as rust
+use Rattle.kishu_meaning.specs.values.Values.{Value, value_of}
+use Rattle.kishu_meaning.specs.items.Sorting.{placed, sorted, sorted_by, is_number, is_text, number_key, text_key, in_order}
+use Rattle.kishu_meaning_laws.specs.SortingLaws.{keys_in_order, sorted_by_only}
 use Rattle.kishu_items.specs.Holding.{both, first, second}
 
 module _ {A B : Type 0} (f : A → B) (lt : B → B → Bool) where

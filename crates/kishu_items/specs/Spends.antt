@@ -2,9 +2,9 @@
 use Rattle.std.proofs.Common.{◌≡◌, refl, arith, ℕ, ◌-◌, ◌+◌, ◌<◌, true, false, List}
 use Rattle.std.specs.Prelude.{nat_le}
 use Rattle.std.proofs.lemmas.Bool.Decides.{nat_tests}
-use Rattle.kishu_model.specs.Values.{Node}
-use Rattle.kishu_model.specs.Moment.{fine, stopped, spend}
-use Rattle.kishu_model.specs.Bare.{bare}
+use Rattle.kishu_meaning.specs.values.Values.{Node}
+use Rattle.kishu_meaning.specs.moments.Moment.{fine, stopped, spend}
+use Rattle.kishu_meaning_laws.specs.Bare.{bare}
 
 pub enough : (ns : List Node) (k n d m e : ℕ) → m + k ≡ n → e ≡ d → spend k (bare ns n d) ≡ fine tt (bare ns m e)
 enough ns k n d m e p q =

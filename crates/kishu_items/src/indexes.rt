@@ -1,16 +1,16 @@
 // Places that whole numbers say.
 ghost use Rattle.std.specs.Prelude.{◌≡◌, ◌+◌, ◌<◌, ◌≤◌, IsTrue, OnOk, IfOk, length};
-ghost use Rattle.kishu_model.specs.Equal.{number_in};
-ghost use Rattle.kishu_model.specs.Indexes.{index_of, place_in, place_of, bound_in};
-ghost use Rattle.kishu_model.specs.Moment.{Moment};
-ghost use Rattle.kishu_model.specs.Sound.{is_sound};
-ghost use Rattle.kishu_model.specs.Values.{Node, value_of};
-ghost use Rattle.kishu_model.specs.declared.budget.Budget.{Budget};
+ghost use Rattle.kishu_meaning.specs.comparing.Equal.{number_in};
+ghost use Rattle.kishu_meaning.specs.items.Indexes.{index_of, place_in, place_of, bound_in};
+ghost use Rattle.kishu_meaning.specs.moments.Moment.{Moment};
+ghost use Rattle.kishu_meaning.specs.values.Sound.{is_sound};
+ghost use Rattle.kishu_meaning.specs.values.Values.{Node, value_of};
+ghost use Rattle.kishu_meaning.specs.declared.budget.Budget.{Budget};
 ghost use Rattle.kishu_items.specs.Called.{moment_of, Gives};
 
 use crate::faults::{INDEX_ERROR, TYPE_ERROR, bad_index_text, plain_text, raise};
 use kishu_heap::{CallFault, Heap};
-use kishu_model::{Budget, Steps, Value};
+use kishu_meaning::{Budget, Steps, Value};
 use std::alloc::Global;
 use std::sync::ledger::Ledger;
 

@@ -1,15 +1,15 @@
 // A value as a key of a dict, and a key as a value.
 ghost use Rattle.std.specs.Prelude.{◌≡◌, ℕ, ◌+◌, ◌*◌, ◌<◌, ◌≤◌, ◌^◌, ◌++◌, List, IsTrue, IfOk, OnOk, Some, map, option_map, length};
-ghost use Rattle.kishu_model.specs.declared.budget.Budget.{Budget};
-ghost use Rattle.kishu_model.specs.Keys as keys;
-ghost use Rattle.kishu_model.specs.Keys.{key_of, part_of};
-ghost use Rattle.kishu_model.specs.KeyOf.{part_in, parts_of, tuple_key, key_of_value, value_of_part, value_of_key, values_of_keys};
-ghost use Rattle.kishu_model.specs.Kinds.{unhashable};
-ghost use Rattle.kishu_model.specs.Moment.{Moment, or_else};
-ghost use Rattle.kishu_model.specs.Nodes.{tuple_in};
-ghost use Rattle.kishu_model.specs.Sound.{is_sound, are_sound};
-ghost use Rattle.kishu_model.specs.Values as model;
-ghost use Rattle.kishu_model.specs.Values.{value_of, node};
+ghost use Rattle.kishu_meaning.specs.declared.budget.Budget.{Budget};
+ghost use Rattle.kishu_meaning.specs.values.Keys as keys;
+ghost use Rattle.kishu_meaning.specs.values.Keys.{key_of, part_of};
+ghost use Rattle.kishu_meaning.specs.items.KeyOf.{part_in, parts_of, tuple_key, key_of_value, value_of_part, value_of_key, values_of_keys};
+ghost use Rattle.kishu_meaning.specs.values.Kinds.{unhashable};
+ghost use Rattle.kishu_meaning.specs.moments.Moment.{Moment, or_else};
+ghost use Rattle.kishu_meaning.specs.values.Nodes.{tuple_in};
+ghost use Rattle.kishu_meaning.specs.values.Sound.{is_sound, are_sound};
+ghost use Rattle.kishu_meaning.specs.values.Values as model;
+ghost use Rattle.kishu_meaning.specs.values.Values.{value_of, node};
 ghost use Rattle.kishu_heap.specs.Cells.{entries_of};
 ghost use Rattle.kishu_items.specs.Called.{moment_of, Gives};
 ghost use Rattle.kishu_items.specs.Contents.{IsGrown};
@@ -18,7 +18,7 @@ use crate::faults::{TYPE_ERROR, raise, unhashable_text};
 use crate::spending::spend;
 use indexmap::IndexMap;
 use kishu_heap::{CallFault, Heap, Node};
-use kishu_model::{Budget, Key, KeyPart, NodeId, Steps, Value};
+use kishu_meaning::{Budget, Key, KeyPart, NodeId, Steps, Value};
 use std::alloc::{AllocError, Global};
 use std::sync::ledger::Ledger;
 

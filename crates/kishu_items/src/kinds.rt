@@ -1,13 +1,13 @@
 // What messages call the kinds of values.
 ghost use Rattle.std.specs.Prelude.{◌≡◌, ◌+◌, ◌≤◌, IsTrue, length};
 ghost use Rattle.std.specs.Str.{chars};
-ghost use Rattle.kishu_model.specs.Kinds.{node_kind, kind_in};
-ghost use Rattle.kishu_model.specs.Sound.{is_sound};
-ghost use Rattle.kishu_model.specs.Values.{value_of};
+ghost use Rattle.kishu_meaning.specs.values.Kinds.{node_kind, kind_in};
+ghost use Rattle.kishu_meaning.specs.values.Sound.{is_sound};
+ghost use Rattle.kishu_meaning.specs.values.Values.{value_of};
 ghost use Rattle.kishu_heap.specs.Cells.{node_of};
 
 use kishu_heap::{Heap, Node};
-use kishu_model::{Steps, Value, class_name};
+use kishu_meaning::{Steps, Value, class_name};
 use std::sync::ledger::Ledger;
 
 fn node_kind(node: &Node) -> &'static str

@@ -5,11 +5,11 @@ ghost use Rattle.std.specs.Cmp.Lexicographic.{slice_cmp};
 ghost use Rattle.std.specs.List.{list_all};
 ghost use Rattle.std.specs.Ordering.{int_cmp, nat_cmp};
 ghost use Rattle.std.specs.Str.{chars};
-ghost use Rattle.kishu_model.specs.Sorting.{is_number, is_text, number_key, text_key, sorted_by, sort_steps, in_order};
-ghost use Rattle.kishu_model.specs.Values.{value_of};
+ghost use Rattle.kishu_meaning.specs.items.Sorting.{is_number, is_text, number_key, text_key, sorted_by, sort_steps, in_order};
+ghost use Rattle.kishu_meaning.specs.values.Values.{value_of};
 
 use crate::indexes::number_in;
-use kishu_model::Value;
+use kishu_meaning::Value;
 use kishu_text::order;
 use std::alloc::AllocError;
 use std::cmp::Ordering;

@@ -1,11 +1,11 @@
 // Steps of the budget, each counted.
 ghost use Rattle.std.specs.Prelude.{◌≡◌, ◌+◌, ◌≤◌, List, OnOk};
-ghost use Rattle.kishu_model.specs.Values.{Node};
-ghost use Rattle.kishu_model.specs.Moment.{spend};
+ghost use Rattle.kishu_meaning.specs.values.Values.{Node};
+ghost use Rattle.kishu_meaning.specs.moments.Moment.{spend};
 ghost use Rattle.kishu_items.specs.Called.{moment_of, Gives};
 
 use kishu_heap::CallFault;
-use kishu_model::{Budget, Steps};
+use kishu_meaning::{Budget, Steps};
 use std::sync::ledger::Ledger;
 
 /// Takes so many steps. Where there are fewer it takes all, and answers `Spent`.

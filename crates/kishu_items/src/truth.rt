@@ -1,17 +1,17 @@
 // The truth of values.
 ghost use Rattle.std.specs.Prelude.{◌≡◌, ◌+◌, ◌≤◌, IsTrue, length, slice_get};
 ghost use Rattle.std.specs.Str.{chars};
-ghost use Rattle.kishu_model.specs.declared.budget.Budget.{Budget};
-ghost use Rattle.kishu_model.specs.Moment.{Moment, fine};
-ghost use Rattle.kishu_model.specs.Operators.{truth, is_full, is_full_at};
-ghost use Rattle.kishu_model.specs.Sound.{is_sound};
-ghost use Rattle.kishu_model.specs.Values as model;
-ghost use Rattle.kishu_model.specs.Values.{value_of};
+ghost use Rattle.kishu_meaning.specs.declared.budget.Budget.{Budget};
+ghost use Rattle.kishu_meaning.specs.moments.Moment.{Moment, fine};
+ghost use Rattle.kishu_meaning.specs.calls.Operators.{truth, is_full, is_full_at};
+ghost use Rattle.kishu_meaning.specs.values.Sound.{is_sound};
+ghost use Rattle.kishu_meaning.specs.values.Values as model;
+ghost use Rattle.kishu_meaning.specs.values.Values.{value_of};
 ghost use Rattle.kishu_heap.specs.Cells.{node_of};
 ghost use Rattle.kishu_items.specs.Called.{moment_of};
 
 use kishu_heap::{Heap, Node, range_length};
-use kishu_model::{Steps, Value};
+use kishu_meaning::{Steps, Value};
 use std::sync::ledger::Ledger;
 
 fn is_full(node: &Node) -> bool

@@ -2,8 +2,8 @@
 use Rattle.std.proofs.Common.{◌≡◌, ◌≤◌, ℕ, ◌+◌, List, [], ◌∷◌, ◌++◌, length, drop, sym, ◌∙◌, ap, arith, length-append}
 use Rattle.std.proofs.lemmas.List.{drop_all, append-nil}
 use Rattle.kishu_host.specs.Host.{overwrite}
-use Rattle.kishu_model.specs.Holds.{header, fresh_length, front, Ends}
-use Rattle.kishu_model.specs.Laws.{length-header}
+use Rattle.kishu_store.specs.Holds.{header, fresh_length, front, Ends}
+use Rattle.kishu_store_laws.specs.Laws.{length-header}
 
 pub anew : (bytes file : List ℕ) → bytes ≡ header ++ (0 ∷ []) → length file ≤ fresh_length → overwrite 0 bytes file ≡ front [] ++ (0 ∷ [])
 anew bytes file is short =

@@ -1,9 +1,9 @@
 -- Files with one record more.
 use Rattle.std.proofs.Common.{◌≡◌, ◌≤◌, ◌<◌, ◌+◌, ◌*◌, ◌^◌, ℕ, List, [], ◌∷◌, ◌++◌, length, sym, ◌∙◌, ap, arith, length-append, append_assoc}
-use Rattle.kishu_model.specs.Graph.{Graph, new_graph}
-use Rattle.kishu_model.specs.Record.{Entry, body_of, changed, AreRecords}
-use Rattle.kishu_model.specs.Holds.{header, open_gate, framed, records, front, end_of}
-use Rattle.kishu_model.specs.Laws.{length-header, length-framed, records-most}
+use Rattle.kishu_store.specs.Graph.{Graph, new_graph}
+use Rattle.kishu_store.specs.Record.{Entry, body_of, changed, AreRecords}
+use Rattle.kishu_store.specs.Holds.{header, open_gate, framed, records, front, end_of}
+use Rattle.kishu_store_laws.specs.Laws.{length-header, length-framed, records-most}
 use Rattle.kishu_journal.specs.Stands.{with_entry}
 
 records-with : (es : List Entry) (e : Entry) (x : List ℕ) → records (with_entry es e) ++ x ≡ records es ++ (open_gate ∷ (framed (body_of e) ++ x))

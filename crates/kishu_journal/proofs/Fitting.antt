@@ -4,11 +4,11 @@ use Rattle.std.proofs.lemmas.List.{drop_more, drop_all}
 use Rattle.std.specs.Rc.{rc_str_bytes}
 use Rattle.std.specs.declared.rc.RcStr.{RcStr}
 use Rattle.std.specs.declared.alloc.Global.{Global}
-use Rattle.kishu_model.specs.declared.profile.Profile.{Profile}
-use Rattle.kishu_model.specs.Graph.{Graph}
-use Rattle.kishu_model.specs.Step.{most_records}
-use Rattle.kishu_model.specs.Record.{Entry, commit, body_of, longest_body, IsCell, AreCells, Fits}
-use Rattle.kishu_model.specs.Laws.{IsLinear, parents-unique, cells-unique}
+use Rattle.kishu_language.specs.declared.profile.Profile.{Profile}
+use Rattle.kishu_store.specs.Graph.{Graph}
+use Rattle.kishu_store.specs.Limits.{most_records}
+use Rattle.kishu_store.specs.Record.{Entry, commit, body_of, longest_body, IsCell, AreCells, Fits}
+use Rattle.kishu_store_laws.specs.Laws.{IsLinear, parents-unique, cells-unique}
 
 -- A commit that has the same body as an entry that fits the graph of n records fits as that does.
 pub record FitsToo (p n : ℕ) (cs : List (List ℕ)) : Type 0 where

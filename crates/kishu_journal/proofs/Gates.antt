@@ -3,10 +3,10 @@ use Rattle.std.proofs.Common.{◌≡◌, ◌<◌, ◌≤◌, ℕ, ◌+◌, ◌-�
 use Rattle.std.specs.Int.{w64, to_be_bytes, from_be_bytes}
 use Rattle.std.proofs.lemmas.List.{take_at, drop_more, drop-drop, get_or-take, get_or-drop, length-take-le}
 use Rattle.std.proofs.lemmas.Nat.{from_be_bytes-to_be_bytes_8}
-use Rattle.kishu_model.specs.Graph.{Graph}
-use Rattle.kishu_model.specs.Record.{Entry, body_of, longest_body, Fits}
-use Rattle.kishu_model.specs.Holds.{open_gate, framed, BeginsRecord}
-use Rattle.kishu_model.specs.Laws.{length-framed, framed-unique}
+use Rattle.kishu_store.specs.Graph.{Graph}
+use Rattle.kishu_store.specs.Record.{Entry, body_of, longest_body, Fits}
+use Rattle.kishu_store.specs.Holds.{open_gate, framed, BeginsRecord}
+use Rattle.kishu_store_laws.specs.Laws.{length-framed, framed-unique}
 use Rattle.kishu_journal.specs.Found.{BeginsBody}
 
 module _ (file : List ℕ) (at : ℕ) where

@@ -2,9 +2,9 @@
 use Rattle.std.proofs.Common.{◌≡◌, [], ◌∷◌, codes, refl, arith}
 use Rattle.std.specs.Char.{encode_utf8}
 use Rattle.std.specs.Str.{chars, is_utf8}
-use Rattle.kishu_model.specs.declared.profile.Profile.TheVariants.{One}
-use Rattle.kishu_model.specs.Graph.{new_graph}
-use Rattle.kishu_model.specs.Record.{Entry, commit, head_of, body_of, IsCell, Fits}
+use Rattle.kishu_language.specs.declared.profile.Profile.TheVariants.{One}
+use Rattle.kishu_store.specs.Graph.{new_graph}
+use Rattle.kishu_store.specs.Record.{Entry, commit, head_of, body_of, IsCell, Fits}
 
 abbrev pub one_sum : Entry
 one_sum = commit 0 One (codes "print(1 + 2)" ∷ [])

@@ -3,10 +3,10 @@ use Rattle.std.proofs.Common.{◌≡◌, ◌≢◌, ◌⊎◌, inl, inr, ⊎_eli
 use Rattle.std.proofs.lemmas.Bool.{cases_eq}
 use Rattle.kishu_host.specs.Host.{State, Now, Torn, Follows, Only, Elapses, overwrite}
 use Rattle.kishu_host.specs.Going.{weaker, goes_on}
-use Rattle.kishu_model.specs.Graph.{new_graph}
-use Rattle.kishu_model.specs.Record.{Entry, body_of, changed}
-use Rattle.kishu_model.specs.Holds.{open_gate, framed, front, end_of, Ends, Holds, graph_of}
-use Rattle.kishu_model.specs.Laws.{changed-push, records-push, ends-holds}
+use Rattle.kishu_store.specs.Graph.{new_graph}
+use Rattle.kishu_store.specs.Record.{Entry, body_of, changed}
+use Rattle.kishu_store.specs.Holds.{open_gate, framed, front, end_of, Ends, Holds, graph_of}
+use Rattle.kishu_store_laws.specs.Laws.{changed-push, records-push, ends-holds}
 use Rattle.kishu_journal.specs.Stands.{IsWhole, with_entry}
 use Rattle.kishu_journal.specs.Going.{WithOrWithout}
 use Rattle.kishu_journal.proofs.Writes.{torn-rest, torn-gate, written-rest, written-gate}

@@ -3,9 +3,9 @@ use Rattle.std.proofs.Common.{◌≡◌, ◌≢◌, ◌<◌, ◌≤◌, ℕ, ◌
 use Rattle.std.proofs.lemmas.List.{drop_at, append-nil, map_push}
 use Rattle.kishu_record.specs.declared.entry.Entry as program
 use Rattle.kishu_record.specs.Entries.{entry_of}
-use Rattle.kishu_model.specs.Graph.{new_graph}
-use Rattle.kishu_model.specs.Record.{Entry, body_of, AreRecords}
-use Rattle.kishu_model.specs.Holds.{header, fresh_length, open_gate, front, end_of, Ends, graph_of, BeginsRecord, IsBroken}
+use Rattle.kishu_store.specs.Graph.{new_graph}
+use Rattle.kishu_store.specs.Record.{Entry, body_of, AreRecords}
+use Rattle.kishu_store.specs.Holds.{header, fresh_length, open_gate, front, end_of, Ends, graph_of, BeginsRecord, IsBroken}
 use Rattle.kishu_journal.specs.Found.{entries_of, before_body, ArePlaced, AreBelow, BeginsBody}
 use Rattle.kishu_journal.specs.Stands.{with_entry}
 use Rattle.kishu_journal.proofs.Behind.{front-with, end-with}

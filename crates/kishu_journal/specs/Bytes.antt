@@ -1,7 +1,7 @@
 -- The bytes that calls of a journal leave in the file.
 use Rattle.std.specs.Prelude.{ℕ, List, [], ◌∷◌, ◌++◌}
 use Rattle.kishu_host.specs.Host.{overwrite}
-use Rattle.kishu_model.specs.Holds.{front, framed, open_gate}
+use Rattle.kishu_store.specs.Holds.{front, framed, open_gate}
 
 -- a store without records
 abbrev pub fresh : List ℕ

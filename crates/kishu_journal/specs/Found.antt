@@ -2,8 +2,8 @@
 use Rattle.std.specs.Prelude.{◌≡◌, ◌<◌, ◌≤◌, ℕ, ◌+◌, List, [], ◌∷◌, ◌++◌, length, map}
 use Rattle.kishu_record.specs.declared.entry.Entry as program
 use Rattle.kishu_record.specs.Entries.{entry_of}
-use Rattle.kishu_model.specs.Record.{Entry, longest_body}
-use Rattle.kishu_model.specs.Holds.{open_gate, framed, end_of}
+use Rattle.kishu_store.specs.Record.{Entry, longest_body}
+use Rattle.kishu_store.specs.Holds.{open_gate, framed, end_of}
 use Rattle.kishu_journal.specs.Stands.{with_entry}
 
 -- the records of a list of places and records

@@ -1,8 +1,8 @@
 -- What the calls of a journal leave of a host.
 use Rattle.std.specs.Prelude.{◌≡◌, ◌≤◌, ◌⊎◌, ℕ, ◌+◌, List, length, Option, Some, IfSome}
 use Rattle.kishu_host.specs.Host.{State, Now, Keeps, Elapses}
-use Rattle.kishu_model.specs.Record.{Entry, changed}
-use Rattle.kishu_model.specs.Holds.{Holds, graph_of, fresh_length}
+use Rattle.kishu_store.specs.Record.{Entry, changed}
+use Rattle.kishu_store.specs.Holds.{Holds, graph_of, fresh_length}
 
 -- a stop leaves the output as it was, and the graph of these records, or that graph changed by the new one
 abbrev pub WithOrWithout : State → List Entry → Entry → List ℕ → List ℕ → Type 0

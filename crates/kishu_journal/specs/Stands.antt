@@ -1,7 +1,7 @@
 -- A journal that stands at the end of a file, and a body that may be appended there.
 use Rattle.std.specs.Prelude.{◌≡◌, ◌≤◌, ℕ, length, Bool, List, ◌++◌, ◌∷◌, []}
-use Rattle.kishu_model.specs.Record.{Entry, body_of, longest_body, Fits}
-use Rattle.kishu_model.specs.Holds.{Ends, framed, end_of, graph_of}
+use Rattle.kishu_store.specs.Record.{Entry, body_of, longest_body, Fits}
+use Rattle.kishu_store.specs.Holds.{Ends, framed, end_of, graph_of}
 
 -- what a journal keeps: the place of the closed gate behind the records, and whether an append failed
 pub record JournalState : Type 0 where

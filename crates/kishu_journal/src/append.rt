@@ -1,7 +1,7 @@
 ghost use Rattle.std.specs.Prelude.{◌≡◌, ◌≤◌, ◌<◌, ◌⊎◌, ◌+◌, ◌^◌, ◌++◌, ◌∷◌, [], ℕ, List, length, true, false, IfOk, OnOk, IfErr, IsErrOf, IsTrue, ◌↔◌};
 ghost use Rattle.kishu_host.specs.Host.{Told, Only, Elapses, ReadsMore, Rises, HasCause, overwrite};
-ghost use Rattle.kishu_model.specs.Record.{Entry as Record, longest_body};
-ghost use Rattle.kishu_model.specs.Holds.{Ends, framed, end_of, open_gate};
+ghost use Rattle.kishu_store.specs.Record.{Entry as Record, longest_body};
+ghost use Rattle.kishu_store.specs.Holds.{Ends, framed, end_of, open_gate};
 ghost use Rattle.kishu_journal.specs.Going.{WithOrWithout};
 ghost use Rattle.kishu_journal.specs.Stands.{Stands, IsNext, IsWhole, with_entry};
 ghost use Rattle.kishu_journal.specs.Found.{before_body};
@@ -20,7 +20,7 @@ const CLOSED: u8 = 0;
 const FAR: u64 = 1 << 62;
 
 /// A body behind its length, and a closed gate.
-#[tactic(auto, unfolding(kishu_model::specs::Holds::framed))]
+#[tactic(auto, unfolding(kishu_store::specs::Holds::framed))]
 fn record_bytes(alloc: Global, body: &[u8]) -> Result<Vec<u8>, AllocError>
     ensures { IfOk result (λ v. v.items ≡ framed body.now ++ 0 ∷ []) }
 {

@@ -1,12 +1,12 @@
 ghost use Rattle.std.specs.Prelude.{◌≡◌, ◌≤◌, ◌<◌, ◌^◌, ℕ, List, length, map, true, false, IfOk, IfSome, Ok, None};
 ghost use Rattle.std.specs.Rc.{rc_str_bytes};
-ghost use Rattle.kishu_model.specs.Graph.{Graph};
-ghost use Rattle.kishu_model.specs.Record.{Entry as Record, commit, body_of, longest_body, IsCell, AreCells, Fits};
-ghost use Rattle.kishu_model.specs.Laws.{IsLinear};
+ghost use Rattle.kishu_store.specs.Graph.{Graph};
+ghost use Rattle.kishu_store.specs.Record.{Entry as Record, commit, body_of, longest_body, IsCell, AreCells, Fits};
+ghost use Rattle.kishu_store_laws.specs.Laws.{IsLinear};
 ghost use Rattle.kishu_record.specs.Entries.{entry_of};
 
 use crate::Entry;
-use kishu_model::Profile;
+use kishu_language::Profile;
 use kishu_record::decode;
 use std::alloc::{AllocError, Global};
 use std::rc::RcStr;

@@ -1,6 +1,6 @@
 ghost use Rattle.std.specs.Prelude.{◌≡◌, ℕ, List};
-ghost use Rattle.kishu_model.specs.Graph.{Graph};
-ghost use Rattle.kishu_model.specs.Holds.{Holds, IsBroken, IsForeign};
+ghost use Rattle.kishu_store.specs.Graph.{Graph};
+ghost use Rattle.kishu_store.specs.Holds.{Holds, IsBroken, IsForeign};
 
 /// Of every store file: it holds at most one graph, none where it is foreign or broken, it isn't
 /// both, and it is broken at one place only. The call does nothing; what it promises is proved of

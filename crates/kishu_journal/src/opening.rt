@@ -1,10 +1,10 @@
 ghost use Rattle.std.specs.Prelude.{◌≡◌, ◌≢◌, ◌≤◌, ◌<◌, ◌⊎◌, ◌+◌, ◌-◌, ◌^◌, ◌++◌, ◌∷◌, [], ℕ, List, length, take, drop, true, false, IfOk, IfSome, OnOk, IfErr, IsErr, IsErrOf, None, Ok};
 ghost use Rattle.kishu_host.specs.Host.{Told, Now, Only, Keeps, Elapses, Rises, HasCause};
-ghost use Rattle.kishu_model.specs.Graph.{Graph, new_graph};
-ghost use Rattle.kishu_model.specs.Record.{Entry as Record, body_of, longest_body, Fits, AreRecords};
-ghost use Rattle.kishu_model.specs.Step.{most_records};
-ghost use Rattle.kishu_model.specs.Holds.{header, fresh_length, open_gate, Ends, Holds, IsGood, end_of, graph_of, BeginsRecord, IsBroken, IsForeign};
-ghost use Rattle.kishu_model.specs.Laws.{IsLinear};
+ghost use Rattle.kishu_store.specs.Graph.{Graph, new_graph};
+ghost use Rattle.kishu_store.specs.Record.{Entry as Record, body_of, longest_body, Fits, AreRecords};
+ghost use Rattle.kishu_store.specs.Limits.{most_records};
+ghost use Rattle.kishu_store.specs.Holds.{header, fresh_length, open_gate, Ends, Holds, IsGood, end_of, graph_of, BeginsRecord, IsBroken, IsForeign};
+ghost use Rattle.kishu_store_laws.specs.Laws.{IsLinear};
 ghost use Rattle.kishu_record.specs.Entries.{entry_of};
 ghost use Rattle.kishu_journal.specs.Going.{IsQuiet, LeavesShort, ReadsAtMost};
 ghost use Rattle.kishu_journal.specs.Found.{BeginsBody, before_body, entries_of, ArePlaced, AreBelow};
@@ -23,7 +23,7 @@ const HEADER: [u8; 16] = *b"KISHU-JOURNAL-1\n";
 const FRESH: [u8; 17] = *b"KISHU-JOURNAL-1\n\0";
 
 /// Begins a short file anew.
-#[tactic(auto, unfolding(kishu_model::specs::Holds::header))]
+#[tactic(auto, unfolding(kishu_store::specs::Holds::header))]
 fn begin<H: Host>(host: &mut H) -> Result<(), Failed>
     requires { Told (H.state host.old) (length (H.state host.old).file ≤ fresh_length) }
     ensures fresh { OnOk result (Told (H.state host.old) ((H.state host.new).file ≡ fresh)) }
@@ -108,7 +108,7 @@ fn read_records<H: Host>(
 }
 
 /// Whether a store begins so.
-#[tactic(auto, unfolding(kishu_model::specs::Holds::header))]
+#[tactic(auto, unfolding(kishu_store::specs::Holds::header))]
 fn is_header(head: &[u8]) -> bool
     ensures yes { result ≡ true → head.now ≡ header }
     ensures no { result ≡ false → head.now ≡ header → ⊥ }

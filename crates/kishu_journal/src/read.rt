@@ -1,8 +1,8 @@
 ghost use Rattle.std.specs.Prelude.{◌≡◌, ◌≢◌, ◌≤◌, ◌<◌, ◌+◌, ◌-◌, ◌∷◌, ℕ, List, length, take, drop, true, false, IfOk, IfSome, OnOk, IsErr, IsErrOf, None, Ok};
 ghost use Rattle.std.specs.Int.{w64, to_be_bytes, from_be_bytes};
 ghost use Rattle.kishu_host.specs.Host.{Told, Only, Rises};
-ghost use Rattle.kishu_model.specs.Record.{longest_body};
-ghost use Rattle.kishu_model.specs.Holds.{open_gate};
+ghost use Rattle.kishu_store.specs.Record.{longest_body};
+ghost use Rattle.kishu_store.specs.Holds.{open_gate};
 ghost use Rattle.kishu_journal.specs.Going.{IsQuiet, ReadsAtMost};
 ghost use Rattle.kishu_journal.specs.Found.{BeginsBody, before_body};
 ghost use Rattle.kishu_journal.specs.declared.journal.JournalFault.TheVariants.{DiskFault, NotAJournal, Damaged};

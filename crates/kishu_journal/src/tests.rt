@@ -1,7 +1,7 @@
 // Worked files, and that each call that takes memory succeeds where there is enough.
 use crate::{Entry, Journal, JournalFault};
 use kishu_host::MemHost;
-use kishu_model::Profile;
+use kishu_language::Profile;
 use std::alloc::{AllocError, Global};
 use std::process::Abort;
 use std::test::Fail;

@@ -1,11 +1,11 @@
 -- What a call answers, by the rules alone.
 use Rattle.std.proofs.Common.{◌≡◌, ℕ, List}
 use Rattle.std.specs.Prelude.{Result, Ok, Err, IfOk, MatchResult}
-use Rattle.kishu_model.specs.declared.token.Token as rust
-use Rattle.kishu_model.specs.Layout.{Token, layout}
-use Rattle.kishu_model.specs.TokenRules.{ByRules, AllWritten}
-use Rattle.kishu_model.specs.TokenLaws.{to_rules, from_rules}
-use Rattle.kishu_model.specs.TokenPlaces.{all_written}
+use Rattle.kishu_language.specs.declared.token.Token as rust
+use Rattle.kishu_language.specs.tokens.Layout.{Token, layout}
+use Rattle.kishu_language.specs.rules.TokenRules.{ByRules, AllWritten}
+use Rattle.kishu_token_laws.specs.TokenLaws.{to_rules, from_rules}
+use Rattle.kishu_token_laws.specs.TokenPlaces.{all_written}
 use Rattle.kishu_lexer.specs.declared.fault.SyntaxFault.{SyntaxFault}
 use Rattle.kishu_lexer.specs.declared.fault.SyntaxFault.TheVariants as fault
 use Rattle.kishu_lexer.specs.Machine.{Answers, tokens_of}

@@ -2,7 +2,7 @@
 use Rattle.std.proofs.Common.{◌≡◌, ℕ, zero, suc, ◌+◌, ◌-◌, ◌<◌, Bool, true, false, cond, List, [], ◌∷◌, ◌++◌, drop, length, Some, None, refl, sym, ap, ◌∙◌, arith, append_assoc}
 use Rattle.std.proofs.lemmas.List.{append-nil}
 use Rattle.std.specs.Str.{encode_utf8_all}
-use Rattle.kishu_model.specs.Quoted.{Read, onto, after_item, body_from, body, item, closes, quotes}
+use Rattle.kishu_language.specs.tokens.Quoted.{Read, onto, after_item, body_from, body, item, closes, quotes}
 
 skip : (r : Bool) (q : ℕ) (t : Bool) (k : ℕ) (z : List ℕ) → body_from r q t k z ≡ body r q t (drop k z)
 unfolding body

@@ -1,17 +1,17 @@
 -- What reading from the front takes, the rules of lines allow: brackets.
 use Rattle.std.proofs.Common.{◌≡◌, ℕ, zero, suc, ◌+◌, ◌-◌, ◌<◌, ◌≤◌, Bool, true, false, cond, List, [], ◌∷◌, ◌++◌, length, replicate, Some, refl, sym, ap, subst, ◌∙◌, arith}
 use Rattle.std.specs.Prelude.{Result, Ok, Err, IfOk, nat_eq}
-use Rattle.kishu_model.specs.declared.token.Token as rust
+use Rattle.kishu_language.specs.declared.token.Token as rust
 use Rattle.kishu_lexer.specs.declared.fault.SyntaxFault.{SyntaxFault}
 use Rattle.kishu_lexer.specs.Machine.{Answers, tokens_of}
 use Rattle.std.specs.Str.{bytes_eq}
 use Rattle.std.specs.List.{starts_with}
-use Rattle.kishu_model.specs.declared.token.Mark.{Mark}
-use Rattle.kishu_model.specs.Lexemes.{Lexeme, blank, comment, bad_comment, joined, feed, word, number, string, sign, bad}
-use Rattle.kishu_model.specs.Layout as y
-use Rattle.kishu_model.specs.Layout.{◌>>=◌, Outcome, State, Start, fresh, led, inside, Kind, Token, Item, End, newline, indent, dedent, token, mark, top, dedents, dedented, indented, finish, begin, bracket, is_opening, is_closing, closes, step, steps, cut, end_of, layout}
-use Rattle.kishu_model.specs.LineRules as r
-use Rattle.kishu_model.specs.LineRules.{is_quiet, value, begins, token_at, Quiet, Inside, Line, Lead, Back, Indentation, Lines, HasTokens}
+use Rattle.kishu_language.specs.declared.token.Mark.{Mark}
+use Rattle.kishu_language.specs.tokens.Lexemes.{Lexeme, blank, comment, bad_comment, joined, feed, word, number, string, sign, bad}
+use Rattle.kishu_language.specs.tokens.Layout as y
+use Rattle.kishu_language.specs.tokens.Layout.{◌>>=◌, Outcome, State, Start, fresh, led, inside, Kind, Token, Item, End, newline, indent, dedent, token, mark, top, dedents, dedented, indented, finish, begin, bracket, is_opening, is_closing, closes, step, steps, cut, end_of, layout}
+use Rattle.kishu_language.specs.rules.LineRules as r
+use Rattle.kishu_language.specs.rules.LineRules.{is_quiet, value, begins, token_at, Quiet, Inside, Line, Lead, Back, Indentation, Lines, HasTokens}
 use Rattle.kishu_lexer.proofs.Rules.{St, done, listed, last_of, run, after, quiet_step, feed_step, value_step, open_step, close_step, inside_takes, line_takes, first_step, begin_is, indentation_takes, comment_first, led_step, blank_first, joined_first, lines_take}
 
 -- the bracket that closes b, and what stands before it

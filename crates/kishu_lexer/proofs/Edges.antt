@@ -7,12 +7,12 @@ use Rattle.std.specs.Prelude.{◌&&◌, ◌==◌, slice_index, Result, Ok, Err, 
 use Rattle.std.specs.Char.{len_utf8}
 use Rattle.std.specs.Str.{bytes_eq, encode_utf8_all, all_scalars, IsCharBoundary}
 use Rattle.std.specs.List.{starts_with}
-use Rattle.kishu_model.specs.declared.token.Mark.{Mark}
-use Rattle.kishu_model.specs.declared.token.Token as rust
-use Rattle.kishu_model.specs.PlainLines.{plain_lines}
-use Rattle.kishu_model.specs.Lexemes.{Lexeme, blank, comment, bad_comment, joined, feed, word, number, string, sign, bad, lexeme, feeds}
-use Rattle.kishu_model.specs.Layout as y
-use Rattle.kishu_model.specs.Layout.{◌>>=◌, Outcome, State, Start, fresh, led, inside, Kind, Token, token, emit, newline, indent, dedent, mark, top, dedents, dedented, deeper, indented, begin, bracket, step, steps, cut, cut_from, width, end_of, finish, layout, empty}
+use Rattle.kishu_language.specs.declared.token.Mark.{Mark}
+use Rattle.kishu_language.specs.declared.token.Token as rust
+use Rattle.kishu_language.specs.tokens.PlainLines.{plain_lines}
+use Rattle.kishu_language.specs.tokens.Lexemes.{Lexeme, blank, comment, bad_comment, joined, feed, word, number, string, sign, bad, lexeme, feeds}
+use Rattle.kishu_language.specs.tokens.Layout as y
+use Rattle.kishu_language.specs.tokens.Layout.{◌>>=◌, Outcome, State, Start, fresh, led, inside, Kind, Token, token, emit, newline, indent, dedent, mark, top, dedents, dedented, deeper, indented, begin, bracket, step, steps, cut, cut_from, width, end_of, finish, layout, empty}
 use Rattle.kishu_lexer.specs.declared.fault.SyntaxFault.{SyntaxFault}
 use Rattle.kishu_lexer.specs.Edges.{Placed}
 use Rattle.kishu_lexer.specs.Machine.{Answers, tokens_of}

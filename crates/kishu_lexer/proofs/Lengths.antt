@@ -2,12 +2,12 @@
 use Rattle.std.proofs.Common.{◌≡◌, ℕ, ◌<◌, Bool, true, false, cond, List, [], ◌∷◌, take, drop, Option, Some, None, refl, arith}
 use Rattle.std.specs.Prelude.{◌&&◌, slice_index, nat_le, ◌==◌}
 use Rattle.std.specs.List.{prefix_len}
-use Rattle.kishu_model.specs.declared.token.Mark.{Mark}
-use Rattle.kishu_model.specs.Names.{is_letter, is_digit, is_word_char}
-use Rattle.kishu_model.specs.Quoted.{Read, quoted, quotes, onto, body, is_threefold, backslash}
-use Rattle.kishu_model.specs.Marks.{operator, delimiter, taken, with_equals, doubled}
-use Rattle.kishu_model.specs.Lexemes as x
-use Rattle.kishu_model.specs.Lexemes.{Cut, lexeme, token_piece}
+use Rattle.kishu_language.specs.declared.token.Mark.{Mark}
+use Rattle.kishu_language.specs.tokens.Names.{is_letter, is_digit, is_word_char}
+use Rattle.kishu_language.specs.tokens.Quoted.{Read, quoted, quotes, onto, body, is_threefold, backslash}
+use Rattle.kishu_language.specs.tokens.Marks.{operator, delimiter, taken, with_equals, doubled}
+use Rattle.kishu_language.specs.tokens.Lexemes as x
+use Rattle.kishu_language.specs.tokens.Lexemes.{Cut, lexeme, token_piece}
 
 record Takes (p : Cut) : Type 0 where
   is : 0 < p.1

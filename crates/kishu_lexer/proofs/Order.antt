@@ -3,17 +3,17 @@ use Rattle.std.proofs.Common.{◌≡◌, ℕ, zero, suc, ◌+◌, ◌-◌, ◌�
 use Rattle.std.specs.Prelude.{Result, Ok, Err, nat_eq}
 use Rattle.std.specs.Str.{bytes_eq}
 use Rattle.std.specs.List.{starts_with}
-use Rattle.kishu_model.specs.declared.token.Mark.{Mark}
-use Rattle.kishu_model.specs.Lexemes.{Lexeme, blank, comment, bad_comment, joined, feed, word, number, string, sign, bad, lexeme, feeds}
-use Rattle.kishu_model.specs.Layout as y
-use Rattle.kishu_model.specs.Layout.{◌>>=◌, Outcome, State, Start, fresh, led, inside, Kind, Token, Item, token, emit, newline, indent, dedent, mark, top, dedents, dedented, deeper, indented, begin, bracket, step, steps, cut, cut_from, width, end_of, finish, layout, empty}
-use Rattle.kishu_model.specs.Places.{InOrder}
+use Rattle.kishu_language.specs.declared.token.Mark.{Mark}
+use Rattle.kishu_language.specs.tokens.Lexemes.{Lexeme, blank, comment, bad_comment, joined, feed, word, number, string, sign, bad, lexeme, feeds}
+use Rattle.kishu_language.specs.tokens.Layout as y
+use Rattle.kishu_language.specs.tokens.Layout.{◌>>=◌, Outcome, State, Start, fresh, led, inside, Kind, Token, Item, token, emit, newline, indent, dedent, mark, top, dedents, dedented, deeper, indented, begin, bracket, step, steps, cut, cut_from, width, end_of, finish, layout, empty}
+use Rattle.kishu_language.specs.tokens.Places.{InOrder}
 use Rattle.std.specs.Prelude.{IfOk}
 use Rattle.std.specs.Char.{len_utf8, encode_utf8}
 use Rattle.std.specs.Str.{encode_utf8_all}
 use Rattle.std.proofs.Common.{length-append}
 use Rattle.std.proofs.lemmas.Bool.Decides.{nat_tests}
-use Rattle.kishu_model.specs.declared.token.Token as rust
+use Rattle.kishu_language.specs.declared.token.Token as rust
 use Rattle.kishu_lexer.specs.declared.fault.SyntaxFault.{SyntaxFault}
 use Rattle.kishu_lexer.specs.Machine.{Answers, tokens_of}
 use Rattle.std.proofs.lemmas.List.Sums.{sum_by-cons}

@@ -2,19 +2,19 @@
 use Rattle.std.proofs.Common.{◌≡◌, ℕ, Bool, true, false, cond, ◌&&◌, ◌||◌, List, [], ◌∷◌, ◌++◌, length, replicate, Some, None, refl, sym, ap, ◌∙◌, append_assoc, inl, inr, ⊎_elim, ◌⊎◌}
 use Rattle.std.proofs.lemmas.List.{append-nil}
 use Rattle.std.specs.Prelude.{Result, Ok, Err, MatchResult}
-use Rattle.kishu_model.specs.declared.token.Token as rust
+use Rattle.kishu_language.specs.declared.token.Token as rust
 use Rattle.kishu_lexer.specs.declared.fault.SyntaxFault.{SyntaxFault}
 use Rattle.kishu_lexer.specs.declared.fault.SyntaxFault.TheVariants as fault
 use Rattle.kishu_lexer.specs.Machine.{Answers, tokens_of}
 use denote.Enum.Bare.{same_true}
-use Rattle.kishu_model.specs.contracts.token.Mark.{the_type}
-use Rattle.kishu_model.specs.declared.token.Mark.{Mark}
-use Rattle.kishu_model.specs.declared.token.Mark.TheVariants as m
-use Rattle.kishu_model.specs.Lexemes.{Lexeme, blank, comment, bad_comment, joined, feed, word, number, string, sign, bad}
-use Rattle.kishu_model.specs.Layout as y
-use Rattle.kishu_model.specs.Layout.{◌>>=◌, Outcome, State, Start, fresh, led, inside, Kind, Token, Item, token, newline, indent, dedent, mark, top, dedents, dedented, indented, begin, bracket, is_opening, is_closing, closes, step, steps, finish, End, end_of, cut, layout, empty}
-use Rattle.kishu_model.specs.LineRules as r
-use Rattle.kishu_model.specs.LineRules.{is_quiet, value, begins, token_at, Quiet, Inside, Line, Lead, Back, Indentation, Lines, HasTokens}
+use Rattle.kishu_language.specs.contracts.token.Mark.{the_type}
+use Rattle.kishu_language.specs.declared.token.Mark.{Mark}
+use Rattle.kishu_language.specs.declared.token.Mark.TheVariants as m
+use Rattle.kishu_language.specs.tokens.Lexemes.{Lexeme, blank, comment, bad_comment, joined, feed, word, number, string, sign, bad}
+use Rattle.kishu_language.specs.tokens.Layout as y
+use Rattle.kishu_language.specs.tokens.Layout.{◌>>=◌, Outcome, State, Start, fresh, led, inside, Kind, Token, Item, token, newline, indent, dedent, mark, top, dedents, dedented, indented, begin, bracket, is_opening, is_closing, closes, step, steps, finish, End, end_of, cut, layout, empty}
+use Rattle.kishu_language.specs.rules.LineRules as r
+use Rattle.kishu_language.specs.rules.LineRules.{is_quiet, value, begins, token_at, Quiet, Inside, Line, Lead, Back, Indentation, Lines, HasTokens}
 
 abbrev pub St : Start → List Token → List (Mark × ℕ) → List (List ℕ) → State
 St b out bs vs = record { out = out; brackets = bs; indents = vs; begun = b }

@@ -3,8 +3,8 @@ use Rattle.std.proofs.Common.{◌≡◌, ℕ, ◌+◌, ◌*◌, ◌≤◌, List,
 use Rattle.std.specs.Char.{len_utf8}
 use Rattle.std.proofs.lemmas.List.Sums.{sum_by-cons, sum_by-take-drop, sum_by-take-le}
 use Rattle.std.proofs.lemmas.Bool.Decides.{nat_tests}
-use Rattle.kishu_model.specs.Lexemes.{feeds}
-use Rattle.kishu_model.specs.Layout.{width}
+use Rattle.kishu_language.specs.tokens.Lexemes.{feeds}
+use Rattle.kishu_language.specs.tokens.Layout.{width}
 
 pub feeds_split : (n : ℕ) (xs : List ℕ) → feeds (take n xs) + feeds (drop n xs) ≡ feeds xs
 feeds_split n xs = sum_by-take-drop _ xs n

@@ -4,7 +4,7 @@ use Rattle.std.proofs.Math.Seq.{drop-cons}
 use Rattle.std.specs.Prelude.{◌==◌, slice_index}
 use Rattle.std.specs.Char.{encode_utf8}
 use Rattle.std.specs.Str.{encode_utf8_all, chars, chars_after, continuation_len, lead_bits}
-use Rattle.kishu_model.specs.PlainLines.{plain_lines}
+use Rattle.kishu_language.specs.tokens.PlainLines.{plain_lines}
 use Rattle.kishu_lexer.specs.Views.{plain_char}
 
 -- a character that was pushed, and the rest

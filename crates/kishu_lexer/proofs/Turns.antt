@@ -1,9 +1,9 @@
 -- A text as its first piece and the rest.
 use Rattle.std.proofs.Common.{◌≡◌, ℕ, zero, suc, ◌+◌, ◌-◌, ◌<◌, List, [], ◌∷◌, take, drop, length, refl, sym, ap, ◌∙◌, arith}
 use Rattle.std.specs.Prelude.{Result, Ok}
-use Rattle.kishu_model.specs.declared.token.Token as rust
-use Rattle.kishu_model.specs.Lexemes.{Lexeme, lexeme, feeds}
-use Rattle.kishu_model.specs.Layout.{◌>>=◌, State, Item, width, cut, cut_from, step, steps, finish, end_of, empty, layout}
+use Rattle.kishu_language.specs.declared.token.Token as rust
+use Rattle.kishu_language.specs.tokens.Lexemes.{Lexeme, lexeme, feeds}
+use Rattle.kishu_language.specs.tokens.Layout.{◌>>=◌, State, Item, width, cut, cut_from, step, steps, finish, end_of, empty, layout}
 use Rattle.kishu_lexer.specs.declared.fault.SyntaxFault.{SyntaxFault}
 use Rattle.kishu_lexer.specs.declared.fault.SyntaxFault.TheVariants as fault
 use Rattle.kishu_lexer.specs.Machine.{Fails, Answers}

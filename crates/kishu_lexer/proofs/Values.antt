@@ -1,7 +1,7 @@
 -- The value of digits.
 use Rattle.std.proofs.Common.{◌≡◌, ℕ, suc, ◌<◌, ◌≤◌, List, [], ◌∷◌, drop, fold, length, get_or, refl, sym, ap, ◌∙◌, arith}
 use Rattle.std.proofs.Math.Seq.{drop-cons}
-use Rattle.kishu_model.specs.Numerals.{with_digit, digits_value}
+use Rattle.kishu_language.specs.tokens.Numerals.{with_digit, digits_value}
 
 step_grows : (base n c : ℕ) → 1 ≤ base → n ≤ with_digit base n c
 step_grows base n c h = grind arith

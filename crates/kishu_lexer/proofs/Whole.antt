@@ -2,13 +2,13 @@
 use Rattle.std.proofs.Common.{◌≡◌, ℕ, ◌+◌, ◌<◌, ◌≤◌, ◌^◌, Bool, true, false, cond, List, take, drop, Option, Some, None, sym, subst, arith}
 use Rattle.std.specs.Prelude.{ℤ, slice_index, nat_le, ◌==◌}
 use Rattle.std.specs.List.{list_all, prefix_len, position}
-use Rattle.kishu_model.specs.declared.token.Mark.{Mark}
-use Rattle.kishu_model.specs.Names.{is_word_char}
-use Rattle.kishu_model.specs.Numerals.{numeral}
-use Rattle.kishu_model.specs.Quoted.{Read, quoted}
-use Rattle.kishu_model.specs.Marks.{operator}
-use Rattle.kishu_model.specs.Lexemes as x
-use Rattle.kishu_model.specs.Lexemes.{Lexeme, Cut, feeds, lexeme, token_piece}
+use Rattle.kishu_language.specs.declared.token.Mark.{Mark}
+use Rattle.kishu_language.specs.tokens.Names.{is_word_char}
+use Rattle.kishu_language.specs.tokens.Numerals.{numeral}
+use Rattle.kishu_language.specs.tokens.Quoted.{Read, quoted}
+use Rattle.kishu_language.specs.tokens.Marks.{operator}
+use Rattle.kishu_language.specs.tokens.Lexemes as x
+use Rattle.kishu_language.specs.tokens.Lexemes.{Lexeme, Cut, feeds, lexeme, token_piece}
 use Rattle.kishu_lexer.specs.Machine.{IsWhole}
 use Rattle.kishu_lexer.proofs.Words.{run_passes}
 use Rattle.kishu_lexer.proofs.Sums.{feeds_taken}

@@ -6,10 +6,10 @@ use Rattle.std.specs.Char.{encode_utf8}
 use Rattle.std.specs.Str.{encode_utf8_all}
 use Rattle.std.proofs.lemmas.Bool.Decides.{nat_tests}
 use Rattle.std.specs.Prelude.{Option}
-use Rattle.kishu_model.specs.declared.token.Mark.{Mark}
-use Rattle.kishu_model.specs.Marks.{reserved_mark}
-use Rattle.kishu_model.specs.Layout.{word_or, word_kind}
-use Rattle.kishu_model.specs.Names.{is_word_char}
+use Rattle.kishu_language.specs.declared.token.Mark.{Mark}
+use Rattle.kishu_language.specs.tokens.Marks.{reserved_mark}
+use Rattle.kishu_language.specs.tokens.Layout.{word_or, word_kind}
+use Rattle.kishu_language.specs.tokens.Names.{is_word_char}
 
 both : (a b : Bool) → (a && b) ≡ true → (a ≡ true) × (b ≡ true)
 both true b h = (refl, h)

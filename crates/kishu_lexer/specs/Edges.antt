@@ -1,7 +1,7 @@
 -- The places of a text's tokens, at the edges of its characters.
 use Rattle.std.specs.Prelude.{ℕ, List, [], ◌∷◌}
 use Rattle.std.specs.Str.{IsCharBoundary}
-use Rattle.kishu_model.specs.declared.token.Token as rust
+use Rattle.kishu_language.specs.declared.token.Token as rust
 
 -- Each token begins and ends at the edge of a character of the text, which is given by its bytes.
 abbrev pub Placed : List ℕ → List rust.Token → Type 0

@@ -1,12 +1,12 @@
 -- What a lexer of the code stands for, and what its calls answer.
 use Rattle.std.specs.Prelude.{◌≡◌, ℕ, List, map, reverse, ◌+◌, ◌<◌, ◌^◌, true, Result, Ok, Err}
-use Rattle.kishu_model.specs.Tokens.{token_of}
-use Rattle.kishu_model.specs.declared.token.Token as rust
+use Rattle.kishu_language.specs.tokens.Tokens.{token_of}
+use Rattle.kishu_language.specs.declared.token.Token as rust
 use Rattle.std.specs.List.{list_all}
-use Rattle.kishu_model.specs.Names.{is_word_char}
-use Rattle.kishu_model.specs.Lexemes as pieces
-use Rattle.kishu_model.specs.Layout as spec
-use Rattle.kishu_model.specs.Layout.{Outcome, State, Token}
+use Rattle.kishu_language.specs.tokens.Names.{is_word_char}
+use Rattle.kishu_language.specs.tokens.Lexemes as pieces
+use Rattle.kishu_language.specs.tokens.Layout as spec
+use Rattle.kishu_language.specs.tokens.Layout.{Outcome, State, Token}
 use Rattle.kishu_lexer.specs.declared.layout.Start.{Start}
 use Rattle.kishu_lexer.specs.declared.layout.Start.TheVariants as code
 use Rattle.kishu_lexer.specs.declared.layout.Lexer.{Lexer}

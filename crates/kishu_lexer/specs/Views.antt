@@ -1,11 +1,11 @@
 -- What the code's values stand for.
 use Rattle.std.specs.Prelude.{ℕ, ◌==◌, Bool, if◌then◌else◌, List, [], ◌∷◌, map, String}
 use Rattle.std.proofs.Common.{Bor}
-use Rattle.kishu_model.specs.declared.token.Mark.{Mark}
-use Rattle.kishu_model.specs.Marks.{Spelled}
+use Rattle.kishu_language.specs.declared.token.Mark.{Mark}
+use Rattle.kishu_language.specs.tokens.Marks.{Spelled}
 use Rattle.std.specs.String.{string_bytes}
-use Rattle.kishu_model.specs.Names.{is_digit, is_letter, is_word_char}
-use Rattle.kishu_model.specs.Lexemes as spec
+use Rattle.kishu_language.specs.tokens.Names.{is_digit, is_letter, is_word_char}
+use Rattle.kishu_language.specs.tokens.Lexemes as spec
 use Rattle.kishu_lexer.specs.declared.quoted.Meant.{Meant}
 use Rattle.kishu_lexer.specs.declared.quoted.Meant.TheVariants as code_meant
 use Rattle.kishu_lexer.specs.declared.pieces.Lexeme.{Lexeme}

@@ -1,12 +1,12 @@
 // The tokens of a text.
 ghost use Rattle.std.specs.Prelude.{◌≡◌, ◌<◌, ◌≤◌, ◌+◌, ◌^◌, length, take, drop, List, IfOk, IfErr, MatchResult};
 ghost use Rattle.std.specs.Str.{chars, encode_utf8_all};
-ghost use Rattle.kishu_model.specs.PlainLines.{plain_lines};
-ghost use Rattle.kishu_model.specs.Places.{InOrder};
-ghost use Rattle.kishu_model.specs.TokenRules.{ByRules, AllWritten};
-ghost use Rattle.kishu_model.specs.Lexemes as pieces;
-ghost use Rattle.kishu_model.specs.Layout as spec;
-ghost use Rattle.kishu_model.specs.Tokens as tokens;
+ghost use Rattle.kishu_language.specs.tokens.PlainLines.{plain_lines};
+ghost use Rattle.kishu_language.specs.tokens.Places.{InOrder};
+ghost use Rattle.kishu_language.specs.rules.TokenRules.{ByRules, AllWritten};
+ghost use Rattle.kishu_language.specs.tokens.Lexemes as pieces;
+ghost use Rattle.kishu_language.specs.tokens.Layout as spec;
+ghost use Rattle.kishu_language.specs.tokens.Tokens as tokens;
 ghost use Rattle.kishu_lexer.specs.Edges.{Placed};
 ghost use Rattle.kishu_lexer.specs.Machine.{state_of, tokens_of, Fails, Answers};
 
@@ -14,7 +14,7 @@ use crate::fault::SyntaxFault;
 use crate::layout::Lexer;
 use crate::lines::{feeds, plain_chars};
 use crate::pieces::piece;
-use kishu_model::{Profile, Token};
+use kishu_language::{Profile, Token};
 use std::alloc::Global;
 
 // How many bytes some characters take.

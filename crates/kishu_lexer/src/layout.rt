@@ -2,9 +2,9 @@
 ghost use Rattle.std.specs.Prelude.{◌≡◌, ◌<◌, ◌+◌, ◌^◌, ◌++◌, true, length, reverse, replicate, OnOk, IfOk};
 ghost use Rattle.std.specs.Str.{bytes_eq};
 ghost use Rattle.std.specs.List.{list_all};
-ghost use Rattle.kishu_model.specs.Names.{is_word_char};
-ghost use Rattle.kishu_model.specs.Layout as spec;
-ghost use Rattle.kishu_model.specs.Tokens.{kind_of};
+ghost use Rattle.kishu_language.specs.tokens.Names.{is_word_char};
+ghost use Rattle.kishu_language.specs.tokens.Layout as spec;
+ghost use Rattle.kishu_language.specs.tokens.Tokens.{kind_of};
 ghost use Rattle.kishu_lexer.specs.Views.{seen};
 ghost use Rattle.kishu_lexer.specs.Machine.{state_of, tokens_of, Gives, Answers, IsWhole};
 
@@ -13,7 +13,7 @@ use crate::fault::SyntaxFault;
 use crate::lines::text_of;
 use crate::marks::reserved_mark;
 use crate::pieces::Lexeme;
-use kishu_model::{Mark, Token, TokenKind};
+use kishu_language::{Mark, Token, TokenKind};
 use std::alloc::{AllocError, Global};
 use std::mem;
 use std::rc::RcStr;
@@ -113,7 +113,7 @@ impl Lexer {
         Ok(())
     }
 
-    #[tactic(auto, unfolding(kishu_model::specs::Layout::bracket))]
+    #[tactic(auto, unfolding(kishu_language::specs::tokens::Layout::bracket))]
     fn bracket(&mut self, mark: Mark, line: u32) -> Result<(), SyntaxFault>
         ensures { Gives (spec.bracket mark line (state_of self.old)) result (state_of self.new) }
     {
@@ -163,7 +163,7 @@ impl Lexer {
         self.emit(TokenKind::Indent, line, start, end)
     }
 
-    #[tactic(auto, unfolding(kishu_model::specs::Layout::indented))]
+    #[tactic(auto, unfolding(kishu_language::specs::tokens::Layout::indented))]
     fn indented(
         &mut self,
         blanks: &[char],
@@ -183,7 +183,7 @@ impl Lexer {
     }
 
     // Before the first token of a line; without leading blanks it is on this line at this place.
-    #[tactic(auto, unfolding(kishu_model::specs::Layout::begin))]
+    #[tactic(auto, unfolding(kishu_language::specs::tokens::Layout::begin))]
     fn begin(&mut self, line: u32, place: u32) -> Result<(), SyntaxFault>
         ensures { Gives (spec.begin line place (state_of self.old)) result (state_of self.new) }
     {
@@ -253,7 +253,7 @@ impl Lexer {
     }
 
     /// Takes a piece that begins on this line and stands at these places.
-    #[tactic(auto, unfolding(kishu_model::specs::Layout::step))]
+    #[tactic(auto, unfolding(kishu_language::specs::tokens::Layout::step))]
     pub(crate) fn step(
         &mut self,
         lexeme: Lexeme<'_>,

@@ -3,9 +3,9 @@ ghost use Rattle.std.specs.Prelude.{◌≡◌, ◌<◌, ◌≤◌, ◌++◌, ◌
 ghost use Rattle.std.specs.Str.{chars, encode_utf8_all};
 ghost use Rattle.std.specs.String.{string_bytes};
 ghost use Rattle.std.specs.List.{count_by, sum_by};
-ghost use Rattle.kishu_model.specs.PlainLines as spec;
-ghost use Rattle.kishu_model.specs.Lexemes as pieces;
-ghost use Rattle.kishu_model.specs.Layout as layout;
+ghost use Rattle.kishu_language.specs.tokens.PlainLines as spec;
+ghost use Rattle.kishu_language.specs.tokens.Lexemes as pieces;
+ghost use Rattle.kishu_language.specs.tokens.Layout as layout;
 ghost use Rattle.kishu_lexer.specs.Views.{plain_char};
 
 use std::alloc::{AllocError, Global};

@@ -1,9 +1,9 @@
 // Reserved words, operators and delimiters.
 ghost use Rattle.std.specs.Prelude.{◌≡◌, ◌≤◌, ◌<◌, IfSome};
 ghost use Rattle.kishu_lexer.specs.Views.{spelled};
-ghost use Rattle.kishu_model.specs.Marks as spec;
+ghost use Rattle.kishu_language.specs.tokens.Marks as spec;
 
-use kishu_model::Mark;
+use kishu_language::Mark;
 
 const RESERVED: [(&str, Mark); 35] = [
     ("False", Mark::False),
@@ -56,7 +56,7 @@ fn mark_among(table: &[(&str, Mark)], word: &[u8]) -> Option<Mark>
 }
 
 /// The mark that a word is, where it is reserved.
-#[tactic(auto, unfolding(kishu_model::specs::Marks::reserved_marks))]
+#[tactic(auto, unfolding(kishu_language::specs::tokens::Marks::reserved_marks))]
 pub(crate) fn reserved_mark(word: &[u8]) -> Option<Mark>
     ensures { result ≡ spec.reserved_mark word.now }
 {
@@ -64,7 +64,7 @@ pub(crate) fn reserved_mark(word: &[u8]) -> Option<Mark>
     mark_among(table.as_slice(), word)
 }
 
-#[tactic(auto, unfolding(kishu_model::specs::Marks::delimiter))]
+#[tactic(auto, unfolding(kishu_language::specs::tokens::Marks::delimiter))]
 fn delimiter(b: char) -> Option<(Mark, usize)>
     ensures value { result ≡ spec.delimiter b }
     ensures one { IfSome result (λ r. r.1 ≡ 1) }
@@ -112,7 +112,7 @@ fn doubled(next: char, longer: Mark, shorter: Mark) -> Option<(Mark, usize)>
 
 /// The longest operator or delimiter with which these three characters begin, and how many of them
 /// it takes.
-#[tactic(auto, unfolding(kishu_model::specs::Marks::operator))]
+#[tactic(auto, unfolding(kishu_language::specs::tokens::Marks::operator))]
 pub(crate) fn operator(b: char, c: char, d: char) -> Option<(Mark, usize)>
     ensures value { result ≡ spec.operator b c d }
     ensures some { IfSome result (λ r. 0 < r.1) }

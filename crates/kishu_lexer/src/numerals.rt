@@ -1,7 +1,7 @@
 // Numbers.
 ghost use Rattle.std.specs.Prelude.{◌≡◌, ◌<◌, ◌≤◌, ◌^◌, drop, IfSome, IfNone};
 ghost use Rattle.std.specs.Char.{digit_value};
-ghost use Rattle.kishu_model.specs.Numerals as spec;
+ghost use Rattle.kishu_language.specs.tokens.Numerals as spec;
 
 use crate::lines::at;
 
@@ -128,7 +128,7 @@ fn without_prefix(word: &[char]) -> &[char]
 }
 
 /// The number that a run of letters, digits and `_` is.
-#[tactic(auto, unfolding(kishu_model::specs::Numerals::numeral))]
+#[tactic(auto, unfolding(kishu_language::specs::tokens::Numerals::numeral))]
 pub(crate) fn numeral(word: &[char]) -> Option<i128>
     ensures { result ≡ spec.numeral word.now }
 {

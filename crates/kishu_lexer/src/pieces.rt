@@ -1,18 +1,18 @@
 // The pieces of a text.
 ghost use Rattle.std.specs.Prelude.{◌≡◌, ◌<◌, ◌≤◌, ◌^◌, ◌==◌, length, drop, slice_index, true, IfOk, IfSome};
 ghost use Rattle.std.specs.List.{prefix_len, position};
-ghost use Rattle.kishu_model.specs.Numerals as numerals;
-ghost use Rattle.kishu_model.specs.Marks as marks;
-ghost use Rattle.kishu_model.specs.Quoted as texts;
+ghost use Rattle.kishu_language.specs.tokens.Numerals as numerals;
+ghost use Rattle.kishu_language.specs.tokens.Marks as marks;
+ghost use Rattle.kishu_language.specs.tokens.Quoted as texts;
 ghost use Rattle.std.specs.String.{string_bytes};
-ghost use Rattle.kishu_model.specs.Lexemes as spec;
+ghost use Rattle.kishu_language.specs.tokens.Lexemes as spec;
 ghost use Rattle.kishu_lexer.specs.Views.{is_in, seen, cut_of};
 
 use crate::lines::{at, feeds};
 use crate::marks::operator;
 use crate::numerals::numeral;
 use crate::quoted::quoted;
-use kishu_model::Mark;
+use kishu_language::Mark;
 use std::alloc::{AllocError, Global};
 
 /// A piece of a text.
@@ -205,7 +205,7 @@ fn blanks(all: &[char]) -> Cut<'_>
 }
 
 // A text, a word, a number or a mark at the front.
-#[tactic(auto, unfolding(kishu_model::specs::Lexemes::token_piece))]
+#[tactic(auto, unfolding(kishu_language::specs::tokens::Lexemes::token_piece))]
 fn token(alloc: Global, all: &[char]) -> Result<Cut<'_>, AllocError>
     requires some { 0 < length all.now }
     requires room { length all.now < 2 ^ 60 }
@@ -228,7 +228,7 @@ fn token(alloc: Global, all: &[char]) -> Result<Cut<'_>, AllocError>
 }
 
 /// The piece at the front of a text, and how many characters it takes.
-#[tactic(auto, unfolding(kishu_model::specs::Lexemes::lexeme))]
+#[tactic(auto, unfolding(kishu_language::specs::tokens::Lexemes::lexeme))]
 pub(crate) fn piece(alloc: Global, all: &[char]) -> Result<Cut<'_>, AllocError>
     requires some { 0 < length all.now }
     requires room { length all.now < 2 ^ 60 }

@@ -4,8 +4,8 @@ ghost use Rattle.std.specs.List.{prefix_len};
 ghost use Rattle.std.specs.Char.{is_digit};
 ghost use Rattle.std.specs.Str.{encode_utf8_all};
 ghost use Rattle.std.specs.String.{string_bytes};
-ghost use Rattle.kishu_model.specs.Quoted as spec;
-ghost use Rattle.kishu_model.specs.Numerals as numerals;
+ghost use Rattle.kishu_language.specs.tokens.Quoted as spec;
+ghost use Rattle.kishu_language.specs.tokens.Numerals as numerals;
 ghost use Rattle.kishu_lexer.specs.Views.{meant, read_of, found_of};
 
 use crate::lines::at;
@@ -128,7 +128,7 @@ fn long_escape(e: char, text: &[char]) -> Read<'_>
     }
 }
 
-#[tactic(auto, unfolding(kishu_model::specs::Quoted::escape))]
+#[tactic(auto, unfolding(kishu_language::specs::tokens::Quoted::escape))]
 fn escape(text: &[char]) -> Read<'_>
     requires { 1 < length text.now }
     ensures value { option_map read_of result ≡ spec.escape text.now }
@@ -142,7 +142,7 @@ fn escape(text: &[char]) -> Read<'_>
     }
 }
 
-#[tactic(auto, unfolding(kishu_model::specs::Quoted::item))]
+#[tactic(auto, unfolding(kishu_language::specs::tokens::Quoted::item))]
 fn item(is_raw: bool, is_triple: bool, text: &[char]) -> Read<'_>
     requires { 0 < length text.now }
     ensures value { option_map read_of result ≡ spec.item is_raw is_triple text.now }
@@ -192,7 +192,7 @@ fn is_threefold(quote: char, text: &[char]) -> bool
     at(text, 0) == quote && at(text, 1) == quote && at(text, 2) == quote
 }
 
-#[tactic(auto, unfolding(kishu_model::specs::Quoted::closes))]
+#[tactic(auto, unfolding(kishu_language::specs::tokens::Quoted::closes))]
 fn closes(quote: char, is_triple: bool, text: &[char]) -> bool
     ensures value { result ≡ spec.closes quote is_triple text.now }
     ensures within { IsTrue result → 0 < quote → spec.quotes is_triple ≤ length text.now }
@@ -244,7 +244,7 @@ fn body(
 }
 
 /// The text whose opening quote comes first, and how many characters it takes.
-#[tactic(auto, unfolding(kishu_model::specs::Quoted::quoted))]
+#[tactic(auto, unfolding(kishu_language::specs::tokens::Quoted::quoted))]
 pub(crate) fn quoted(
     alloc: Global,
     is_raw: bool,

@@ -2,7 +2,7 @@
 use Rattle.std.proofs.Common.{◌≡◌, ℕ, List, [], ◌∷◌, false, refl}
 use Rattle.serde_json.specs.Written.{has_float, items_have_float}
 use Rattle.kishu_model.specs.Answers.{Answer, ran_cell, refused, bad_request, store_full, answer_data, outputs_data}
-use Rattle.kishu_model.specs.Values.{Output, stream, shown, fault}
+use Rattle.kishu_meaning.specs.values.Values.{Output, stream, shown, fault}
 
 outputs_no_float : (count : ℕ) (outputs : List Output) → items_have_float (outputs_data count outputs) ≡ false
 outputs_no_float count [] = refl

@@ -2,9 +2,9 @@
 use Rattle.std.proofs.Common.{◌≡◌, [], ◌∷◌, ◌++◌, codes, refl}
 use Rattle.std.specs.Fmt.{digits}
 use Rattle.serde_json.proofs.OnLiterals.{serde_json_on_literals}
-use Rattle.kishu_model.specs.declared.result.Outcome.TheVariants.{Done, Raised, Stopped}
-use Rattle.kishu_model.specs.Values.{stream, shown, fault}
-use Rattle.kishu_model.specs.Graph.{new_graph}
+use Rattle.kishu_meaning.specs.declared.result.Outcome.TheVariants.{Done, Raised, Stopped}
+use Rattle.kishu_meaning.specs.values.Values.{stream, shown, fault}
+use Rattle.kishu_store.specs.Graph.{new_graph}
 use Rattle.kishu_model.specs.Answers.{answer_line, ran_cell, refused, store_full}
 use Rattle.kishu_model.specs.Step.{unreadable}
 use Rattle.kishu_model.specs.Serve.{answers}

@@ -1,6 +1,6 @@
 -- Which answer a value of the program is.
 use Rattle.kishu_model.specs.Answers.{Refusal, bad_request, store_full, Answer, ran_cell, refused}
-use Rattle.kishu_model.specs.Values.{report_of}
+use Rattle.kishu_meaning.specs.values.Values.{report_of}
 use Rattle.kishu_lines.specs.declared.answer.Refusal as rust_refusal
 use Rattle.kishu_lines.specs.declared.answer.Refusal.TheVariants.{BadRequest, StoreFull}
 use Rattle.kishu_lines.specs.declared.answer.Answer as rust_answer

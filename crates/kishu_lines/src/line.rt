@@ -2,7 +2,7 @@ ghost use Rattle.std.specs.Prelude.{◌≡◌, IfOk};
 ghost use Rattle.serde_json.specs.View.{view};
 ghost use Rattle.kishu_model.specs.Answers as spec;
 ghost use Rattle.kishu_model.specs.Answers.{answer_data, answer_line, ran_cell, refused};
-ghost use Rattle.kishu_model.specs.Values.{report_of};
+ghost use Rattle.kishu_meaning.specs.values.Values.{report_of};
 ghost use Rattle.kishu_lines.specs.Lines.{answer_of, refusal_of};
 
 use crate::answer::{Answer, Refusal};

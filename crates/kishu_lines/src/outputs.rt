@@ -2,7 +2,7 @@ ghost use Rattle.std.specs.Prelude.{◌≡◌, ◌++◌, ℕ, IfOk, string_bytes
 ghost use Rattle.serde_json.specs.Data.{array};
 ghost use Rattle.serde_json.specs.View.{view};
 ghost use Rattle.kishu_model.specs.Answers.{output_data, outputs_data};
-ghost use Rattle.kishu_model.specs.Values.{output_of, report_of, stream, shown, fault};
+ghost use Rattle.kishu_meaning.specs.values.Values.{output_of, report_of, stream, shown, fault};
 
 use kishu_model::{CellResult, Output};
 use serde_json::{Value, json};

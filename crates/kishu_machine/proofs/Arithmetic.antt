@@ -4,13 +4,13 @@ use Rattle.std.specs.Prelude.{ℤ, pos, negsuc, ◌+ℤ◌, ◌-ℤ◌, ◌*ℤ�
 use Rattle.std.specs.Ordering.{int_eq}
 use Rattle.kishu_num.specs.declared.fault.NumFault.TheVariants.{Overflow, ZeroDivisor}
 use Rattle.kishu_num.specs.Results.{in_range, divided_by, raised_to}
-use Rattle.kishu_model.specs.declared.tree.Operator.{Operator}
-use Rattle.kishu_model.specs.declared.tree.Operator.TheVariants as operators
-use Rattle.kishu_model.specs.Numbers.{is_whole, floor_quotient, floor_remainder, power}
-use Rattle.kishu_model.specs.Values.{integer}
-use Rattle.kishu_model.specs.Moment.{Moment, give, raise}
-use Rattle.kishu_model.specs.Operators.{whole, divided, arithmetic}
-use Rattle.kishu_model.specs.Operators as op
+use Rattle.kishu_language.specs.declared.tree.Operator.{Operator}
+use Rattle.kishu_language.specs.declared.tree.Operator.TheVariants as operators
+use Rattle.kishu_meaning.specs.values.Numbers.{is_whole, floor_quotient, floor_remainder, power}
+use Rattle.kishu_meaning.specs.values.Values.{integer}
+use Rattle.kishu_meaning.specs.moments.Moment.{Moment, give, raise}
+use Rattle.kishu_meaning.specs.calls.Operators.{whole, divided, arithmetic}
+use Rattle.kishu_meaning.specs.calls.Operators as op
 use Rattle.kishu_machine.specs.Forms.{answered, answer_of}
 
 in_range_by : (b : Bool) (z : ℤ) (s : Moment) → answered (if b then Ok z else Err Overflow) s ≡ (if b then give (integer z) else raise 10 (codes "whole number too large")) s

@@ -1,9 +1,9 @@
 -- Nodes that are made, and the truth of values in a run.
 use Rattle.std.proofs.Common.{◌≡◌, refl, ap, arith, ◌≤◌, List, [], ◌∷◌, ◌++◌, length, length-append, Result, Ok, Err, OnOk}
 use Rattle.std.specs.Prelude.{OnErr}
-use Rattle.kishu_model.specs.Values.{Value, none, bool, integer, text, range, builtin, class, node, Node}
-use Rattle.kishu_model.specs.Bare.{IsBare}
-use Rattle.kishu_model.specs.Operators.{truth}
+use Rattle.kishu_meaning.specs.values.Values.{Value, none, bool, integer, text, range, builtin, class, node, Node}
+use Rattle.kishu_meaning_laws.specs.Bare.{IsBare}
+use Rattle.kishu_meaning.specs.calls.Operators.{truth}
 
 -- A heap to which a node was added has no fewer.
 pub made_least : {T E : Type 0} (old : List Node) (x : Node) (new : List Node) (r : Result T E) → OnOk r (new ≡ old ++ x ∷ []) → OnErr r (new ≡ old) → length old ≤ length new

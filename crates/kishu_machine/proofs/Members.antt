@@ -2,23 +2,23 @@
 use Rattle.std.proofs.Common.{◌≡◌, ◌∙◌, refl, ap, ℕ, ◌+◌, ◌<◌, Bool, true, false, cond, IsTrue, if◌then◌else◌, List, [], ◌∷◌, length, map, drop, get_or, Option, Some, None, Result, Ok, Err}
 use Rattle.std.specs.Prelude.{ℤ, option_map, is_some}
 use Rattle.std.specs.Map.{lookup}
-use Rattle.kishu_model.specs.declared.tree.Comparison.{Comparison}
-use Rattle.kishu_model.specs.declared.key.Key as rust_key
-use Rattle.kishu_model.specs.declared.value.Value as rust
-use Rattle.kishu_model.specs.CountingLaws.{left_of}
-use Rattle.kishu_model.specs.Keys.{Key, key_of, is_one}
-use Rattle.kishu_model.specs.Nodes.{value_at}
+use Rattle.kishu_language.specs.declared.tree.Comparison.{Comparison}
+use Rattle.kishu_meaning.specs.declared.key.Key as rust_key
+use Rattle.kishu_meaning.specs.declared.value.Value as rust
+use Rattle.kishu_meaning_laws.specs.CountingLaws.{left_of}
+use Rattle.kishu_meaning.specs.values.Keys.{Key, key_of, is_one}
+use Rattle.kishu_meaning.specs.values.Nodes.{value_at}
 use Rattle.kishu_heap.specs.Cells.{entries_of}
 use Rattle.kishu_heap.specs.Compared as compared
 use Rattle.kishu_heap.specs.declared.fault.CompareFault.{CompareFault}
 use Rattle.kishu_heap.specs.declared.fault.CompareFault.TheVariants as compares
-use Rattle.kishu_model.specs.Values.{Value, none, bool, integer, text, range, builtin, class, node, value_of}
-use Rattle.kishu_model.specs.Moment.{Moment, Ends, fine, M, and_then, ◌>>=◌, give, node_now}
-use Rattle.kishu_model.specs.Counting.{Counted, answer, too_deep, spent, ended_in}
-use Rattle.kishu_model.specs.Equal.{number_in, pair_equal, equal_nodes, room_at}
-use Rattle.kishu_model.specs.Kinds.{not_iterable}
-use Rattle.kishu_model.specs.Comparing.{comparison_sign, part_in, equals_item, among, in_range, in_node, member}
-use Rattle.kishu_model.specs.Operators.{bad_operands}
+use Rattle.kishu_meaning.specs.values.Values.{Value, none, bool, integer, text, range, builtin, class, node, value_of}
+use Rattle.kishu_meaning.specs.moments.Moment.{Moment, Ends, fine, M, and_then, ◌>>=◌, give, node_now}
+use Rattle.kishu_meaning.specs.moments.Counting.{Counted, answer, too_deep, spent, ended_in}
+use Rattle.kishu_meaning.specs.comparing.Equal.{number_in, pair_equal, equal_nodes, room_at}
+use Rattle.kishu_meaning.specs.values.Kinds.{not_iterable}
+use Rattle.kishu_meaning.specs.comparing.Comparing.{comparison_sign, part_in, equals_item, among, in_range, in_node, member}
+use Rattle.kishu_meaning.specs.calls.Operators.{bad_operands}
 use Rattle.kishu_items.specs.Called as called
 use Rattle.kishu_items.specs.Gathering.{dropped}
 use Rattle.kishu_heap.specs.declared.fault.CallFault.{CallFault}

@@ -11,8 +11,8 @@ use Rattle.std.specs.declared.alloc.Global.{Global}
 use Rattle.std.specs.declared.string.String.{String}
 use Rattle.std.specs.Str.{chars, IsUtf8, IsAscii}
 use Rattle.std.proofs.lemmas.Str.{chars-append, chars-IsAscii, IsUtf8-from_ascii}
-use Rattle.kishu_model.specs.Names.{class_names}
-use Rattle.kishu_model.specs.Show.{or_empty, class_name}
+use Rattle.kishu_meaning.specs.values.BuiltinNames.{class_names}
+use Rattle.kishu_meaning.specs.comparing.Show.{or_empty, class_name}
 use borrow.Author.Tests.{ltb-true}
 
 is_both : (a b : Bool) → (a && b) ≡ true → (a ≡ true) × (b ≡ true)

@@ -3,12 +3,12 @@ use Rattle.std.proofs.Common.{◌≡◌, refl, sym, ap, cond, subst, ℕ, Bool, 
 use Rattle.std.specs.Prelude.{OnErr, option_map, is_some, codes, not}
 use Rattle.std.proofs.lemmas.Bool.{false≢true}
 use Rattle.std.specs.Str.{bytes_eq, chars}
-use Rattle.kishu_model.specs.Accesses.{unbind, with_access}
-use Rattle.kishu_model.specs.Moment.{Moment, Locals, fine, assign, read, read_global, or_unbound, bind_global, delete, delete_global, delete_local}
-use Rattle.kishu_model.specs.Names.{is_name}
-use Rattle.kishu_model.specs.Sound.{is_sound}
-use Rattle.kishu_model.specs.Values.{Value, Node, Names, find, bind}
-use Rattle.kishu_model.specs.Ways.{forget, forget_global}
+use Rattle.kishu_meaning.specs.moments.Accesses.{unbind, with_access}
+use Rattle.kishu_meaning.specs.moments.Moment.{Moment, Locals, fine, assign, read, read_global, or_unbound, bind_global, delete, delete_global, delete_local}
+use Rattle.kishu_language.specs.tokens.Names.{is_name}
+use Rattle.kishu_meaning.specs.values.Sound.{is_sound}
+use Rattle.kishu_meaning.specs.values.Values.{Value, Node, Names, find, bind}
+use Rattle.kishu_meaning.specs.cells.Ways.{forget, forget_global}
 use Rattle.kishu_machine.specs.declared.fault.Fault.{Fault}
 use Rattle.kishu_machine.specs.Frames.{is_own, own_value, own_bound, own_unbound, is_sound_locals, is_sound_run}
 use Rattle.kishu_machine.specs.Machine.{Gives, IsRaised}

@@ -1,10 +1,10 @@
 -- What `print` does, part by part.
 use Rattle.std.proofs.Common.{◌≡◌, ◌∙◌, ap, sym, ℕ, ◌+◌, ◌*◌, ◌-◌, List, ◌++◌, length}
-use Rattle.kishu_model.specs.Callees.{print}
-use Rattle.kishu_model.specs.Moment.{Moment, Ends, M, fine, and_then, spend, put_out}
-use Rattle.kishu_model.specs.Show.{show_all}
-use Rattle.kishu_model.specs.Texts.{joined}
-use Rattle.kishu_model.specs.Values.{Value, none}
+use Rattle.kishu_meaning.specs.calls.Callees.{print}
+use Rattle.kishu_meaning.specs.moments.Moment.{Moment, Ends, M, fine, and_then, spend, put_out}
+use Rattle.kishu_meaning.specs.comparing.Show.{show_all}
+use Rattle.kishu_meaning.specs.values.Texts.{joined}
+use Rattle.kishu_meaning.specs.values.Values.{Value, none}
 
 module _ (separator ending : List ℕ) where
   abbrev put_all : List (List ℕ) → M Value

@@ -7,9 +7,9 @@ use Rattle.std.proofs.Math.Nat.{mul-le-mul_left}
 use Rattle.std.proofs.lemmas.Bool.Decides.{nat_tests}
 use Rattle.std.proofs.lemmas.Int.{ints}
 use borrow.Author.Tests.{ltb-true}
-use Rattle.kishu_model.specs.Numbers.{floor_over, floor_quotient, floor_remainder}
-use Rattle.kishu_model.specs.Equal.{steps_between}
-use Rattle.kishu_model.specs.Comparing.{is_place_of, is_number_of}
+use Rattle.kishu_meaning.specs.values.Numbers.{floor_over, floor_quotient, floor_remainder}
+use Rattle.kishu_meaning.specs.comparing.Equal.{steps_between}
+use Rattle.kishu_meaning.specs.comparing.Comparing.{is_place_of, is_number_of}
 use Rattle.kishu_machine.specs.Forms.{natural, is_step_on}
 
 -- ---- how many numbers there are, by how far the stop lies from the start

@@ -4,15 +4,15 @@ use Rattle.std.specs.Prelude.{nat_le, OnOk, IfOk, IfNone, if◌then◌else◌, c
 use Rattle.std.specs.Ordering.{int_eq}
 use Rattle.std.specs.List.{flat_map}
 use Rattle.std.proofs.lemmas.Bool.Decides.{nat_tests}
-use Rattle.kishu_model.specs.declared.tree.Operator.{Operator}
-use Rattle.kishu_model.specs.declared.tree.Operator.TheVariants as operators
-use Rattle.kishu_model.specs.declared.value.Value as rust
-use Rattle.kishu_model.specs.Numbers.{is_whole, floor_quotient, floor_remainder, power}
-use Rattle.kishu_model.specs.Values.{Value, none, bool, integer, text, range, builtin, class, node, Node, list, tuple, dict, object, function, exception, value_of}
-use Rattle.kishu_model.specs.Sound.{is_sound, are_sound}
-use Rattle.kishu_model.specs.Moment.{Moment, Thrown, Ends, fine, raised, stopped, M, and_then, give, throw, raise, or_else, spend, node_at}
-use Rattle.kishu_model.specs.Equal.{by_both}
-use Rattle.kishu_model.specs.Operators.{new_list, new_tuple, both, often, times, repeated, list_from, tuple_from, node_times, value_times, bad_operands, bad_operand, whole, raised_to, arithmetic}
+use Rattle.kishu_language.specs.declared.tree.Operator.{Operator}
+use Rattle.kishu_language.specs.declared.tree.Operator.TheVariants as operators
+use Rattle.kishu_meaning.specs.declared.value.Value as rust
+use Rattle.kishu_meaning.specs.values.Numbers.{is_whole, floor_quotient, floor_remainder, power}
+use Rattle.kishu_meaning.specs.values.Values.{Value, none, bool, integer, text, range, builtin, class, node, Node, list, tuple, dict, object, function, exception, value_of}
+use Rattle.kishu_meaning.specs.values.Sound.{is_sound, are_sound}
+use Rattle.kishu_meaning.specs.moments.Moment.{Moment, Thrown, Ends, fine, raised, stopped, M, and_then, give, throw, raise, or_else, spend, node_at}
+use Rattle.kishu_meaning.specs.comparing.Equal.{by_both}
+use Rattle.kishu_meaning.specs.calls.Operators.{new_list, new_tuple, both, often, times, repeated, list_from, tuple_from, node_times, value_times, bad_operands, bad_operand, whole, raised_to, arithmetic}
 use Rattle.kishu_items.specs.Holding as holding
 use Rattle.kishu_machine.specs.declared.fault.Fault.{Fault}
 use Rattle.kishu_machine.specs.declared.fault.Fault.TheVariants as faults

@@ -1,12 +1,12 @@
 -- Texts of values, counted in a run.
 use Rattle.std.proofs.Common.{◌≡◌, ◌∙◌, refl, sym, ap, subst, arith, ℕ, ◌+◌, ◌-◌, ◌<◌, ◌≤◌, Bool, true, false, if◌then◌else◌, List, [], ◌∷◌, ◌++◌, append_assoc}
 use Rattle.std.specs.Prelude.{nat_le, ◌==◌}
-use Rattle.kishu_model.specs.Values.{Value, none, bool, integer, text, range, builtin, class, node, Node}
-use Rattle.kishu_model.specs.Moment as moment
-use Rattle.kishu_model.specs.Moment.{Moment, Ends, fine, raised, stopped, M, tick, raise, most_depth}
-use Rattle.kishu_model.specs.Counting.{Counted, Count, answer, too_deep, spent, and_then, ◌>>=◌, ◌>>◌, give, spend, ended_in, counted}
-use Rattle.kishu_model.specs.Equal.{room_at}
-use Rattle.kishu_model.specs.Show.{repr_by, show_by, argument_text, key_error, repr_nodes, show_nodes, show_in, show_all_in}
+use Rattle.kishu_meaning.specs.values.Values.{Value, none, bool, integer, text, range, builtin, class, node, Node}
+use Rattle.kishu_meaning.specs.moments.Moment as moment
+use Rattle.kishu_meaning.specs.moments.Moment.{Moment, Ends, fine, raised, stopped, M, tick, raise, most_depth}
+use Rattle.kishu_meaning.specs.moments.Counting.{Counted, Count, answer, too_deep, spent, and_then, ◌>>=◌, ◌>>◌, give, spend, ended_in, counted}
+use Rattle.kishu_meaning.specs.comparing.Equal.{room_at}
+use Rattle.kishu_meaning.specs.comparing.Show.{repr_by, show_by, argument_text, key_error, repr_nodes, show_nodes, show_in, show_all_in}
 use Rattle.kishu_machine.specs.declared.fault.Fault.{Fault}
 use Rattle.kishu_machine.specs.Lists.{is_node}
 use Rattle.kishu_machine.specs.Machine.{Fails}

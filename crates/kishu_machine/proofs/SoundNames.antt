@@ -6,13 +6,14 @@ use Rattle.std.specs.Ordering.{nat_cmp, match_ordering}
 use Rattle.std.specs.Cmp.Lexicographic.{slice_cmp}
 use Rattle.std.specs.Str.{bytes_eq}
 use Rattle.std.specs.declared.cmp.Ordering.TheVariants.{Less, Equal, Greater}
-use Rattle.kishu_model.specs.Values.{Value, class, builtin, find, bind, Names, Node}
-use Rattle.kishu_model.specs.Names.{is_name, is_among, place_among, builtin_names, class_names}
-use Rattle.kishu_model.specs.Accesses.{unbind}
-use Rattle.kishu_model.specs.Sound.{is_sound, are_sound_names}
+use Rattle.kishu_meaning.specs.values.Values.{Value, class, builtin, find, bind, Names, Node}
+use Rattle.kishu_language.specs.tokens.Names.{is_name, is_among, place_among}
+use Rattle.kishu_meaning.specs.values.BuiltinNames.{builtin_names, class_names}
+use Rattle.kishu_meaning.specs.moments.Accesses.{unbind}
+use Rattle.kishu_meaning.specs.values.Sound.{is_sound, are_sound_names}
 use Rattle.kishu_items.specs.Holding.{both, first, second}
 use Rattle.kishu_names.specs.Namespace.{Namespace}
-use Rattle.kishu_model.specs.Moment.{Locals}
+use Rattle.kishu_meaning.specs.moments.Moment.{Locals}
 use Rattle.kishu_machine.specs.Frames.{is_sound_run}
 use Rattle.kishu_machine.specs.SoundMore.{names_in_run, run_with_names}
 

@@ -1,6 +1,6 @@
 -- Calls one after the other: what they keep together, and what `?` passes on.
 use Rattle.std.proofs.Common.{◌≡◌, ap, sym, subst, arith, ℕ, ◌+◌, ◌≤◌, Result, Ok, Err}
-use Rattle.kishu_model.specs.Moment.{Moment, Ends, fine, M, and_then, back_at}
+use Rattle.kishu_meaning.specs.moments.Moment.{Moment, Ends, fine, M, and_then, back_at}
 use Rattle.kishu_machine.specs.declared.fault.Fault.{Fault}
 use Rattle.kishu_machine.specs.declared.fault.Fault.TheVariants as faults
 use Rattle.kishu_machine.specs.declared.machine.Machine.{Machine}

@@ -1,7 +1,7 @@
 -- The faults of builtin functions and methods, as faults of a run.
 use Rattle.kishu_heap.specs.declared.fault.CallFault.{CallFault}
 use Rattle.kishu_heap.specs.declared.fault.CallFault.TheVariants as calls
-use Rattle.kishu_model.specs.declared.value.Value.TheVariants as values
+use Rattle.kishu_meaning.specs.declared.value.Value.TheVariants as values
 use Rattle.kishu_machine.specs.declared.fault.Fault.{Fault}
 use Rattle.kishu_machine.specs.declared.fault.Fault.TheVariants as faults
 use Rattle.kishu_machine.specs.declared.fault.Thrown.TheVariants as throws

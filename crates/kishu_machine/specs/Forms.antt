@@ -4,12 +4,12 @@ use Rattle.std.specs.List.{flat_map}
 use Rattle.kishu_num.specs.declared.fault.NumFault.{NumFault}
 use Rattle.kishu_num.specs.declared.fault.NumFault.TheVariants.{Overflow, ZeroDivisor, NegativePower}
 use Rattle.kishu_num.specs.Results.{in_range, divided_by, raised_to}
-use Rattle.kishu_model.specs.declared.tree.Operator.{Operator}
-use Rattle.kishu_model.specs.declared.tree.Operator.TheVariants as operators
-use Rattle.kishu_model.specs.Numbers.{floor_quotient, floor_remainder}
-use Rattle.kishu_model.specs.Values.{Value, integer, text, node, Node, list, tuple}
-use Rattle.kishu_model.specs.Moment.{M, Thrown, fresh, raised, ◌>>=◌, ◌>>◌, give, spend, node_now}
-use Rattle.kishu_model.specs.Operators.{repeated, new_list, new_tuple, often, times, tuple_from}
+use Rattle.kishu_language.specs.declared.tree.Operator.{Operator}
+use Rattle.kishu_language.specs.declared.tree.Operator.TheVariants as operators
+use Rattle.kishu_meaning.specs.values.Numbers.{floor_quotient, floor_remainder}
+use Rattle.kishu_meaning.specs.values.Values.{Value, integer, text, node, Node, list, tuple}
+use Rattle.kishu_meaning.specs.moments.Moment.{M, Thrown, fresh, raised, ◌>>=◌, ◌>>◌, give, spend, node_now}
+use Rattle.kishu_meaning.specs.calls.Operators.{repeated, new_list, new_tuple, often, times, tuple_from}
 
 -- the exception for a number that isn't there
 abbrev pub thrown_for : NumFault → Thrown

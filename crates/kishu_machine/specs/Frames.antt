@@ -3,12 +3,12 @@ use Rattle.std.specs.Prelude.{ℕ, Bool, true, false, ◌&&◌, List, map, lengt
 use Rattle.std.specs.Rc.{rc_str_bytes}
 use Rattle.std.specs.declared.alloc.Global.{Global}
 use Rattle.std.specs.declared.rc.RcStr.{RcStr}
-use Rattle.kishu_model.specs.declared.value.Value as rust
-use Rattle.kishu_model.specs.Names.{is_among}
-use Rattle.kishu_model.specs.Accesses.{unbind}
-use Rattle.kishu_model.specs.Values.{Node, Names, Value, value_of, find, bind}
-use Rattle.kishu_model.specs.Sound.{is_sound, are_sound_names}
-use Rattle.kishu_model.specs.Moment.{Locals}
+use Rattle.kishu_meaning.specs.declared.value.Value as rust
+use Rattle.kishu_language.specs.tokens.Names.{is_among}
+use Rattle.kishu_meaning.specs.moments.Accesses.{unbind}
+use Rattle.kishu_meaning.specs.values.Values.{Node, Names, Value, value_of, find, bind}
+use Rattle.kishu_meaning.specs.values.Sound.{is_sound, are_sound_names}
+use Rattle.kishu_meaning.specs.moments.Moment.{Locals}
 use Rattle.kishu_machine.specs.declared.frame.Frame.{Frame}
 
 abbrev pub names_of : List (RcStr Global × rust.Value) → Names

@@ -1,7 +1,7 @@
 -- What a builtin function or a method gives on a heap and a budget, it gives in a run.
 use Rattle.std.proofs.Common.{◌∙◌, ap, Result, Ok, Err}
-use Rattle.kishu_model.specs.Moment.{Moment, M}
-use Rattle.kishu_model.specs.Bare.{bare, changed_to, over, IsBare}
+use Rattle.kishu_meaning.specs.moments.Moment.{Moment, M}
+use Rattle.kishu_meaning_laws.specs.Bare.{bare, changed_to, over, IsBare}
 use Rattle.kishu_heap.specs.declared.fault.CallFault.{CallFault}
 use Rattle.kishu_heap.specs.declared.fault.CallFault.TheVariants as calls
 use Rattle.kishu_items.specs.Called as called

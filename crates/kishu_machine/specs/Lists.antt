@@ -6,9 +6,9 @@ use Rattle.std.specs.String.{string_bytes}
 use Rattle.std.specs.declared.alloc.Global.{Global}
 use Rattle.std.specs.declared.string.String.{String}
 use Rattle.std.specs.declared.vec.Vec.{Vec}
-use Rattle.kishu_model.specs.declared.value.Value as rust
-use Rattle.kishu_model.specs.Values.{Value, none, bool, integer, text, range, builtin, class, node, value_of}
-use Rattle.kishu_model.specs.Sound.{is_sound, are_sound}
+use Rattle.kishu_meaning.specs.declared.value.Value as rust
+use Rattle.kishu_meaning.specs.values.Values.{Value, none, bool, integer, text, range, builtin, class, node, value_of}
+use Rattle.kishu_meaning.specs.values.Sound.{is_sound, are_sound}
 
 abbrev pub value_pairs : Vec (rust.Value × rust.Value) Global → List (Value × Value)
 value_pairs v = map (λ p. (value_of p.0, value_of p.1)) v.items

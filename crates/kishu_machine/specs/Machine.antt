@@ -4,11 +4,11 @@ use Rattle.std.specs.Str.{chars}
 use Rattle.std.specs.String.{string_bytes}
 use Rattle.std.specs.declared.alloc.Global.{Global}
 use Rattle.std.specs.declared.string.String.{String}
-use Rattle.kishu_model.specs.declared.budget.Budget.{Budget}
-use Rattle.kishu_model.specs.declared.result.Output as rust_output
-use Rattle.kishu_model.specs.Values.{Node, State, Value, text, node, value_of, Output, output_of}
-use Rattle.kishu_model.specs.Sound.{is_sound, are_sound, is_exception_class}
-use Rattle.kishu_model.specs.Moment.{Moment, Thrown, fresh, thrown_object, Ends, fine, raised, stopped}
+use Rattle.kishu_meaning.specs.declared.budget.Budget.{Budget}
+use Rattle.kishu_meaning.specs.declared.result.Output as rust_output
+use Rattle.kishu_meaning.specs.values.Values.{Node, State, Value, text, node, value_of, Output, output_of}
+use Rattle.kishu_meaning.specs.values.Sound.{is_sound, are_sound, is_exception_class}
+use Rattle.kishu_meaning.specs.moments.Moment.{Moment, Thrown, fresh, thrown_object, Ends, fine, raised, stopped}
 use Rattle.kishu_names.specs.Namespace.{Namespace}
 use Rattle.kishu_machine.specs.declared.fault.Fault.{Fault}
 use Rattle.kishu_machine.specs.declared.fault.Fault.TheVariants as faults

@@ -1,16 +1,16 @@
 -- What computations raise is sound among so many nodes.
 use Rattle.std.proofs.Common.{◌≡◌, refl, ap, sym, subst, ℕ, ◌-◌, Bool, true, false, IsTrue, if◌then◌else◌, List, [], ◌∷◌, length, map, Option, Some, None, Result, Ok, Err, IfOk}
 use Rattle.std.specs.Prelude.{nat_le, slice_get}
-use Rattle.kishu_model.specs.Keys as k
-use Rattle.kishu_model.specs.Keys.{KeyPart, Key}
-use Rattle.kishu_model.specs.Values.{Value, text, node, range, Node, list, tuple, dict}
-use Rattle.kishu_model.specs.Sound.{is_sound, is_exception_class}
-use Rattle.kishu_model.specs.Moment.{Moment, Ends, fine, raised, stopped, M, and_then, ◌>>=◌, ◌>>◌, give, or_else, raise, raise_with, spend, look, make, change, Thrown}
-use Rattle.kishu_model.specs.Counting.{Counted, Count, answer, too_deep, spent, counted, ended_in}
-use Rattle.kishu_model.specs.Kinds.{not_iterable, unhashable}
-use Rattle.kishu_model.specs.KeyOf.{part_in, parts_of, tuple_key, key_by, key_of_value, value_of_key, values_of_keys}
-use Rattle.kishu_model.specs.Sequences.{count_of, node_items, items_of, walked}
-use Rattle.kishu_model.specs.Show.{repr_in, repr_of, show_in, show}
+use Rattle.kishu_meaning.specs.values.Keys as k
+use Rattle.kishu_meaning.specs.values.Keys.{KeyPart, Key}
+use Rattle.kishu_meaning.specs.values.Values.{Value, text, node, range, Node, list, tuple, dict}
+use Rattle.kishu_meaning.specs.values.Sound.{is_sound, is_exception_class}
+use Rattle.kishu_meaning.specs.moments.Moment.{Moment, Ends, fine, raised, stopped, M, and_then, ◌>>=◌, ◌>>◌, give, or_else, raise, raise_with, spend, look, make, change, Thrown}
+use Rattle.kishu_meaning.specs.moments.Counting.{Counted, Count, answer, too_deep, spent, counted, ended_in}
+use Rattle.kishu_meaning.specs.values.Kinds.{not_iterable, unhashable}
+use Rattle.kishu_meaning.specs.items.KeyOf.{part_in, parts_of, tuple_key, key_by, key_of_value, value_of_key, values_of_keys}
+use Rattle.kishu_meaning.specs.items.Sequences.{count_of, node_items, items_of, walked}
+use Rattle.kishu_meaning.specs.comparing.Show.{repr_in, repr_of, show_in, show}
 use Rattle.kishu_items.specs.Holding.{both}
 use Rattle.kishu_items.specs.Called as called
 use Rattle.kishu_heap.specs.declared.fault.CallFault.{CallFault}

@@ -1,11 +1,11 @@
 -- What is sound among n nodes is so among more.
 use Rattle.std.proofs.Common.{refl, ℕ, ◌≤◌, Bool, ◌&&◌, IsTrue, List, [], ◌∷◌, length, Option, Some, None, Result, Ok, Err}
 use Rattle.std.specs.List.{list_all}
-use Rattle.kishu_model.specs.Values.{Value, node, Node, list, tuple, dict, object, function, exception, Names}
-use Rattle.kishu_model.specs.Names.{is_name}
-use Rattle.kishu_model.specs.Keys.{Key}
-use Rattle.kishu_model.specs.Sound.{is_sound, are_sound, is_sound_node, is_exception_class, are_sound_names}
-use Rattle.kishu_model.specs.Moment.{Locals, Thrown, fresh, thrown_object}
+use Rattle.kishu_meaning.specs.values.Values.{Value, node, Node, list, tuple, dict, object, function, exception, Names}
+use Rattle.kishu_language.specs.tokens.Names.{is_name}
+use Rattle.kishu_meaning.specs.values.Keys.{Key}
+use Rattle.kishu_meaning.specs.values.Sound.{is_sound, are_sound, is_sound_node, is_exception_class, are_sound_names}
+use Rattle.kishu_meaning.specs.moments.Moment.{Locals, Thrown, fresh, thrown_object}
 use Rattle.kishu_items.specs.Holding.{both, first, second}
 use Rattle.kishu_items.specs.Gathering.{value_more, values_more}
 use Rattle.kishu_machine.specs.declared.fault.Fault.{Fault}

@@ -3,7 +3,7 @@ ghost use Rattle.std.specs.Prelude.{◌≡◌};
 ghost use Rattle.kishu_machine.specs.Lifted.{passed};
 
 use kishu_heap::CallFault;
-use kishu_model::{ClassId, NodeId, Value};
+use kishu_meaning::{ClassId, NodeId, Value};
 use std::alloc::{AllocError, AllocFailed};
 
 /// The class `SimpleNamespace`.

@@ -1,6 +1,6 @@
 // The names of a function in progress.
 
-use kishu_model::Value;
+use kishu_meaning::Value;
 use std::collections::BTreeMap;
 use std::rc::RcStr;
 

@@ -1,15 +1,15 @@
 // Keys of dicts, and the items of sequences.
 ghost use Rattle.std.specs.Prelude.{IsTrue, length, map, true, unwrap_or, ◌+◌, ◌<◌, ◌^◌, ◌≡◌};
-ghost use Rattle.kishu_model.specs.KeyOf.{key_of_value, value_of_key};
-ghost use Rattle.kishu_model.specs.Keys.{key_of};
-ghost use Rattle.kishu_model.specs.Sequences.{count_in, items_of, walked};
-ghost use Rattle.kishu_model.specs.Sound.{are_sound, is_sound};
-ghost use Rattle.kishu_model.specs.Values.{value_of};
+ghost use Rattle.kishu_meaning.specs.items.KeyOf.{key_of_value, value_of_key};
+ghost use Rattle.kishu_meaning.specs.values.Keys.{key_of};
+ghost use Rattle.kishu_meaning.specs.items.Sequences.{count_in, items_of, walked};
+ghost use Rattle.kishu_meaning.specs.values.Sound.{are_sound, is_sound};
+ghost use Rattle.kishu_meaning.specs.values.Values.{value_of};
 ghost use Rattle.kishu_machine.specs.Machine.{Gives, GrownBy, HasRoom, HasRoomBy, IsSound, ReadsBy, moment_of};
 
 use crate::fault::{Fault, passed};
 use crate::machine::Machine;
-use kishu_model::{Key, Steps, Value};
+use kishu_meaning::{Key, Steps, Value};
 use std::sync::ledger::Ledger;
 
 /// The key that a value is (Python Language Reference 3, "Dictionary displays").

@@ -1,11 +1,12 @@
 // What a run holds.
 ghost use Rattle.std.specs.Prelude.{IsTrue, option_map};
-ghost use Rattle.kishu_model.specs.Values.{value_of};
+ghost use Rattle.kishu_meaning.specs.values.Values.{value_of};
 ghost use Rattle.kishu_machine.specs.Frames.{is_sound_run, locals_of};
 
 use crate::frame::Frame;
 use kishu_heap::Heap;
-use kishu_model::{Budget, Profile, Value};
+use kishu_language::Profile;
+use kishu_meaning::{Budget, Value};
 use kishu_names::Names;
 use std::alloc::Global;
 

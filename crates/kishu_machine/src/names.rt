@@ -2,12 +2,13 @@
 ghost use Rattle.std.specs.Prelude.{IsTrue, Ok, OnErr, OnOk, codes, is_some, length, map, not, option_map, true, ℕ, ◌++◌, ◌≡◌};
 ghost use Rattle.std.specs.Rc.{rc_str_bytes};
 ghost use Rattle.std.specs.Str.{chars};
-ghost use Rattle.kishu_model.specs.Accesses.{unbind};
-ghost use Rattle.kishu_model.specs.Moment.{Moment, assign, delete, delete_global, or_builtin, or_class, or_unbound, read, read_global};
-ghost use Rattle.kishu_model.specs.Names.{builtin_names, class_names, is_among, is_name, place_among};
-ghost use Rattle.kishu_model.specs.Sound.{is_sound};
-ghost use Rattle.kishu_model.specs.Values.{bind, find, value_of};
-ghost use Rattle.kishu_model.specs.Ways.{forget};
+ghost use Rattle.kishu_meaning.specs.moments.Accesses.{unbind};
+ghost use Rattle.kishu_meaning.specs.moments.Moment.{Moment, assign, delete, delete_global, or_builtin, or_class, or_unbound, read, read_global};
+ghost use Rattle.kishu_language.specs.tokens.Names.{is_among, is_name, place_among};
+ghost use Rattle.kishu_meaning.specs.values.BuiltinNames.{builtin_names, class_names};
+ghost use Rattle.kishu_meaning.specs.values.Sound.{is_sound};
+ghost use Rattle.kishu_meaning.specs.values.Values.{bind, find, value_of};
+ghost use Rattle.kishu_meaning.specs.cells.Ways.{forget};
 ghost use Rattle.kishu_machine.specs.Frames.{is_own, is_sound_locals, locals_of, names_of, own_bound, own_unbound, own_value};
 ghost use Rattle.kishu_machine.specs.Machine.{Gives, IsRaised, IsSound, moment_of};
 
@@ -16,7 +17,7 @@ use crate::frame::Frame;
 use crate::machine::Machine;
 use crate::raising::{name_error, unbound_local};
 use crate::texts::is_same_text;
-use kishu_model::{Value, builtin_named, class_named};
+use kishu_meaning::{Value, builtin_named, class_named};
 use std::alloc::{AllocError, Global};
 use std::collections::BTreeMap;
 use std::rc::RcStr;

@@ -1,17 +1,17 @@
 // Nodes, read and made.
 ghost use Rattle.std.specs.Prelude.{IfOk, IfSome, IsTrue, length, map, option_map, true, ◌+◌, ◌<◌, ◌^◌, ◌≡◌, ◌≤◌};
-ghost use Rattle.kishu_model.specs.Moment.{fine, make, node_at};
-ghost use Rattle.kishu_model.specs.Operators.{list_from, new_list, new_tuple, truth, tuple_from};
-ghost use Rattle.kishu_model.specs.Sound.{are_sound, is_sound, is_sound_node};
-ghost use Rattle.kishu_model.specs.Values.{value_of};
+ghost use Rattle.kishu_meaning.specs.moments.Moment.{fine, make, node_at};
+ghost use Rattle.kishu_meaning.specs.calls.Operators.{list_from, new_list, new_tuple, truth, tuple_from};
+ghost use Rattle.kishu_meaning.specs.values.Sound.{are_sound, is_sound, is_sound_node};
+ghost use Rattle.kishu_meaning.specs.values.Values.{value_of};
 ghost use Rattle.kishu_heap.specs.Cells.{node_of};
 ghost use Rattle.kishu_machine.specs.Machine.{Gives, IsSound, moment_of};
-ghost use Rattle.kishu_model.specs.Values as model;
+ghost use Rattle.kishu_meaning.specs.values.Values as model;
 
 use crate::fault::Fault;
 use crate::machine::Machine;
 use kishu_heap::{Heap, Node};
-use kishu_model::{NodeId, Steps, Value};
+use kishu_meaning::{NodeId, Steps, Value};
 use std::sync::ledger::Ledger;
 
 /// The node of a value that has one. It takes at most one step of the counter.

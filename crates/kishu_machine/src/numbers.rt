@@ -1,15 +1,16 @@
 // Arithmetic.
 ghost use Rattle.std.specs.Prelude.{◌≡◌};
-ghost use Rattle.kishu_model.specs.Moment.{Moment};
-ghost use Rattle.kishu_model.specs.Operators.{arithmetic, signed_number, whole};
-ghost use Rattle.kishu_model.specs.Values.{value_of};
+ghost use Rattle.kishu_meaning.specs.moments.Moment.{Moment};
+ghost use Rattle.kishu_meaning.specs.calls.Operators.{arithmetic, signed_number, whole};
+ghost use Rattle.kishu_meaning.specs.values.Values.{value_of};
 ghost use Rattle.kishu_machine.specs.Forms.{answer_of, answered};
 ghost use Rattle.kishu_machine.specs.Machine.{Gives};
 
 use crate::fault::Fault;
 use crate::raising::raise;
 use kishu_items::{OVERFLOW_ERROR, VALUE_ERROR, ZERO_DIVISION_ERROR, plain_text};
-use kishu_model::{Operator, Sign, Value};
+use kishu_language::{Operator, Sign};
+use kishu_meaning::Value;
 use kishu_num::{NumFault, add, floor_div, modulo, mul, power, sub};
 use std::alloc::Global;
 

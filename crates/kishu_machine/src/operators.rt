@@ -3,10 +3,10 @@
 ghost use Rattle.std.specs.List.{list_all};
 ghost use Rattle.std.specs.Prelude.{Some, IsTrue, OnOk, length, map, nat_lt, option_map, ℕ, ◌*◌, ◌++◌, ◌+◌, ◌<◌, ◌≡◌, ◌≤◌};
 ghost use Rattle.std.specs.Str.{chars};
-ghost use Rattle.kishu_model.specs.Equal.{number_in};
-ghost use Rattle.kishu_model.specs.Operators.{bad_operands, both, on_numbers, on_sequences, operate, operator_sign, product_of, sign_text, signed_value, sum_of};
-ghost use Rattle.kishu_model.specs.Sound.{is_sound};
-ghost use Rattle.kishu_model.specs.Values.{value_of};
+ghost use Rattle.kishu_meaning.specs.comparing.Equal.{number_in};
+ghost use Rattle.kishu_meaning.specs.calls.Operators.{bad_operands, both, on_numbers, on_sequences, operate, operator_sign, product_of, sign_text, signed_value, sum_of};
+ghost use Rattle.kishu_meaning.specs.values.Sound.{is_sound};
+ghost use Rattle.kishu_meaning.specs.values.Values.{value_of};
 ghost use Rattle.kishu_machine.specs.Forms.{text_from};
 ghost use Rattle.kishu_machine.specs.Machine.{Gives, GrownBy, HasRoomBy, IsSound, ReadsBy, moment_of};
 
@@ -17,7 +17,8 @@ use crate::products::product_of;
 use crate::raising::{bad_operand, bad_operands};
 use crate::sums::sum_of;
 use kishu_items::number_in;
-use kishu_model::{Operator, Sign, Steps, Value};
+use kishu_language::{Operator, Sign};
+use kishu_meaning::{Steps, Value};
 use std::alloc::AllocError;
 use std::sync::ledger::Ledger;
 

@@ -4,12 +4,12 @@ ghost use Rattle.std.specs.Prelude.{IfOk, IsTrue, codes, length, nat_lt, â—Œ++â—
 ghost use Rattle.std.specs.Rc.{rc_str_bytes};
 ghost use Rattle.std.specs.Str.{chars};
 ghost use Rattle.std.specs.String.{string_bytes};
-ghost use Rattle.kishu_model.specs.Callees.{not_callable};
-ghost use Rattle.kishu_model.specs.Kinds.{no_attribute, not_iterable, quoted_kind};
-ghost use Rattle.kishu_model.specs.Operators.{bad_operand, bad_operands};
-ghost use Rattle.kishu_model.specs.Sound.{is_sound};
-ghost use Rattle.kishu_model.specs.Subscripts.{not_subscriptable};
-ghost use Rattle.kishu_model.specs.Values.{value_of};
+ghost use Rattle.kishu_meaning.specs.calls.Callees.{not_callable};
+ghost use Rattle.kishu_meaning.specs.values.Kinds.{no_attribute, not_iterable, quoted_kind};
+ghost use Rattle.kishu_meaning.specs.calls.Operators.{bad_operand, bad_operands};
+ghost use Rattle.kishu_meaning.specs.values.Sound.{is_sound};
+ghost use Rattle.kishu_meaning.specs.items.Subscripts.{not_subscriptable};
+ghost use Rattle.kishu_meaning.specs.values.Values.{value_of};
 ghost use Rattle.kishu_machine.specs.Machine.{Gives, IsRaised, IsRaisedWith, moment_of};
 
 use crate::fault::{ATTRIBUTE_ERROR, Fault, NAME_ERROR, Thrown, UNBOUND_LOCAL_ERROR};
@@ -17,7 +17,7 @@ use crate::machine::Machine;
 use kishu_items::{
     INDEX_ERROR, KEY_ERROR, TYPE_ERROR, bad_operands_text, kind_name, not_iterable_text, plain_text,
 };
-use kishu_model::{ClassId, Steps, Value};
+use kishu_meaning::{ClassId, Steps, Value};
 use std::alloc::{AllocError, Global};
 use std::rc::RcStr;
 use std::sync::ledger::Ledger;

@@ -1,11 +1,11 @@
 // Steps of a budget, taken while the heap is read.
 ghost use Rattle.std.specs.Prelude.{OnOk, length, true, ℕ, ◌*◌, ◌+◌, ◌≡◌, ◌≤◌};
-ghost use Rattle.kishu_model.specs.Moment.{Moment, spend};
+ghost use Rattle.kishu_meaning.specs.moments.Moment.{Moment, spend};
 ghost use Rattle.kishu_machine.specs.Machine.{Gives, GrownBy, IsSound, moment_of, placed};
 
 use crate::fault::{Fault, passed};
 use crate::machine::Machine;
-use kishu_model::{Budget, Steps};
+use kishu_meaning::{Budget, Steps};
 use std::sync::ledger::Ledger;
 
 /// Takes so many steps, and where there are fewer, all.

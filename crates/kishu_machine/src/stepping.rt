@@ -1,13 +1,13 @@
 // The steps that a run takes.
 ghost use Rattle.std.specs.Prelude.{OnOk, codes, length, true, ◌+◌, ◌≡◌};
-ghost use Rattle.kishu_model.specs.Moment.{spend, tick};
+ghost use Rattle.kishu_meaning.specs.moments.Moment.{spend, tick};
 ghost use Rattle.kishu_machine.specs.Machine.{Gives, GrownBy, IsRaised, IsSound, moment_of};
 
 use crate::fault::{Fault, passed};
 use crate::machine::Machine;
 use crate::raising::raise;
 use kishu_items::{RECURSION_ERROR, plain_text};
-use kishu_model::Steps;
+use kishu_meaning::Steps;
 use std::alloc::Global;
 use std::sync::ledger::Ledger;
 

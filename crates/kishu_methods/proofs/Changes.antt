@@ -3,10 +3,10 @@ use Rattle.std.proofs.Common.{◌≡◌, ◌∙◌, ap, sym, refl, ℕ, zero, su
 use Rattle.std.specs.Prelude.{slice_get, unwrap_or}
 use Rattle.std.specs.List.{list_all, insert, remove}
 use Rattle.std.proofs.lemmas.List.{map-append, take-map, drop-map, append-nil}
-use Rattle.kishu_model.specs.Keys.{Key}
-use Rattle.kishu_model.specs.Methods.{with_entries}
-use Rattle.kishu_model.specs.Values.{Value, Node, list, tuple, dict, object, function, exception}
-use Rattle.kishu_model.specs.Nodes.{changed, on_list, on_dict, push, insert as put, replace_list}
+use Rattle.kishu_meaning.specs.values.Keys.{Key}
+use Rattle.kishu_meaning.specs.calls.Methods.{with_entries}
+use Rattle.kishu_meaning.specs.values.Values.{Value, Node, list, tuple, dict, object, function, exception}
+use Rattle.kishu_meaning.specs.values.Nodes.{changed, on_list, on_dict, push, insert as put, replace_list}
 pub use Rattle.kishu_items.specs.Holding.{both, first, second}
 use Rattle.kishu_methods.specs.Contents.{items_at}
 

@@ -5,13 +5,13 @@ use Rattle.std.specs.List.{list_all}
 use Rattle.std.specs.Map.{lookup}
 use Rattle.std.specs.Option.{option_copied}
 use denote.Bor.{Bor}
-use Rattle.kishu_model.specs.declared.key.Key as rust_key
-use Rattle.kishu_model.specs.declared.value.Value as rust_value
-use Rattle.kishu_model.specs.Keys.{Key, key_of, is_one}
-use Rattle.kishu_model.specs.Methods.{with_entries}
-use Rattle.kishu_model.specs.Nodes.{changed, found, on_dict, dict_in, insert, value_at, value_under, without_entry}
-use Rattle.kishu_model.specs.Sound.{is_sound, is_sound_node}
-use Rattle.kishu_model.specs.Values.{Value, value_of, Node, dict}
+use Rattle.kishu_meaning.specs.declared.key.Key as rust_key
+use Rattle.kishu_meaning.specs.declared.value.Value as rust_value
+use Rattle.kishu_meaning.specs.values.Keys.{Key, key_of, is_one}
+use Rattle.kishu_meaning.specs.calls.Methods.{with_entries}
+use Rattle.kishu_meaning.specs.values.Nodes.{changed, found, on_dict, dict_in, insert, value_at, value_under, without_entry}
+use Rattle.kishu_meaning.specs.values.Sound.{is_sound, is_sound_node}
+use Rattle.kishu_meaning.specs.values.Values.{Value, value_of, Node, dict}
 use Rattle.kishu_heap.specs.Cells.{entries_of}
 use Rattle.kishu_methods.specs.Contents.{entries_at}
 use Rattle.kishu_methods.proofs.Changes.{first, second, inserts_on, inserts_none, unchanged}

@@ -3,9 +3,9 @@ use Rattle.std.proofs.Common.{◌≡◌, ◌∙◌, ap, refl, arith, ℕ, zero, 
 use Rattle.std.specs.List.{list_all, insert, remove}
 use Rattle.std.proofs.lemmas.List.{map-append}
 use mathlib.Core.List.{reverse-cons}
-use Rattle.kishu_model.specs.declared.value.Value as rust
-use Rattle.kishu_model.specs.Values.{Value, value_of, Node}
-use Rattle.kishu_model.specs.Nodes.{changed, on_list, push}
+use Rattle.kishu_meaning.specs.declared.value.Value as rust
+use Rattle.kishu_meaning.specs.values.Values.{Value, value_of, Node}
+use Rattle.kishu_meaning.specs.values.Nodes.{changed, on_list, push}
 use Rattle.kishu_methods.proofs.Changes.{both, first, second, all_append, pushes_on, pushes_none, map_insert, map_remove}
 pub use Rattle.kishu_items.specs.Gathering.{dropped, sound_at}
 

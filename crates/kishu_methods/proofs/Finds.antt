@@ -1,11 +1,11 @@
 -- One turn of a walk over items that are compared with a value.
 use Rattle.std.proofs.Common.{◌≡◌, ◌∙◌, ap, refl, arith, ℕ, suc, ◌+◌, ◌<◌, ◌≤◌, Bool, true, false, List, length, map, drop, get_or, Option, Some, Err}
 use Rattle.std.specs.Prelude.{if◌then◌else◌}
-use Rattle.kishu_model.specs.declared.value.Value as rust
-use Rattle.kishu_model.specs.Values.{Value, value_of, Node}
-use Rattle.kishu_model.specs.Counting.{Counted, Count, answer, and_then, give}
-use Rattle.kishu_model.specs.Equal.{pair_equal, equal_nodes, room_at}
-use Rattle.kishu_model.specs.Finding.{place_from, count_from}
+use Rattle.kishu_meaning.specs.declared.value.Value as rust
+use Rattle.kishu_meaning.specs.values.Values.{Value, value_of, Node}
+use Rattle.kishu_meaning.specs.moments.Counting.{Counted, Count, answer, and_then, give}
+use Rattle.kishu_meaning.specs.comparing.Equal.{pair_equal, equal_nodes, room_at}
+use Rattle.kishu_meaning.specs.items.Finding.{place_from, count_from}
 use Rattle.kishu_heap.specs.declared.fault.CompareFault.{CompareFault}
 use Rattle.kishu_heap.specs.declared.fault.CompareFault.TheVariants as faults
 use Rattle.kishu_heap.specs.Compared.{Gives}

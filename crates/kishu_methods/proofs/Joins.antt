@@ -7,11 +7,11 @@ use Rattle.std.specs.declared.alloc.Global.{Global}
 use Rattle.std.specs.declared.string.String.{String}
 use Rattle.std.proofs.lemmas.List.{map_push}
 use Rattle.std.proofs.lemmas.Str.{chars-append}
-use Rattle.kishu_model.specs.declared.value.Value as rust_value
-use Rattle.kishu_model.specs.Values.{Value, text, value_of}
-use Rattle.kishu_model.specs.Sound.{are_sound}
-use Rattle.kishu_model.specs.Methods.{texts_in}
-use Rattle.kishu_model.specs.Texts.{joined, code_points}
+use Rattle.kishu_meaning.specs.declared.value.Value as rust_value
+use Rattle.kishu_meaning.specs.values.Values.{Value, text, value_of}
+use Rattle.kishu_meaning.specs.values.Sound.{are_sound}
+use Rattle.kishu_meaning.specs.calls.Methods.{texts_in}
+use Rattle.kishu_meaning.specs.values.Texts.{joined, code_points}
 use Rattle.std.specs.declared.rc.RcStr.{RcStr}
 use Rattle.kishu_methods.specs.TextValues.{text_in, texts_of}
 

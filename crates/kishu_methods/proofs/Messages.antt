@@ -2,7 +2,7 @@
 use Rattle.std.proofs.Common.{◌≡◌, refl}
 use Rattle.std.specs.Prelude.{codes}
 use Rattle.std.specs.Str.{chars}
-use Rattle.kishu_model.specs.Methods.{Method, method_name, append, clear, copy, count, endswith, extend, find, get, index, insert, isdigit, join, pop, remove, replace, reverse, setdefault, sort, split, startswith, strip, update}
+use Rattle.kishu_meaning.specs.calls.Methods.{Method, method_name, append, clear, copy, count, endswith, extend, find, get, index, insert, isdigit, join, pop, remove, replace, reverse, setdefault, sort, split, startswith, strip, update}
 use Rattle.kishu_items.specs.Messages.{chars-plain}
 
 pub chars_method : (m : Method) → chars (method_name m) ≡ method_name m

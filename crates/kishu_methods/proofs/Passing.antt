@@ -1,7 +1,7 @@
 -- What a call makes of a comparison's answer.
 use Rattle.std.proofs.Common.{◌≡◌, ap, subst, ℕ, IfOk, Result, Ok, Err}
-use Rattle.kishu_model.specs.Counting.{Counted, ended_in}
-use Rattle.kishu_model.specs.Moment.{Moment, Ends, fine, raised, stopped}
+use Rattle.kishu_meaning.specs.moments.Counting.{Counted, ended_in}
+use Rattle.kishu_meaning.specs.moments.Moment.{Moment, Ends, fine, raised, stopped}
 use Rattle.kishu_heap.specs.Compared as compared
 use Rattle.kishu_heap.specs.declared.fault.CallFault.{CallFault}
 use Rattle.kishu_heap.specs.declared.fault.CompareFault.{CompareFault}

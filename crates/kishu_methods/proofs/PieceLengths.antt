@@ -5,7 +5,7 @@ use Rattle.std.proofs.lemmas.Str.{chars-nil, encodes-chars}
 use Rattle.std.specs.Str.{chars, encode_utf8_all, IsUtf8}
 use Rattle.std.specs.List.{onto_first, sum_by}
 use Rattle.std.proofs.lemmas.List.Sums.{sum_by-cons}
-use Rattle.kishu_model.specs.Texts.{begins, pieces_behind, pieces, joined, replaced, occurrences, is_nonempty}
+use Rattle.kishu_meaning.specs.values.Texts.{begins, pieces_behind, pieces, joined, replaced, occurrences, is_nonempty}
 
 -- pieces, with another text before each
 pub length-flat_map : (by : List ℕ) (ps : List (List ℕ)) → length (flat_map (λ (n : List ℕ). by ++ n) ps) ≡ sum_by length ps + length ps * length by

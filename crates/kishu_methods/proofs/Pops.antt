@@ -1,11 +1,11 @@
 -- The last item of a list.
 use Rattle.std.proofs.Common.{◌≡◌, ◌∙◌, ap, sym, refl, ℕ, List, [], ◌∷◌, Option, Some, None}
 use Rattle.std.specs.Prelude.{slice_get, unwrap_or, codes}
-use Rattle.kishu_model.specs.declared.budget.Budget.{Budget}
-use Rattle.kishu_model.specs.Methods.{pop_last}
-use Rattle.kishu_model.specs.Moment.{raised, fresh}
-use Rattle.kishu_model.specs.Values.{Value, text, Node, list}
-use Rattle.kishu_model.specs.Nodes.{changed, found, last_item, last_of, without_last, list_in, pop}
+use Rattle.kishu_meaning.specs.declared.budget.Budget.{Budget}
+use Rattle.kishu_meaning.specs.calls.Methods.{pop_last}
+use Rattle.kishu_meaning.specs.moments.Moment.{raised, fresh}
+use Rattle.kishu_meaning.specs.values.Values.{Value, text, Node, list}
+use Rattle.kishu_meaning.specs.values.Nodes.{changed, found, last_item, last_of, without_last, list_in, pop}
 use Rattle.kishu_methods.specs.Called.{moment_of}
 use Rattle.kishu_methods.proofs.Changes.{unchanged}
 

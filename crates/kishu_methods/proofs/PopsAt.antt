@@ -1,12 +1,12 @@
 -- An item that is taken out of a list by its index.
 use Rattle.std.proofs.Common.{◌≡◌, refl, arith, ℕ, ◌<◌, List, [], ◌∷◌, length, Some, Result}
 use Rattle.std.specs.Prelude.{ℤ}
-use Rattle.kishu_model.specs.declared.value.Value as rust
-use Rattle.kishu_model.specs.Indexes.{index_of, place_of}
-use Rattle.kishu_model.specs.Methods.{list_row, pop, pop_at, take_out}
-use Rattle.kishu_model.specs.Moment.{Moment, fine, and_then}
-use Rattle.kishu_model.specs.Nodes.{last_of}
-use Rattle.kishu_model.specs.Values.{Value, value_of}
+use Rattle.kishu_meaning.specs.declared.value.Value as rust
+use Rattle.kishu_meaning.specs.items.Indexes.{index_of, place_of}
+use Rattle.kishu_meaning.specs.calls.Methods.{list_row, pop, pop_at, take_out}
+use Rattle.kishu_meaning.specs.moments.Moment.{Moment, fine, and_then}
+use Rattle.kishu_meaning.specs.values.Nodes.{last_of}
+use Rattle.kishu_meaning.specs.values.Values.{Value, value_of}
 use Rattle.kishu_heap.specs.declared.fault.CallFault.{CallFault}
 use Rattle.kishu_items.specs.Failing.{fails_through}
 use Rattle.kishu_methods.specs.Called.{Fails, Gives}

@@ -1,10 +1,10 @@
 -- Rows to which too few or too many arguments are handed.
 use Rattle.std.specs.Prelude.{◌≡◌, ℕ, List, [], ◌∷◌}
 use Rattle.std.proofs.Common.{refl}
-use Rattle.kishu_model.specs.Keys.{Key}
-use Rattle.kishu_model.specs.Values.{Value}
-use Rattle.kishu_model.specs.Kinds.{bad_arguments}
-use Rattle.kishu_model.specs.Methods.{Method, method_name, list_row, tuple_row, dict_row, append, clear, copy, count, endswith, extend, find, get, index, insert, isdigit, join, pop, remove, replace, reverse, setdefault, sort, split, startswith, strip, update}
+use Rattle.kishu_meaning.specs.values.Keys.{Key}
+use Rattle.kishu_meaning.specs.values.Values.{Value}
+use Rattle.kishu_meaning.specs.values.Kinds.{bad_arguments}
+use Rattle.kishu_meaning.specs.calls.Methods.{Method, method_name, list_row, tuple_row, dict_row, append, clear, copy, count, endswith, extend, find, get, index, insert, isdigit, join, pop, remove, replace, reverse, setdefault, sort, split, startswith, strip, update}
 
 pub list_many : (m : Method) (i : ℕ) (vs : List Value) (a b c : Value) (rest : List Value) → list_row m i vs (a ∷ b ∷ c ∷ rest) ≡ bad_arguments (method_name m)
 list_many append i vs a b c rest = refl

@@ -4,9 +4,9 @@ use Rattle.std.specs.Prelude.{if◌then◌else◌}
 use Rattle.std.specs.List.{list_all}
 use Rattle.std.specs.Cmp.Lexicographic.{slice_cmp}
 use Rattle.std.specs.Ordering.{is_lt, int_cmp, nat_cmp}
-use Rattle.kishu_model.specs.Sorting.{in_order, is_number, is_text, number_key, text_key, sorted_by}
-use Rattle.kishu_model.specs.Sound.{is_sound, are_sound}
-use Rattle.kishu_model.specs.Values.{Value}
+use Rattle.kishu_meaning.specs.items.Sorting.{in_order, is_number, is_text, number_key, text_key, sorted_by}
+use Rattle.kishu_meaning.specs.values.Sound.{is_sound, are_sound}
+use Rattle.kishu_meaning.specs.values.Values.{Value}
 use Rattle.kishu_items.specs.Orders.{all_sorted}
 use Rattle.kishu_methods.proofs.Pops.{some_same}
 

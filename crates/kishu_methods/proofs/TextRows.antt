@@ -1,11 +1,11 @@
 -- The rows of texts, where the arguments are no texts or are too many.
 use Rattle.std.proofs.Common.{◌≡◌, refl, ℕ, List, [], ◌∷◌, None, subst, sym, Result, length, map, ◌≤◌, arith}
-use Rattle.kishu_model.specs.declared.value.Value as rust_value
-use Rattle.kishu_model.specs.Values.{Value, text, value_of}
-use Rattle.kishu_model.specs.Moment.{M, Moment}
-use Rattle.kishu_model.specs.Kinds.{bad_arguments}
-use Rattle.kishu_model.specs.Methods as m
-use Rattle.kishu_model.specs.Methods.{Method, method_name, text_row}
+use Rattle.kishu_meaning.specs.declared.value.Value as rust_value
+use Rattle.kishu_meaning.specs.values.Values.{Value, text, value_of}
+use Rattle.kishu_meaning.specs.moments.Moment.{M, Moment}
+use Rattle.kishu_meaning.specs.values.Kinds.{bad_arguments}
+use Rattle.kishu_meaning.specs.calls.Methods as m
+use Rattle.kishu_meaning.specs.calls.Methods.{Method, method_name, text_row}
 use Rattle.kishu_heap.specs.declared.fault.CallFault.{CallFault}
 use Rattle.kishu_methods.specs.declared.method.Method as rust
 use Rattle.kishu_methods.specs.declared.method.Method.TheVariants as methods

@@ -2,15 +2,15 @@
 use Rattle.std.proofs.Common.{◌≡◌, ◌∙◌, ap, sym, ℕ, List, [], ◌∷◌, length, Some, Bool, true, false, if◌then◌else◌, subst, Result, Err}
 use Rattle.std.specs.Prelude.{codes, ℤ}
 use Rattle.std.specs.List.{sum_by}
-use Rattle.kishu_model.specs.Values.{Value, none, bool, integer, text, range, builtin, class, node, value_of}
-use Rattle.kishu_model.specs.Moment.{M, Moment, Ends, fine, raised, and_then, ◌>>◌, give, spend, fresh}
-use Rattle.kishu_model.specs.Texts.{pieces, is_nonempty, first_place, occurrences}
-use Rattle.kishu_model.specs.Kinds.{value_error}
-use Rattle.kishu_model.specs.Methods as m
-use Rattle.kishu_model.specs.Methods.{text_row, is_cutting, search, made, made_all, new_texts, number, place_or_minus_one}
+use Rattle.kishu_meaning.specs.values.Values.{Value, none, bool, integer, text, range, builtin, class, node, value_of}
+use Rattle.kishu_meaning.specs.moments.Moment.{M, Moment, Ends, fine, raised, and_then, ◌>>◌, give, spend, fresh}
+use Rattle.kishu_meaning.specs.values.Texts.{pieces, is_nonempty, first_place, occurrences}
+use Rattle.kishu_meaning.specs.values.Kinds.{value_error}
+use Rattle.kishu_meaning.specs.calls.Methods as m
+use Rattle.kishu_meaning.specs.calls.Methods.{text_row, is_cutting, search, made, made_all, new_texts, number, place_or_minus_one}
 use Rattle.kishu_heap.specs.declared.fault.CallFault.{CallFault}
 use Rattle.kishu_heap.specs.declared.fault.CallFault.TheVariants as faults
-use Rattle.kishu_model.specs.declared.value.Value as rust_value
+use Rattle.kishu_meaning.specs.declared.value.Value as rust_value
 use Rattle.kishu_methods.specs.Called.{Fails, Gives}
 use Rattle.kishu_methods.specs.TextValues.{text_in}
 

@@ -1,5 +1,5 @@
 -- When a call of a method gives what the definition says.
-use Rattle.kishu_model.specs.Methods as m
+use Rattle.kishu_meaning.specs.calls.Methods as m
 use Rattle.kishu_methods.specs.declared.method.Method.{Method}
 use Rattle.kishu_methods.specs.declared.method.Method.TheVariants as methods
 pub use Rattle.kishu_items.specs.Called.{moment_of, Fails, Gives}

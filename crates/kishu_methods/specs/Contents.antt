@@ -1,8 +1,8 @@
 -- What is in the list and in the dict of a number.
 use Rattle.std.specs.Prelude.{◌≡◌, ℕ, List, [], Some, slice_get, unwrap_or}
-use Rattle.kishu_model.specs.Keys.{Key}
-use Rattle.kishu_model.specs.Values.{Value, Node, list, dict}
-use Rattle.kishu_model.specs.Nodes.{found, list_in, dict_in}
+use Rattle.kishu_meaning.specs.values.Keys.{Key}
+use Rattle.kishu_meaning.specs.values.Values.{Value, Node, list, dict}
+use Rattle.kishu_meaning.specs.values.Nodes.{found, list_in, dict_in}
 
 -- the items, where the node of this number is a list
 unfoldable pub items_at : List Node → ℕ → List Value

@@ -4,7 +4,7 @@ use Rattle.std.specs.Rc.{rc_str_bytes}
 use Rattle.std.specs.Str.{chars}
 use Rattle.std.specs.declared.alloc.Global.{Global}
 use Rattle.std.specs.declared.rc.RcStr.{RcStr}
-use Rattle.kishu_model.specs.Values.{Value, none, bool, integer, text, range, builtin, class, node}
+use Rattle.kishu_meaning.specs.values.Values.{Value, none, bool, integer, text, range, builtin, class, node}
 
 -- the code points of a value that is a text
 abbrev pub text_in : Value → Option (List ℕ)

@@ -1,8 +1,8 @@
 // Calls of methods.
 ghost use Rattle.std.specs.Prelude.{◌≡◌, ◌+◌, ◌-◌, ◌*◌, ◌<◌, ◌≤◌, ◌^◌, IsTrue, map, length, slice_get};
-ghost use Rattle.kishu_model.specs.Values.{value_of};
-ghost use Rattle.kishu_model.specs.Methods.{has_method, node_row, call_method};
-ghost use Rattle.kishu_model.specs.Sound.{is_sound, are_sound};
+ghost use Rattle.kishu_meaning.specs.values.Values.{value_of};
+ghost use Rattle.kishu_meaning.specs.calls.Methods.{has_method, node_row, call_method};
+ghost use Rattle.kishu_meaning.specs.values.Sound.{is_sound, are_sound};
 ghost use Rattle.kishu_methods.specs.Called.{moment_of, method_of, Gives};
 
 use crate::dicts::dict_method;
@@ -12,7 +12,7 @@ use crate::method::{Method, method_of};
 use crate::texts::text_method;
 use crate::tuples::tuple_method;
 use kishu_heap::{CallFault, Heap, Node};
-use kishu_model::{Budget, NodeId, Steps, Value};
+use kishu_meaning::{Budget, NodeId, Steps, Value};
 use std::alloc::Global;
 use std::sync::ledger::Ledger;
 

@@ -1,13 +1,13 @@
 // The methods of dicts.
 ghost use Rattle.std.specs.Prelude.{◌≡◌, ◌+◌, ◌-◌, ◌*◌, ◌<◌, ◌≤◌, ◌^◌, ◌∷◌, [], IsTrue, IfOk, OnOk, IfNone, map, length, option_map};
-ghost use Rattle.kishu_model.specs.declared.budget.Budget.{Budget};
-ghost use Rattle.kishu_model.specs.Keys.{key_of, is_one};
-ghost use Rattle.kishu_model.specs.Methods as m;
-ghost use Rattle.kishu_model.specs.Moment.{give};
-ghost use Rattle.kishu_model.specs.Nodes.{changed, on_dict, value_at, without_entry, insert};
-ghost use Rattle.kishu_model.specs.Kinds.{no_key};
-ghost use Rattle.kishu_model.specs.Sound.{is_sound, are_sound};
-ghost use Rattle.kishu_model.specs.Values.{value_of};
+ghost use Rattle.kishu_meaning.specs.declared.budget.Budget.{Budget};
+ghost use Rattle.kishu_meaning.specs.values.Keys.{key_of, is_one};
+ghost use Rattle.kishu_meaning.specs.calls.Methods as m;
+ghost use Rattle.kishu_meaning.specs.moments.Moment.{give};
+ghost use Rattle.kishu_meaning.specs.values.Nodes.{changed, on_dict, value_at, without_entry, insert};
+ghost use Rattle.kishu_meaning.specs.values.Kinds.{no_key};
+ghost use Rattle.kishu_meaning.specs.values.Sound.{is_sound, are_sound};
+ghost use Rattle.kishu_meaning.specs.values.Values.{value_of};
 ghost use Rattle.kishu_methods.specs.Called.{moment_of, method_of, Gives};
 ghost use Rattle.kishu_methods.specs.Contents.{entries_at, IsDict};
 
@@ -16,7 +16,7 @@ use crate::faults::bad_arguments;
 use crate::method::Method;
 use kishu_heap::{CallFault, Heap, Node};
 use kishu_items::{KEY_ERROR, copied_map, key_of, spend};
-use kishu_model::{Budget, Key, NodeId, Steps, Value};
+use kishu_meaning::{Budget, Key, NodeId, Steps, Value};
 use std::alloc::{AllocError, Global};
 use std::sync::ledger::Ledger;
 

@@ -1,20 +1,20 @@
 // The entries of a dict node, read and changed.
 ghost use Rattle.std.specs.Prelude.{◌≡◌, ◌+◌, ◌<◌, ◌≤◌, List, IsTrue, IfOk, IfSome, OnOk, option_map, option_and_then, length};
 ghost use Rattle.std.specs.List.{list_all};
-ghost use Rattle.kishu_model.specs.Keys.{key_of, is_one};
-ghost use Rattle.kishu_model.specs.Methods.{with_entries};
-ghost use Rattle.kishu_model.specs.Moment.{node_at};
-ghost use Rattle.kishu_model.specs.Nodes as nodes;
-ghost use Rattle.kishu_model.specs.Nodes.{changed, on_dict, value_at};
-ghost use Rattle.kishu_model.specs.Sound.{is_sound};
-ghost use Rattle.kishu_model.specs.Values.{value_of};
+ghost use Rattle.kishu_meaning.specs.values.Keys.{key_of, is_one};
+ghost use Rattle.kishu_meaning.specs.calls.Methods.{with_entries};
+ghost use Rattle.kishu_meaning.specs.moments.Moment.{node_at};
+ghost use Rattle.kishu_meaning.specs.values.Nodes as nodes;
+ghost use Rattle.kishu_meaning.specs.values.Nodes.{changed, on_dict, value_at};
+ghost use Rattle.kishu_meaning.specs.values.Sound.{is_sound};
+ghost use Rattle.kishu_meaning.specs.values.Values.{value_of};
 ghost use Rattle.kishu_heap.specs.Cells.{entries_of};
 ghost use Rattle.kishu_methods.specs.Contents.{entries_at, IsDict};
 
 use indexmap::IndexMap;
 use kishu_heap::{Heap, Node};
 use kishu_items::copied_key;
-use kishu_model::{Key, NodeId, Steps, Value};
+use kishu_meaning::{Key, NodeId, Steps, Value};
 use std::alloc::{AllocError, Global};
 use std::sync::ledger::Ledger;
 

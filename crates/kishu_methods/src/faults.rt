@@ -1,13 +1,13 @@
 // The exception for arguments that a method doesn't take.
-ghost use Rattle.kishu_model.specs.Kinds.{bad_arguments};
-ghost use Rattle.kishu_model.specs.Methods.{method_name};
-ghost use Rattle.kishu_model.specs.Moment.{Moment};
-ghost use Rattle.kishu_model.specs.Values.{value_of};
+ghost use Rattle.kishu_meaning.specs.values.Kinds.{bad_arguments};
+ghost use Rattle.kishu_meaning.specs.calls.Methods.{method_name};
+ghost use Rattle.kishu_meaning.specs.moments.Moment.{Moment};
+ghost use Rattle.kishu_meaning.specs.values.Values.{value_of};
 ghost use Rattle.kishu_methods.specs.Called.{method_of, Gives};
 
 use crate::method::Method;
 use kishu_heap::CallFault;
-use kishu_model::Value;
+use kishu_meaning::Value;
 use std::alloc::Global;
 
 /// The TypeError for arguments that a method doesn't take.

@@ -1,14 +1,14 @@
 // Items that are equal to a value.
 ghost use Rattle.std.specs.Prelude.{◌≡◌, ℕ, suc, ◌+◌, ◌*◌, ◌<◌, ◌≤◌, ◌^◌, if◌then◌else◌, IfOk, IfSome, map, length};
-ghost use Rattle.kishu_model.specs.Finding.{place_from, count_from, place_among, count_among};
-ghost use Rattle.kishu_model.specs.Methods.{place_of_equal, place_number, count_number};
-ghost use Rattle.kishu_model.specs.Values.{value_of};
+ghost use Rattle.kishu_meaning.specs.items.Finding.{place_from, count_from, place_among, count_among};
+ghost use Rattle.kishu_meaning.specs.calls.Methods.{place_of_equal, place_number, count_number};
+ghost use Rattle.kishu_meaning.specs.values.Values.{value_of};
 ghost use Rattle.kishu_heap.specs.Compared as compared;
 ghost use Rattle.kishu_methods.specs.Called.{moment_of, Gives};
 
 use kishu_heap::{CallFault, CompareFault, Heap};
 use kishu_items::{VALUE_ERROR, compared, plain_text, raise};
-use kishu_model::{Budget, Steps, Value};
+use kishu_meaning::{Budget, Steps, Value};
 use std::alloc::Global;
 use std::sync::ledger::Ledger;
 

@@ -1,15 +1,15 @@
 // The items of a list node, read and changed.
 ghost use Rattle.std.specs.Prelude.{◌≡◌, ◌+◌, ◌++◌, ◌<◌, ◌≤◌, IsTrue, IfOk, OnOk, length, map, reverse, slice_index_or};
 ghost use Rattle.std.specs.List.{insert};
-ghost use Rattle.kishu_model.specs.Methods.{without_place};
-ghost use Rattle.kishu_model.specs.Nodes.{changed, on_list};
-ghost use Rattle.kishu_model.specs.Sound.{is_sound, are_sound};
-ghost use Rattle.kishu_model.specs.Values.{value_of, none};
+ghost use Rattle.kishu_meaning.specs.calls.Methods.{without_place};
+ghost use Rattle.kishu_meaning.specs.values.Nodes.{changed, on_list};
+ghost use Rattle.kishu_meaning.specs.values.Sound.{is_sound, are_sound};
+ghost use Rattle.kishu_meaning.specs.values.Values.{value_of, none};
 ghost use Rattle.kishu_methods.specs.Contents.{items_at, IsList};
 
 use kishu_heap::{Heap, Node};
 use kishu_items::copied_all;
-use kishu_model::{NodeId, Steps, Value};
+use kishu_meaning::{NodeId, Steps, Value};
 use std::alloc::{AllocError, Global};
 use std::sync::ledger::Ledger;
 

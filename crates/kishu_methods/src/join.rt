@@ -3,11 +3,11 @@ ghost use Rattle.std.specs.Prelude.{◌≡◌, ◌+◌, ◌-◌, ◌*◌, ◌<�
 ghost use Rattle.std.specs.List.{flat_map};
 ghost use Rattle.std.specs.Str.{chars};
 ghost use Rattle.std.specs.String.{string_bytes};
-ghost use Rattle.kishu_model.specs.Values.{Node, value_of};
-ghost use Rattle.kishu_model.specs.Methods as m;
-ghost use Rattle.kishu_model.specs.Methods.{joined_by, text_row, texts_in};
-ghost use Rattle.kishu_model.specs.Sound.{is_sound};
-ghost use Rattle.kishu_model.specs.Texts.{joined};
+ghost use Rattle.kishu_meaning.specs.values.Values.{Node, value_of};
+ghost use Rattle.kishu_meaning.specs.calls.Methods as m;
+ghost use Rattle.kishu_meaning.specs.calls.Methods.{joined_by, text_row, texts_in};
+ghost use Rattle.kishu_meaning.specs.values.Sound.{is_sound};
+ghost use Rattle.kishu_meaning.specs.values.Texts.{joined};
 ghost use Rattle.kishu_methods.specs.Called.{moment_of, Gives};
 ghost use Rattle.kishu_methods.specs.TextValues.{texts_of};
 
@@ -15,7 +15,7 @@ use crate::faults::bad_arguments;
 use crate::method::Method;
 use kishu_heap::{CallFault, Heap};
 use kishu_items::{spend, walked};
-use kishu_model::{Budget, Steps, Value};
+use kishu_meaning::{Budget, Steps, Value};
 use kishu_text::count;
 use std::alloc::{AllocError, Global};
 use std::rc::RcStr;

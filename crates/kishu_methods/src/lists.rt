@@ -1,10 +1,10 @@
 // The methods of lists.
 ghost use Rattle.std.specs.Prelude.{◌≡◌, ◌+◌, ◌-◌, ◌*◌, ◌<◌, ◌≤◌, ◌^◌, ◌∷◌, [], IsTrue, map, length};
-ghost use Rattle.kishu_model.specs.declared.budget.Budget.{Budget};
-ghost use Rattle.kishu_model.specs.Methods as m;
-ghost use Rattle.kishu_model.specs.Nodes.{push, replace_list};
-ghost use Rattle.kishu_model.specs.Sound.{is_sound, are_sound};
-ghost use Rattle.kishu_model.specs.Values.{value_of};
+ghost use Rattle.kishu_meaning.specs.declared.budget.Budget.{Budget};
+ghost use Rattle.kishu_meaning.specs.calls.Methods as m;
+ghost use Rattle.kishu_meaning.specs.values.Nodes.{push, replace_list};
+ghost use Rattle.kishu_meaning.specs.values.Sound.{is_sound, are_sound};
+ghost use Rattle.kishu_meaning.specs.values.Values.{value_of};
 ghost use Rattle.kishu_methods.specs.Called.{moment_of, method_of, Gives};
 ghost use Rattle.kishu_methods.specs.Contents.{items_at, IsList};
 
@@ -19,7 +19,7 @@ use kishu_items::{
     INDEX_ERROR, bound_in, in_order, index_of, place_of, plain_text, raise, sort_steps, spend,
     walked,
 };
-use kishu_model::{Budget, NodeId, Steps, Value};
+use kishu_meaning::{Budget, NodeId, Steps, Value};
 use std::alloc::Global;
 use std::sync::ledger::Ledger;
 

@@ -1,13 +1,13 @@
 // The methods that there are.
 ghost use Rattle.std.specs.Prelude.{◌≡◌, ◌+◌, ◌≤◌, IsTrue, List, map, option_map, length};
-ghost use Rattle.kishu_model.specs.Methods.{method_name, method_named, text_methods, list_methods, tuple_methods, dict_methods, node_methods, methods_in};
-ghost use Rattle.kishu_model.specs.Sound.{is_sound};
-ghost use Rattle.kishu_model.specs.Values.{value_of};
+ghost use Rattle.kishu_meaning.specs.calls.Methods.{method_name, method_named, text_methods, list_methods, tuple_methods, dict_methods, node_methods, methods_in};
+ghost use Rattle.kishu_meaning.specs.values.Sound.{is_sound};
+ghost use Rattle.kishu_meaning.specs.values.Values.{value_of};
 ghost use Rattle.kishu_heap.specs.Cells.{node_of};
 ghost use Rattle.kishu_methods.specs.Called.{method_of};
 
 use kishu_heap::{Heap, Node};
-use kishu_model::{Steps, Value};
+use kishu_meaning::{Steps, Value};
 use std::sync::ledger::Ledger;
 
 /// A method, whatever has it.

@@ -2,8 +2,8 @@
 ghost use Rattle.std.specs.Prelude.{◌≡◌, ◌*◌, ◌<◌, ◌&&◌, max, length, reverse, true};
 ghost use Rattle.std.specs.List.{list_all};
 ghost use Rattle.std.specs.Str.{chars};
-ghost use Rattle.kishu_model.specs.Names.{is_digit};
-ghost use Rattle.kishu_model.specs.Texts.{begins, is_nonempty, replaced};
+ghost use Rattle.kishu_language.specs.tokens.Names.{is_digit};
+ghost use Rattle.kishu_meaning.specs.values.Texts.{begins, is_nonempty, replaced};
 
 use kishu_text::{count, occurrences};
 

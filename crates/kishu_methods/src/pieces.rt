@@ -1,11 +1,11 @@
 // The methods of texts that make a list of pieces.
 ghost use Rattle.std.specs.Prelude.{◌≡◌, ◌+◌, ◌-◌, ◌*◌, ◌<◌, ◌≤◌, ◌^◌, ◌∷◌, [], ℕ, IfOk, List, map, length};
 ghost use Rattle.std.specs.Str.{chars};
-ghost use Rattle.kishu_model.specs.Bare.{bare};
-ghost use Rattle.kishu_model.specs.Values.{text, value_of};
-ghost use Rattle.kishu_model.specs.Methods as m;
-ghost use Rattle.kishu_model.specs.Methods.{new_texts, text_row};
-ghost use Rattle.kishu_model.specs.Texts.{code_points};
+ghost use Rattle.kishu_meaning_laws.specs.Bare.{bare};
+ghost use Rattle.kishu_meaning.specs.values.Values.{text, value_of};
+ghost use Rattle.kishu_meaning.specs.calls.Methods as m;
+ghost use Rattle.kishu_meaning.specs.calls.Methods.{new_texts, text_row};
+ghost use Rattle.kishu_meaning.specs.values.Texts.{code_points};
 ghost use Rattle.kishu_methods.specs.Called.{moment_of, Gives};
 
 use crate::faults::bad_arguments;
@@ -14,7 +14,7 @@ use crate::parts::replaced_length;
 use crate::texts::{check_separator, spend_search, text_in};
 use kishu_heap::{CallFault, Heap, Node};
 use kishu_items::spend;
-use kishu_model::{Budget, Steps, Value};
+use kishu_meaning::{Budget, Steps, Value};
 use kishu_text::count;
 use std::alloc::{AllocError, Global};
 use std::rc::RcStr;

@@ -1,12 +1,12 @@
 // The methods of texts.
 ghost use Rattle.std.specs.Prelude.{◌≡◌, ◌+◌, ◌-◌, ◌*◌, ◌<◌, ◌≤◌, ◌^◌, ◌∷◌, [], IsTrue, OnOk, List, map, option_map, length};
 ghost use Rattle.std.specs.Str.{chars};
-ghost use Rattle.kishu_model.specs.Values.{Node, value_of};
-ghost use Rattle.kishu_model.specs.Methods as m;
-ghost use Rattle.kishu_model.specs.Methods.{text_row, is_cutting, number, place_or_minus_one, search};
-ghost use Rattle.kishu_model.specs.Moment.{Moment};
-ghost use Rattle.kishu_model.specs.Sound.{is_sound, are_sound};
-ghost use Rattle.kishu_model.specs.Texts.{first_place};
+ghost use Rattle.kishu_meaning.specs.values.Values.{Node, value_of};
+ghost use Rattle.kishu_meaning.specs.calls.Methods as m;
+ghost use Rattle.kishu_meaning.specs.calls.Methods.{text_row, is_cutting, number, place_or_minus_one, search};
+ghost use Rattle.kishu_meaning.specs.moments.Moment.{Moment};
+ghost use Rattle.kishu_meaning.specs.values.Sound.{is_sound, are_sound};
+ghost use Rattle.kishu_meaning.specs.values.Texts.{first_place};
 ghost use Rattle.kishu_methods.specs.Called.{moment_of, method_of, Gives};
 ghost use Rattle.kishu_methods.specs.TextValues.{text_in};
 
@@ -17,7 +17,7 @@ use crate::parts::{begins_with, is_digits, is_nonempty, replaced_length, search_
 use crate::pieces::{split, split_space};
 use kishu_heap::{CallFault, Heap};
 use kishu_items::{VALUE_ERROR, plain_text, raise, spend};
-use kishu_model::{Budget, Steps, Value};
+use kishu_meaning::{Budget, Steps, Value};
 use kishu_text::count;
 use std::alloc::Global;
 use std::rc::RcStr;

@@ -1,14 +1,14 @@
 // The methods of tuples.
 ghost use Rattle.std.specs.Prelude.{◌≡◌, ◌+◌, ◌*◌, ◌≤◌, ◌∷◌, [], map};
-ghost use Rattle.kishu_model.specs.Methods.{tuple_row};
-ghost use Rattle.kishu_model.specs.Values.{value_of};
+ghost use Rattle.kishu_meaning.specs.calls.Methods.{tuple_row};
+ghost use Rattle.kishu_meaning.specs.values.Values.{value_of};
 ghost use Rattle.kishu_methods.specs.Called.{moment_of, method_of, Gives};
 
 use crate::faults::bad_arguments;
 use crate::finding::{count_number, place_number};
 use crate::method::Method;
 use kishu_heap::{CallFault, Heap};
-use kishu_model::{Budget, Steps, Value};
+use kishu_meaning::{Budget, Steps, Value};
 use std::alloc::Global;
 use std::sync::ledger::Ledger;
 

@@ -2,10 +2,10 @@
 use Rattle.std.specs.Prelude.{ℕ, List, [], ◌∷◌, ◌++◌, codes}
 use Rattle.serde_json.specs.Data.{Data, number, string, array, object, Items, no_items, item, no_members, member, unsigned}
 use Rattle.serde_json.specs.Written.{compact_text}
-use Rattle.kishu_model.specs.declared.result.Outcome.{Outcome}
-use Rattle.kishu_model.specs.declared.result.Outcome.TheVariants.{Done, Raised, Stopped}
-use Rattle.kishu_model.specs.Lines.{line_feed}
-use Rattle.kishu_model.specs.Values.{Output, stream, shown, fault, Report}
+use Rattle.kishu_meaning.specs.declared.result.Outcome.{Outcome}
+use Rattle.kishu_meaning.specs.declared.result.Outcome.TheVariants.{Done, Raised, Stopped}
+use Rattle.kishu_language.specs.tokens.Lines.{line_feed}
+use Rattle.kishu_meaning.specs.values.Values.{Output, stream, shown, fault, Report}
 
 -- why a request is refused
 pub data Refusal : Type 0 where

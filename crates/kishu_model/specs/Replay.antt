@@ -1,9 +1,9 @@
 -- The machine that replays each commit's whole path of cells from empty.
 use Rattle.std.specs.Prelude.{ℕ, ◌<◌, ◌+◌, ◌^◌, ◌⊎◌, List, [], ◌∷◌, length}
-use Rattle.kishu_model.specs.declared.profile.Profile.{Profile}
-use Rattle.kishu_model.specs.Values.{State, empty}
-use Rattle.kishu_model.specs.Meaning.{run}
-use Rattle.kishu_model.specs.Graph.{Commit, Graph, path}
+use Rattle.kishu_language.specs.declared.profile.Profile.{Profile}
+use Rattle.kishu_meaning.specs.values.Values.{State, empty}
+use Rattle.kishu_meaning.specs.cells.Meaning.{run}
+use Rattle.kishu_store.specs.Graph.{Commit, Graph, path}
 
 -- the state after these cells
 abbrev pub after_cells : Profile → List (List ℕ) → State → State

@@ -1,6 +1,6 @@
 -- A whole run: what is written for which requests, from which graph.
 use Rattle.std.specs.Prelude.{◌≡◌, ◌⊎◌, ◌+◌, ℕ, List, [], ◌∷◌, ◌++◌}
-use Rattle.kishu_model.specs.Graph.{Graph}
+use Rattle.kishu_store.specs.Graph.{Graph}
 use Rattle.kishu_model.specs.Answers.{answer_line}
 use Rattle.kishu_model.specs.Step.{Request, step, charge_of}
 

@@ -1,10 +1,9 @@
 -- One request to the replaying machine: the graph after it, and its answer.
 use Rattle.std.specs.Prelude.{ℕ, suc, nat_le, if◌then◌else◌, List, [], ◌∷◌}
-use Rattle.kishu_model.specs.declared.profile.Profile.{Profile}
-use Rattle.kishu_model.specs.declared.profile.Profile.TheVariants.{One}
-use Rattle.kishu_model.specs.Meaning.{run}
-use Rattle.kishu_model.specs.Graph.{Graph, newest, with_commit, count_of}
+use Rattle.kishu_meaning.specs.cells.Meaning.{run}
+use Rattle.kishu_store.specs.Graph.{Graph, newest, with_commit, count_of}
 use Rattle.kishu_model.specs.Replay.{replay}
+use Rattle.kishu_store.specs.Limits.{most_records, newest_profile}
 use Rattle.kishu_model.specs.Answers.{Refusal, Answer, ran_cell, refused, bad_request, store_full}
 
 pub data Request : Type 0 where
@@ -15,14 +14,6 @@ pub data Request : Type 0 where
 pub record Stepped : Type 0 where
   pub graph : Graph
   pub answer : Answer
-
--- the most records that a store holds
-abbrev pub most_records : ℕ
-most_records = 1000000
-
--- the profile under which new cells run
-abbrev pub newest_profile : Profile
-newest_profile = One
 
 -- The cell runs on the state of the head's commit, and is committed.
 abbrev pub committed : List ℕ → Graph → Stepped

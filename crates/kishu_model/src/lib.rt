@@ -1,27 +1,13 @@
-//! The types that several crates share, and in `specs/` every definition that more than one crate
-//! cites: what a cell means, what a graph of commits is, which bytes a store file has, and what a
-//! run writes. Whoever wants to know what Kishu promises reads those definitions.
+//! What Kishu promises, on top of the language, the meaning of cells and the store: the machine that
+//! replays each commit's whole path of cells from empty, requests, answers, one request's step and a
+//! whole run, all of it in `specs/`. The types of the crates below are named here again.
 #![tactic(auto)]
 
-mod budget;
-mod key;
-mod names;
-mod profile;
-mod result;
-mod steps;
-mod token;
-mod tree;
-mod value;
-
-pub use budget::Budget;
-pub use key::{Key, KeyPart};
-pub use names::{builtin_name, builtin_named, class_name, class_named, is_reserved};
-pub use profile::Profile;
-pub use result::{CellResult, Outcome, Output};
-pub use steps::Steps;
-pub use token::{Mark, Token, TokenKind};
-pub use tree::{
-    Argument, Arm, Comparison, Def, Expr, Handler, Link, Operand, Operator, Pair, Program, Sign,
-    Stmt, Trailer,
+pub use kishu_language::{
+    Argument, Arm, Comparison, Def, Expr, Handler, Link, Mark, Operand, Operator, Pair, Profile,
+    Program, Sign, Stmt, Token, TokenKind, Trailer, is_reserved,
 };
-pub use value::{Builtin, ClassId, NodeId, Value};
+pub use kishu_meaning::{
+    Budget, Builtin, CellResult, ClassId, Key, KeyPart, NodeId, Outcome, Output, Steps, Value,
+    builtin_name, builtin_named, class_name, class_named,
+};

@@ -14,9 +14,9 @@ use Rattle.std.specs.Map.{lookup, remove_entry}
 use Rattle.std.specs.Str.{bytes_eq}
 use Rattle.std.proofs.lemmas.Map.Text.{is_eq-slice_cmp}
 use Rattle.std.proofs.lemmas.Slice.Eq.{bytes_eq-Decides}
-use Rattle.kishu_model.specs.declared.value.Value as rust
-use Rattle.kishu_model.specs.Values.{Value, value_of, find, bind, Names}
-use Rattle.kishu_model.specs.Accesses.{unbind}
+use Rattle.kishu_meaning.specs.declared.value.Value as rust
+use Rattle.kishu_meaning.specs.values.Values.{Value, value_of, find, bind, Names}
+use Rattle.kishu_meaning.specs.moments.Accesses.{unbind}
 use Rattle.kishu_names.specs.Namespace.{names_of}
 
 abbrev Entry : Type 0

@@ -5,7 +5,7 @@ use Rattle.std.specs.Prelude.{if◌then◌else◌, IfSome, IfOk, OnOk, OnErr, Is
 use Rattle.std.specs.Rc.{rc_str_bytes}
 use Rattle.std.specs.declared.alloc.Global.{Global}
 use Rattle.std.specs.declared.rc.RcStr.{RcStr}
-use Rattle.kishu_model.specs.declared.value.Value as rust
+use Rattle.kishu_meaning.specs.declared.value.Value as rust
 use Rattle.kishu_names.specs.Namespace.{names_of}
 use Rattle.std.specs.Cmp.Lexicographic.{slice_cmp}
 use Rattle.std.specs.List.{list_all}
@@ -13,10 +13,10 @@ use Rattle.std.specs.Ordering.{nat_cmp, match_ordering}
 use Rattle.std.specs.Str.{bytes_eq}
 use Rattle.std.specs.declared.cmp.Ordering.{Ordering}
 use Rattle.std.specs.declared.cmp.Ordering.TheVariants.{Less, Equal, Greater}
-use Rattle.kishu_model.specs.Names.{is_name}
-use Rattle.kishu_model.specs.Values.{Value, Names, value_of, find, bind}
-use Rattle.kishu_model.specs.Accesses.{unbind}
-use Rattle.kishu_model.specs.Sound.{is_valid}
+use Rattle.kishu_language.specs.tokens.Names.{is_name}
+use Rattle.kishu_meaning.specs.values.Values.{Value, Names, value_of, find, bind}
+use Rattle.kishu_meaning.specs.moments.Accesses.{unbind}
+use Rattle.kishu_meaning.specs.values.Sound.{is_valid}
 
 abbrev Bound : Type 0
 Bound = List ℕ × Value

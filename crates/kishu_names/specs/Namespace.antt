@@ -4,10 +4,10 @@ use Rattle.std.specs.Prelude.{ℕ, ◌&&◌, IsTrue, List, map}
 use Rattle.std.specs.Rc.{rc_str_bytes}
 use Rattle.std.specs.declared.alloc.Global.{Global}
 use Rattle.std.specs.declared.rc.RcStr.{RcStr}
-use Rattle.kishu_model.specs.declared.value.Value as rust
-use Rattle.kishu_model.specs.Names.{is_name}
-use Rattle.kishu_model.specs.Sound.{is_valid}
-use Rattle.kishu_model.specs.Values.{Names, value_of}
+use Rattle.kishu_meaning.specs.declared.value.Value as rust
+use Rattle.kishu_language.specs.tokens.Names.{is_name}
+use Rattle.kishu_meaning.specs.values.Sound.{is_valid}
+use Rattle.kishu_meaning.specs.values.Values.{Names, value_of}
 use Rattle.kishu_names.specs.Record.{Rises}
 
 -- the names that are bound with their values, and those that were accessed, in byte order and each once

@@ -1,9 +1,9 @@
 // Which texts are names.
 ghost use Rattle.std.specs.Prelude.{◌≡◌};
 ghost use Rattle.std.specs.List.{list_all};
-ghost use Rattle.kishu_model.specs.Names.{is_name, is_letter, is_word_char, begins_with_letter};
+ghost use Rattle.kishu_language.specs.tokens.Names.{is_name, is_letter, is_word_char, begins_with_letter};
 
-use kishu_model::is_reserved;
+use kishu_language::is_reserved;
 
 const LONGEST: usize = 255;
 

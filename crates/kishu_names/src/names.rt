@@ -1,16 +1,16 @@
 // The namespace.
 ghost use Rattle.std.specs.Prelude.{◌≡◌, [], IsTrue, IfOk, IfSome, OnOk, OnErr, map, option_map};
 ghost use Rattle.std.specs.Rc.{rc_str_bytes};
-ghost use Rattle.kishu_model.specs.Names.{is_name};
-ghost use Rattle.kishu_model.specs.Values.{value_of, find, bind};
-ghost use Rattle.kishu_model.specs.Sound.{is_valid};
-ghost use Rattle.kishu_model.specs.Accesses.{unbind, with_access, with_accesses};
+ghost use Rattle.kishu_language.specs.tokens.Names.{is_name};
+ghost use Rattle.kishu_meaning.specs.values.Values.{value_of, find, bind};
+ghost use Rattle.kishu_meaning.specs.values.Sound.{is_valid};
+ghost use Rattle.kishu_meaning.specs.moments.Accesses.{unbind, with_access, with_accesses};
 ghost use Rattle.kishu_names.specs.Record.{Rises, texts_of};
 ghost use Rattle.kishu_names.specs.Namespace.{IsKept, names_of};
 ghost use Rattle.kishu_names.specs.Record.{Rises};
 
 use crate::record::{note, note_all, note_in_room};
-use kishu_model::Value;
+use kishu_meaning::Value;
 use std::alloc::{AllocError, Global};
 use std::collections::BTreeMap;
 use std::marker::Model;

@@ -2,7 +2,7 @@
 ghost use Rattle.std.specs.Prelude.{◌≡◌, ◌<◌, OnOk, OnErr};
 ghost use Rattle.std.specs.Rc.{rc_str_bytes};
 ghost use Rattle.std.specs.Vec.{vec_len, vec_capacity};
-ghost use Rattle.kishu_model.specs.Accesses.{with_access, with_accesses};
+ghost use Rattle.kishu_meaning.specs.moments.Accesses.{with_access, with_accesses};
 ghost use Rattle.kishu_names.specs.Record.{Rises, texts_of};
 
 use std::alloc::AllocError;

@@ -1,9 +1,9 @@
 // The names and the record after some calls.
 ghost use Rattle.std.specs.Prelude.{IsTrue};
-ghost use Rattle.kishu_model.specs.Names.{is_name};
+ghost use Rattle.kishu_language.specs.tokens.Names.{is_name};
 
 use crate::{Names, is_name};
-use kishu_model::Value;
+use kishu_meaning::Value;
 use std::alloc::{AllocError, Global};
 use std::rc::RcStr;
 use std::test::Fail;
@@ -39,7 +39,7 @@ fn bind(names: &mut Names, name: &str, number: i128) -> Result<(), AllocError>
 }
 
 #[test]
-#[tactic(auto, unfolding(kishu_model::specs::Names::reserved_words))]
+#[tactic(auto, unfolding(kishu_language::specs::tokens::Names::reserved_words))]
 fn accesses(rt: HostRuntime) -> Result<(), Fail> {
     let alloc = rt.alloc();
     let mut names = Names::new(alloc);

@@ -6,8 +6,8 @@ use Rattle.std.specs.Int.{w128}
 use Rattle.std.proofs.Math.Nat.{div-le_self, zero-mod}
 use Rattle.std.proofs.lemmas.Int.{ints}
 use borrow.Author.Tests.{ltb-true}
-use Rattle.kishu_model.specs.NumberLaws.{division}
-use Rattle.kishu_model.specs.Numbers.{floor_quotient, floor_remainder, IsDivision}
+use Rattle.kishu_meaning_laws.specs.NumberLaws.{division}
+use Rattle.kishu_meaning.specs.values.Numbers.{floor_quotient, floor_remainder, IsDivision}
 use Rattle.kishu_num.specs.declared.fault.NumFault.{NumFault}
 use Rattle.kishu_num.specs.Results.{in_range}
 use Rattle.kishu_num.proofs.Ranges.{ok_in_range, from_ok}

@@ -5,7 +5,7 @@ use Rattle.std.proofs.Math.Nat.{pow-zero, pow-suc, pow-le-pow_left, pow-le-pow_r
 use Rattle.std.proofs.Math.IntN.{*ℤ-one}
 use Rattle.std.proofs.lemmas.Nat.{mul-le}
 use Rattle.std.proofs.lemmas.Int.{unsigned_abs-mul}
-use Rattle.kishu_model.specs.Numbers.{is_whole, power}
+use Rattle.kishu_meaning.specs.values.Numbers.{is_whole, power}
 use Rattle.kishu_num.specs.declared.fault.NumFault.{NumFault}
 use Rattle.kishu_num.specs.Results.{in_range}
 use Rattle.kishu_num.proofs.Ranges.{outside, too_great, from_err}

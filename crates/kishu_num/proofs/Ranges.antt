@@ -4,7 +4,7 @@ use Rattle.std.specs.Prelude.{Ok, Err, unsigned_abs}
 use Rattle.std.specs.Int.RustNames.{FitsSigned}
 use Rattle.std.specs.Int.{w128}
 use Rattle.std.proofs.lemmas.Bool.Decides.{nat_tests}
-use Rattle.kishu_model.specs.Numbers.{is_whole}
+use Rattle.kishu_meaning.specs.values.Numbers.{is_whole}
 use Rattle.kishu_num.specs.declared.fault.NumFault.{NumFault}
 use Rattle.kishu_num.specs.declared.fault.NumFault.TheVariants.{Overflow}
 use Rattle.kishu_num.specs.Results.{in_range}

@@ -11,8 +11,8 @@ use Rattle.std.proofs.lemmas.Str.Ascii.{IsAscii-nil, IsAscii-cons}
 use Rattle.std.proofs.lemmas.Str.Parse.{IsDigitsTest, IsNumeralModel, numerals_by_value, parse_signed_plain, parse_signed_plus, parse_signed_minus}
 use Rattle.std.proofs.lemmas.Bool.Decides.{nat_tests}
 use borrow.Author.Tests.{eqb-true, eqb-false}
-use Rattle.kishu_model.specs.Names.{is_digit}
-use Rattle.kishu_model.specs.Numbers.{is_whole, unsigned_read, signed_read, if_whole}
+use Rattle.kishu_language.specs.tokens.Names.{is_digit}
+use Rattle.kishu_meaning.specs.values.Numbers.{is_whole, unsigned_read, signed_read, if_whole}
 
 tells : IsDigitsTest (λ ds. list_all is_digit ds ≡ true)
 tells = search rules

@@ -1,7 +1,7 @@
 -- White space at the ends of a text.
 use Rattle.std.proofs.Common.{◌≡◌, ℕ, zero, suc, ◌-◌, ◌<◌, ◌≤◌, true, false, List, [], ◌∷◌, ◌++◌, length, take, get_or, reverse, refl, sym, ap, ◌∙◌, arith, take-suc}
 use Rattle.std.proofs.lemmas.List.{reverse-append, reverse-reverse}
-use Rattle.kishu_model.specs.White.{is_white, without_front, without_back}
+use Rattle.kishu_meaning.specs.values.White.{is_white, without_front, without_back}
 
 pub trailing_white : (cs : List ℕ) (c : ℕ) → is_white c ≡ true → without_back (cs ++ c ∷ []) ≡ without_back cs
 trailing_white cs c h = ap (λ l. reverse (without_front l)) (reverse-append cs (c ∷ [])) ∙ rw h refl

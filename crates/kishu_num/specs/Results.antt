@@ -1,7 +1,7 @@
 -- What the operators answer, from what they mean.
 use Rattle.std.specs.Prelude.{ℤ, pos, negsuc, if◌then◌else◌, Result, Ok, Err}
 use Rattle.std.specs.Ordering.{int_eq}
-use Rattle.kishu_model.specs.Numbers.{is_whole, power}
+use Rattle.kishu_meaning.specs.values.Numbers.{is_whole, power}
 use Rattle.kishu_num.specs.declared.fault.NumFault.{NumFault}
 use Rattle.kishu_num.specs.declared.fault.NumFault.TheVariants.{Overflow, ZeroDivisor, NegativePower}
 

@@ -1,6 +1,6 @@
 // `**`.
 ghost use Rattle.std.specs.Prelude.{◌≡◌};
-ghost use Rattle.kishu_model.specs.Numbers.{power};
+ghost use Rattle.kishu_meaning.specs.values.Numbers.{power};
 ghost use Rattle.kishu_num.specs.Results.{in_range, raised_to};
 
 use crate::fault::NumFault;

@@ -1,6 +1,6 @@
 // `//`.
 ghost use Rattle.std.specs.Prelude.{◌≡◌, ◌≢◌, pos, ◌-ℤ◌, ◌*ℤ◌, IfOk};
-ghost use Rattle.kishu_model.specs.Numbers.{floor_quotient, IsDivision};
+ghost use Rattle.kishu_meaning.specs.values.Numbers.{floor_quotient, IsDivision};
 ghost use Rattle.kishu_num.specs.Results.{in_range, divided_by};
 
 use crate::fault::NumFault;

@@ -2,8 +2,8 @@
 ghost use Rattle.std.specs.Prelude.{◌≡◌, IfOk};
 ghost use Rattle.std.specs.Fmt.{signed_decimal};
 ghost use Rattle.std.specs.String.{string_bytes};
-ghost use Rattle.kishu_model.specs.Numbers.{signed_read, if_whole, number_read};
-ghost use Rattle.kishu_model.specs.White.{is_white, without_front, without_back, stripped};
+ghost use Rattle.kishu_meaning.specs.values.Numbers.{signed_read, if_whole, number_read};
+ghost use Rattle.kishu_meaning.specs.values.White.{is_white, without_front, without_back, stripped};
 
 use std::alloc::{AllocError, Global};
 

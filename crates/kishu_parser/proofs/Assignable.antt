@@ -4,10 +4,10 @@ use Rattle.std.specs.Prelude.{not, ◌&&◌, ◌==◌}
 use Rattle.std.specs.List.{slice_get}
 use Rattle.std.proofs.lemmas.Bool.{ne_eqb}
 use Rattle.std.proofs.lemmas.List.{drop_all}
-use Rattle.kishu_model.specs.declared.tree.Expr.{Expr}
-use Rattle.kishu_model.specs.declared.tree.Trailer.{Trailer as Trailer'}
-use Rattle.kishu_model.specs.Tree.{expressions, trailers, expression_of}
-use Rattle.kishu_model.specs.Targets.{is_place_trailer, ends_in_place, is_target, are_targets}
+use Rattle.kishu_language.specs.declared.tree.Expr.{Expr}
+use Rattle.kishu_language.specs.declared.tree.Trailer.{Trailer as Trailer'}
+use Rattle.kishu_language.specs.trees.Tree.{expressions, trailers, expression_of}
+use Rattle.kishu_language.specs.grammar.Targets.{is_place_trailer, ends_in_place, is_target, are_targets}
 use Rattle.kishu_parser.specs.Trees.{trailer_of}
 use Rattle.kishu_parser.proofs.Walks.{here}
 

@@ -1,13 +1,13 @@
 -- Where a turn of an assignment fails: a target, `=`, and what may be a target too.
 use Rattle.std.proofs.Common.{◌≡◌, ℕ, ◌+◌, ◌-◌, ◌<◌, Bool, true, false, [], ◌∷◌, ◌++◌, Some, None, ap, ◌∙◌}
-use Rattle.kishu_model.specs.declared.token.Mark.TheVariants as m
-use Rattle.kishu_model.specs.Language.{Tokens}
-use Rattle.kishu_model.specs.Grammar.{exprs}
-use Rattle.kishu_model.specs.Refusals.{Around}
-use Rattle.kishu_model.specs.Targets.{is_target}
-use Rattle.kishu_model.specs.Reader.{Reader, Outcome, and_then, climb, mark, where_true}
-use Rattle.kishu_model.specs.ReadExpressions.{phrase}
-use Rattle.kishu_model.specs.ReadStatements.{Assigned, assign_turn}
+use Rattle.kishu_language.specs.declared.token.Mark.TheVariants as m
+use Rattle.kishu_language.specs.grammar.Language.{Tokens}
+use Rattle.kishu_language.specs.grammar.Grammar.{exprs}
+use Rattle.kishu_language.specs.grammar.Refusals.{Around}
+use Rattle.kishu_language.specs.grammar.Targets.{is_target}
+use Rattle.kishu_language.specs.reading.Reader.{Reader, Outcome, and_then, climb, mark, where_true}
+use Rattle.kishu_language.specs.reading.ReadExpressions.{phrase}
+use Rattle.kishu_language.specs.reading.ReadStatements.{Assigned, assign_turn}
 use Rattle.kishu_parser.specs.declared.cursor.Stop.{Stop}
 use Rattle.kishu_parser.specs.Views.{Fails}
 use Rattle.kishu_parser.proofs.Counts.{breaks, fails_by}

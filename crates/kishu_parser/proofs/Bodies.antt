@@ -2,12 +2,12 @@
 use Rattle.std.proofs.Common.{◌≡◌, ℕ, zero, suc, Bool, true, false, cond, List, [], ◌∷◌, ◌++◌, length, Option, Some, None, refl, sym, ap, ◌∙◌, append_assoc}
 use Rattle.std.proofs.lemmas.List.{append-nil}
 use Rattle.std.specs.List.{flat_map}
-use Rattle.kishu_model.specs.Tree.{Text, Statement, Statements, statements}
-use Rattle.kishu_model.specs.Language.{Tokens}
-use Rattle.kishu_model.specs.Refusals.{Around}
-use Rattle.kishu_model.specs.Statements.{in_order}
-use Rattle.kishu_model.specs.Reader.{Reader, Outcome, and_then, token, is_newline, is_indent, is_dedent, sees_some, climb, turns, one_more, some}
-use Rattle.kishu_model.specs.ReadStatements as spec
+use Rattle.kishu_language.specs.trees.Tree.{Text, Statement, Statements, statements}
+use Rattle.kishu_language.specs.grammar.Language.{Tokens}
+use Rattle.kishu_language.specs.grammar.Refusals.{Around}
+use Rattle.kishu_language.specs.grammar.Statements.{in_order}
+use Rattle.kishu_language.specs.reading.Reader.{Reader, Outcome, and_then, token, is_newline, is_indent, is_dedent, sees_some, climb, turns, one_more, some}
+use Rattle.kishu_language.specs.reading.ReadStatements as spec
 use Rattle.kishu_parser.specs.Statements as lines
 use Rattle.kishu_parser.specs.Statements.{chunk_turn, sees_chunk}
 

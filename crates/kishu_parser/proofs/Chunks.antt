@@ -1,8 +1,8 @@
 -- Turns of chunks, whose statements are in one list.
 use Rattle.std.proofs.Common.{◌≡◌, ℕ, ◌-◌, ◌<◌, Bool, true, List, ◌++◌, Some, None, ap}
-use Rattle.kishu_model.specs.Tree.{Statement}
-use Rattle.kishu_model.specs.Language.{Tokens}
-use Rattle.kishu_model.specs.Reader.{Reader, Outcome, and_then, climb}
+use Rattle.kishu_language.specs.trees.Tree.{Statement}
+use Rattle.kishu_language.specs.grammar.Language.{Tokens}
+use Rattle.kishu_language.specs.reading.Reader.{Reader, Outcome, and_then, climb}
 use Rattle.kishu_parser.specs.declared.cursor.Stop.{Stop}
 use Rattle.kishu_parser.specs.Views.{Fails}
 use Rattle.kishu_parser.specs.Statements.{chunk_turn}

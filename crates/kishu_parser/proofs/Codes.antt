@@ -2,11 +2,11 @@
 use Rattle.std.proofs.Common.{◌≡◌, ℕ, zero, suc, ◌-◌, ◌<◌, Bool, true, false, if◌then◌else◌, List, [], ◌∷◌, length, take, drop, min, get_or, refl, sym, ap, ◌∙◌, arith}
 use Rattle.std.specs.Str.{IsCharBoundary}
 use Rattle.std.proofs.lemmas.List.{take-map}
-use Rattle.kishu_model.specs.declared.token.Token as rust
-use Rattle.kishu_model.specs.Layout.{Token}
-use Rattle.kishu_model.specs.Tokens.{kind_of, token_of}
-use Rattle.kishu_model.specs.Tree.{Text}
-use Rattle.kishu_model.specs.Code.{is_layout, begin_of, end_after, code_of}
+use Rattle.kishu_language.specs.declared.token.Token as rust
+use Rattle.kishu_language.specs.tokens.Layout.{Token}
+use Rattle.kishu_language.specs.tokens.Tokens.{kind_of, token_of}
+use Rattle.kishu_language.specs.trees.Tree.{Text}
+use Rattle.kishu_language.specs.trees.Code.{is_layout, begin_of, end_after, code_of}
 use Rattle.kishu_parser.specs.Views.{tokens_of, left}
 use Rattle.kishu_parser.specs.Statements.{Placed, between}
 use Rattle.kishu_parser.proofs.Fronts.{left_count}

@@ -1,15 +1,15 @@
 -- What the readers of a loop and of a function give, step by step.
 use Rattle.std.proofs.Common.{◌≡◌, ℕ, Bool, true, false, List, Some, None, sym, ap, ◌∙◌}
-use Rattle.kishu_model.specs.declared.token.Mark.TheVariants as m
-use Rattle.kishu_model.specs.declared.tree.Arm as rust_arm
-use Rattle.kishu_model.specs.declared.tree.Stmt.TheVariants as s
-use Rattle.kishu_model.specs.Tree.{Text, Parameter, Statement, Statements, Arm, Definition, statement_of}
-use Rattle.kishu_model.specs.Tree as t
-use Rattle.kishu_model.specs.Language.{Tokens}
-use Rattle.kishu_model.specs.Refusals.{Around, in_loop, in_function, parameters_fit, globals_fit}
-use Rattle.kishu_model.specs.Reader.{Reader, Outcome, and_then, where_true, mark, token, a_name}
-use Rattle.kishu_model.specs.ReadExpressions.{any_listed}
-use Rattle.kishu_model.specs.ReadStatements as spec
+use Rattle.kishu_language.specs.declared.token.Mark.TheVariants as m
+use Rattle.kishu_language.specs.declared.tree.Arm as rust_arm
+use Rattle.kishu_language.specs.declared.tree.Stmt.TheVariants as s
+use Rattle.kishu_language.specs.trees.Tree.{Text, Parameter, Statement, Statements, Arm, Definition, statement_of}
+use Rattle.kishu_language.specs.trees.Tree as t
+use Rattle.kishu_language.specs.grammar.Language.{Tokens}
+use Rattle.kishu_language.specs.grammar.Refusals.{Around, in_loop, in_function, parameters_fit, globals_fit}
+use Rattle.kishu_language.specs.reading.Reader.{Reader, Outcome, and_then, where_true, mark, token, a_name}
+use Rattle.kishu_language.specs.reading.ReadExpressions.{any_listed}
+use Rattle.kishu_language.specs.reading.ReadStatements as spec
 use Rattle.kishu_parser.specs.Bodies.{arm_of}
 use Rattle.kishu_parser.specs.Statements as lines
 use Rattle.kishu_parser.proofs.Bodies as bodies

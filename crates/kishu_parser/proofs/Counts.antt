@@ -1,25 +1,25 @@
 -- A recursion on a count of turns, beside a loop that counts up; and a level below another.
 use Rattle.std.proofs.Common.{◌≡◌, ℕ, zero, suc, ◌+◌, ◌-◌, ◌<◌, ◌≤◌, ap, ◌∙◌, arith}
-use Rattle.kishu_model.specs.Language.{Tokens}
-use Rattle.kishu_model.specs.Grammar.{Phrase, has_room}
+use Rattle.kishu_language.specs.grammar.Language.{Tokens}
+use Rattle.kishu_language.specs.grammar.Grammar.{Phrase, has_room}
 use Rattle.std.specs.Prelude.{List, [], ◌∷◌, Some}
 use Rattle.std.proofs.Common.{sym}
-use Rattle.kishu_model.specs.Tree.{Text, Statement}
-use Rattle.kishu_model.specs.Refusals.{Around}
+use Rattle.kishu_language.specs.trees.Tree.{Text, Statement}
+use Rattle.kishu_language.specs.grammar.Refusals.{Around}
 use Rattle.std.specs.Prelude.{Bool, true, false, ◌++◌, None}
 use Rattle.std.proofs.Common.{cond}
-use Rattle.kishu_model.specs.declared.token.Mark.{Mark}
+use Rattle.kishu_language.specs.declared.token.Mark.{Mark}
 use Rattle.std.specs.Prelude.{Option}
-use Rattle.kishu_model.specs.Tree.{Expression}
-use Rattle.kishu_model.specs.Reader.{Reader, Outcome, and_then, climb, mark, either, sees_one, next, in_table, one_of, and_rest, rest}
-use Rattle.kishu_model.specs.Reader.{one_more as more}
-use Rattle.kishu_model.specs.ReadExpressions.{operation}
+use Rattle.kishu_language.specs.trees.Tree.{Expression}
+use Rattle.kishu_language.specs.reading.Reader.{Reader, Outcome, and_then, climb, mark, either, sees_one, next, in_table, one_of, and_rest, rest}
+use Rattle.kishu_language.specs.reading.Reader.{one_more as more}
+use Rattle.kishu_language.specs.reading.ReadExpressions.{operation}
 use Rattle.kishu_parser.specs.declared.cursor.Stop.{Stop}
 use Rattle.kishu_parser.specs.declared.cursor.Stop.TheVariants as stop
 use Rattle.kishu_parser.specs.Views.{Fails}
 use Rattle.kishu_parser.specs.Turns.{more_turn}
-use Rattle.kishu_model.specs.ReadExpressions.{phrase, level, primary}
-use Rattle.kishu_model.specs.ReadStatements.{primary_at, line, simples, chunk, compound, begins_compound}
+use Rattle.kishu_language.specs.reading.ReadExpressions.{phrase, level, primary}
+use Rattle.kishu_language.specs.reading.ReadStatements.{primary_at, line, simples, chunk, compound, begins_compound}
 
 pub one_more : {X : Type 0} {x : X} (f : ℕ → X) (n at : ℕ) → at < n → x ≡ f (n - at) → x ≡ f (suc (n - (at + 1)))
 one_more f n at below e = let turn : n - at ≡ suc (n - (at + 1)) = omega arith in e ∙ ap f turn

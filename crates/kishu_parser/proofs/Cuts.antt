@@ -2,22 +2,22 @@
 use Rattle.std.specs.Prelude.{◌≡◌, ℕ, ◌<◌, ◌≤◌, ◌+◌, ◌-◌, Bool, true, false, ◌&&◌, ◌==◌, cond, List, [], ◌∷◌, length, Option, Some, None, Err}
 use Rattle.std.proofs.Common.{refl, sym, ap, ◌∙◌, arith}
 use Rattle.std.proofs.lemmas.Bool.Decides.{Decides-eqb}
-use Rattle.kishu_model.specs.Layout.{Kind}
-use Rattle.kishu_model.specs.Layout as kind
-use Rattle.kishu_model.specs.Tree.{Text, Statement}
-use Rattle.kishu_model.specs.Language.{Tokens}
-use Rattle.kishu_model.specs.Grammar.{deepest}
-use Rattle.kishu_model.specs.Refusals.{Around, top}
-use Rattle.kishu_model.specs.Pieces.{starts_piece, rest_after, piece_rest, next_piece}
-use Rattle.kishu_model.specs.Reader.{rest}
-use Rattle.kishu_model.specs.ReadStatements.{chunk}
-use Rattle.kishu_model.specs.ReadText.{where_ends, piece}
+use Rattle.kishu_language.specs.tokens.Layout.{Kind}
+use Rattle.kishu_language.specs.tokens.Layout as kind
+use Rattle.kishu_language.specs.trees.Tree.{Text, Statement}
+use Rattle.kishu_language.specs.grammar.Language.{Tokens}
+use Rattle.kishu_language.specs.grammar.Grammar.{deepest}
+use Rattle.kishu_language.specs.grammar.Refusals.{Around, top}
+use Rattle.kishu_language.specs.grammar.Pieces.{starts_piece, rest_after, piece_rest, next_piece}
+use Rattle.kishu_language.specs.reading.Reader.{rest}
+use Rattle.kishu_language.specs.reading.ReadStatements.{chunk}
+use Rattle.kishu_language.specs.reading.ReadText.{where_ends, piece}
 use Rattle.kishu_parser.specs.declared.cursor.Stop.{Stop}
 use Rattle.kishu_parser.specs.declared.cursor.Stop.TheVariants as stop
 use Rattle.kishu_parser.specs.Views.{front, Fails}
 use Rattle.kishu_parser.specs.Statements.{after_kind, GivesPiece}
 use Rattle.kishu_parser.specs.Views.{left, tokens_of}
-use Rattle.kishu_model.specs.declared.token.Token as rust_token
+use Rattle.kishu_language.specs.declared.token.Token as rust_token
 
 -- ---- one piece
 

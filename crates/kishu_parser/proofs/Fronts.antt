@@ -2,15 +2,15 @@
 use Rattle.std.proofs.Common.{◌≡◌, ℕ, zero, suc, ◌+◌, ◌-◌, ◌<◌, ◌≤◌, List, [], ◌∷◌, drop, length, get_or, Option, Some, None, refl, sym, ap, ◌∙◌, arith}
 use Rattle.std.specs.Prelude.{map, Bool, true, false, ◌||◌, is_some}
 use Rattle.std.proofs.lemmas.List.{drop_all}
-use Rattle.kishu_model.specs.declared.token.Token as rust
-use Rattle.kishu_model.specs.Layout.{Kind}
-use Rattle.kishu_model.specs.Tokens.{kind_of, token_of}
-use Rattle.kishu_model.specs.Language.{Tokens}
-use Rattle.kishu_model.specs.Layout as kind
-use Rattle.kishu_model.specs.declared.token.Mark.{Mark}
-use Rattle.kishu_model.specs.Pieces.{starts_line, starts_piece, first_line}
-use Rattle.kishu_model.specs.ReadExpressions.{begins_expr, kind_begins, expr_begins}
-use Rattle.kishu_model.specs.Reader.{next, rest, token, and_rest, one_of, sees_some, in_table, a_name, an_integer, a_text}
+use Rattle.kishu_language.specs.declared.token.Token as rust
+use Rattle.kishu_language.specs.tokens.Layout.{Kind}
+use Rattle.kishu_language.specs.tokens.Tokens.{kind_of, token_of}
+use Rattle.kishu_language.specs.grammar.Language.{Tokens}
+use Rattle.kishu_language.specs.tokens.Layout as kind
+use Rattle.kishu_language.specs.declared.token.Mark.{Mark}
+use Rattle.kishu_language.specs.grammar.Pieces.{starts_line, starts_piece, first_line}
+use Rattle.kishu_language.specs.reading.ReadExpressions.{begins_expr, kind_begins, expr_begins}
+use Rattle.kishu_language.specs.reading.Reader.{next, rest, token, and_rest, one_of, sees_some, in_table, a_name, an_integer, a_text}
 use Rattle.kishu_parser.specs.Views.{left, front, next_mark, by_table, tokens_of}
 
 abbrev pub of_kind : {A : Type 0} → (Kind → Option A) → Option Kind → Option A

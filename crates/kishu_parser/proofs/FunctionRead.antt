@@ -2,25 +2,25 @@
 use Rattle.std.specs.Prelude.{◌≡◌, ℕ, ◌-◌, ◌<◌, ◌≤◌, max, Bool, true, false, cond, List, [], ◌∷◌, length, take, Option, Some, None, is_some, Result, Ok, Err}
 use Rattle.std.proofs.Common.{refl, sym, ap, subst, ◌∙◌, arith}
 use Rattle.std.proofs.Math.Nat.{le-max_left}
-use Rattle.kishu_model.specs.declared.profile.Profile.{Profile}
-use Rattle.kishu_model.specs.declared.token.Mark.TheVariants as m
-use Rattle.kishu_model.specs.Tree.{Text, Statement, Definition}
-use Rattle.kishu_model.specs.Tree as t
-use Rattle.kishu_model.specs.Language.{Tokens}
-use Rattle.kishu_model.specs.Grammar.{deepest}
-use Rattle.kishu_model.specs.Refusals.{Around, top, in_function, parameters_fit, globals_fit}
-use Rattle.kishu_model.specs.Code.{code_of}
-use Rattle.kishu_model.specs.Statements as s
-use Rattle.kishu_model.specs.Reader.{Reader, Outcome, ◌>>=◌, ◌>>◌, pure, and_then, and_rest, next, is_mark, where_true, token, a_name, mark, sees}
-use Rattle.kishu_model.specs.ReadExpressions.{any_listed}
-use Rattle.kishu_model.specs.ReadStatements as rs
-use Rattle.kishu_model.specs.Exact.{some_is}
-use Rattle.kishu_model.specs.ExactOperators.{other_mark, sees_table}
-use Rattle.kishu_model.specs.ExactBlocks.{chunks_read}
-use Rattle.kishu_model.specs.Tokens.{tokens}
-use Rattle.kishu_model.specs.Parse.{plain_text, ParseDef}
-use Rattle.kishu_model.specs.Height.{of_statement}
-use Rattle.kishu_model.specs.HeightLaws.{tree_height}
+use Rattle.kishu_language.specs.declared.profile.Profile.{Profile}
+use Rattle.kishu_language.specs.declared.token.Mark.TheVariants as m
+use Rattle.kishu_language.specs.trees.Tree.{Text, Statement, Definition}
+use Rattle.kishu_language.specs.trees.Tree as t
+use Rattle.kishu_language.specs.grammar.Language.{Tokens}
+use Rattle.kishu_language.specs.grammar.Grammar.{deepest}
+use Rattle.kishu_language.specs.grammar.Refusals.{Around, top, in_function, parameters_fit, globals_fit}
+use Rattle.kishu_language.specs.trees.Code.{code_of}
+use Rattle.kishu_language.specs.grammar.Statements as s
+use Rattle.kishu_language.specs.reading.Reader.{Reader, Outcome, ◌>>=◌, ◌>>◌, pure, and_then, and_rest, next, is_mark, where_true, token, a_name, mark, sees}
+use Rattle.kishu_language.specs.reading.ReadExpressions.{any_listed}
+use Rattle.kishu_language.specs.reading.ReadStatements as rs
+use Rattle.kishu_language_laws.specs.reading.Exact.{some_is}
+use Rattle.kishu_language_laws.specs.reading.ExactOperators.{other_mark, sees_table}
+use Rattle.kishu_language_laws.specs.reading.ExactBlocks.{chunks_read}
+use Rattle.kishu_language.specs.tokens.Tokens.{tokens}
+use Rattle.kishu_language.specs.grammar.Parse.{plain_text, ParseDef}
+use Rattle.kishu_language.specs.trees.Height.{of_statement}
+use Rattle.kishu_language_laws.specs.trees.HeightLaws.{tree_height}
 use Rattle.kishu_parser.specs.declared.cursor.Stop.{Stop}
 use Rattle.kishu_parser.specs.declared.cursor.Stop.TheVariants as stop
 use Rattle.kishu_parser.specs.Views.{Fails}

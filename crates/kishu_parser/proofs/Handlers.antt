@@ -1,14 +1,14 @@
 -- A handler's class and name are read apart.
 use Rattle.std.proofs.Common.{◌≡◌, ℕ, suc, Bool, true, false, cond, List, Option, Some, None, refl, ap, ◌∙◌}
-use Rattle.kishu_model.specs.declared.token.Mark.TheVariants as m
-use Rattle.kishu_model.specs.Tree.{Text, Expression, Statement, Statements, Handler}
-use Rattle.kishu_model.specs.Language.{Tokens}
-use Rattle.kishu_model.specs.Grammar.{expr}
-use Rattle.kishu_model.specs.Refusals.{Around, in_handler}
-use Rattle.kishu_model.specs.Statements.{handler_of}
-use Rattle.kishu_model.specs.Reader.{Reader, Outcome, and_then, mark, optional}
-use Rattle.kishu_model.specs.ReadExpressions.{expr_begins, phrase}
-use Rattle.kishu_model.specs.ReadStatements as spec
+use Rattle.kishu_language.specs.declared.token.Mark.TheVariants as m
+use Rattle.kishu_language.specs.trees.Tree.{Text, Expression, Statement, Statements, Handler}
+use Rattle.kishu_language.specs.grammar.Language.{Tokens}
+use Rattle.kishu_language.specs.grammar.Grammar.{expr}
+use Rattle.kishu_language.specs.grammar.Refusals.{Around, in_handler}
+use Rattle.kishu_language.specs.grammar.Statements.{handler_of}
+use Rattle.kishu_language.specs.reading.Reader.{Reader, Outcome, and_then, mark, optional}
+use Rattle.kishu_language.specs.reading.ReadExpressions.{expr_begins, phrase}
+use Rattle.kishu_language.specs.reading.ReadStatements as spec
 use Rattle.kishu_parser.specs.Statements as lines
 
 abbrev Caught : Type 0

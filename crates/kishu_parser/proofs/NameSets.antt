@@ -8,10 +8,10 @@ use Rattle.std.specs.Rc.{rc_str_bytes}
 use Rattle.std.specs.Cmp.Lexicographic.{bytes_decides}
 use Rattle.std.specs.declared.alloc.Global.{Global}
 use Rattle.std.specs.declared.rc.RcStr.{RcStr}
-use Rattle.kishu_model.specs.Names.{is_among}
-use Rattle.kishu_model.specs.Tree.{Text, Expression, Argument, plain, keyword}
-use Rattle.kishu_model.specs.Grammar.{fits_after}
-use Rattle.kishu_model.specs.Refusals.{Mention, variable, declared, globals_fit_after, all_differ}
+use Rattle.kishu_language.specs.tokens.Names.{is_among}
+use Rattle.kishu_language.specs.trees.Tree.{Text, Expression, Argument, plain, keyword}
+use Rattle.kishu_language.specs.grammar.Grammar.{fits_after}
+use Rattle.kishu_language.specs.grammar.Refusals.{Mention, variable, declared, globals_fit_after, all_differ}
 use Rattle.kishu_parser.specs.Sets.{with_name, with_names, note}
 use Rattle.kishu_parser.proofs.Parts.{map_append}
 

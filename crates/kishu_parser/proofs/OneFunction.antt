@@ -3,16 +3,16 @@ use Rattle.std.specs.Prelude.{◌≡◌, ℕ, zero, suc, ◌+◌, ◌≤◌, Boo
 use Rattle.std.specs.List.{flat_map}
 use Rattle.std.proofs.Common.{refl, sym, ap, subst, ◌∙◌, arith, ⊎_elim}
 use Rattle.std.proofs.lemmas.List.{append-nil, length-append}
-use Rattle.kishu_model.specs.declared.token.Mark.TheVariants as m
-use Rattle.kishu_model.specs.Tree.{Text, Statement, Statements}
-use Rattle.kishu_model.specs.Tree as t
-use Rattle.kishu_model.specs.Language.{Tokens, Language, Many, done, more}
-use Rattle.kishu_model.specs.Language as l
-use Rattle.kishu_model.specs.Grammar as g
-use Rattle.kishu_model.specs.Grammar.{deepest}
-use Rattle.kishu_model.specs.Refusals.{Around, top}
-use Rattle.kishu_model.specs.Statements as s
-use Rattle.kishu_model.specs.Gives.{Gives, gives, given, pure, whatever, ◌>>=◌, ◌>>◌, ◌or◌}
+use Rattle.kishu_language.specs.declared.token.Mark.TheVariants as m
+use Rattle.kishu_language.specs.trees.Tree.{Text, Statement, Statements}
+use Rattle.kishu_language.specs.trees.Tree as t
+use Rattle.kishu_language.specs.grammar.Language.{Tokens, Language, Many, done, more}
+use Rattle.kishu_language.specs.grammar.Language as l
+use Rattle.kishu_language.specs.grammar.Grammar as g
+use Rattle.kishu_language.specs.grammar.Grammar.{deepest}
+use Rattle.kishu_language.specs.grammar.Refusals.{Around, top}
+use Rattle.kishu_language.specs.grammar.Statements as s
+use Rattle.kishu_language_laws.specs.trees.Gives.{Gives, gives, given, pure, whatever, ◌>>=◌, ◌>>◌, ◌or◌}
 
 -- ---- what is no function
 

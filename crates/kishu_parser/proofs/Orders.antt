@@ -3,9 +3,9 @@ use Rattle.std.proofs.Common.{◌≡◌, Bool, true, false, List, [], ◌∷◌,
 use Rattle.std.specs.Prelude.{not, ◌&&◌, is_none, is_some}
 use Rattle.std.specs.declared.alloc.Global.{Global}
 use Rattle.std.specs.declared.rc.RcStr.{RcStr}
-use Rattle.kishu_model.specs.declared.tree.Expr.{Expr}
-use Rattle.kishu_model.specs.Tree.{Handler, parameter_of}
-use Rattle.kishu_model.specs.Refusals.{defaults_last, handlers_fit}
+use Rattle.kishu_language.specs.declared.tree.Expr.{Expr}
+use Rattle.kishu_language.specs.trees.Tree.{Handler, parameter_of}
+use Rattle.kishu_language.specs.grammar.Refusals.{defaults_last, handlers_fit}
 
 -- whether the one before has a default
 abbrev pub after_default : Bool → List (RcStr Global × Option Expr) → Bool

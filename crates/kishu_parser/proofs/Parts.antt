@@ -1,12 +1,12 @@
 -- The parts of a tree, joined.
 use Rattle.std.proofs.Common.{◌≡◌, ℕ, zero, suc, ◌+◌, ◌<◌, Bool, true, false, List, [], ◌∷◌, ◌++◌, map, length, Option, Some, None, refl, sym, ap, ◌∙◌, arith}
 use Rattle.std.specs.Prelude.{not, ◌==◌}
-use Rattle.kishu_model.specs.ReadExpressions.{is_several}
+use Rattle.kishu_language.specs.reading.ReadExpressions.{is_several}
 use Rattle.std.proofs.lemmas.Bool.{ne_eqb}
-use Rattle.kishu_model.specs.declared.tree.Expr.{Expr}
-use Rattle.kishu_model.specs.Tree.{Expression, expressions, expression_of}
-use Rattle.kishu_model.specs.Tree as t
-use Rattle.kishu_model.specs.Grammar.{alone, unless_alone, any_of, all_of}
+use Rattle.kishu_language.specs.declared.tree.Expr.{Expr}
+use Rattle.kishu_language.specs.trees.Tree.{Expression, expressions, expression_of}
+use Rattle.kishu_language.specs.trees.Tree as t
+use Rattle.kishu_language.specs.grammar.Grammar.{alone, unless_alone, any_of, all_of}
 
 pub many : {A B : Type 0} (f : A → B) (make : Expression → List B → Expression) (first : Expression) (xs : List A) → (length xs ≡ 0 → ⊥) → make first (map f xs) ≡ unless_alone make first (map f xs)
 many f make first [] h = absurd (h refl)

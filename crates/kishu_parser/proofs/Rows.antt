@@ -6,28 +6,28 @@ use Rattle.std.specs.declared.boxed.Box.{Box}
 use Rattle.std.specs.declared.rc.RcStr.{RcStr}
 use Rattle.std.specs.declared.vec.Vec.{Vec}
 use Rattle.std.specs.Rc.{rc_str_bytes}
-use Rattle.kishu_model.specs.declared.tree.Operator.{Operator}
-use Rattle.kishu_model.specs.declared.tree.Sign.{Sign}
-use Rattle.kishu_model.specs.declared.tree.Comparison.{Comparison}
-use Rattle.kishu_model.specs.declared.tree.Expr.{Expr}
-use Rattle.kishu_model.specs.declared.tree.Expr.TheVariants as e
-use Rattle.kishu_model.specs.declared.tree.Link as link
-use Rattle.kishu_model.specs.declared.tree.Link.{Link}
-use Rattle.kishu_model.specs.declared.tree.Operand as operand
-use Rattle.kishu_model.specs.declared.tree.Operand.{Operand}
-use Rattle.kishu_model.specs.declared.tree.Pair as pair
-use Rattle.kishu_model.specs.declared.tree.Pair.{Pair}
-use Rattle.kishu_model.specs.declared.tree.Trailer as rust_trailer
-use Rattle.kishu_model.specs.declared.tree.Trailer.TheVariants as tr
-use Rattle.kishu_model.specs.declared.tree.Argument as rust_argument
-use Rattle.kishu_model.specs.declared.tree.Argument.TheVariants as ar
-use Rattle.kishu_model.specs.declared.tree.Argument.TheOpen.{Expr-F, Trailer-F, Argument-F, Link-F, Operand-F, Pair-F}
-use Rattle.kishu_model.specs.declared.tree.Argument.TheFolds.{fold-roll-Expr, fold-roll-Trailer, fold-roll-Argument, fold-roll-Link, fold-roll-Operand, fold-roll-Pair}
-use Rattle.kishu_model.specs.Tree.{Expression, Trailer, Argument, expressions, links, operands, trailers, arguments, pairs, bound_of, value_of, expression_of, argument_step, expression_step, trailer_step, link_step, operand_step, pair_step}
-use Rattle.kishu_model.specs.declared.tree.Argument.TheViews.{roll-Link}
-use Rattle.kishu_model.specs.declared.tree.Argument.TheViews.{roll-Operand}
-use Rattle.kishu_model.specs.declared.tree.Argument.TheViews.{roll-Pair}
-use Rattle.kishu_model.specs.Tree as t
+use Rattle.kishu_language.specs.declared.tree.Operator.{Operator}
+use Rattle.kishu_language.specs.declared.tree.Sign.{Sign}
+use Rattle.kishu_language.specs.declared.tree.Comparison.{Comparison}
+use Rattle.kishu_language.specs.declared.tree.Expr.{Expr}
+use Rattle.kishu_language.specs.declared.tree.Expr.TheVariants as e
+use Rattle.kishu_language.specs.declared.tree.Link as link
+use Rattle.kishu_language.specs.declared.tree.Link.{Link}
+use Rattle.kishu_language.specs.declared.tree.Operand as operand
+use Rattle.kishu_language.specs.declared.tree.Operand.{Operand}
+use Rattle.kishu_language.specs.declared.tree.Pair as pair
+use Rattle.kishu_language.specs.declared.tree.Pair.{Pair}
+use Rattle.kishu_language.specs.declared.tree.Trailer as rust_trailer
+use Rattle.kishu_language.specs.declared.tree.Trailer.TheVariants as tr
+use Rattle.kishu_language.specs.declared.tree.Argument as rust_argument
+use Rattle.kishu_language.specs.declared.tree.Argument.TheVariants as ar
+use Rattle.kishu_language.specs.declared.tree.Argument.TheOpen.{Expr-F, Trailer-F, Argument-F, Link-F, Operand-F, Pair-F}
+use Rattle.kishu_language.specs.declared.tree.Argument.TheFolds.{fold-roll-Expr, fold-roll-Trailer, fold-roll-Argument, fold-roll-Link, fold-roll-Operand, fold-roll-Pair}
+use Rattle.kishu_language.specs.trees.Tree.{Expression, Trailer, Argument, expressions, links, operands, trailers, arguments, pairs, bound_of, value_of, expression_of, argument_step, expression_step, trailer_step, link_step, operand_step, pair_step}
+use Rattle.kishu_language.specs.declared.tree.Argument.TheViews.{roll-Link}
+use Rattle.kishu_language.specs.declared.tree.Argument.TheViews.{roll-Operand}
+use Rattle.kishu_language.specs.declared.tree.Argument.TheViews.{roll-Pair}
+use Rattle.kishu_language.specs.trees.Tree as t
 use Rattle.kishu_parser.specs.Trees.{link_of, operand_of, pair_of, trailer_of, argument_of}
 
 pub tuple_is : (v : Vec Expr Global) → expression_of (e.Tuple v) ≡ t.tuple (expressions (map expression_of v.items))

@@ -1,11 +1,11 @@
 -- Which simple statement the next token begins, with no more said of its place than it asks for.
 use Rattle.std.proofs.Common.{◌≡◌, ℕ, Bool, true, false, cond, refl, ap, ◌∙◌}
-use Rattle.kishu_model.specs.declared.token.Mark.TheVariants as m
-use Rattle.kishu_model.specs.Tree.{Statement}
-use Rattle.kishu_model.specs.Language.{Tokens}
-use Rattle.kishu_model.specs.Refusals.{Around}
-use Rattle.kishu_model.specs.Reader.{Reader, sees, either}
-use Rattle.kishu_model.specs.ReadStatements as spec
+use Rattle.kishu_language.specs.declared.token.Mark.TheVariants as m
+use Rattle.kishu_language.specs.trees.Tree.{Statement}
+use Rattle.kishu_language.specs.grammar.Language.{Tokens}
+use Rattle.kishu_language.specs.grammar.Refusals.{Around}
+use Rattle.kishu_language.specs.reading.Reader.{Reader, sees, either}
+use Rattle.kishu_language.specs.reading.ReadStatements as spec
 use Rattle.kishu_parser.specs.Statements as lines
 
 module _ {A : Type 0} (test : Tokens → Bool) (p q : Reader A) (ts : Tokens) where

@@ -5,18 +5,18 @@ use Rattle.std.specs.declared.rc.Rc.{Rc}
 use Rattle.std.specs.declared.rc.RcStr.{RcStr}
 use Rattle.std.specs.declared.vec.Vec.{Vec}
 use Rattle.std.specs.Rc.{rc_str_bytes}
-use Rattle.kishu_model.specs.declared.tree.Operator.{Operator}
-use Rattle.kishu_model.specs.declared.tree.Expr.{Expr}
-use Rattle.kishu_model.specs.declared.tree.Stmt.{Stmt}
-use Rattle.kishu_model.specs.declared.tree.Stmt.TheVariants as s
-use Rattle.kishu_model.specs.declared.tree.Arm.{Arm as Arm'}
-use Rattle.kishu_model.specs.declared.tree.Handler.{Handler as Handler'}
-use Rattle.kishu_model.specs.declared.tree.Def.{Def}
-use Rattle.kishu_model.specs.declared.tree.Stmt.TheOpen.{Arm-F, Def-F, Handler-F, Stmt-F}
-use Rattle.kishu_model.specs.declared.tree.Stmt.TheFolds.{fold-roll-Stmt, fold-roll-Arm, fold-roll-Handler, fold-roll-Def}
-use Rattle.kishu_model.specs.declared.tree.Stmt.TheViews.{roll-Arm, roll-Handler, roll-Def}
-use Rattle.kishu_model.specs.Tree.{Statement, Arm, Handler, Definition, statements, arms, handlers, value_of, text_of, parameter_of, expression_of, statement_of, definition_of, statement_step, arm_step, definition_step, handler_step}
-use Rattle.kishu_model.specs.Tree as t
+use Rattle.kishu_language.specs.declared.tree.Operator.{Operator}
+use Rattle.kishu_language.specs.declared.tree.Expr.{Expr}
+use Rattle.kishu_language.specs.declared.tree.Stmt.{Stmt}
+use Rattle.kishu_language.specs.declared.tree.Stmt.TheVariants as s
+use Rattle.kishu_language.specs.declared.tree.Arm.{Arm as Arm'}
+use Rattle.kishu_language.specs.declared.tree.Handler.{Handler as Handler'}
+use Rattle.kishu_language.specs.declared.tree.Def.{Def}
+use Rattle.kishu_language.specs.declared.tree.Stmt.TheOpen.{Arm-F, Def-F, Handler-F, Stmt-F}
+use Rattle.kishu_language.specs.declared.tree.Stmt.TheFolds.{fold-roll-Stmt, fold-roll-Arm, fold-roll-Handler, fold-roll-Def}
+use Rattle.kishu_language.specs.declared.tree.Stmt.TheViews.{roll-Arm, roll-Handler, roll-Def}
+use Rattle.kishu_language.specs.trees.Tree.{Statement, Arm, Handler, Definition, statements, arms, handlers, value_of, text_of, parameter_of, expression_of, statement_of, definition_of, statement_step, arm_step, definition_step, handler_step}
+use Rattle.kishu_language.specs.trees.Tree as t
 use Rattle.kishu_parser.specs.Bodies.{arm_of, handler_of}
 
 pub pass_is : statement_of (s.Pass) ≡ t.pass

@@ -2,14 +2,14 @@
 use Rattle.std.specs.Prelude.{◌≡◌, ◌≢◌, ℕ, zero, suc, ◌+◌, ◌-◌, ◌<◌, ◌≤◌, List, [], ◌∷◌, ◌++◌, map, length, Option, Some, None, Result, Ok, Err}
 use Rattle.std.proofs.Common.{refl, sym, ap, subst, ◌∙◌, arith, append_assoc}
 use Rattle.std.proofs.lemmas.List.{map-append, append-nil}
-use Rattle.kishu_model.specs.declared.profile.Profile.{Profile}
-use Rattle.kishu_model.specs.Tree.{Text, Statement, statement_of}
-use Rattle.kishu_model.specs.Language.{Tokens}
-use Rattle.kishu_model.specs.Tokens.{tokens}
-use Rattle.kishu_model.specs.Pieces.{next_piece, first_line}
-use Rattle.kishu_model.specs.Parse.{plain_text, Line}
-use Rattle.kishu_model.specs.ReadText.{piece, and_pieces, pieces}
-use Rattle.kishu_model.specs.ExactPieces.{piece_shorter, piece_found, piece_only}
+use Rattle.kishu_language.specs.declared.profile.Profile.{Profile}
+use Rattle.kishu_language.specs.trees.Tree.{Text, Statement, statement_of}
+use Rattle.kishu_language.specs.grammar.Language.{Tokens}
+use Rattle.kishu_language.specs.tokens.Tokens.{tokens}
+use Rattle.kishu_language.specs.grammar.Pieces.{next_piece, first_line}
+use Rattle.kishu_language.specs.grammar.Parse.{plain_text, Line}
+use Rattle.kishu_language.specs.reading.ReadText.{piece, and_pieces, pieces}
+use Rattle.kishu_language_laws.specs.reading.ExactPieces.{piece_shorter, piece_found, piece_only}
 use Rattle.kishu_lexer.specs.declared.fault.SyntaxFault.{SyntaxFault}
 use Rattle.kishu_lexer.specs.declared.fault.SyntaxFault.TheVariants as fault
 use Rattle.kishu_parser.specs.declared.pieces.Piece as rust

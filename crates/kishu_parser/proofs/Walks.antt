@@ -2,16 +2,16 @@
 use Rattle.std.proofs.Common.{◌≡◌, ℕ, ◌+◌, ◌<◌, ◌≤◌, max, Bool, true, false, List, [], ◌∷◌, ◌++◌, map, length, drop, get_or, Option, Some, None, refl, sym, ap, ◌∙◌, arith, add-one, drop-cons, true≢false}
 use Rattle.std.specs.Prelude.{Result, Ok, Err, OnOk, IfOk, is_some, flat_map}
 use Rattle.std.specs.Rc.{rc_str_bytes}
-use Rattle.kishu_model.specs.declared.tree.Link.{Link}
-use Rattle.kishu_model.specs.declared.tree.Operand.{Operand}
-use Rattle.kishu_model.specs.declared.tree.Pair.{Pair}
-use Rattle.kishu_model.specs.declared.tree.Arm.{Arm as Arm'}
-use Rattle.kishu_model.specs.declared.tree.Handler.{Handler as Handler'}
-use Rattle.kishu_model.specs.declared.tree.Def.{Def}
-use Rattle.kishu_model.specs.Tree.{Text, Expression, expressions, expression_of, pairs, bound_of, statements, statement_of, arms, handlers, value_of, text_of, definition_of, parameter_of}
-use Rattle.kishu_model.specs.Tree as t
-use Rattle.kishu_model.specs.Refusals.{Mention, variables, in_expression, in_expressions, in_pairs, in_trailer, in_bound, in_optional, in_statements, in_arms, in_handlers, globals_fit_after}
-use Rattle.kishu_model.specs.Height.{of_expression, of_pairs, of_trailer, of_bound, of_optional, of_statements, of_arms, of_handlers}
+use Rattle.kishu_language.specs.declared.tree.Link.{Link}
+use Rattle.kishu_language.specs.declared.tree.Operand.{Operand}
+use Rattle.kishu_language.specs.declared.tree.Pair.{Pair}
+use Rattle.kishu_language.specs.declared.tree.Arm.{Arm as Arm'}
+use Rattle.kishu_language.specs.declared.tree.Handler.{Handler as Handler'}
+use Rattle.kishu_language.specs.declared.tree.Def.{Def}
+use Rattle.kishu_language.specs.trees.Tree.{Text, Expression, expressions, expression_of, pairs, bound_of, statements, statement_of, arms, handlers, value_of, text_of, definition_of, parameter_of}
+use Rattle.kishu_language.specs.trees.Tree as t
+use Rattle.kishu_language.specs.grammar.Refusals.{Mention, variables, in_expression, in_expressions, in_pairs, in_trailer, in_bound, in_optional, in_statements, in_arms, in_handlers, globals_fit_after}
+use Rattle.kishu_language.specs.trees.Height.{of_expression, of_pairs, of_trailer, of_bound, of_optional, of_statements, of_arms, of_handlers}
 use Rattle.kishu_parser.specs.Trees.{link_of, operand_of, pair_of}
 use Rattle.kishu_parser.specs.Bodies.{arm_of, handler_of}
 use Rattle.kishu_parser.specs.Sets.{note, noted}

@@ -3,14 +3,14 @@ use Rattle.std.specs.Prelude.{◌≡◌, ℕ, Bool, true, false, not, List, [], 
 use Rattle.std.specs.Str.{chars, bytes_eq}
 use Rattle.std.proofs.lemmas.Slice.Eq.{bytes_eq-Decides}
 use Rattle.std.proofs.Common.{refl, sym, ap, ◌∙◌, inl}
-use Rattle.kishu_model.specs.declared.profile.Profile.{Profile}
-use Rattle.kishu_model.specs.Tree.{Text, Statement, Definition}
-use Rattle.kishu_model.specs.Tree as t
-use Rattle.kishu_model.specs.Language.{Tokens}
-use Rattle.kishu_model.specs.Tokens.{tokens}
-use Rattle.kishu_model.specs.Parse.{plain_text, Parse, Line, LineDef}
-use Rattle.kishu_model.specs.ReadText.{pieces, tree_in, read_chars}
-use Rattle.kishu_model.specs.ExactText.{line_found, no_line}
+use Rattle.kishu_language.specs.declared.profile.Profile.{Profile}
+use Rattle.kishu_language.specs.trees.Tree.{Text, Statement, Definition}
+use Rattle.kishu_language.specs.trees.Tree as t
+use Rattle.kishu_language.specs.grammar.Language.{Tokens}
+use Rattle.kishu_language.specs.tokens.Tokens.{tokens}
+use Rattle.kishu_language.specs.grammar.Parse.{plain_text, Parse, Line, LineDef}
+use Rattle.kishu_language.specs.reading.ReadText.{pieces, tree_in, read_chars}
+use Rattle.kishu_language_laws.specs.reading.ExactText.{line_found, no_line}
 use Rattle.kishu_lexer.specs.declared.fault.SyntaxFault.{SyntaxFault}
 use Rattle.kishu_lexer.specs.declared.fault.SyntaxFault.TheVariants as fault
 use Rattle.kishu_parser.specs.Statements.{defined, FailsOn, FaultOf}

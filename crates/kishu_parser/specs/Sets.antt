@@ -1,9 +1,9 @@
 -- Sets of names, in the order in which they were first seen.
 use Rattle.std.specs.Prelude.{◌≡◌, Bool, true, false, not, ◌&&◌, List, [], ◌∷◌, ◌++◌, map, Option, Some, None, if◌then◌else◌}
 use Rattle.std.specs.Rc.{rc_str_bytes}
-use Rattle.kishu_model.specs.Names.{is_among}
-use Rattle.kishu_model.specs.Tree.{Text}
-use Rattle.kishu_model.specs.Refusals.{Mention, variable, declared}
+use Rattle.kishu_language.specs.tokens.Names.{is_among}
+use Rattle.kishu_language.specs.trees.Tree.{Text}
+use Rattle.kishu_language.specs.grammar.Refusals.{Mention, variable, declared}
 use Rattle.kishu_parser.specs.declared.texts.Texts.{Texts}
 
 abbrev pub names_in : Texts → List Text

@@ -3,27 +3,27 @@ use Rattle.std.specs.Prelude.{◌≡◌, ℕ, suc, ◌-◌, ◌+◌, Bool, true,
 use Rattle.std.specs.declared.alloc.Global.{Global}
 use Rattle.std.specs.declared.vec.Vec.{Vec}
 use Rattle.std.specs.declared.rc.RcStr.{RcStr}
-use Rattle.kishu_model.specs.declared.token.Mark.TheVariants as m
-use Rattle.kishu_model.specs.declared.tree.Expr.{Expr}
-use Rattle.kishu_model.specs.declared.tree.Stmt.{Stmt}
-use Rattle.kishu_model.specs.declared.tree.Def.{Def}
-use Rattle.kishu_model.specs.declared.tree.Arm as rust_arm
-use Rattle.kishu_model.specs.declared.tree.Handler as rust_handler
-use Rattle.kishu_model.specs.Language.{Tokens}
-use Rattle.kishu_model.specs.Tree.{Text, Expression, Parameter, Statement, Statements, Arm, Handler, Definition, statements, expression_of, statement_of, definition_of, value_of, text_of, parameter_of}
-use Rattle.kishu_model.specs.Tree as t
-use Rattle.kishu_model.specs.Grammar.{exprs, expr, alone, several}
-use Rattle.kishu_model.specs.Refusals as refusals
-use Rattle.kishu_model.specs.Refusals.{Around}
-use Rattle.kishu_model.specs.Reader.{Reader, Outcome, ◌>>=◌, ◌>>◌, pure, where_true, token, a_name, is_newline, is_indent, is_dedent, sees_some, mark, sees, either, optional, turns}
-use Rattle.kishu_model.specs.ReadExpressions.{expr_begins, listed, phrase}
-use Rattle.kishu_model.specs.ReadStatements as reads
+use Rattle.kishu_language.specs.declared.token.Mark.TheVariants as m
+use Rattle.kishu_language.specs.declared.tree.Expr.{Expr}
+use Rattle.kishu_language.specs.declared.tree.Stmt.{Stmt}
+use Rattle.kishu_language.specs.declared.tree.Def.{Def}
+use Rattle.kishu_language.specs.declared.tree.Arm as rust_arm
+use Rattle.kishu_language.specs.declared.tree.Handler as rust_handler
+use Rattle.kishu_language.specs.grammar.Language.{Tokens}
+use Rattle.kishu_language.specs.trees.Tree.{Text, Expression, Parameter, Statement, Statements, Arm, Handler, Definition, statements, expression_of, statement_of, definition_of, value_of, text_of, parameter_of}
+use Rattle.kishu_language.specs.trees.Tree as t
+use Rattle.kishu_language.specs.grammar.Grammar.{exprs, expr, alone, several}
+use Rattle.kishu_language.specs.grammar.Refusals as refusals
+use Rattle.kishu_language.specs.grammar.Refusals.{Around}
+use Rattle.kishu_language.specs.reading.Reader.{Reader, Outcome, ◌>>=◌, ◌>>◌, pure, where_true, token, a_name, is_newline, is_indent, is_dedent, sees_some, mark, sees, either, optional, turns}
+use Rattle.kishu_language.specs.reading.ReadExpressions.{expr_begins, listed, phrase}
+use Rattle.kishu_language.specs.reading.ReadStatements as reads
 use Rattle.kishu_parser.specs.declared.simple.Around as rust_around
 pub use Rattle.kishu_lexer.specs.Edges.{Placed}
 use Rattle.kishu_lexer.specs.declared.fault.SyntaxFault.{SyntaxFault}
 use Rattle.kishu_lexer.specs.declared.fault.SyntaxFault.TheVariants as fault
-use Rattle.kishu_model.specs.Layout.{Kind}
-use Rattle.kishu_model.specs.Layout as kind
+use Rattle.kishu_language.specs.tokens.Layout.{Kind}
+use Rattle.kishu_language.specs.tokens.Layout as kind
 use Rattle.kishu_parser.specs.declared.cursor.Stop.{Stop}
 use Rattle.kishu_parser.specs.declared.cursor.Stop.TheVariants as stop
 use Rattle.kishu_parser.specs.Views.{Fails}

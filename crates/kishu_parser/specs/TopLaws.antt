@@ -3,14 +3,14 @@ use Rattle.std.specs.Prelude.{◌≡◌, ◌≢◌, ℕ, zero, suc, ◌≤◌, L
 use Rattle.std.specs.List.{flat_map}
 use Rattle.std.proofs.Common.{refl, sym, ap, ◌∙◌, arith, append_assoc}
 use Rattle.std.proofs.lemmas.List.{append-nil}
-use Rattle.kishu_model.specs.declared.profile.Profile.{Profile}
-use Rattle.kishu_model.specs.Tree.{Text, Statement}
-use Rattle.kishu_model.specs.Language.{Tokens}
-use Rattle.kishu_model.specs.Pieces.{next_piece, first_line}
-use Rattle.kishu_model.specs.Parse.{plain_text, Parse}
-use Rattle.kishu_model.specs.ReadText.{piece, and_pieces, pieces, tree_in, read_chars}
-use Rattle.kishu_model.specs.ExactPieces.{piece_shorter, piece_only}
-use Rattle.kishu_model.specs.ExactText.{read_found}
+use Rattle.kishu_language.specs.declared.profile.Profile.{Profile}
+use Rattle.kishu_language.specs.trees.Tree.{Text, Statement}
+use Rattle.kishu_language.specs.grammar.Language.{Tokens}
+use Rattle.kishu_language.specs.grammar.Pieces.{next_piece, first_line}
+use Rattle.kishu_language.specs.grammar.Parse.{plain_text, Parse}
+use Rattle.kishu_language.specs.reading.ReadText.{piece, and_pieces, pieces, tree_in, read_chars}
+use Rattle.kishu_language_laws.specs.reading.ExactPieces.{piece_shorter, piece_only}
+use Rattle.kishu_language_laws.specs.reading.ExactText.{read_found}
 use Rattle.kishu_parser.specs.TopLevel.{Lined, AllPieces, none, then, HasPieces}
 
 abbrev pub statements_of : List Lined → List Statement

@@ -1,16 +1,16 @@
 -- The top-level pieces of a text, each with its line (Python Language Reference 3, "File input").
 use Rattle.std.specs.Prelude.{◌≡◌, ◌≢◌, ℕ, zero, suc, List, [], ◌∷◌, ◌++◌, map, Option, Some, None, Result, Ok, Err}
-use Rattle.kishu_model.specs.declared.profile.Profile.{Profile}
-use Rattle.kishu_model.specs.Layout.{Token}
-use Rattle.kishu_model.specs.Tokens.{tokens}
-use Rattle.kishu_model.specs.Tree.{Text, Statement, statement_of}
-use Rattle.kishu_model.specs.Language.{Tokens}
-use Rattle.kishu_model.specs.Grammar.{deepest}
-use Rattle.kishu_model.specs.Refusals.{top}
-use Rattle.kishu_model.specs.Statements.{chunk}
-use Rattle.kishu_model.specs.Pieces.{next_piece, first_line}
-use Rattle.kishu_model.specs.Parse.{plain_text}
-use Rattle.kishu_model.specs.ReadText.{piece}
+use Rattle.kishu_language.specs.declared.profile.Profile.{Profile}
+use Rattle.kishu_language.specs.tokens.Layout.{Token}
+use Rattle.kishu_language.specs.tokens.Tokens.{tokens}
+use Rattle.kishu_language.specs.trees.Tree.{Text, Statement, statement_of}
+use Rattle.kishu_language.specs.grammar.Language.{Tokens}
+use Rattle.kishu_language.specs.grammar.Grammar.{deepest}
+use Rattle.kishu_language.specs.grammar.Refusals.{top}
+use Rattle.kishu_language.specs.grammar.Statements.{chunk}
+use Rattle.kishu_language.specs.grammar.Pieces.{next_piece, first_line}
+use Rattle.kishu_language.specs.grammar.Parse.{plain_text}
+use Rattle.kishu_language.specs.reading.ReadText.{piece}
 use Rattle.kishu_parser.specs.declared.pieces.Piece as rust
 
 -- the line on which a piece begins, and its statements

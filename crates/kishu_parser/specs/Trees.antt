@@ -4,19 +4,19 @@ use Rattle.std.specs.declared.alloc.Global.{Global}
 use Rattle.std.specs.declared.vec.Vec.{Vec}
 use Rattle.std.specs.declared.rc.RcStr.{RcStr}
 use Rattle.std.specs.Rc.{rc_str_bytes}
-use Rattle.kishu_model.specs.declared.tree.Operator.{Operator}
-use Rattle.kishu_model.specs.declared.tree.Comparison.{Comparison}
-use Rattle.kishu_model.specs.declared.tree.Expr.{Expr}
-use Rattle.kishu_model.specs.declared.tree.Link.{Link}
-use Rattle.kishu_model.specs.declared.tree.Operand.{Operand}
-use Rattle.kishu_model.specs.declared.tree.Pair.{Pair}
-use Rattle.kishu_model.specs.declared.tree.Trailer as rust_trailer
-use Rattle.kishu_model.specs.declared.tree.Argument as rust_argument
-use Rattle.kishu_model.specs.declared.tree.Argument.TheFolds.{fold-Argument, fold-Trailer, fold-Link, fold-Operand, fold-Pair}
-use Rattle.kishu_model.specs.Grammar.{Phrase, exprs, expr, negated, unary}
+use Rattle.kishu_language.specs.declared.tree.Operator.{Operator}
+use Rattle.kishu_language.specs.declared.tree.Comparison.{Comparison}
+use Rattle.kishu_language.specs.declared.tree.Expr.{Expr}
+use Rattle.kishu_language.specs.declared.tree.Link.{Link}
+use Rattle.kishu_language.specs.declared.tree.Operand.{Operand}
+use Rattle.kishu_language.specs.declared.tree.Pair.{Pair}
+use Rattle.kishu_language.specs.declared.tree.Trailer as rust_trailer
+use Rattle.kishu_language.specs.declared.tree.Argument as rust_argument
+use Rattle.kishu_language.specs.declared.tree.Argument.TheFolds.{fold-Argument, fold-Trailer, fold-Link, fold-Operand, fold-Pair}
+use Rattle.kishu_language.specs.grammar.Grammar.{Phrase, exprs, expr, negated, unary}
 use Rattle.kishu_parser.specs.declared.expressions.Phrase as rust_phrase
 use Rattle.kishu_parser.specs.declared.expressions.Phrase.TheVariants as phrases
-use Rattle.kishu_model.specs.Tree.{Text, Expression, Trailer, Argument, Parameter, expression_of, argument_step, expression_step, trailer_step, link_step, operand_step, pair_step}
+use Rattle.kishu_language.specs.trees.Tree.{Text, Expression, Trailer, Argument, Parameter, expression_of, argument_step, expression_step, trailer_step, link_step, operand_step, pair_step}
 
 unfoldable pub link_of : Link → Comparison × Expression
 link_of = fold-Link Argument Expression Trailer (Comparison × Expression) (Operator × Expression) (Expression × Expression) argument_step expression_step trailer_step link_step operand_step pair_step

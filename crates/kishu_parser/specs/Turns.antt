@@ -1,14 +1,14 @@
 -- Parts of the readers that are methods of their own.
 use Rattle.std.specs.Prelude.{Bool, not, List, Option, Some, None}
-use Rattle.kishu_model.specs.declared.token.Mark.{Mark}
-use Rattle.kishu_model.specs.declared.token.Mark.TheVariants as m
-use Rattle.kishu_model.specs.declared.tree.Comparison.{Comparison}
-use Rattle.kishu_model.specs.declared.tree.Comparison.TheVariants as comparisons
-use Rattle.kishu_model.specs.Tree.{Expression, Trailer}
-use Rattle.kishu_model.specs.Tree as t
-use Rattle.kishu_model.specs.Grammar.{Phrase, exprs, constant_of}
-use Rattle.kishu_model.specs.Reader.{Reader, ◌>>=◌, ◌>>◌, pure, where_true, token, a_name, mark, sees, one_of, either, one_more}
-use Rattle.kishu_model.specs.ReadExpressions.{bracketed, parenthesised, list, dict, bound, slice_after, is_several}
+use Rattle.kishu_language.specs.declared.token.Mark.{Mark}
+use Rattle.kishu_language.specs.declared.token.Mark.TheVariants as m
+use Rattle.kishu_language.specs.declared.tree.Comparison.{Comparison}
+use Rattle.kishu_language.specs.declared.tree.Comparison.TheVariants as comparisons
+use Rattle.kishu_language.specs.trees.Tree.{Expression, Trailer}
+use Rattle.kishu_language.specs.trees.Tree as t
+use Rattle.kishu_language.specs.grammar.Grammar.{Phrase, exprs, constant_of}
+use Rattle.kishu_language.specs.reading.Reader.{Reader, ◌>>=◌, ◌>>◌, pure, where_true, token, a_name, mark, sees, one_of, either, one_more}
+use Rattle.kishu_language.specs.reading.ReadExpressions.{bracketed, parenthesised, list, dict, bound, slice_after, is_several}
 
 -- one more behind a mark
 abbrev pub more_turn : {A : Type 0} → Mark → Reader A → List A → Reader (List A)

@@ -1,11 +1,11 @@
 -- What the parser's values stand for, and what its calls answer.
 use Rattle.std.specs.Prelude.{◌≡◌, ℕ, List, [], ◌∷◌, drop, map, Result, Ok, Err, Option, Some, None}
-use Rattle.kishu_model.specs.declared.token.Token as rust
-use Rattle.kishu_model.specs.Tokens.{token_of}
-use Rattle.kishu_model.specs.declared.token.Mark.{Mark}
-use Rattle.kishu_model.specs.Layout.{Kind}
-use Rattle.kishu_model.specs.Language.{Tokens}
-use Rattle.kishu_model.specs.Reader.{Outcome, next, in_table}
+use Rattle.kishu_language.specs.declared.token.Token as rust
+use Rattle.kishu_language.specs.tokens.Tokens.{token_of}
+use Rattle.kishu_language.specs.declared.token.Mark.{Mark}
+use Rattle.kishu_language.specs.tokens.Layout.{Kind}
+use Rattle.kishu_language.specs.grammar.Language.{Tokens}
+use Rattle.kishu_language.specs.reading.Reader.{Outcome, next, in_table}
 use Rattle.kishu_parser.specs.declared.cursor.Stop.{Stop}
 use Rattle.kishu_parser.specs.declared.cursor.Stop.TheVariants as stop
 

@@ -1,10 +1,10 @@
 // Compound statements and their blocks.
 ghost use Rattle.std.specs.Prelude.{◌≡◌, ◌<◌, ◌+◌, [], ◌∷◌};
-ghost use Rattle.kishu_model.specs.declared.token.Mark.TheVariants as m;
-ghost use Rattle.kishu_model.specs.Tree.{expression_of, statement_of};
-ghost use Rattle.kishu_model.specs.Reader as reader;
-ghost use Rattle.kishu_model.specs.ReadExpressions as expressions;
-ghost use Rattle.kishu_model.specs.ReadStatements as spec;
+ghost use Rattle.kishu_language.specs.declared.token.Mark.TheVariants as m;
+ghost use Rattle.kishu_language.specs.trees.Tree.{expression_of, statement_of};
+ghost use Rattle.kishu_language.specs.reading.Reader as reader;
+ghost use Rattle.kishu_language.specs.reading.ReadExpressions as expressions;
+ghost use Rattle.kishu_language.specs.reading.ReadStatements as spec;
 ghost use Rattle.kishu_parser.specs.Views.{left, Gives};
 ghost use Rattle.kishu_parser.specs.Turns as turns;
 ghost use Rattle.kishu_parser.specs.Statements as lines;
@@ -17,7 +17,7 @@ use crate::pushes::{push_arm, push_expr, push_handler, push_statement};
 use crate::refusals::handlers_fit;
 use crate::simple::Around;
 use crate::targets::is_target;
-use kishu_model::{Arm, Expr, Handler, Mark, Stmt};
+use kishu_language::{Arm, Expr, Handler, Mark, Stmt};
 use std::rc::RcStr;
 
 impl Around {
@@ -43,7 +43,7 @@ impl Around {
 impl<'a> Parser<'a> {
     /// A chunk with so many nestings, its own among them.
     #[cycle(blocks)]
-    #[tactic(auto, unfolding(kishu_model::specs::ReadStatements::chunk))]
+    #[tactic(auto, unfolding(kishu_language::specs::reading::ReadStatements::chunk))]
     pub(crate) fn chunk(&self, at: &mut usize, room: u32, around: Around) -> Result<Vec<Stmt>, Stop>
         requires room { room < 1000 }
         requires placed { lines.Placed self.now.source.now self.now.tokens.now }
@@ -62,7 +62,7 @@ impl<'a> Parser<'a> {
     }
 
     #[cycle(blocks)]
-    #[tactic(auto, unfolding(kishu_model::specs::ReadStatements::compound))]
+    #[tactic(auto, unfolding(kishu_language::specs::reading::ReadStatements::compound))]
     fn compound(&self, at: &mut usize, room: u32, around: Around) -> Result<Stmt, Stop>
         requires room { room < 1000 }
         requires placed { lines.Placed self.now.source.now self.now.tokens.now }
@@ -100,7 +100,7 @@ impl<'a> Parser<'a> {
     }
 
     /// A block on the line of its head.
-    #[tactic(auto, unfolding(kishu_model::specs::ReadStatements::line))]
+    #[tactic(auto, unfolding(kishu_language::specs::reading::ReadStatements::line))]
     fn line(&self, at: &mut usize, room: u32, around: Around) -> Result<Vec<Stmt>, Stop>
         ensures { Gives lines.statements_in (spec.line (lines.around_of around) room (left self.now.tokens.now at.old)) result (left self.now.tokens.now at.new) }
     {
@@ -134,7 +134,7 @@ impl<'a> Parser<'a> {
     }
 
     #[cycle(blocks)]
-    #[tactic(auto, unfolding(kishu_model::specs::ReadStatements::block_after))]
+    #[tactic(auto, unfolding(kishu_language::specs::reading::ReadStatements::block_after))]
     fn block_after(
         &self,
         at: &mut usize,
@@ -155,7 +155,7 @@ impl<'a> Parser<'a> {
     }
 
     #[cycle(blocks)]
-    #[tactic(auto, using(crate::proofs::StatementRows::arm_is), unfolding(kishu_model::specs::ReadStatements::arm))]
+    #[tactic(auto, using(crate::proofs::StatementRows::arm_is), unfolding(kishu_language::specs::reading::ReadStatements::arm))]
     fn arm(&self, at: &mut usize, room: u32, around: Around) -> Result<Arm, Stop>
         requires room { room < 1000 }
         requires placed { lines.Placed self.now.source.now self.now.tokens.now }
@@ -168,7 +168,7 @@ impl<'a> Parser<'a> {
     }
 
     #[cycle(blocks)]
-    #[tactic(auto, using(crate::proofs::StatementRows::if_is), unfolding(kishu_model::specs::ReadStatements::choice))]
+    #[tactic(auto, using(crate::proofs::StatementRows::if_is), unfolding(kishu_language::specs::reading::ReadStatements::choice))]
     fn choice(&self, at: &mut usize, room: u32, around: Around) -> Result<Stmt, Stop>
         requires room { room < 1000 }
         requires placed { lines.Placed self.now.source.now self.now.tokens.now }
@@ -291,7 +291,7 @@ impl<'a> Parser<'a> {
     }
 
     #[cycle(blocks)]
-    #[tactic(auto, using(crate::proofs::StatementRows::try_is), unfolding(kishu_model::specs::ReadStatements::handled))]
+    #[tactic(auto, using(crate::proofs::StatementRows::try_is), unfolding(kishu_language::specs::reading::ReadStatements::handled))]
     fn handled(
         &self,
         at: &mut usize,
@@ -370,7 +370,7 @@ impl<'a> Parser<'a> {
     }
 
     #[cycle(blocks)]
-    #[tactic(auto, using(crate::proofs::StatementRows::finally_is), unfolding(kishu_model::specs::ReadStatements::finished))]
+    #[tactic(auto, using(crate::proofs::StatementRows::finally_is), unfolding(kishu_language::specs::reading::ReadStatements::finished))]
     fn finished(
         &self,
         at: &mut usize,

@@ -1,13 +1,13 @@
 // A place among the tokens of a text, and the single tokens there.
 ghost use Rattle.std.specs.Prelude.{◌≡◌, length, is_some};
-ghost use Rattle.kishu_model.specs.Layout.{same};
+ghost use Rattle.kishu_language.specs.tokens.Layout.{same};
 ghost use Rattle.std.specs.Rc.{rc_str_bytes};
-ghost use Rattle.kishu_model.specs.Reader as reader;
+ghost use Rattle.kishu_language.specs.reading.Reader as reader;
 ghost use Rattle.std.specs.Option.{option_map};
-ghost use Rattle.kishu_model.specs.Tokens.{kind_of};
+ghost use Rattle.kishu_language.specs.tokens.Tokens.{kind_of};
 ghost use Rattle.kishu_parser.specs.Views.{left, front, next_mark, by_table, Gives, nothing};
 
-use kishu_model::{Mark, Token, TokenKind};
+use kishu_language::{Mark, Token, TokenKind};
 use std::alloc::{AllocError, Global};
 use std::rc::RcStr;
 

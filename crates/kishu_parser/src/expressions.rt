@@ -1,10 +1,10 @@
 // Expressions, level by level.
 ghost use Rattle.std.specs.Prelude.{◌≡◌, [], ◌∷◌};
-ghost use Rattle.kishu_model.specs.declared.token.Mark.TheVariants as m;
-ghost use Rattle.kishu_model.specs.Tree.{expression_of};
-ghost use Rattle.kishu_model.specs.Grammar as grammar;
-ghost use Rattle.kishu_model.specs.Reader as reader;
-ghost use Rattle.kishu_model.specs.ReadExpressions as spec;
+ghost use Rattle.kishu_language.specs.declared.token.Mark.TheVariants as m;
+ghost use Rattle.kishu_language.specs.trees.Tree.{expression_of};
+ghost use Rattle.kishu_language.specs.grammar.Grammar as grammar;
+ghost use Rattle.kishu_language.specs.reading.Reader as reader;
+ghost use Rattle.kishu_language.specs.reading.ReadExpressions as spec;
 ghost use Rattle.kishu_parser.specs.Views.{left, Gives};
 ghost use Rattle.kishu_parser.specs.Trees as views;
 ghost use Rattle.kishu_parser.specs.Turns as turns;
@@ -15,7 +15,7 @@ use crate::joins::{
     push_operand, signed, summed, with_trailers,
 };
 use crate::pushes::{push_expr, push_joined, push_trailer};
-use kishu_model::{Comparison, Expr, Link, Mark, Operand, Trailer};
+use kishu_language::{Comparison, Expr, Link, Mark, Operand, Trailer};
 
 /// What may stand one nesting deeper.
 #[derive(Clone, Copy)]
@@ -44,7 +44,7 @@ impl<'a> Parser<'a> {
     }
 
     #[cycle(expressions)]
-    #[tactic(auto, using(crate::proofs::Rows::tuple_is), unfolding(kishu_model::specs::ReadExpressions::exprs_level))]
+    #[tactic(auto, using(crate::proofs::Rows::tuple_is), unfolding(kishu_language::specs::reading::ReadExpressions::exprs_level))]
     fn exprs_level(&self, at: &mut usize, room: u32) -> Result<Expr, Stop>
         ensures { Gives expression_of (spec.exprs_level (grammar.has_room room) (spec.phrase room) (left self.now.tokens.now at.old)) result (left self.now.tokens.now at.new) }
     {
@@ -75,7 +75,7 @@ impl<'a> Parser<'a> {
     }
 
     #[cycle(expressions)]
-    #[tactic(auto, unfolding(kishu_model::specs::ReadExpressions::expr_level))]
+    #[tactic(auto, unfolding(kishu_language::specs::reading::ReadExpressions::expr_level))]
     fn expr_level(&self, at: &mut usize, room: u32) -> Result<Expr, Stop>
         ensures { Gives expression_of (spec.expr_level (grammar.has_room room) (spec.phrase room) (left self.now.tokens.now at.old)) result (left self.now.tokens.now at.new) }
     {
@@ -91,7 +91,7 @@ impl<'a> Parser<'a> {
     }
 
     #[cycle(expressions)]
-    #[tactic(auto, unfolding(kishu_model::specs::ReadExpressions::disjunction))]
+    #[tactic(auto, unfolding(kishu_language::specs::reading::ReadExpressions::disjunction))]
     fn disjunction(&self, at: &mut usize, room: u32) -> Result<Expr, Stop>
         ensures { Gives expression_of (spec.disjunction (grammar.has_room room) (spec.phrase room) (left self.now.tokens.now at.old)) result (left self.now.tokens.now at.new) }
     {
@@ -117,7 +117,7 @@ impl<'a> Parser<'a> {
     }
 
     #[cycle(expressions)]
-    #[tactic(auto, unfolding(kishu_model::specs::ReadExpressions::conjunction))]
+    #[tactic(auto, unfolding(kishu_language::specs::reading::ReadExpressions::conjunction))]
     fn conjunction(&self, at: &mut usize, room: u32) -> Result<Expr, Stop>
         ensures { Gives expression_of (spec.conjunction (grammar.has_room room) (spec.phrase room) (left self.now.tokens.now at.old)) result (left self.now.tokens.now at.new) }
     {
@@ -143,7 +143,7 @@ impl<'a> Parser<'a> {
     }
 
     #[cycle(expressions)]
-    #[tactic(auto, unfolding(kishu_model::specs::ReadExpressions::negated_level))]
+    #[tactic(auto, unfolding(kishu_language::specs::reading::ReadExpressions::negated_level))]
     fn negated_level(&self, at: &mut usize, room: u32) -> Result<Expr, Stop>
         ensures { Gives expression_of (spec.negated_level (grammar.has_room room) (spec.phrase room) (left self.now.tokens.now at.old)) result (left self.now.tokens.now at.new) }
     {
@@ -156,7 +156,7 @@ impl<'a> Parser<'a> {
     }
 
     #[cycle(expressions)]
-    #[tactic(auto, unfolding(kishu_model::specs::ReadExpressions::compared))]
+    #[tactic(auto, unfolding(kishu_language::specs::reading::ReadExpressions::compared))]
     fn compared(&self, at: &mut usize, room: u32) -> Result<Expr, Stop>
         ensures { Gives expression_of (spec.compared (grammar.has_room room) (spec.phrase room) (left self.now.tokens.now at.old)) result (left self.now.tokens.now at.new) }
     {
@@ -182,7 +182,7 @@ impl<'a> Parser<'a> {
     }
 
     #[cycle(expressions)]
-    #[tactic(auto, unfolding(kishu_model::specs::ReadExpressions::sum))]
+    #[tactic(auto, unfolding(kishu_language::specs::reading::ReadExpressions::sum))]
     fn sum(&self, at: &mut usize, room: u32) -> Result<Expr, Stop>
         ensures { Gives expression_of (spec.sum (grammar.has_room room) (spec.phrase room) (left self.now.tokens.now at.old)) result (left self.now.tokens.now at.new) }
     {
@@ -208,7 +208,7 @@ impl<'a> Parser<'a> {
     }
 
     #[cycle(expressions)]
-    #[tactic(auto, unfolding(kishu_model::specs::ReadExpressions::term))]
+    #[tactic(auto, unfolding(kishu_language::specs::reading::ReadExpressions::term))]
     fn term(&self, at: &mut usize, room: u32) -> Result<Expr, Stop>
         ensures { Gives expression_of (spec.term (grammar.has_room room) (spec.phrase room) (left self.now.tokens.now at.old)) result (left self.now.tokens.now at.new) }
     {
@@ -234,7 +234,7 @@ impl<'a> Parser<'a> {
     }
 
     #[cycle(expressions)]
-    #[tactic(auto, unfolding(kishu_model::specs::ReadExpressions::unary_level))]
+    #[tactic(auto, unfolding(kishu_language::specs::reading::ReadExpressions::unary_level))]
     fn unary_level(&self, at: &mut usize, room: u32) -> Result<Expr, Stop>
         ensures { Gives expression_of (spec.unary_level (grammar.has_room room) (spec.phrase room) (left self.now.tokens.now at.old)) result (left self.now.tokens.now at.new) }
     {
@@ -247,7 +247,7 @@ impl<'a> Parser<'a> {
     }
 
     #[cycle(expressions)]
-    #[tactic(auto, unfolding(kishu_model::specs::ReadExpressions::power))]
+    #[tactic(auto, unfolding(kishu_language::specs::reading::ReadExpressions::power))]
     fn power(&self, at: &mut usize, room: u32) -> Result<Expr, Stop>
         ensures { Gives expression_of (spec.power (grammar.has_room room) (spec.phrase room) (left self.now.tokens.now at.old)) result (left self.now.tokens.now at.new) }
     {
@@ -261,7 +261,7 @@ impl<'a> Parser<'a> {
     }
 
     #[cycle(expressions)]
-    #[tactic(auto, unfolding(kishu_model::specs::ReadExpressions::primary, kishu_model::specs::ReadExpressions::primary_parts))]
+    #[tactic(auto, unfolding(kishu_language::specs::reading::ReadExpressions::primary, kishu_language::specs::reading::ReadExpressions::primary_parts))]
     pub(crate) fn primary(&self, at: &mut usize, room: u32) -> Result<Expr, Stop>
         ensures { Gives expression_of (spec.primary (grammar.has_room room) (spec.phrase room) (left self.now.tokens.now at.old)) result (left self.now.tokens.now at.new) }
     {

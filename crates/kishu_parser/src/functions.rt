@@ -1,13 +1,13 @@
 // Functions and their code.
 ghost use Rattle.std.specs.Prelude.{◌≡◌, ◌<◌, [], ◌∷◌, IfOk};
 ghost use Rattle.std.specs.Rc.{rc_str_bytes};
-ghost use Rattle.kishu_model.specs.declared.token.Mark.TheVariants as m;
-ghost use Rattle.kishu_model.specs.Tree.{parameter_of, statement_of, definition_of};
-ghost use Rattle.kishu_model.specs.Code as code;
-ghost use Rattle.kishu_model.specs.Tokens.{kind_of};
-ghost use Rattle.kishu_model.specs.Reader as reader;
-ghost use Rattle.kishu_model.specs.ReadExpressions as expressions;
-ghost use Rattle.kishu_model.specs.ReadStatements as spec;
+ghost use Rattle.kishu_language.specs.declared.token.Mark.TheVariants as m;
+ghost use Rattle.kishu_language.specs.trees.Tree.{parameter_of, statement_of, definition_of};
+ghost use Rattle.kishu_language.specs.trees.Code as code;
+ghost use Rattle.kishu_language.specs.tokens.Tokens.{kind_of};
+ghost use Rattle.kishu_language.specs.reading.Reader as reader;
+ghost use Rattle.kishu_language.specs.reading.ReadExpressions as expressions;
+ghost use Rattle.kishu_language.specs.reading.ReadStatements as spec;
 ghost use Rattle.kishu_parser.specs.Views.{left, tokens_of, Gives};
 ghost use Rattle.kishu_parser.specs.Turns as turns;
 ghost use Rattle.kishu_parser.specs.Statements as lines;
@@ -19,7 +19,7 @@ use crate::pieces::DEEPEST;
 use crate::pushes::{defined, push_parameter};
 use crate::refusals::parameters_fit;
 use crate::simple::Around;
-use kishu_model::{Def, Expr, Mark, Stmt, Token, TokenKind};
+use kishu_language::{Def, Expr, Mark, Stmt, Token, TokenKind};
 use std::alloc::{AllocError, Global};
 use std::rc::RcStr;
 
@@ -98,7 +98,7 @@ fn code_of(alloc: Global, source: &str, tokens: &[Token]) -> Result<RcStr, Alloc
 
 impl<'a> Parser<'a> {
     #[cycle(blocks)]
-    #[tactic(auto, unfolding(kishu_model::specs::ReadStatements::define))]
+    #[tactic(auto, unfolding(kishu_language::specs::reading::ReadStatements::define))]
     pub(crate) fn define(&self, at: &mut usize, room: u32, around: Around) -> Result<Stmt, Stop>
         requires room { room < 1000 }
         requires placed { lines.Placed self.now.source.now self.now.tokens.now }
@@ -141,7 +141,7 @@ impl<'a> Parser<'a> {
     }
 
     #[cycle(blocks)]
-    #[tactic(auto, unfolding(kishu_model::specs::ReadStatements::definition, kishu_model::specs::ReadStatements::parameter))]
+    #[tactic(auto, unfolding(kishu_language::specs::reading::ReadStatements::definition, kishu_language::specs::reading::ReadStatements::parameter))]
     pub(crate) fn definition(&self, at: &mut usize, room: u32) -> Result<Def, Stop>
         requires room { room < 1000 }
         requires placed { lines.Placed self.now.source.now self.now.tokens.now }

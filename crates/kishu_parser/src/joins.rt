@@ -1,14 +1,14 @@
 // The parts of a tree, joined.
 ghost use Rattle.std.specs.Prelude.{◌≡◌, ◌++◌, ◌∷◌, [], map, IfOk, OnOk};
-ghost use Rattle.kishu_model.specs.ReadExpressions as spec;
+ghost use Rattle.kishu_language.specs.reading.ReadExpressions as spec;
 ghost use Rattle.std.specs.Rc.{rc_str_bytes};
 ghost use Rattle.std.specs.String.{string_bytes};
-ghost use Rattle.kishu_model.specs.Tree as t;
-ghost use Rattle.kishu_model.specs.Grammar as grammar;
-ghost use Rattle.kishu_model.specs.Tree.{expression_of};
+ghost use Rattle.kishu_language.specs.trees.Tree as t;
+ghost use Rattle.kishu_language.specs.grammar.Grammar as grammar;
+ghost use Rattle.kishu_language.specs.trees.Tree.{expression_of};
 ghost use Rattle.kishu_parser.specs.Trees as views;
 
-use kishu_model::{Comparison, Expr, Link, Operand, Operator, Pair, Sign, Trailer};
+use kishu_language::{Comparison, Expr, Link, Operand, Operator, Pair, Sign, Trailer};
 use std::alloc::{AllocError, Global};
 use std::rc::RcStr;
 

@@ -1,14 +1,14 @@
 // What the next tokens begin.
 ghost use Rattle.std.specs.Prelude.{◌≡◌, is_some};
-ghost use Rattle.kishu_model.specs.Grammar as grammar;
-ghost use Rattle.kishu_model.specs.Statements as statements;
-ghost use Rattle.kishu_model.specs.Reader as reader;
-ghost use Rattle.kishu_model.specs.ReadExpressions as spec;
-ghost use Rattle.kishu_model.specs.ReadStatements as lines;
+ghost use Rattle.kishu_language.specs.grammar.Grammar as grammar;
+ghost use Rattle.kishu_language.specs.grammar.Statements as statements;
+ghost use Rattle.kishu_language.specs.reading.Reader as reader;
+ghost use Rattle.kishu_language.specs.reading.ReadExpressions as spec;
+ghost use Rattle.kishu_language.specs.reading.ReadStatements as lines;
 ghost use Rattle.kishu_parser.specs.Views.{left, by_table};
 
 use crate::cursor::Parser;
-use kishu_model::{Comparison, Mark, Operator, Sign};
+use kishu_language::{Comparison, Mark, Operator, Sign};
 
 fn begins_operand(mark: Mark) -> bool
     ensures { result ≡ spec.begins_operand mark }
@@ -150,7 +150,7 @@ impl<'a> Parser<'a> {
     }
 
     /// Whether a mark stands here, and behind it begins an expression.
-    #[tactic(auto, unfolding(kishu_model::specs::ReadExpressions::another))]
+    #[tactic(auto, unfolding(kishu_language::specs::reading::ReadExpressions::another))]
     pub(crate) fn sees_another(&self, at: usize, by: Mark) -> bool
         ensures { result ≡ spec.another by (left self.now.tokens.now at) }
     {
@@ -160,7 +160,7 @@ impl<'a> Parser<'a> {
     }
 
     /// Whether `;` stands here, and the line goes on behind it.
-    #[tactic(auto, unfolding(kishu_model::specs::ReadStatements::another_simple))]
+    #[tactic(auto, unfolding(kishu_language::specs::reading::ReadStatements::another_simple))]
     pub(crate) fn sees_another_simple(&self, at: usize) -> bool
         ensures { result ≡ lines.another_simple (left self.now.tokens.now at) }
     {
@@ -170,7 +170,7 @@ impl<'a> Parser<'a> {
     }
 
     /// Whether a name and `=` stand here.
-    #[tactic(auto, unfolding(kishu_model::specs::ReadExpressions::keyword_begins))]
+    #[tactic(auto, unfolding(kishu_language::specs::reading::ReadExpressions::keyword_begins))]
     pub(crate) fn begins_keyword(&self, at: usize) -> bool
         ensures { result ≡ spec.keyword_begins (left self.now.tokens.now at) }
     {

@@ -1,16 +1,16 @@
 // The names of a function's body, in the order of the text.
 ghost use Rattle.std.specs.Prelude.{◌≡◌, ◌∷◌, [], map, flat_map, IfOk, OnOk};
 ghost use Rattle.std.specs.Rc.{rc_str_bytes};
-ghost use Rattle.kishu_model.specs.Tree as t;
-ghost use Rattle.kishu_model.specs.Tree.{expression_of, statement_of, parameter_of, value_of, text_of};
-ghost use Rattle.kishu_model.specs.Refusals as spec;
-ghost use Rattle.kishu_model.specs.Refusals.{variable, declared};
+ghost use Rattle.kishu_language.specs.trees.Tree as t;
+ghost use Rattle.kishu_language.specs.trees.Tree.{expression_of, statement_of, parameter_of, value_of, text_of};
+ghost use Rattle.kishu_language.specs.grammar.Refusals as spec;
+ghost use Rattle.kishu_language.specs.grammar.Refusals.{variable, declared};
 ghost use Rattle.kishu_parser.specs.Trees as views;
 ghost use Rattle.kishu_parser.specs.Bodies as bodies;
 ghost use Rattle.kishu_parser.specs.Sets.{Adds, Walks, names_in, with_names};
 
 use crate::texts::Texts;
-use kishu_model::{Argument, Arm, Def, Expr, Handler, Link, Operand, Pair, Stmt, Trailer};
+use kishu_language::{Argument, Arm, Def, Expr, Handler, Link, Operand, Pair, Stmt, Trailer};
 use std::alloc::{AllocError, Global};
 use std::rc::RcStr;
 

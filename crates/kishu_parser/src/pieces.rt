@@ -1,17 +1,17 @@
 // The top-level pieces of a text.
 ghost use Rattle.std.specs.Prelude.{◌≡◌, ◌<◌, ◌+◌, ◌^◌, ◌++◌, [], ◌∷◌, length, map, OnOk};
-ghost use Rattle.kishu_model.specs.Pieces as spec;
-ghost use Rattle.kishu_model.specs.ReadText as text;
+ghost use Rattle.kishu_language.specs.grammar.Pieces as spec;
+ghost use Rattle.kishu_language.specs.reading.ReadText as text;
 ghost use Rattle.kishu_parser.specs.Views.{left, tokens_of};
-ghost use Rattle.kishu_model.specs.Tokens.{kind_of};
+ghost use Rattle.kishu_language.specs.tokens.Tokens.{kind_of};
 ghost use Rattle.std.specs.Option.{option_map};
 ghost use Rattle.kishu_parser.specs.Statements as lines;
 ghost use Rattle.kishu_parser.specs.TopLevel as whole;
 
 use crate::cursor::{Parser, Stop};
 use crate::simple::Around;
+use kishu_language::{Mark, Stmt, TokenKind};
 use kishu_lexer::SyntaxFault;
-use kishu_model::{Mark, Stmt, TokenKind};
 use std::alloc::AllocError;
 
 /// A statement at the top level, or the statements of one line there (Python Language Reference 3,

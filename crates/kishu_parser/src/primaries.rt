@@ -1,11 +1,11 @@
 // Atoms, and what stands behind them.
 ghost use Rattle.std.specs.Prelude.{◌≡◌, [], ◌∷◌};
 ghost use Rattle.std.specs.Rc.{rc_str_bytes};
-ghost use Rattle.kishu_model.specs.declared.token.Mark.TheVariants as m;
-ghost use Rattle.kishu_model.specs.Tree.{expression_of, value_of};
-ghost use Rattle.kishu_model.specs.Grammar as grammar;
-ghost use Rattle.kishu_model.specs.Reader as reader;
-ghost use Rattle.kishu_model.specs.ReadExpressions as spec;
+ghost use Rattle.kishu_language.specs.declared.token.Mark.TheVariants as m;
+ghost use Rattle.kishu_language.specs.trees.Tree.{expression_of, value_of};
+ghost use Rattle.kishu_language.specs.grammar.Grammar as grammar;
+ghost use Rattle.kishu_language.specs.reading.Reader as reader;
+ghost use Rattle.kishu_language.specs.reading.ReadExpressions as spec;
 ghost use Rattle.kishu_parser.specs.Views.{left, by_table, Gives};
 ghost use Rattle.kishu_parser.specs.Trees as views;
 ghost use Rattle.kishu_parser.specs.Turns as turns;
@@ -15,7 +15,7 @@ use crate::expressions::Phrase;
 use crate::joins::{is_several, joined, parenthesised, push_pair};
 use crate::pushes::{push_argument, push_expr, push_text};
 use crate::refusals::arguments_fit;
-use kishu_model::{Argument, Expr, Mark, Pair, Trailer};
+use kishu_language::{Argument, Expr, Mark, Pair, Trailer};
 use std::rc::RcStr;
 
 /// Whether one nesting more is left.
@@ -27,7 +27,7 @@ fn has_room(room: u32) -> bool
 
 impl<'a> Parser<'a> {
     #[cycle(expressions)]
-    #[tactic(auto, unfolding(kishu_model::specs::ReadExpressions::atom))]
+    #[tactic(auto, unfolding(kishu_language::specs::reading::ReadExpressions::atom))]
     pub(crate) fn atom(&self, at: &mut usize, room: u32) -> Result<Expr, Stop>
         ensures { Gives expression_of (spec.atom (grammar.has_room room) (spec.phrase room) (left self.now.tokens.now at.old)) result (left self.now.tokens.now at.new) }
     {
@@ -68,7 +68,7 @@ impl<'a> Parser<'a> {
     }
 
     #[cycle(expressions)]
-    #[tactic(auto, using(crate::proofs::Rows::tuple_is), unfolding(kishu_model::specs::ReadExpressions::parenthesised))]
+    #[tactic(auto, using(crate::proofs::Rows::tuple_is), unfolding(kishu_language::specs::reading::ReadExpressions::parenthesised))]
     fn parenthesised(&self, at: &mut usize, room: u32) -> Result<Expr, Stop>
         ensures { Gives expression_of (spec.parenthesised (spec.phrase room) (left self.now.tokens.now at.old)) result (left self.now.tokens.now at.new) }
     {
@@ -83,7 +83,7 @@ impl<'a> Parser<'a> {
     }
 
     #[cycle(expressions)]
-    #[tactic(auto, using(crate::proofs::Rows::list_is), unfolding(kishu_model::specs::ReadExpressions::list))]
+    #[tactic(auto, using(crate::proofs::Rows::list_is), unfolding(kishu_language::specs::reading::ReadExpressions::list))]
     fn list(&self, at: &mut usize, room: u32) -> Result<Expr, Stop>
         ensures { Gives expression_of (spec.list (spec.phrase room) (left self.now.tokens.now at.old)) result (left self.now.tokens.now at.new) }
     {
@@ -126,7 +126,7 @@ impl<'a> Parser<'a> {
     }
 
     #[cycle(expressions)]
-    #[tactic(auto, using(crate::proofs::Rows::dict_is), unfolding(kishu_model::specs::ReadExpressions::dict))]
+    #[tactic(auto, using(crate::proofs::Rows::dict_is), unfolding(kishu_language::specs::reading::ReadExpressions::dict))]
     fn dict(&self, at: &mut usize, room: u32) -> Result<Expr, Stop>
         ensures { Gives expression_of (spec.dict (spec.phrase room) (left self.now.tokens.now at.old)) result (left self.now.tokens.now at.new) }
     {
@@ -169,7 +169,7 @@ impl<'a> Parser<'a> {
     }
 
     #[cycle(expressions)]
-    #[tactic(auto, unfolding(kishu_model::specs::ReadExpressions::pair))]
+    #[tactic(auto, unfolding(kishu_language::specs::reading::ReadExpressions::pair))]
     fn pair(&self, at: &mut usize, room: u32) -> Result<(Expr, Expr), Stop>
         ensures { Gives views.both_of (spec.pair (spec.phrase room) (left self.now.tokens.now at.old)) result (left self.now.tokens.now at.new) }
     {
@@ -180,7 +180,7 @@ impl<'a> Parser<'a> {
     }
 
     #[cycle(expressions)]
-    #[tactic(auto, unfolding(kishu_model::specs::ReadExpressions::trailer, kishu_model::specs::ReadExpressions::attribute))]
+    #[tactic(auto, unfolding(kishu_language::specs::reading::ReadExpressions::trailer, kishu_language::specs::reading::ReadExpressions::attribute))]
     pub(crate) fn trailer(&self, at: &mut usize, room: u32) -> Result<Trailer, Stop>
         ensures { Gives views.trailer_of (spec.trailer (grammar.has_room room) (spec.phrase room) (left self.now.tokens.now at.old)) result (left self.now.tokens.now at.new) }
     {
@@ -198,7 +198,7 @@ impl<'a> Parser<'a> {
     }
 
     #[cycle(expressions)]
-    #[tactic(auto, using(crate::proofs::Rows::call_is), unfolding(kishu_model::specs::ReadExpressions::call))]
+    #[tactic(auto, using(crate::proofs::Rows::call_is), unfolding(kishu_language::specs::reading::ReadExpressions::call))]
     fn call(&self, at: &mut usize, room: u32) -> Result<Trailer, Stop>
         ensures { Gives views.trailer_of (spec.call (spec.phrase room) (left self.now.tokens.now at.old)) result (left self.now.tokens.now at.new) }
     {
@@ -249,7 +249,7 @@ impl<'a> Parser<'a> {
     }
 
     #[cycle(expressions)]
-    #[tactic(auto, using(crate::proofs::Rows::plain_is, crate::proofs::Rows::keyword_is), unfolding(kishu_model::specs::ReadExpressions::argument))]
+    #[tactic(auto, using(crate::proofs::Rows::plain_is, crate::proofs::Rows::keyword_is), unfolding(kishu_language::specs::reading::ReadExpressions::argument))]
     fn argument(&self, at: &mut usize, room: u32) -> Result<Argument, Stop>
         ensures { Gives views.argument_of (spec.argument (spec.phrase room) (left self.now.tokens.now at.old)) result (left self.now.tokens.now at.new) }
     {
@@ -264,7 +264,7 @@ impl<'a> Parser<'a> {
     }
 
     #[cycle(expressions)]
-    #[tactic(auto, unfolding(kishu_model::specs::ReadExpressions::item_or_slice))]
+    #[tactic(auto, unfolding(kishu_language::specs::reading::ReadExpressions::item_or_slice))]
     fn item_or_slice(&self, at: &mut usize, room: u32) -> Result<Trailer, Stop>
         ensures { Gives views.trailer_of (spec.item_or_slice (spec.phrase room) (left self.now.tokens.now at.old)) result (left self.now.tokens.now at.new) }
     {
@@ -293,7 +293,7 @@ impl<'a> Parser<'a> {
     }
 
     #[cycle(expressions)]
-    #[tactic(auto, using(crate::proofs::Rows::slice_is), unfolding(kishu_model::specs::ReadExpressions::slice_after))]
+    #[tactic(auto, using(crate::proofs::Rows::slice_is), unfolding(kishu_language::specs::reading::ReadExpressions::slice_after))]
     fn slice_after(&self, at: &mut usize, room: u32, start: Option<Expr>) -> Result<Trailer, Stop>
         ensures { Gives views.trailer_of (spec.slice_after (spec.phrase room) (value_of start) (left self.now.tokens.now at.old)) result (left self.now.tokens.now at.new) }
     {
@@ -378,7 +378,7 @@ impl<'a> Parser<'a> {
         }
     }
 
-    #[tactic(auto, using(crate::proofs::Rows::attribute_is), unfolding(kishu_model::specs::ReadExpressions::attribute))]
+    #[tactic(auto, using(crate::proofs::Rows::attribute_is), unfolding(kishu_language::specs::reading::ReadExpressions::attribute))]
     fn attribute(&self, at: &mut usize) -> Result<Trailer, Stop>
         ensures { Gives views.trailer_of (turns.attribute (left self.now.tokens.now at.old)) result (left self.now.tokens.now at.new) }
     {

@@ -1,12 +1,12 @@
 // One part more at the end of a list.
 ghost use Rattle.std.specs.Prelude.{◌≡◌, ◌++◌, ◌∷◌, [], OnOk, IfOk};
 ghost use Rattle.std.specs.Rc.{rc_str_bytes};
-ghost use Rattle.kishu_model.specs.Tree.{expression_of, statement_of, parameter_of, definition_of};
+ghost use Rattle.kishu_language.specs.trees.Tree.{expression_of, statement_of, parameter_of, definition_of};
 ghost use Rattle.kishu_parser.specs.Trees as views;
 ghost use Rattle.kishu_parser.specs.Statements as lines;
 ghost use Rattle.kishu_parser.specs.Bodies as bodies;
 
-use kishu_model::{Argument, Arm, Def, Expr, Handler, Stmt, Trailer};
+use kishu_language::{Argument, Arm, Def, Expr, Handler, Stmt, Trailer};
 use std::alloc::{AllocError, Global};
 use std::rc::{Rc, RcStr};
 

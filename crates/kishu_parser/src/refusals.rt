@@ -1,14 +1,14 @@
 // What the grammar would let through and is refused.
 ghost use Rattle.std.specs.Prelude.{◌≡◌, ◌&&◌, ◌∷◌, List, map, IfOk};
-ghost use Rattle.kishu_model.specs.Tree as t;
-ghost use Rattle.kishu_model.specs.Grammar as grammar;
-ghost use Rattle.kishu_model.specs.Refusals as spec;
+ghost use Rattle.kishu_language.specs.trees.Tree as t;
+ghost use Rattle.kishu_language.specs.grammar.Grammar as grammar;
+ghost use Rattle.kishu_language.specs.grammar.Refusals as spec;
 ghost use Rattle.kishu_parser.specs.Trees as views;
 ghost use Rattle.kishu_parser.specs.Bodies as bodies;
 ghost use Rattle.kishu_parser.specs.Sets.{names_in};
 
 use crate::texts::Texts;
-use kishu_model::{Argument, Expr, Handler};
+use kishu_language::{Argument, Expr, Handler};
 use std::alloc::{AllocError, Global};
 use std::rc::RcStr;
 

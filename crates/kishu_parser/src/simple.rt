@@ -1,11 +1,11 @@
 // Simple statements.
 ghost use Rattle.std.specs.Prelude.{◌≡◌, [], ◌∷◌, map};
 ghost use Rattle.std.specs.Rc.{rc_str_bytes};
-ghost use Rattle.kishu_model.specs.declared.token.Mark.TheVariants as m;
-ghost use Rattle.kishu_model.specs.Tree.{expression_of, value_of, text_of, statement_of};
-ghost use Rattle.kishu_model.specs.Reader as reader;
-ghost use Rattle.kishu_model.specs.ReadExpressions as expressions;
-ghost use Rattle.kishu_model.specs.ReadStatements as spec;
+ghost use Rattle.kishu_language.specs.declared.token.Mark.TheVariants as m;
+ghost use Rattle.kishu_language.specs.trees.Tree.{expression_of, value_of, text_of, statement_of};
+ghost use Rattle.kishu_language.specs.reading.Reader as reader;
+ghost use Rattle.kishu_language.specs.reading.ReadExpressions as expressions;
+ghost use Rattle.kishu_language.specs.reading.ReadStatements as spec;
 ghost use Rattle.kishu_parser.specs.Views.{left, Gives};
 ghost use Rattle.kishu_parser.specs.Trees as views;
 ghost use Rattle.kishu_parser.specs.Turns as turns;
@@ -15,7 +15,7 @@ use crate::cursor::{Parser, Stop};
 use crate::expressions::Phrase;
 use crate::pushes::{push_expr, push_statement, push_text};
 use crate::targets::{is_place, is_target};
-use kishu_model::{Expr, Mark, Stmt};
+use kishu_language::{Expr, Mark, Stmt};
 use std::rc::RcStr;
 
 /// Where a statement stands: in a function's body, and there in a loop or in a handler's block.
@@ -28,7 +28,7 @@ pub(crate) struct Around {
 
 impl<'a> Parser<'a> {
     /// A primary with so many nestings, its own among them.
-    #[tactic(auto, unfolding(kishu_model::specs::ReadStatements::primary_at))]
+    #[tactic(auto, unfolding(kishu_language::specs::reading::ReadStatements::primary_at))]
     pub(crate) fn primary_at(&self, at: &mut usize, room: u32) -> Result<Expr, Stop>
         ensures { Gives expression_of (spec.primary_at room (left self.now.tokens.now at.old)) result (left self.now.tokens.now at.new) }
     {
@@ -38,7 +38,7 @@ impl<'a> Parser<'a> {
         self.primary(at, room - 1)
     }
 
-    #[tactic(auto, using(crate::proofs::StatementRows::raise_is), unfolding(kishu_model::specs::ReadStatements::raise))]
+    #[tactic(auto, using(crate::proofs::StatementRows::raise_is), unfolding(kishu_language::specs::reading::ReadStatements::raise))]
     fn raise(&self, at: &mut usize, room: u32, around: Around) -> Result<Stmt, Stop>
         ensures { Gives statement_of (spec.raise (lines.around_of around) room (left self.now.tokens.now at.old)) result (left self.now.tokens.now at.new) }
     {
@@ -68,7 +68,7 @@ impl<'a> Parser<'a> {
         Ok(Stmt::Return(Some(value)))
     }
 
-    #[tactic(auto, using(crate::proofs::StatementRows::assert_is), unfolding(kishu_model::specs::ReadStatements::assertion))]
+    #[tactic(auto, using(crate::proofs::StatementRows::assert_is), unfolding(kishu_language::specs::reading::ReadStatements::assertion))]
     fn assertion(&self, at: &mut usize, room: u32) -> Result<Stmt, Stop>
         ensures { Gives statement_of (spec.assertion lines.anywhere room (left self.now.tokens.now at.old)) result (left self.now.tokens.now at.new) }
     {
@@ -82,7 +82,7 @@ impl<'a> Parser<'a> {
         Ok(Stmt::Assert(test, Some(message)))
     }
 
-    #[tactic(auto, using(crate::proofs::StatementRows::delete_is), unfolding(kishu_model::specs::ReadStatements::delete))]
+    #[tactic(auto, using(crate::proofs::StatementRows::delete_is), unfolding(kishu_language::specs::reading::ReadStatements::delete))]
     fn delete(&self, at: &mut usize, room: u32) -> Result<Stmt, Stop>
         ensures { Gives statement_of (spec.delete lines.anywhere room (left self.now.tokens.now at.old)) result (left self.now.tokens.now at.new) }
     {
@@ -118,7 +118,7 @@ impl<'a> Parser<'a> {
         Ok(found)
     }
 
-    #[tactic(auto, using(crate::proofs::StatementRows::global_is), unfolding(kishu_model::specs::ReadStatements::global))]
+    #[tactic(auto, using(crate::proofs::StatementRows::global_is), unfolding(kishu_language::specs::reading::ReadStatements::global))]
     fn global(&self, at: &mut usize, around: Around) -> Result<Stmt, Stop>
         ensures { Gives statement_of (spec.global (lines.around_of around) 0 (left self.now.tokens.now at.old)) result (left self.now.tokens.now at.new) }
     {
@@ -147,7 +147,7 @@ impl<'a> Parser<'a> {
         Ok(all)
     }
 
-    #[tactic(auto, using(crate::proofs::StatementRows::import_is), unfolding(kishu_model::specs::ReadStatements::import))]
+    #[tactic(auto, using(crate::proofs::StatementRows::import_is), unfolding(kishu_language::specs::reading::ReadStatements::import))]
     fn import(&self, at: &mut usize) -> Result<Stmt, Stop>
         ensures { Gives statement_of (spec.import lines.anywhere 0 (left self.now.tokens.now at.old)) result (left self.now.tokens.now at.new) }
     {
@@ -171,7 +171,7 @@ impl<'a> Parser<'a> {
         Ok(Some(name))
     }
 
-    #[tactic(auto, unfolding(kishu_model::specs::ReadStatements::update_or_assignment))]
+    #[tactic(auto, unfolding(kishu_language::specs::reading::ReadStatements::update_or_assignment))]
     fn update_or_assignment(&self, at: &mut usize, room: u32) -> Result<Stmt, Stop>
         ensures { Gives statement_of (spec.update_or_assignment lines.anywhere room (left self.now.tokens.now at.old)) result (left self.now.tokens.now at.new) }
     {
@@ -182,7 +182,7 @@ impl<'a> Parser<'a> {
         self.assignment_of(at, room, first)
     }
 
-    #[tactic(auto, using(crate::proofs::StatementRows::update_is), unfolding(kishu_model::specs::ReadStatements::update_of))]
+    #[tactic(auto, using(crate::proofs::StatementRows::update_is), unfolding(kishu_language::specs::reading::ReadStatements::update_of))]
     fn update_of(&self, at: &mut usize, room: u32, place: Expr) -> Result<Stmt, Stop>
         ensures { Gives statement_of (spec.update_of lines.anywhere room (expression_of place) (left self.now.tokens.now at.old)) result (left self.now.tokens.now at.new) }
     {
@@ -197,7 +197,7 @@ impl<'a> Parser<'a> {
         Ok(Stmt::Update(place, operator, value))
     }
 
-    #[tactic(auto, using(crate::proofs::StatementRows::assign_is), unfolding(kishu_model::specs::ReadStatements::assignment_of))]
+    #[tactic(auto, using(crate::proofs::StatementRows::assign_is), unfolding(kishu_language::specs::reading::ReadStatements::assignment_of))]
     fn assignment_of(&self, at: &mut usize, room: u32, first: Expr) -> Result<Stmt, Stop>
         ensures { Gives statement_of (spec.assignment_of lines.anywhere room (expression_of first) (left self.now.tokens.now at.old)) result (left self.now.tokens.now at.new) }
     {
@@ -256,7 +256,7 @@ impl<'a> Parser<'a> {
         Ok(Stmt::Continue)
     }
 
-    #[tactic(auto, unfolding(kishu_model::specs::ReadStatements::simple))]
+    #[tactic(auto, unfolding(kishu_language::specs::reading::ReadStatements::simple))]
     fn simple(&self, at: &mut usize, room: u32, around: Around) -> Result<Stmt, Stop>
         ensures { Gives statement_of (spec.simple (lines.around_of around) room (left self.now.tokens.now at.old)) result (left self.now.tokens.now at.new) }
     {
@@ -283,7 +283,7 @@ impl<'a> Parser<'a> {
         }
     }
 
-    #[tactic(auto, unfolding(kishu_model::specs::ReadStatements::simples))]
+    #[tactic(auto, unfolding(kishu_language::specs::reading::ReadStatements::simples))]
     pub(crate) fn simples(
         &self,
         at: &mut usize,

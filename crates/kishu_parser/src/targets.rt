@@ -1,11 +1,11 @@
 // What may be assigned to.
 ghost use Rattle.std.specs.Prelude.{◌≡◌, map};
-ghost use Rattle.kishu_model.specs.Tree.{expression_of};
-ghost use Rattle.kishu_model.specs.Tree as t;
-ghost use Rattle.kishu_model.specs.Targets as spec;
+ghost use Rattle.kishu_language.specs.trees.Tree.{expression_of};
+ghost use Rattle.kishu_language.specs.trees.Tree as t;
+ghost use Rattle.kishu_language.specs.grammar.Targets as spec;
 ghost use Rattle.kishu_parser.specs.Trees as views;
 
-use kishu_model::{Expr, Trailer};
+use kishu_language::{Expr, Trailer};
 
 /// Whether it is an attribute or an item.
 fn is_place_trailer(trailer: &Trailer) -> bool

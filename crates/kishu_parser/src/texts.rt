@@ -1,7 +1,7 @@
 // A set of names.
 ghost use Rattle.std.specs.Prelude.{◌≡◌, [], not, IfOk, OnOk, length, ◌==◌};
 ghost use Rattle.std.specs.Rc.{rc_str_bytes};
-ghost use Rattle.kishu_model.specs.Names.{is_among};
+ghost use Rattle.kishu_language.specs.tokens.Names.{is_among};
 ghost use Rattle.kishu_parser.specs.Sets.{names_in, with_name};
 
 use indexmap::IndexSet;

@@ -1,17 +1,17 @@
 // The trees of texts.
 ghost use Rattle.std.specs.Prelude.{◌≡◌, ◌≤◌, List, [], ◌∷◌, length, map, IfOk, IfErr, MatchResult};
-ghost use Rattle.kishu_model.specs.Tree.{Statement, Definition, statements, program_of, definition_of};
-ghost use Rattle.kishu_model.specs.Height.{of_statement, of_statements};
-ghost use Rattle.kishu_model.specs.Parse.{Parse, Line, ParseDef, LineDef};
-ghost use Rattle.kishu_model.specs.FunctionCodes.{CodesRead};
+ghost use Rattle.kishu_language.specs.trees.Tree.{Statement, Definition, statements, program_of, definition_of};
+ghost use Rattle.kishu_language.specs.trees.Height.{of_statement, of_statements};
+ghost use Rattle.kishu_language.specs.grammar.Parse.{Parse, Line, ParseDef, LineDef};
+ghost use Rattle.kishu_language.specs.trees.FunctionCodes.{CodesRead};
 ghost use Rattle.kishu_parser.specs.Statements as lines;
 ghost use Rattle.kishu_parser.specs.TopLevel.{Lined, piece_of, HasPieces};
 ghost use Rattle.kishu_parser.specs.TopLaws.{statements_of};
 
 use crate::cursor::{Parser, Stop};
 use crate::pieces::Piece;
+use kishu_language::{Def, Profile, Program, Stmt};
 use kishu_lexer::{SyntaxFault, plain_lines, tokens};
-use kishu_model::{Def, Profile, Program, Stmt};
 use std::alloc::{AllocError, Global};
 
 /// The tree of a text of at most 1,048,576 bytes, under the rules of a profile (Python Language

@@ -1,9 +1,9 @@
 -- Which entry a value of the program is, and which rules each entry keeps.
 use Rattle.std.specs.Prelude.{◌≡◌, ℕ, List, [], ◌∷◌, ◌++◌, ◌<◌, ◌≤◌, ◌^◌, length, map}
-use Rattle.kishu_model.specs.declared.profile.Profile.{Profile}
+use Rattle.kishu_language.specs.declared.profile.Profile.{Profile}
 use Rattle.std.specs.Str.{IsUtf8}
 use Rattle.std.specs.Rc.{rc_str_bytes}
-use Rattle.kishu_model.specs.Record.{Entry, commit, profile_number, four, longest_cell}
+use Rattle.kishu_store.specs.Record.{Entry, commit, profile_number, four, longest_cell}
 use Rattle.kishu_record.specs.declared.entry.Entry as rust
 use Rattle.kishu_record.specs.declared.entry.Entry.TheVariants as rust_entry
 

@@ -1,10 +1,10 @@
 -- What follows from the bytes of a record.
 use Rattle.std.proofs.Common.{◌≡◌, ◌≤◌, ◌<◌, ◌+◌, ◌^◌, ℕ, List, [], ◌∷◌, ◌++◌, length, refl, sym, ap, ◌∙◌, arith, length-append, append_assoc}
 use Rattle.std.proofs.lemmas.Str.{IsUtf8-from_is_utf8}
-use Rattle.kishu_model.specs.declared.profile.Profile.{Profile}
-use Rattle.kishu_model.specs.declared.profile.Profile.TheVariants.{One}
-use Rattle.kishu_model.specs.Record.{Entry, commit, four, texts_bytes, head_of, body_of, AreCells}
-use Rattle.kishu_model.specs.Laws.{four-unique, append-unique}
+use Rattle.kishu_language.specs.declared.profile.Profile.{Profile}
+use Rattle.kishu_language.specs.declared.profile.Profile.TheVariants.{One}
+use Rattle.kishu_store.specs.Record.{Entry, commit, four, texts_bytes, head_of, body_of, AreCells}
+use Rattle.kishu_store_laws.specs.Laws.{four-unique, append-unique}
 use Rattle.kishu_record.specs.Entries.{IsText, AreTexts, KeepsRules, BeginsText}
 
 -- the length of the head of a commit of one cell

@@ -1,6 +1,6 @@
 ghost use Rattle.std.specs.Prelude.{◌≡◌, ◌<◌, ◌≤◌, ◌++◌, ◌∷◌, [], List, ℕ, length, map, Ok, None, IfOk, IfSome};
 ghost use Rattle.std.specs.Rc.{rc_str_bytes};
-ghost use Rattle.kishu_model.specs.Record.{four, texts_bytes};
+ghost use Rattle.kishu_store.specs.Record.{four, texts_bytes};
 ghost use Rattle.kishu_record.specs.Entries.{IsText, AreTexts, BeginsText};
 
 use std::alloc::{AllocError, Global};

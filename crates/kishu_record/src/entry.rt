@@ -1,4 +1,4 @@
-use kishu_model::Profile;
+use kishu_language::Profile;
 use std::rc::RcStr;
 
 /// What a record says.

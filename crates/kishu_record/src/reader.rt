@@ -1,13 +1,13 @@
 ghost use Rattle.std.specs.Prelude.{◌≡◌, ◌<◌, ◌≤◌, ◌^◌, ◌++◌, ◌∷◌, true, false, List, ℕ, length, Ok, None, IfOk, IfSome};
-ghost use Rattle.kishu_model.specs.declared.profile.Profile.{Profile};
-ghost use Rattle.kishu_model.specs.Record as model;
-ghost use Rattle.kishu_model.specs.Record.{commit, profile_number, four, head_of, body_of, AreCells};
+ghost use Rattle.kishu_language.specs.declared.profile.Profile.{Profile};
+ghost use Rattle.kishu_store.specs.Record as model;
+ghost use Rattle.kishu_store.specs.Record.{commit, profile_number, four, head_of, body_of, AreCells};
 ghost use Rattle.kishu_record.specs.Entries.{entry_of, KeepsRules, BeginsCommit};
 
 use crate::COMMIT;
 use crate::cursor::Cursor;
 use crate::entry::Entry;
-use kishu_model::Profile;
+use kishu_language::Profile;
 use std::alloc::{AllocError, Global};
 
 /// The numbers of dropped and of stored groups, both 0, in four bytes each.
@@ -63,7 +63,7 @@ fn is_no_groups(bytes: &[u8]) -> bool
 }
 
 /// The commit that a head spells, or none.
-#[tactic(auto, unfolding(kishu_model::specs::Record::head_of))]
+#[tactic(auto, unfolding(kishu_store::specs::Record::head_of))]
 fn commit_of(alloc: Global, head: &[u8]) -> Result<Option<Entry>, AllocError>
     ensures found { IfOk result (λ o. IfSome o (λ e. head.now ≡ head_of (entry_of e))) }
     ensures rules { IfOk result (λ o. IfSome o (λ e. KeepsRules (entry_of e))) }
@@ -90,7 +90,7 @@ fn commit_of(alloc: Global, head: &[u8]) -> Result<Option<Entry>, AllocError>
 /// it has a cell at least, each of UTF-8 and of at most 1,048,576 bytes.
 ///
 /// Its condition is that the body has at most 2^30 bytes. The error is want of memory.
-#[tactic(auto, unfolding(kishu_model::specs::Record::body_of))]
+#[tactic(auto, unfolding(kishu_store::specs::Record::body_of))]
 pub fn decode(alloc: Global, body: &[u8]) -> Result<Option<Entry>, AllocError>
     requires { length body.now ≤ 2 ^ 30 }
     ensures found { IfOk result (λ o. IfSome o (λ e. body.now ≡ body_of (entry_of e))) }

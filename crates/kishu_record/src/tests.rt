@@ -1,9 +1,9 @@
 ghost use Rattle.std.specs.Prelude.{◌<◌, ◌≤◌, ◌^◌, length, IfOk};
-ghost use Rattle.kishu_model.specs.Record.{head_of};
+ghost use Rattle.kishu_store.specs.Record.{head_of};
 ghost use Rattle.kishu_record.specs.Entries.{entry_of};
 
 use crate::{Entry, decode, encode};
-use kishu_model::Profile;
+use kishu_language::Profile;
 use std::alloc::{AllocError, Global};
 use std::rc::RcStr;
 use std::test::Fail;

@@ -1,18 +1,18 @@
 ghost use Rattle.std.specs.Prelude.{◌≡◌, ◌<◌, ◌^◌, ◌++◌, ◌∷◌, [], length, map, IfOk, OnOk};
 ghost use Rattle.std.specs.Rc.{rc_str_bytes};
-ghost use Rattle.kishu_model.specs.Record.{four, profile_number, texts_bytes, head_of, body_of, commit};
+ghost use Rattle.kishu_store.specs.Record.{four, profile_number, texts_bytes, head_of, body_of, commit};
 ghost use Rattle.kishu_record.specs.Entries.{entry_of};
 
 use crate::COMMIT;
 use crate::entry::Entry;
-use kishu_model::Profile;
+use kishu_language::Profile;
 use std::alloc::{AllocError, Global};
 use std::rc::RcStr;
 
 /// The body of an entry's record.
 ///
 /// Its condition is that the entry's head has fewer than 2^32 bytes. The error is want of memory.
-#[tactic(auto, unfolding(kishu_model::specs::Record::body_of))]
+#[tactic(auto, unfolding(kishu_store::specs::Record::body_of))]
 pub fn encode(alloc: Global, entry: &Entry) -> Result<Vec<u8>, AllocError>
     requires { length (head_of (entry_of entry.now)) < 2 ^ 32 }
     ensures { IfOk result (λ v. v.items ≡ body_of (entry_of entry.now)) }
@@ -39,7 +39,7 @@ fn head_bytes(alloc: Global, entry: &Entry) -> Result<Vec<u8>, AllocError>
 }
 
 /// The head of a commit that drops and stores no groups.
-#[tactic(auto, unfolding(kishu_model::specs::Record::head_of))]
+#[tactic(auto, unfolding(kishu_store::specs::Record::head_of))]
 fn commit_head(
     alloc: Global,
     parent: u32,

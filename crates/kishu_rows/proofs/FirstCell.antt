@@ -5,25 +5,26 @@ use Rattle.std.proofs.lemmas.Bool.{false≢true}
 use Rattle.std.specs.Char.{encode_utf8}
 use Rattle.std.specs.Fmt.{digits}
 use Rattle.std.specs.Str.{chars, is_utf8}
-use Rattle.kishu_model.specs.declared.profile.Profile.TheVariants.{One}
-use Rattle.kishu_model.specs.Names.{reserved_words, builtin_names, class_names}
-use Rattle.kishu_model.specs.Numbers.{power}
-use Rattle.kishu_model.specs.Marks.{reserved_marks, delimiter, operator}
-use Rattle.kishu_model.specs.Numerals.{numeral}
-use Rattle.kishu_model.specs.Quoted as Q
-use Rattle.kishu_model.specs.Lexemes.{token_piece, lexeme}
-use Rattle.kishu_model.specs.Layout as L
-use Rattle.kishu_model.specs.Code.{code_of}
-use Rattle.kishu_model.specs.ReadExpressions as E
-use Rattle.kishu_model.specs.ReadStatements as S
-use Rattle.kishu_model.specs.ReadText as R
-use Rattle.kishu_model.specs.Meaning.{run}
-use Rattle.kishu_model.specs.Graph.{Graph, new_graph}
+use Rattle.kishu_language.specs.declared.profile.Profile.TheVariants.{One}
+use Rattle.kishu_language.specs.tokens.Names.{reserved_words}
+use Rattle.kishu_meaning.specs.values.BuiltinNames.{builtin_names, class_names}
+use Rattle.kishu_meaning.specs.values.Numbers.{power}
+use Rattle.kishu_language.specs.tokens.Marks.{reserved_marks, delimiter, operator}
+use Rattle.kishu_language.specs.tokens.Numerals.{numeral}
+use Rattle.kishu_language.specs.tokens.Quoted as Q
+use Rattle.kishu_language.specs.tokens.Lexemes.{token_piece, lexeme}
+use Rattle.kishu_language.specs.tokens.Layout as L
+use Rattle.kishu_language.specs.trees.Code.{code_of}
+use Rattle.kishu_language.specs.reading.ReadExpressions as E
+use Rattle.kishu_language.specs.reading.ReadStatements as S
+use Rattle.kishu_language.specs.reading.ReadText as R
+use Rattle.kishu_meaning.specs.cells.Meaning.{run}
+use Rattle.kishu_store.specs.Graph.{Graph, new_graph}
 use Rattle.kishu_model.specs.Answers.{answer_line}
 use Rattle.kishu_model.specs.Step.{cell, unreadable, step}
 use Rattle.kishu_model.specs.Task.{task, one_cell}
-use Rattle.kishu_model.specs.Record.{commit, head_of, body_of, IsCell, Fits}
-use Rattle.kishu_model.specs.Holds.{header, framed, front, Holds, IsForeign}
+use Rattle.kishu_store.specs.Record.{commit, head_of, body_of, IsCell, Fits}
+use Rattle.kishu_store.specs.Holds.{header, framed, front, Holds, IsForeign}
 
 all_keywords : length reserved_words ≡ 35
 unfolding reserved_words

@@ -4,19 +4,19 @@ use Rattle.std.specs.Str.{IsUtf8}
 use Rattle.std.proofs.lemmas.Str.{is_utf8-from_IsUtf8}
 use Rattle.kishu_host.specs.Host.{State, Only, DuringPut, Elapses}
 use Rattle.kishu_host.specs.Going.{weaker, goes_on}
-use Rattle.kishu_model.specs.declared.profile.Profile.TheVariants.{One}
-use Rattle.kishu_model.specs.Values as values
-use Rattle.kishu_model.specs.Meaning.{run}
-use Rattle.kishu_model.specs.Graph.{Graph, newest, with_commit, count_of}
+use Rattle.kishu_language.specs.declared.profile.Profile.TheVariants.{One}
+use Rattle.kishu_meaning.specs.values.Values as values
+use Rattle.kishu_meaning.specs.cells.Meaning.{run}
+use Rattle.kishu_store.specs.Graph.{Graph, newest, with_commit, count_of}
 use Rattle.kishu_model.specs.Answers.{Refusal, answer_line, ran_cell}
 use Rattle.kishu_model.specs.Step.{Request, Stepped, cell, step, committed, refused_with, charge_of}
 use Rattle.kishu_model.specs.Replay.{replay, IsFull}
-use Rattle.kishu_model.specs.Record.{Entry, commit, changed, longest_cell, IsCell, Fits, body_of}
-use Rattle.kishu_model.specs.Holds.{Holds, end_of, graph_of}
+use Rattle.kishu_store.specs.Record.{Entry, commit, changed, longest_cell, IsCell, Fits, body_of}
+use Rattle.kishu_store.specs.Holds.{Holds, end_of, graph_of}
 use Rattle.kishu_model.specs.Serve.{after, answer_of}
-use Rattle.kishu_model.specs.Growth.{step-cell, charge-cell, replay-with_commit, count-with_commit}
-use Rattle.kishu_model.specs.Laws.{changed-push, ends-holds}
-use Rattle.kishu_model.specs.Graph.{new_graph}
+use Rattle.kishu_serve.specs.Growth.{step-cell, charge-cell, replay-with_commit, count-with_commit}
+use Rattle.kishu_store_laws.specs.Laws.{changed-push, ends-holds}
+use Rattle.kishu_store.specs.Graph.{new_graph}
 use Rattle.kishu_journal.specs.Stands.{JournalState, Stands, IsNext, with_entry}
 use Rattle.kishu_journal.specs.Bytes.{appended}
 use Rattle.kishu_journal.specs.Going.{WithOrWithout}

@@ -2,10 +2,10 @@
 use Rattle.std.proofs.Common.{◌≡◌, inl, inr, ⊎_elim, ℕ, List, [], ◌∷◌, ◌++◌, refl, sym, ◌∙◌, ap, subst}
 use Rattle.std.proofs.lemmas.List.{append-nil}
 use Rattle.kishu_host.specs.Host.{State, Now, Only, DuringPut}
-use Rattle.kishu_model.specs.Graph.{Graph}
+use Rattle.kishu_store.specs.Graph.{Graph}
 use Rattle.kishu_model.specs.Step.{Request}
-use Rattle.kishu_model.specs.Record.{Entry, changed}
-use Rattle.kishu_model.specs.Holds.{Holds, graph_of}
+use Rattle.kishu_store.specs.Record.{Entry, changed}
+use Rattle.kishu_store.specs.Holds.{Holds, graph_of}
 use Rattle.kishu_model.specs.Serve.{after, answer_of, IsPrefix}
 use Rattle.kishu_journal.specs.Going.{WithOrWithout}
 use Rattle.kishu_serve.specs.Headline.{IsPart}

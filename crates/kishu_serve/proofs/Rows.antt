@@ -8,14 +8,14 @@ use Rattle.std.specs.Char.{encode_utf8}
 use Rattle.std.specs.Fmt.{digits}
 use Rattle.std.specs.Int.{w64, to_be_bytes, from_be_bytes}
 use Rattle.std.specs.Str.{chars, is_utf8}
-use Rattle.kishu_model.specs.declared.profile.Profile.TheVariants.{One}
-use Rattle.kishu_model.specs.Graph.{Graph, new_graph, count_of}
+use Rattle.kishu_language.specs.declared.profile.Profile.TheVariants.{One}
+use Rattle.kishu_store.specs.Graph.{Graph, new_graph, count_of}
 use Rattle.kishu_model.specs.Step.{unreadable}
 use Rattle.kishu_model.specs.Serve.{after_all, charges}
 use Rattle.kishu_model.specs.Task.{task, one_cell}
-use Rattle.kishu_model.specs.Record.{Entry, commit, head_of, body_of, IsCell, AreCells, Fits, AreRecords, longest_body}
-use Rattle.kishu_model.specs.Holds.{header, framed, front, end_of, graph_of, open_gate, Ends, Holds, BeginsRecord, IsBroken, IsForeign}
-use Rattle.kishu_model.specs.Laws.{length-framed, framed-unique, append-unique, parents-unique, cells-unique}
+use Rattle.kishu_store.specs.Record.{Entry, commit, head_of, body_of, IsCell, AreCells, Fits, AreRecords, longest_body}
+use Rattle.kishu_store.specs.Holds.{header, framed, front, end_of, graph_of, open_gate, Ends, Holds, BeginsRecord, IsBroken, IsForeign}
+use Rattle.kishu_store_laws.specs.Laws.{length-framed, framed-unique, append-unique, parents-unique, cells-unique}
 use Rattle.kishu_journal.specs.Bytes.{fresh, appended}
 use Rattle.kishu_serve.specs.declared.status.Status.TheVariants.{Done, Usage, NotAJournal, Damaged, DiskFault, InputFault, OutputFault, NoMemory, InputTooLong, HeapFull}
 use Rattle.kishu_serve.specs.Statuses.{code_of, text_of}

@@ -6,12 +6,12 @@ use Rattle.std.specs.Prelude.{Bool, false, if◌then◌else◌, nat_le}
 use Rattle.std.proofs.lemmas.List.{append-nil}
 use Rattle.kishu_host.specs.Host.{State, Now, Only, Keeps, Elapses}
 use Rattle.kishu_host.specs.Going.{weaker, goes_on}
-use Rattle.kishu_model.specs.Graph.{Graph, new_graph}
+use Rattle.kishu_store.specs.Graph.{Graph, new_graph}
 use Rattle.kishu_model.specs.Step.{Request}
 use Rattle.kishu_model.specs.Task.{Form, one_cell, cell_request, task}
-use Rattle.kishu_model.specs.Holds.{Holds}
+use Rattle.kishu_store.specs.Holds.{Holds}
 use Rattle.kishu_model.specs.Serve.{after, answer_of}
-use Rattle.kishu_model.specs.Laws.{ends-holds, one_graph}
+use Rattle.kishu_store_laws.specs.Laws.{ends-holds, one_graph}
 use Rattle.kishu_journal.specs.Bytes.{fresh}
 use Rattle.kishu_serve.specs.declared.session.Session.{Session}
 use Rattle.kishu_serve.specs.Attached.{IsAttached}

@@ -1,10 +1,10 @@
 -- A session that stands for the graph of the host's file.
 use Rattle.std.specs.Prelude.{◌≡◌, List}
 use Rattle.kishu_host.specs.Host as host
-use Rattle.kishu_model.specs.Graph.{Graph, count_of, newest}
+use Rattle.kishu_store.specs.Graph.{Graph, count_of, newest}
 use Rattle.kishu_model.specs.Replay.{replay}
-use Rattle.kishu_model.specs.Record.{Entry}
-use Rattle.kishu_model.specs.Holds.{graph_of}
+use Rattle.kishu_store.specs.Record.{Entry}
+use Rattle.kishu_store.specs.Holds.{graph_of}
 use Rattle.kishu_journal.specs.Stands.{Stands}
 use Rattle.kishu_serve.specs.Lives.{state_of}
 use Rattle.kishu_serve.specs.declared.session.Session.{Session}

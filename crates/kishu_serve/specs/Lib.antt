@@ -6,3 +6,4 @@ pub mod Lives
 pub mod Attached
 pub mod Midway
 pub mod Texts
+pub mod Growth

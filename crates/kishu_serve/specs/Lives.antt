@@ -1,5 +1,5 @@
 -- The state that a live one stands for.
-use Rattle.kishu_model.specs.Values.{State}
+use Rattle.kishu_meaning.specs.values.Values.{State}
 use Rattle.kishu_interp.specs.Running.{state_in}
 use Rattle.kishu_serve.specs.declared.live.Live.{Live}
 

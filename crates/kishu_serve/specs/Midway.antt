@@ -1,15 +1,15 @@
 -- A replay of stored records that has come to some of them.
 use Rattle.std.specs.Prelude.{◌≡◌, ◌≤◌, ℕ, suc, ◌+◌, ◌*◌, ◌^◌, List, [], ◌∷◌, ◌++◌, length, refl}
 use Rattle.std.proofs.Common.{sym, ◌∙◌, ap, subst, arith, length-append}
-use Rattle.kishu_model.specs.declared.profile.Profile.{Profile}
-use Rattle.kishu_model.specs.declared.profile.Profile.TheVariants.{One}
-use Rattle.kishu_model.specs.Values.{State, empty}
-use Rattle.kishu_model.specs.Graph.{Graph, new_graph, newest, count_of}
+use Rattle.kishu_language.specs.declared.profile.Profile.{Profile}
+use Rattle.kishu_language.specs.declared.profile.Profile.TheVariants.{One}
+use Rattle.kishu_meaning.specs.values.Values.{State, empty}
+use Rattle.kishu_store.specs.Graph.{Graph, new_graph, newest, count_of}
 use Rattle.kishu_model.specs.Replay.{replay, after_cells, charge_in, replay_charge, FillsIn}
-use Rattle.kishu_model.specs.Record.{Entry, commit, cells_of, profile_of, changed, changed_by, AreRecords, AreCells, head_of, body_of, texts_bytes, four, profile_number}
-use Rattle.kishu_model.specs.Holds.{graph_of}
-use Rattle.kishu_model.specs.Laws.{graph-linear}
-use Rattle.kishu_model.specs.Growth.{replay-with_commit, count-with_commit, charge-with_commit, FillsBefore, fills-cells, fills-by}
+use Rattle.kishu_store.specs.Record.{Entry, commit, cells_of, profile_of, changed, changed_by, AreRecords, AreCells, head_of, body_of, texts_bytes, four, profile_number}
+use Rattle.kishu_store.specs.Holds.{graph_of}
+use Rattle.kishu_store_laws.specs.Laws.{graph-linear}
+use Rattle.kishu_serve.specs.Growth.{replay-with_commit, count-with_commit, charge-with_commit, FillsBefore, fills-cells, fills-by}
 
 -- the records before the rest have led to a graph, whose head's state and number of cells are these, and whose replay took the counter from one number to the other
 pub record Midway (total : Graph) (rest : List Entry) (state : State) (cells start steps : ℕ) : Type 0 where

@@ -1,13 +1,13 @@
 // What cells have left, and the running of one more.
 ghost use Rattle.std.specs.Prelude.{◌≡◌, ◌≤◌, ◌+◌, [], IsTrue, IfOk, OnOk, IsErrOf, length};
-ghost use Rattle.kishu_model.specs.declared.profile.Profile.TheVariants.{One};
+ghost use Rattle.kishu_language.specs.declared.profile.Profile.TheVariants.{One};
 ghost use Rattle.kishu_interp.specs.Running.{state_in};
-ghost use Rattle.kishu_model.specs.Accesses.{with_accesses};
-ghost use Rattle.kishu_model.specs.Meaning.{run};
-ghost use Rattle.kishu_model.specs.Record.{longest_cell};
+ghost use Rattle.kishu_meaning.specs.moments.Accesses.{with_accesses};
+ghost use Rattle.kishu_meaning.specs.cells.Meaning.{run};
+ghost use Rattle.kishu_store.specs.Record.{longest_cell};
 ghost use Rattle.kishu_model.specs.Replay.{IsFull};
-ghost use Rattle.kishu_model.specs.Sound.{are_sound_names};
-ghost use Rattle.kishu_model.specs.Values.{empty, report_of};
+ghost use Rattle.kishu_meaning.specs.values.Sound.{are_sound_names};
+ghost use Rattle.kishu_meaning.specs.values.Values.{empty, report_of};
 ghost use Rattle.kishu_serve.specs.declared.live.Unrun.TheVariants.{HeapFull};
 
 use kishu_heap::Heap;

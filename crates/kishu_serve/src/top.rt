@@ -1,12 +1,12 @@
 ghost use Rattle.std.specs.Prelude.{◌≡◌, ◌≤◌, ◌<◌, ◌⊎◌, ◌↔◌, ◌+◌, ◌^◌, ◌++◌, ◌∷◌, [], ℕ, List, length, true, false, Some, None, is_some, IfOk, OnOk, IsOk, IsSome, Err};
 ghost use Rattle.kishu_host.specs.Host.{State, Told, Now, Keeps, Elapses, Rises};
 ghost use Rattle.kishu_host.specs.Source.{SourceState};
-ghost use Rattle.kishu_model.specs.Graph.{Graph};
-ghost use Rattle.kishu_model.specs.Record.{longest_cell};
+ghost use Rattle.kishu_store.specs.Graph.{Graph};
+ghost use Rattle.kishu_store.specs.Record.{longest_cell};
 ghost use Rattle.kishu_model.specs.Replay.{replay_charge, Fills};
 ghost use Rattle.kishu_model.specs.Serve.{charges};
 ghost use Rattle.kishu_model.specs.Task.{task, one_cell};
-ghost use Rattle.kishu_model.specs.Holds.{Holds, IsForeign, IsBroken};
+ghost use Rattle.kishu_store.specs.Holds.{Holds, IsForeign, IsBroken};
 ghost use Rattle.kishu_serve.specs.Headline.{IsPart, IsWhole, IsGiven, IsWritten};
 ghost use Rattle.kishu_serve.specs.Requests.{request_of, IsShort};
 ghost use Rattle.kishu_serve.specs.Words.{texts, form_of};

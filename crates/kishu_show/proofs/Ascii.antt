@@ -10,8 +10,8 @@ use Rattle.std.specs.declared.string.String.{String}
 use Rattle.std.specs.Str.{chars, IsUtf8, IsAscii}
 use Rattle.std.proofs.lemmas.Fmt.{IsAscii-decimal_wide}
 use Rattle.std.proofs.lemmas.Str.{chars-append, chars-nil, chars-IsAscii, IsAscii-append}
-use Rattle.kishu_model.specs.Names.{builtin_names, class_names}
-use Rattle.kishu_model.specs.Show.{or_empty, builtin_name, class_name}
+use Rattle.kishu_meaning.specs.values.BuiltinNames.{builtin_names, class_names}
+use Rattle.kishu_meaning.specs.comparing.Show.{or_empty, builtin_name, class_name}
 use borrow.Author.Tests.{ltb-true}
 
 is_both : (a b : Bool) → (a && b) ≡ true → (a ≡ true) × (b ≡ true)

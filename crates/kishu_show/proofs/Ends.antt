@@ -4,10 +4,10 @@ use Rattle.std.specs.Str.{chars}
 use Rattle.std.specs.String.{string_bytes}
 use Rattle.std.specs.declared.alloc.Global.{Global}
 use Rattle.std.specs.declared.string.String.{String}
-use Rattle.kishu_model.specs.Counting.{Counted, Count, answer, too_deep, spent, and_then, give}
-use Rattle.kishu_model.specs.Equal.{room_at}
-use Rattle.kishu_model.specs.Show.{repr_by, repr_in, repr_nodes, show_by, show_in, show_nodes}
-use Rattle.kishu_model.specs.Values.{Value, Node}
+use Rattle.kishu_meaning.specs.moments.Counting.{Counted, Count, answer, too_deep, spent, and_then, give}
+use Rattle.kishu_meaning.specs.comparing.Equal.{room_at}
+use Rattle.kishu_meaning.specs.comparing.Show.{repr_by, repr_in, repr_nodes, show_by, show_in, show_nodes}
+use Rattle.kishu_meaning.specs.values.Values.{Value, Node}
 use Rattle.kishu_show.specs.declared.around.Around.{Around}
 use Rattle.kishu_show.specs.declared.around.Around.TheVariants as v
 use Rattle.kishu_show.specs.declared.around.Around.TheOpen.{Around-F}

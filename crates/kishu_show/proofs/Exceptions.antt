@@ -1,13 +1,13 @@
 -- Exceptions, as str shows them.
 use Rattle.std.proofs.Common.{◌≡◌, ap, sym, subst, refl, arith, ℕ, Bool, true, false, List, [], ◌∷◌, ◌++◌, length, map, Result, Err, Option, Some, None, ◌⊎◌, inl, inr}
-use Rattle.kishu_model.specs.declared.value.Value as rust
+use Rattle.kishu_meaning.specs.declared.value.Value as rust
 use Rattle.kishu_heap.specs.declared.node.Node as rust_node
 use Rattle.kishu_heap.specs.declared.node.Node.TheVariants as nodes
 use Rattle.kishu_heap.specs.Cells.{node_of}
-use Rattle.kishu_model.specs.Counting.{Counted, Count, ◌>>◌, answer, and_then, give, spend}
-use Rattle.kishu_model.specs.Equal.{node_in}
-use Rattle.kishu_model.specs.Values.{Value, none, bool, integer, text, range, builtin, class, node, value_of, Node, exception}
-use Rattle.kishu_model.specs.Show.{argument_text, exception_text, made, show_at, show_by, tuple_repr}
+use Rattle.kishu_meaning.specs.moments.Counting.{Counted, Count, ◌>>◌, answer, and_then, give, spend}
+use Rattle.kishu_meaning.specs.comparing.Equal.{node_in}
+use Rattle.kishu_meaning.specs.values.Values.{Value, none, bool, integer, text, range, builtin, class, node, value_of, Node, exception}
+use Rattle.kishu_meaning.specs.comparing.Show.{argument_text, exception_text, made, show_at, show_by, tuple_repr}
 use Rattle.kishu_show.specs.declared.draft.Draft.{Draft}
 use Rattle.kishu_show.specs.declared.fault.ShowFault.{ShowFault}
 use Rattle.kishu_show.specs.declared.fault.ShowFault.TheVariants as faults

@@ -3,8 +3,8 @@ use Rattle.std.proofs.Common.{arith, ◌≡◌, ◌∙◌, ap, refl, ℕ, ◌==�
 use Rattle.std.specs.Prelude.{codes, if◌then◌else◌, suc}
 use Rattle.std.proofs.lemmas.Bool.{ne_eqb}
 use Rattle.std.specs.List.{flat_map}
-use Rattle.kishu_model.specs.Show.{tuple_end}
-use Rattle.kishu_model.specs.Texts.{joined}
+use Rattle.kishu_meaning.specs.comparing.Show.{tuple_end}
+use Rattle.kishu_meaning.specs.values.Texts.{joined}
 
 pub empty_when : {A : Type 0} (xs : List A) → length xs ≡ 0 → xs ≡ []
 empty_when [] h = refl

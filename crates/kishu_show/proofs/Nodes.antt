@@ -2,10 +2,10 @@
 use Rattle.std.proofs.Common.{◌≡◌, ap, subst, refl, arith, ℕ, zero, suc, ◌-◌, ◌==◌, Bool, true, false, List, [], ◌∷◌, Result, Err, Option, Some, None}
 use Rattle.std.specs.Prelude.{slice_get}
 use Rattle.std.specs.List.{list_any}
-use Rattle.kishu_model.specs.Counting.{Count}
-use Rattle.kishu_model.specs.Equal.{node_in}
-use Rattle.kishu_model.specs.Values.{Value, none, bool, integer, text, range, builtin, class, node, Node}
-use Rattle.kishu_model.specs.Show.{again, contents_repr, made, repr_at, repr_by, repr_nodes, repr_text, show_at, show_by, show_nodes, exception_text}
+use Rattle.kishu_meaning.specs.moments.Counting.{Count}
+use Rattle.kishu_meaning.specs.comparing.Equal.{node_in}
+use Rattle.kishu_meaning.specs.values.Values.{Value, none, bool, integer, text, range, builtin, class, node, Node}
+use Rattle.kishu_meaning.specs.comparing.Show.{again, contents_repr, made, repr_at, repr_by, repr_nodes, repr_text, show_at, show_by, show_nodes, exception_text}
 use Rattle.kishu_show.specs.declared.draft.Draft.{Draft}
 use Rattle.kishu_show.specs.declared.fault.ShowFault.{ShowFault}
 use Rattle.kishu_show.specs.declared.fault.ShowFault.TheVariants as faults

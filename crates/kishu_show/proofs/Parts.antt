@@ -1,8 +1,8 @@
 -- A text that is made in parts, one behind the other.
 use Rattle.std.proofs.Common.{◌≡◌, ◌∙◌, ap, sym, subst, refl, ℕ, List, [], ◌++◌, length, append_assoc, Result, Err}
 use Rattle.std.proofs.lemmas.List.{append-nil}
-use Rattle.kishu_model.specs.Counting.{Counted, Count, answer, too_deep, spent, and_then, give, spend}
-use Rattle.kishu_model.specs.Show.{◌⊕◌, made}
+use Rattle.kishu_meaning.specs.moments.Counting.{Counted, Count, answer, too_deep, spent, and_then, give, spend}
+use Rattle.kishu_meaning.specs.comparing.Show.{◌⊕◌, made}
 use Rattle.kishu_show.specs.declared.draft.Draft.{Draft}
 use Rattle.kishu_show.specs.declared.fault.ShowFault.{ShowFault}
 use Rattle.kishu_show.specs.declared.fault.ShowFault.TheVariants as faults

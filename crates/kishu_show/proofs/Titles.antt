@@ -4,13 +4,13 @@ use Rattle.std.specs.Coded.{Coded-set, coded_list, coded_ℕ}
 use Rattle.std.specs.Rc.{rc_str_bytes}
 use Rattle.std.specs.Str.{chars}
 use Rattle.std.proofs.Math.Logic.{∥∥₁_elim}
-use Rattle.kishu_model.specs.declared.profile.Profile.{Profile}
-use Rattle.kishu_model.specs.declared.tree.Def.{Def}
-use Rattle.kishu_model.specs.declared.tree.Stmt.TheFolds.{fold-roll-Def}
-use Rattle.kishu_model.specs.Parse.{ParseDef}
-use Rattle.kishu_model.specs.Show.{function_name}
-use Rattle.kishu_model.specs.ShowLaws.{name_as_read}
-use Rattle.kishu_model.specs.Tree.{Text, Statement, Arm, Definition, Handler, definition_of, statement_of, statement_step, arm_step, definition_step, handler_step}
+use Rattle.kishu_language.specs.declared.profile.Profile.{Profile}
+use Rattle.kishu_language.specs.declared.tree.Def.{Def}
+use Rattle.kishu_language.specs.declared.tree.Stmt.TheFolds.{fold-roll-Def}
+use Rattle.kishu_language.specs.grammar.Parse.{ParseDef}
+use Rattle.kishu_meaning.specs.comparing.Show.{function_name}
+use Rattle.kishu_meaning_laws.specs.ShowLaws.{name_as_read}
+use Rattle.kishu_language.specs.trees.Tree.{Text, Statement, Arm, Definition, Handler, definition_of, statement_of, statement_step, arm_step, definition_step, handler_step}
 
 title_is : (d : Def) → (definition_of d).title ≡ rc_str_bytes d.name
 unfolding definition_of statement_of

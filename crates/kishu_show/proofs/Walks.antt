@@ -1,9 +1,9 @@
 -- One turn of a walk over items that are shown, and its end.
 use Rattle.std.proofs.Common.{◌≡◌, ◌∙◌, ap, sym, subst, refl, arith, ℕ, zero, suc, ◌+◌, ◌<◌, ◌≤◌, List, [], ◌∷◌, length, map, drop, get_or, drop-cons, add-one, Err}
-use Rattle.kishu_model.specs.declared.value.Value as rust
-use Rattle.kishu_model.specs.Counting.{Count, answer}
-use Rattle.kishu_model.specs.Values.{Value, value_of}
-use Rattle.kishu_model.specs.Show.{◌⊕◌, listed, further}
+use Rattle.kishu_meaning.specs.declared.value.Value as rust
+use Rattle.kishu_meaning.specs.moments.Counting.{Count, answer}
+use Rattle.kishu_meaning.specs.values.Values.{Value, value_of}
+use Rattle.kishu_meaning.specs.comparing.Show.{◌⊕◌, listed, further}
 use Rattle.kishu_show.specs.declared.draft.Draft.{Draft}
 use Rattle.kishu_show.specs.declared.fault.ShowFault.{ShowFault}
 use Rattle.kishu_show.specs.Shown.{Makes, onto, text_of}

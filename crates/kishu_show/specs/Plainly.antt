@@ -1,7 +1,7 @@
 -- The str of values that have no node (Library Reference, "Text Sequence Type": str).
 use Rattle.std.specs.Prelude.{ℕ, List}
-use Rattle.kishu_model.specs.Values.{Value, none, bool, integer, text, range, builtin, class, node}
-use Rattle.kishu_model.specs.Show.{repr_text}
+use Rattle.kishu_meaning.specs.values.Values.{Value, none, bool, integer, text, range, builtin, class, node}
+use Rattle.kishu_meaning.specs.comparing.Show.{repr_text}
 
 -- A text is itself.
 abbrev pub plain_shown : Value → List ℕ

@@ -2,8 +2,8 @@
 use Rattle.std.specs.Prelude.{◌≡◌, ℕ, List, Result, Ok, Err}
 use Rattle.std.specs.Str.{chars}
 use Rattle.std.specs.String.{string_bytes}
-use Rattle.kishu_model.specs.Counting.{Counted, Count, answer, too_deep, spent, give}
-use Rattle.kishu_model.specs.Show.{◌⊕◌}
+use Rattle.kishu_meaning.specs.moments.Counting.{Counted, Count, answer, too_deep, spent, give}
+use Rattle.kishu_meaning.specs.comparing.Show.{◌⊕◌}
 use Rattle.kishu_show.specs.declared.draft.Draft.{Draft}
 use Rattle.kishu_show.specs.declared.fault.ShowFault.{ShowFault}
 use Rattle.kishu_show.specs.declared.fault.ShowFault.TheVariants as faults

@@ -2,14 +2,14 @@
 ghost use Rattle.std.specs.Prelude.{◌≡◌, ◌+◌, ◌≤◌, IsTrue, OnOk, length, nat_lt};
 ghost use Rattle.std.specs.List.{list_all};
 ghost use Rattle.std.specs.Str.{chars};
-ghost use Rattle.kishu_model.specs.Counting.{spend};
-ghost use Rattle.kishu_model.specs.Show.{made};
+ghost use Rattle.kishu_meaning.specs.moments.Counting.{spend};
+ghost use Rattle.kishu_meaning.specs.comparing.Show.{made};
 ghost use Rattle.kishu_show.specs.Shown.{Gives, Makes, onto};
 
 use crate::fault::ShowFault;
 use crate::pushes::{empty, push_text};
 use kishu_heap::{CompareFault, take_steps};
-use kishu_model::Steps;
+use kishu_meaning::Steps;
 use kishu_text::count;
 use std::alloc::Global;
 use std::sync::ledger::Ledger;

@@ -3,13 +3,13 @@ ghost use Rattle.std.specs.Prelude.{◌≡◌, ◌++◌, IfOk, OnOk, codes};
 ghost use Rattle.std.specs.Rc.{rc_str_bytes};
 ghost use Rattle.std.specs.Str.{chars};
 ghost use Rattle.std.specs.String.{string_bytes};
-ghost use Rattle.kishu_model.specs.Show.{again, class_name, function_name, function_text};
+ghost use Rattle.kishu_meaning.specs.comparing.Show.{again, class_name, function_name, function_text};
 ghost use Rattle.kishu_heap.specs.Cells.{node_of};
 
 use crate::plain::ascii_text;
 use crate::pushes::{empty, push_ascii, push_text};
 use kishu_heap::{FunctionNode, Node};
-use kishu_model::{ClassId, class_name};
+use kishu_meaning::{ClassId, class_name};
 use std::alloc::{AllocError, Global};
 
 // The name of a function, which stands in its tree.

@@ -3,13 +3,13 @@ ghost use Rattle.std.specs.Prelude.{◌≡◌, ◌==◌, ◌++◌, IfOk, IsTrue,
 ghost use Rattle.std.specs.List.{flat_map, list_all};
 ghost use Rattle.std.specs.Str.{chars};
 ghost use Rattle.std.specs.String.{string_bytes};
-ghost use Rattle.kishu_model.specs.Keys.{key_of, part_of, tuple};
-ghost use Rattle.kishu_model.specs.Show.{key_text, part_text};
-ghost use Rattle.kishu_model.specs.Texts.{joined};
+ghost use Rattle.kishu_meaning.specs.values.Keys.{key_of, part_of, tuple};
+ghost use Rattle.kishu_meaning.specs.comparing.Show.{key_text, part_text};
+ghost use Rattle.kishu_meaning.specs.values.Texts.{joined};
 
 use crate::plain::{bool_text, none_text, number_text};
 use crate::pushes::{empty, push_ascii, push_text};
-use kishu_model::{Key, KeyPart};
+use kishu_meaning::{Key, KeyPart};
 use kishu_text::quote;
 use std::alloc::{AllocError, Global};
 

@@ -4,12 +4,12 @@ ghost use Rattle.std.specs.Fmt.{signed_decimal};
 ghost use Rattle.std.specs.List.{list_all};
 ghost use Rattle.std.specs.Str.{chars};
 ghost use Rattle.std.specs.String.{string_bytes};
-ghost use Rattle.kishu_model.specs.Equal.{node_in};
-ghost use Rattle.kishu_model.specs.Show.{bool_text, builtin_name, class_name, repr_text, step_text};
-ghost use Rattle.kishu_model.specs.Values.{value_of, range};
+ghost use Rattle.kishu_meaning.specs.comparing.Equal.{node_in};
+ghost use Rattle.kishu_meaning.specs.comparing.Show.{bool_text, builtin_name, class_name, repr_text, step_text};
+ghost use Rattle.kishu_meaning.specs.values.Values.{value_of, range};
 
 use crate::pushes::{empty, push_ascii, push_number};
-use kishu_model::{Builtin, ClassId, NodeId, Value, builtin_name, class_name};
+use kishu_meaning::{Builtin, ClassId, NodeId, Value, builtin_name, class_name};
 use kishu_text::quote;
 use std::alloc::{AllocError, Global};
 

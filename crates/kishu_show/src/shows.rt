@@ -2,8 +2,8 @@
 ghost use Rattle.std.specs.Prelude.{◌≡◌, ◌*◌, ◌+◌, ◌∷◌, ◌≤◌, [], IfOk, false, map, slice_get};
 ghost use Rattle.std.specs.Str.{chars};
 ghost use Rattle.std.specs.String.{string_bytes};
-ghost use Rattle.kishu_model.specs.Values.{value_of};
-ghost use Rattle.kishu_model.specs.Show.{argument_text, exception_text, made, repr_at, repr_nodes, show_at, show_by, show_in, show_nodes};
+ghost use Rattle.kishu_meaning.specs.values.Values.{value_of};
+ghost use Rattle.kishu_meaning.specs.comparing.Show.{argument_text, exception_text, made, repr_at, repr_nodes, show_at, show_by, show_in, show_nodes};
 ghost use Rattle.kishu_show.specs.Plainly.{plain_shown};
 ghost use Rattle.kishu_show.specs.Shown.{Gives, Makes, onto};
 
@@ -13,7 +13,7 @@ use crate::fault::ShowFault;
 use crate::plain::{node_in, plain_text};
 use crate::reprs::{node_at, push_node, push_tuple, push_value};
 use kishu_heap::{Heap, Node, room_at};
-use kishu_model::{Budget, ClassId, NodeId, Steps, Value};
+use kishu_meaning::{Budget, ClassId, NodeId, Steps, Value};
 use std::alloc::{AllocError, Global};
 use std::sync::ledger::Ledger;
 

@@ -1,7 +1,7 @@
 mod table;
 
+use kishu_language::{Profile, Token, TokenKind};
 use kishu_lexer::{SyntaxFault, plain_lines, tokens};
-use kishu_model::{Profile, Token, TokenKind};
 use std::alloc::{AllocError, Global};
 use std::fmt::Write;
 use std::test::Fail;

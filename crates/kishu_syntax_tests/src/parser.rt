@@ -2,7 +2,7 @@ mod codes;
 mod shown;
 mod table;
 
-use kishu_model::Profile;
+use kishu_language::Profile;
 use kishu_parser::{SyntaxFault, parse, parse_def, parse_pieces};
 use std::alloc::{AllocError, Global};
 use std::fmt::Write;

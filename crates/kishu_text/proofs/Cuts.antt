@@ -4,7 +4,7 @@ use Rattle.std.proofs.lemmas.Bool.{cases_Bool}
 use Rattle.std.proofs.lemmas.List.{append-nil}
 use Rattle.std.specs.List.{onto_first}
 use Rattle.kishu_text.specs.Places.{IsFirstPlace}
-use Rattle.kishu_model.specs.Texts.{begins, first_place, pieces_behind, pieces, joined}
+use Rattle.kishu_meaning.specs.values.Texts.{begins, first_place, pieces_behind, pieces, joined}
 
 and_both : (a b : Bool) → (a && b) ≡ true → (a ≡ true) × (b ≡ true)
 and_both true b e = (refl, e)

@@ -1,7 +1,7 @@
 -- Worked examples, computed on the definitions.
 use Rattle.std.proofs.Common.{◌≡◌, pos, negsuc, [], ◌∷◌, codes, Some, None, refl}
-use Rattle.kishu_model.specs.Texts.{places, picked, first_place, occurrences, pieces, replaced, words, quoted}
-use Rattle.kishu_model.specs.White.{stripped}
+use Rattle.kishu_meaning.specs.values.Texts.{places, picked, first_place, occurrences, pieces, replaced, words, quoted}
+use Rattle.kishu_meaning.specs.values.White.{stripped}
 
 backwards : picked (codes "abcdef") (places (pos 5) (negsuc 1) 3) ≡ codes "fdb"
 backwards = refl

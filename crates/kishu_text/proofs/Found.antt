@@ -6,7 +6,7 @@ use Rattle.std.specs.Str.{chars, encode_utf8_all, IsUtf8, IsCharBoundary}
 use Rattle.std.specs.Str.Pattern.{FindsText, HasTextAt, LacksTextAt, SplitsAroundMatch}
 use Rattle.std.proofs.lemmas.List.{drop_at, length-take-le, take-append-drop}
 use Rattle.std.proofs.lemmas.Str.{chars-append, encodes-append, encodes-chars, length-le-encodes, IsUtf8-append, IsUtf8-take, IsUtf8-drop, IsCharBoundary-from_drop}
-use Rattle.kishu_model.specs.Texts.{first_place, pieces}
+use Rattle.kishu_meaning.specs.values.Texts.{first_place, pieces}
 use Rattle.kishu_text.proofs.Cuts.{place_none, place_some, pieces_none, pieces_some}
 
 pub some_chars : (cs bs : List ℕ) → encode_utf8_all cs ≡ bs → 0 < length bs → 0 < length cs

@@ -3,7 +3,7 @@ use Rattle.std.proofs.Common.{◌≡◌, ◌∙◌, ◌<◌, ◌^◌, ap, sym, r
 use lib.Signed.{non_neg}
 use Rattle.std.proofs.lemmas.Int.{ints}
 use Rattle.std.specs.List.{cons_option}
-use Rattle.kishu_model.specs.Texts.{places, LieWithin, picked}
+use Rattle.kishu_meaning.specs.values.Texts.{places, LieWithin, picked}
 
 pub first_within : (size : ℕ) (start step : ℤ) (m : ℕ) → 0 < m → LieWithin size (places start step m) → (pos 0 ≤ℤ start) × (start <ℤ pos size)
 first_within size start step zero l h = absurd (omega arith)

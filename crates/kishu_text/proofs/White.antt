@@ -9,8 +9,8 @@ use Rattle.std.proofs.lemmas.Bool.Decides.{nat_tests}
 use Rattle.std.proofs.lemmas.List.{take-append-drop}
 use Rattle.std.proofs.lemmas.List.Splits.{slice_split-cons_yes, slice_split-cons_no}
 use Rattle.std.proofs.lemmas.Str.{chars-append, chars_past_char, chars_from_encodes, encode_ascii, IsUtf8-append, IsUtf8-encode, IsUtf8-take, IsUtf8-drop, IsCharBoundary-from_drop}
-use Rattle.kishu_model.specs.White.{is_white}
-use Rattle.kishu_model.specs.Texts.{is_nonempty}
+use Rattle.kishu_meaning.specs.values.White.{is_white}
+use Rattle.kishu_meaning.specs.values.Texts.{is_nonempty}
 
 abbrev pub white : List ℕ
 white = 32 ∷ 9 ∷ 10 ∷ 11 ∷ 12 ∷ 13 ∷ []

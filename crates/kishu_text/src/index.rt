@@ -2,7 +2,7 @@
 ghost use Rattle.std.specs.Prelude.{◌≡◌, ◌^◌, pos, ◌+ℤ◌, ◌≤ℤ◌, ◌<ℤ◌, length, slice_get, IfOk};
 ghost use Rattle.std.specs.Str.{chars};
 ghost use Rattle.std.specs.String.{string_bytes};
-ghost use Rattle.kishu_model.specs.Texts.{places, LieWithin, picked};
+ghost use Rattle.kishu_meaning.specs.values.Texts.{places, LieWithin, picked};
 
 use crate::cursor::push_char;
 use std::alloc::{AllocError, Global};

@@ -4,8 +4,8 @@ ghost use Rattle.std.specs.Char.{digit_char};
 ghost use Rattle.std.specs.List.{list_any};
 ghost use Rattle.std.specs.Str.{chars};
 ghost use Rattle.std.specs.String.{string_bytes};
-ghost use Rattle.kishu_model.specs.Quoted.{backslash};
-ghost use Rattle.kishu_model.specs.Texts.{quote_of, letter_of, is_control, escaped, escaped_by, quoted};
+ghost use Rattle.kishu_language.specs.tokens.Quoted.{backslash};
+ghost use Rattle.kishu_meaning.specs.values.Texts.{quote_of, letter_of, is_control, escaped, escaped_by, quoted};
 
 use crate::cursor::{first_char, push_char};
 use std::alloc::{AllocError, Global};

@@ -3,7 +3,7 @@ ghost use Rattle.std.specs.Prelude.{◌≡◌, ◌<◌, [], ◌∷◌, Some, Non
 ghost use Rattle.std.specs.Str.{chars};
 ghost use Rattle.std.specs.String.{string_bytes};
 ghost use Rattle.kishu_text.specs.Places.{IsFirstPlace};
-ghost use Rattle.kishu_model.specs.Texts.{code_points, first_place, joined, occurrences, pieces, replaced};
+ghost use Rattle.kishu_meaning.specs.values.Texts.{code_points, first_place, joined, occurrences, pieces, replaced};
 
 use crate::cursor::{owned, push_text};
 use crate::index::count;

@@ -3,8 +3,8 @@ ghost use Rattle.std.specs.Prelude.{◌≡◌, ◌<◌, ◌++◌, [], ◌∷◌,
 ghost use Rattle.std.specs.List.{filter, slice_split};
 ghost use Rattle.std.specs.Str.{chars};
 ghost use Rattle.std.specs.String.{string_bytes};
-ghost use Rattle.kishu_model.specs.Texts.{code_points, is_nonempty, words};
-ghost use Rattle.kishu_model.specs.White.{is_white, without_front, stripped};
+ghost use Rattle.kishu_meaning.specs.values.Texts.{code_points, is_nonempty, words};
+ghost use Rattle.kishu_meaning.specs.values.White.{is_white, without_front, stripped};
 
 use crate::cursor::{first_char, last_char, owned};
 use std::alloc::{AllocError, Global};

@@ -1,5 +1,5 @@
 ghost use Rattle.std.specs.Prelude.{◌≡◌, true};
-ghost use Rattle.kishu_model.specs.Texts.{places, LieWithin};
+ghost use Rattle.kishu_meaning.specs.values.Texts.{places, LieWithin};
 
 use crate::tables::{
     COUNTS, FINDS, OCCURRENCES, PLACES, QUOTES, REPLACES, SLICES, SPLITS, STRIPS, WORDS,

@@ -1,12 +1,12 @@
 -- What a function's node keeps: it has no defaults where it has no parameters, and its code reads as its tree.
 use Rattle.std.proofs.Common.{◌≡◌, ◌∙◌, ap, sym, length, map, subst}
 use Rattle.std.proofs.lemmas.List.{nil_from_length}
-use Rattle.kishu_model.specs.declared.profile.Profile.{Profile}
-use Rattle.kishu_model.specs.declared.tree.Def.{Def}
-use Rattle.kishu_model.specs.declared.tree.Stmt.TheFolds.{fold-roll-Def}
-use Rattle.kishu_model.specs.Parse.{ParseDef}
-use Rattle.kishu_model.specs.Sound.{with_default, default_count}
-use Rattle.kishu_model.specs.Tree.{Text, Statement, Arm, Definition, Handler, definition_of, statement_of, statement_step, arm_step, definition_step, handler_step, parameter_of}
+use Rattle.kishu_language.specs.declared.profile.Profile.{Profile}
+use Rattle.kishu_language.specs.declared.tree.Def.{Def}
+use Rattle.kishu_language.specs.declared.tree.Stmt.TheFolds.{fold-roll-Def}
+use Rattle.kishu_language.specs.grammar.Parse.{ParseDef}
+use Rattle.kishu_meaning.specs.values.Sound.{with_default, default_count}
+use Rattle.kishu_language.specs.trees.Tree.{Text, Statement, Arm, Definition, Handler, definition_of, statement_of, statement_step, arm_step, definition_step, handler_step, parameter_of}
 
 parameters_are : (d : Def) → (definition_of d).parameters ≡ map parameter_of d.params.items
 unfolding definition_of statement_of

@@ -6,7 +6,7 @@ mod table;
 use crate::methods::{are_sound, has_room, is_sound, new_dict, new_tuple, part, range};
 use kishu_builtins::{call_builtin, construct};
 use kishu_heap::{CallFault, Heap, Node};
-use kishu_model::{
+use kishu_meaning::{
     Budget, Builtin, ClassId, Key, KeyPart, NodeId, Steps, Value, builtin_named, class_name,
     class_named,
 };

@@ -1,11 +1,11 @@
 // Heaps after some calls, and comparisons of values over them.
 ghost use Rattle.std.specs.Prelude.{◌≡◌, ◌+◌, ◌<◌, ◌^◌, IsTrue, IfSome, length, true};
-ghost use Rattle.kishu_model.specs.Names.{is_name};
-ghost use Rattle.kishu_model.specs.Nodes.{found, list_in};
+ghost use Rattle.kishu_language.specs.tokens.Names.{is_name};
+ghost use Rattle.kishu_meaning.specs.values.Nodes.{found, list_in};
 
 use indexmap::IndexMap;
 use kishu_heap::{CompareFault, Heap, Node};
-use kishu_model::{Budget, Key, KeyPart, NodeId, Steps, Value};
+use kishu_meaning::{Budget, Key, KeyPart, NodeId, Steps, Value};
 use std::alloc::{AllocError, Global};
 use std::marker::Brand;
 use std::rc::RcStr;
@@ -415,7 +415,7 @@ fn new_object(alloc: Global, heap: &mut Heap) -> Result<NodeId, AllocError> {
 }
 
 #[test]
-#[tactic(auto, unfolding(kishu_model::specs::Names::reserved_words))]
+#[tactic(auto, unfolding(kishu_language::specs::tokens::Names::reserved_words))]
 fn objects(rt: HostRuntime) -> Result<(), Fail> {
     let alloc = rt.alloc();
     let mut heap = Heap::new(alloc);

@@ -1,15 +1,15 @@
 // Calls of methods, written and told as texts (tools/method_rows.py).
 ghost use Rattle.std.specs.Prelude.{◌≡◌, ◌+◌, ◌-◌, ◌<◌, ◌^◌, map, length, true};
 ghost use Rattle.std.specs.List.{list_all};
-ghost use Rattle.kishu_model.specs.Sound.{is_sound, are_sound};
-ghost use Rattle.kishu_model.specs.Values.{value_of};
+ghost use Rattle.kishu_meaning.specs.values.Sound.{is_sound, are_sound};
+ghost use Rattle.kishu_meaning.specs.values.Values.{value_of};
 
 mod table;
 
 use indexmap::IndexMap;
 use kishu_heap::{CallFault, Heap, Node};
+use kishu_meaning::{Budget, Key, KeyPart, NodeId, Steps, Value, class_name};
 use kishu_methods::{call_method, has_method};
-use kishu_model::{Budget, Key, KeyPart, NodeId, Steps, Value, class_name};
 use std::alloc::{AllocError, Global};
 use std::marker::Brand;
 use std::rc::RcStr;

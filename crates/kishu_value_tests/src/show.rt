@@ -2,11 +2,12 @@
 // function, whose text has no address here, and for an exception that is being shown already, where
 // the class and three dots are this language's own.
 ghost use Rattle.std.specs.Prelude.{◌≡◌, ◌<◌, ◌≤◌, ◌^◌, [], IsTrue, IfOk, IfSome, length};
-ghost use Rattle.kishu_model.specs.Names.{is_name};
+ghost use Rattle.kishu_language.specs.tokens.Names.{is_name};
 
 use indexmap::IndexMap;
 use kishu_heap::{FunctionNode, Heap, Node};
-use kishu_model::{Budget, Builtin, ClassId, Key, KeyPart, NodeId, Profile, Steps, Value};
+use kishu_language::Profile;
+use kishu_meaning::{Budget, Builtin, ClassId, Key, KeyPart, NodeId, Steps, Value};
 use kishu_parser::parse_def;
 use kishu_show::{ShowFault, repr_of, show};
 use std::alloc::{AllocError, Global};
@@ -348,7 +349,7 @@ fn dicts(rt: HostRuntime) -> Result<(), Fail> {
 }
 
 #[test]
-#[tactic(auto, unfolding(kishu_model::specs::Names::reserved_words))]
+#[tactic(auto, unfolding(kishu_language::specs::tokens::Names::reserved_words))]
 fn objects(rt: HostRuntime) -> Result<(), Fail> {
     let alloc = rt.alloc();
     let mut heap = Heap::new(alloc);

@@ -1,5 +1,5 @@
 // Trees as text.
-use kishu_model::{Argument, Expr, Handler, Stmt, Trailer};
+use kishu_language::{Argument, Expr, Handler, Stmt, Trailer};
 use std::alloc::AllocError;
 use std::fmt::Write;
 use std::rc::RcStr;

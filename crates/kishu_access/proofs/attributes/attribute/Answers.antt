@@ -1,6 +1,6 @@
-use Rattle.kishu_model.specs.Values.{value_of}
+use Rattle.kishu_meaning.specs.values.Values.{value_of}
 use Rattle.kishu_machine.specs.Machine.{moment_of}
-use Rattle.kishu_model.specs.Moment.{node_at}
+use Rattle.kishu_meaning.specs.moments.Moment.{node_at}
 use Rattle.kishu_access.proofs.Attributing.{attribute_found}
 use Rattle.kishu_access.proofs.attributes.attribute.Goals as goal
 

@@ -1,11 +1,11 @@
 use Rattle.std.proofs.Common.{◌∙◌, ap, sym, arith, true, List, length}
-use Rattle.kishu_model.specs.Values.{value_of, node, Node}
+use Rattle.kishu_meaning.specs.values.Values.{value_of, node, Node}
 use Rattle.kishu_machine.specs.Machine.{moment_of}
 use Rattle.std.specs.Prelude.{option_map, slice_get}
-use Rattle.kishu_model.specs.Moment.{fine}
+use Rattle.kishu_meaning.specs.moments.Moment.{fine}
 use Rattle.kishu_machine.specs.Frames.{locals_of}
-use Rattle.kishu_model.specs.Nodes.{remove_attr}
-use Rattle.kishu_model.specs.Subscripts.{delete_on_node}
+use Rattle.kishu_meaning.specs.values.Nodes.{remove_attr}
+use Rattle.kishu_meaning.specs.items.Subscripts.{delete_on_node}
 use Rattle.kishu_access.proofs.Changing.{run_changed, length_changed}
 use Rattle.kishu_access.proofs.Attributing.{deleted_on, not_deleted_on}
 use Rattle.kishu_access.proofs.Ends.{by_end, unnamed, unnamed_sound}

@@ -1,10 +1,10 @@
 use Rattle.std.proofs.Common.{length, map}
-use Rattle.kishu_model.specs.Values.{value_of}
+use Rattle.kishu_meaning.specs.values.Values.{value_of}
 use Rattle.kishu_machine.specs.Machine.{moment_of}
-use Rattle.kishu_model.specs.Sound.{is_sound}
-use Rattle.kishu_model.specs.Moment.{node_at}
-use Rattle.kishu_model.specs.Operators.{new_tuple}
-use Rattle.kishu_model.specs.Subscripts.{node_attribute}
+use Rattle.kishu_meaning.specs.values.Sound.{is_sound}
+use Rattle.kishu_meaning.specs.moments.Moment.{node_at}
+use Rattle.kishu_meaning.specs.calls.Operators.{new_tuple}
+use Rattle.kishu_meaning.specs.items.Subscripts.{node_attribute}
 use Rattle.kishu_access.proofs.Attributing.{arguments_found, nothing_found}
 use Rattle.kishu_access.proofs.Ends.{by_end, unnamed, unnamed_sound}
 use Rattle.kishu_access.proofs.attributes.other_attribute.Goals as goal

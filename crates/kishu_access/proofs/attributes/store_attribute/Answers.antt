@@ -1,8 +1,8 @@
 use Rattle.std.proofs.Common.{true, length}
-use Rattle.kishu_model.specs.Values.{value_of}
+use Rattle.kishu_meaning.specs.values.Values.{value_of}
 use Rattle.kishu_machine.specs.Machine.{moment_of}
 use Rattle.std.specs.Rc.{rc_str_bytes}
-use Rattle.kishu_model.specs.Subscripts.{store_attribute}
+use Rattle.kishu_meaning.specs.items.Subscripts.{store_attribute}
 use Rattle.kishu_access.proofs.Others.{no_attribute_stored}
 use Rattle.kishu_access.proofs.Ends.{by_end, unnamed, unnamed_sound}
 use Rattle.kishu_access.proofs.attributes.store_attribute.Goals as goal

@@ -1,12 +1,12 @@
 use Rattle.std.proofs.Common.{◌∙◌, ap, sym, arith, ℕ, true, List, length}
-use Rattle.kishu_model.specs.Values.{value_of, node, Node}
+use Rattle.kishu_meaning.specs.values.Values.{value_of, node, Node}
 use Rattle.kishu_machine.specs.Machine.{moment_of}
 use Rattle.std.specs.Prelude.{option_map, slice_get}
-use Rattle.kishu_model.specs.Moment.{fine}
+use Rattle.kishu_meaning.specs.moments.Moment.{fine}
 use Rattle.kishu_machine.specs.Frames.{locals_of}
 use Rattle.std.specs.Rc.{rc_str_bytes}
-use Rattle.kishu_model.specs.Subscripts.{store_on_node}
-use Rattle.kishu_model.specs.Nodes.{changed, set_attr}
+use Rattle.kishu_meaning.specs.items.Subscripts.{store_on_node}
+use Rattle.kishu_meaning.specs.values.Nodes.{changed, set_attr}
 use Rattle.kishu_access.proofs.Changing.{run_kept, length_changed}
 use Rattle.kishu_access.proofs.Attributing.{stored_on, not_stored_on}
 use Rattle.kishu_access.proofs.Ends.{by_end, unnamed, unnamed_sound}

@@ -5,7 +5,7 @@ use Rattle.std.specs.Prelude.{ℤ}
 use Rattle.std.proofs.Common.{to_z, of_z}
 use mir.Syntax.{w128}
 use Rattle.std.proofs.lemmas.Int.{to_z-of_z}
-use Rattle.kishu_model.specs.Moment.{fine}
+use Rattle.kishu_meaning.specs.moments.Moment.{fine}
 use Rattle.kishu_access.proofs.Ends.{passed_on}
 use Rattle.kishu_access.proofs.Slicing.{bound_fails, bound_number}
 use Rattle.kishu_access.proofs.slices.bound_of.Goals as goal

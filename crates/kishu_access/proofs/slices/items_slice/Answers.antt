@@ -1,10 +1,10 @@
 use Rattle.std.proofs.Common.{◌≡◌, ◌∙◌, ap, sym, List, length, map, Some}
 use Rattle.std.specs.List.{filter_map}
 use Rattle.std.proofs.lemmas.Result.{err_from_is_err_and}
-use Rattle.kishu_model.specs.Values.{Value, value_of}
-use Rattle.kishu_model.specs.Moment.{fine, node_at, spend}
-use Rattle.kishu_model.specs.Subscripts.{at_place}
-use Rattle.kishu_model.specs.Walks.{or_none_there}
+use Rattle.kishu_meaning.specs.values.Values.{Value, value_of}
+use Rattle.kishu_meaning.specs.moments.Moment.{fine, node_at, spend}
+use Rattle.kishu_meaning.specs.items.Subscripts.{at_place}
+use Rattle.kishu_meaning.specs.items.Walks.{or_none_there}
 use Rattle.kishu_machine.specs.Machine.{Fails, moment_of}
 use Rattle.kishu_access.specs.Access.{places_of}
 use Rattle.kishu_access.specs.Forms.{items_from}

@@ -1,8 +1,8 @@
 use Rattle.std.proofs.Common.{◌∙◌, ap, sym, List, length, map, Option}
 use Rattle.std.specs.List.{filter_map}
-use Rattle.kishu_model.specs.Values.{Value, value_of}
-use Rattle.kishu_model.specs.Subscripts.{at_place}
-use Rattle.kishu_model.specs.Walks.{or_none_there}
+use Rattle.kishu_meaning.specs.values.Values.{Value, value_of}
+use Rattle.kishu_meaning.specs.items.Subscripts.{at_place}
+use Rattle.kishu_meaning.specs.items.Walks.{or_none_there}
 use Rattle.kishu_access.specs.Access.{places_of}
 use Rattle.kishu_access.proofs.Slicing.{none_there, taken_sound_if}
 use Rattle.kishu_access.proofs.slices.items_there.Goals as goal

@@ -2,7 +2,7 @@ use Rattle.std.proofs.Common.{◌≡◌, ◌∙◌, ap, sym, rules, Bool, SFits,
 use mir.Syntax.{w128}
 use Rattle.std.specs.Prelude.{ℤ, pos, int_lt, if◌then◌else◌}
 use Rattle.std.proofs.lemmas.Int.{to_z-of_z}
-use Rattle.kishu_model.specs.Subscripts.{highest, limit, lowest}
+use Rattle.kishu_meaning.specs.items.Subscripts.{highest, limit, lowest}
 use Rattle.kishu_access.proofs.slices.last_limit.Goals as goal
 use Rattle.kishu_access.proofs.slices.last_limit.Goals.{then-step-gt0, else-step-gt0}
 

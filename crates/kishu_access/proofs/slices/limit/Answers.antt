@@ -2,7 +2,7 @@ use Rattle.std.proofs.Common.{◌≡◌, ◌∙◌, ap, rules, SFits}
 use mir.Syntax.{w128}
 use Rattle.std.specs.Prelude.{ℤ}
 use Rattle.std.proofs.lemmas.Int.{to_z-of_z}
-use Rattle.kishu_model.specs.Subscripts.{brought, counted_from_end, highest, lowest}
+use Rattle.kishu_meaning.specs.items.Subscripts.{brought, counted_from_end, highest, lowest}
 use Rattle.kishu_access.proofs.slices.limit.Goals as goal
 
 pub returns-in-Some : goal.returns-in-Some

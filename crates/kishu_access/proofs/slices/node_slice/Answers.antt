@@ -1,14 +1,14 @@
 use Rattle.std.proofs.Common.{◌≡◌, ◌∙◌, ap, sym, true, false, List, length, map, Some}
-use Rattle.kishu_model.specs.Values.{value_of, Node}
-use Rattle.kishu_model.specs.Moment.{node_at, fine}
-use Rattle.kishu_model.specs.Sound.{is_sound}
+use Rattle.kishu_meaning.specs.values.Values.{value_of, Node}
+use Rattle.kishu_meaning.specs.moments.Moment.{node_at, fine}
+use Rattle.kishu_meaning.specs.values.Sound.{is_sound}
 use Rattle.kishu_machine.specs.Machine.{moment_of}
 use Rattle.std.proofs.lemmas.Result.{err_from_is_err_and}
-use Rattle.kishu_model.specs.declared.value.Value as rust
+use Rattle.kishu_meaning.specs.declared.value.Value as rust
 use Rattle.kishu_access.specs.Access.{are_sound_maybe}
 use Rattle.std.specs.Prelude.{is_some}
-use Rattle.kishu_model.specs.Operators.{list_from}
-use Rattle.kishu_model.specs.Subscripts.{node_slice}
+use Rattle.kishu_meaning.specs.calls.Operators.{list_from}
+use Rattle.kishu_meaning.specs.items.Subscripts.{node_slice}
 use Rattle.kishu_access.specs.Forms.{items_from, maybe_picked}
 use Rattle.kishu_access.proofs.Ends.{by_end, passed_on}
 use Rattle.kishu_access.proofs.Slicing.{slice_fails, list_sliced, tuple_sliced}

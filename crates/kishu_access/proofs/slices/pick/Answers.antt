@@ -2,9 +2,9 @@ use Rattle.std.proofs.Common.{rules, ◌≡◌, ◌∙◌, ◌<◌, ◌-◌, ◌
 use mir.Syntax.{w128}
 use Rattle.std.proofs.lemmas.Int.{ints, to_z-of_z}
 use Rattle.std.proofs.lemmas.List.{append_assoc, map-append}
-use Rattle.kishu_model.specs.declared.value.Value as rust
-use Rattle.kishu_model.specs.Texts.{places, LieWithin}
-use Rattle.kishu_model.specs.Values.{Value, value_of}
+use Rattle.kishu_meaning.specs.declared.value.Value as rust
+use Rattle.kishu_meaning.specs.values.Texts.{places, LieWithin}
+use Rattle.kishu_meaning.specs.values.Values.{Value, value_of}
 use Rattle.kishu_access.proofs.Placing.{first_within, second_within, rest_within, seen_at, seen_more, moved}
 use Rattle.kishu_access.proofs.slices.pick.Goals as goal
 use Rattle.kishu_access.proofs.slices.pick.Goals.{then-k-len, else-k-len}

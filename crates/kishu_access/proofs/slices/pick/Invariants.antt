@@ -1,6 +1,6 @@
 use Rattle.std.proofs.Common.{◌≡◌, ◌-◌, ◌++◌, length, map, pos}
-use Rattle.kishu_model.specs.Texts.{places, LieWithin}
-use Rattle.kishu_model.specs.Values.{value_of}
+use Rattle.kishu_meaning.specs.values.Texts.{places, LieWithin}
+use Rattle.kishu_meaning.specs.values.Values.{value_of}
 use Rattle.kishu_access.proofs.Placing.{seen_at}
 use Rattle.kishu_access.proofs.slices.pick.Given as goal
 

@@ -1,8 +1,8 @@
 use Rattle.std.proofs.Common.{◌≡◌, arith, ◌≤◌, rules, SFits, to_z, of_z}
 use mir.Syntax.{w128}
 use Rattle.std.proofs.lemmas.Int.{to_z-of_z}
-use Rattle.kishu_model.specs.Equal.{range_length}
-use Rattle.kishu_model.specs.Subscripts.{first_limit, last_limit}
+use Rattle.kishu_meaning.specs.comparing.Equal.{range_length}
+use Rattle.kishu_meaning.specs.items.Subscripts.{first_limit, last_limit}
 use Rattle.kishu_access.proofs.Slicing.{places_few, places_inside}
 use Rattle.kishu_access.proofs.slices.places_between.Goals as goal
 

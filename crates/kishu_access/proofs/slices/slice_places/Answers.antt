@@ -2,8 +2,8 @@ use Rattle.std.proofs.Common.{◌∙◌, ap, sym, SFits, rules, true, List, leng
 use Rattle.std.specs.Prelude.{ℤ}
 use Rattle.std.specs.Int.{w128}
 use Rattle.std.proofs.lemmas.Int.{to_z-of_z}
-use Rattle.kishu_model.specs.Values.{value_of}
-use Rattle.kishu_model.specs.Moment.{fine}
+use Rattle.kishu_meaning.specs.values.Values.{value_of}
+use Rattle.kishu_meaning.specs.moments.Moment.{fine}
 use Rattle.kishu_machine.specs.Machine.{moment_of}
 use Rattle.std.proofs.lemmas.Result.{err_from_is_err_and}
 use Rattle.kishu_access.specs.declared.slices.Places.{Places}

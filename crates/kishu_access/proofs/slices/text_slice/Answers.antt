@@ -3,13 +3,13 @@ use mir.Syntax.{w128}
 use Rattle.std.specs.Str.{chars}
 use Rattle.std.proofs.lemmas.Int.{to_z-of_z}
 use Rattle.std.proofs.lemmas.Result.{err_from_is_err_and}
-use Rattle.kishu_model.specs.Values.{Value, value_of}
-use Rattle.kishu_model.specs.Moment.{Ends, fine, and_then, give, spend}
-use Rattle.kishu_model.specs.Subscripts.{picked}
+use Rattle.kishu_meaning.specs.values.Values.{Value, value_of}
+use Rattle.kishu_meaning.specs.moments.Moment.{Ends, fine, and_then, give, spend}
+use Rattle.kishu_meaning.specs.items.Subscripts.{picked}
 use Rattle.kishu_machine.specs.Machine.{Fails, moment_of}
 use Rattle.kishu_machine.specs.Composing.{fails_on}
 use Rattle.kishu_access.specs.Access.{places_of}
-use Rattle.kishu_model.specs.Values as model
+use Rattle.kishu_meaning.specs.values.Values as model
 use Rattle.kishu_access.proofs.Placing.{count_places, picked_items}
 use Rattle.kishu_access.proofs.Slicing.{picked_there, spend_fails}
 use Rattle.kishu_access.proofs.slices.text_slice.Goals as goal

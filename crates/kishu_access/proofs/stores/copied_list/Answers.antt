@@ -1,5 +1,5 @@
 use Rattle.std.proofs.Common.{ap, map, refl}
-use Rattle.kishu_model.specs.Values.{value_of}
+use Rattle.kishu_meaning.specs.values.Values.{value_of}
 use Rattle.kishu_access.proofs.stores.copied_list.Goals as goal
 
 pub returns-in-Some-clause-items : goal.returns-in-Some-clause-items

@@ -1,17 +1,17 @@
 use Rattle.std.proofs.Common.{◌∙◌, ap, sym, subst, ℕ, true, List, length}
-use Rattle.kishu_model.specs.Values.{value_of, node, Node}
+use Rattle.kishu_meaning.specs.values.Values.{value_of, node, Node}
 use Rattle.kishu_machine.specs.Machine.{moment_of, Gives}
 use Rattle.std.specs.Prelude.{option_map, slice_get}
-use Rattle.kishu_model.specs.Moment.{fine}
+use Rattle.kishu_meaning.specs.moments.Moment.{fine}
 use Rattle.kishu_machine.specs.Frames.{locals_of}
 use Rattle.std.proofs.lemmas.Result.{err_from_is_err_and}
 use Rattle.std.specs.Prelude.{option_and_then}
-use Rattle.kishu_model.specs.Keys.{key_of}
-use Rattle.kishu_model.specs.Kinds.{no_key}
-use Rattle.kishu_model.specs.Moment.{change}
-use Rattle.kishu_model.specs.Nodes.{remove, value_under}
-use Rattle.kishu_model.specs.Subscripts.{delete_in_node, where_found}
-use Rattle.kishu_model.specs.declared.key.Key as rust_key
+use Rattle.kishu_meaning.specs.values.Keys.{key_of}
+use Rattle.kishu_meaning.specs.values.Kinds.{no_key}
+use Rattle.kishu_meaning.specs.moments.Moment.{change}
+use Rattle.kishu_meaning.specs.values.Nodes.{remove, value_under}
+use Rattle.kishu_meaning.specs.items.Subscripts.{delete_in_node, where_found}
+use Rattle.kishu_meaning.specs.declared.key.Key as rust_key
 use Rattle.kishu_access.proofs.Changing.{as_long}
 use Rattle.kishu_access.proofs.Storing.{has_item, list_deleted, list_delete_fails, dict_deleted, dict_delete_fails, not_deleted}
 use Rattle.kishu_access.proofs.Ends.{by_end, passed_on, refused, refused_sound}

@@ -1,5 +1,5 @@
 use Rattle.std.proofs.Common.{◌∙◌}
-use Rattle.kishu_model.specs.Keys.{key_of}
+use Rattle.kishu_meaning.specs.values.Keys.{key_of}
 use Rattle.kishu_heap.specs.Cells.{entries_of, node_of}
 use Rattle.kishu_access.proofs.Looking.{key_there}
 use Rattle.kishu_access.proofs.stores.has_key.Goals as goal

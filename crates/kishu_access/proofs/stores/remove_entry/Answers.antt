@@ -1,15 +1,15 @@
 use Rattle.std.proofs.Common.{◌∙◌, refl, ap, sym, arith, true, List, length}
-use Rattle.kishu_model.specs.Values.{value_of, Node}
+use Rattle.kishu_meaning.specs.values.Values.{value_of, Node}
 use Rattle.kishu_machine.specs.Machine.{moment_of}
 use Rattle.std.specs.Prelude.{option_map, slice_get}
-use Rattle.kishu_model.specs.Moment.{fine}
+use Rattle.kishu_meaning.specs.moments.Moment.{fine}
 use Rattle.kishu_machine.specs.Frames.{locals_of}
 use Rattle.std.specs.Prelude.{option_and_then}
-use Rattle.kishu_model.specs.Keys.{key_of}
-use Rattle.kishu_model.specs.Kinds.{no_key}
-use Rattle.kishu_model.specs.Moment.{change}
-use Rattle.kishu_model.specs.Nodes.{remove, value_under}
-use Rattle.kishu_model.specs.Subscripts.{where_found}
+use Rattle.kishu_meaning.specs.values.Keys.{key_of}
+use Rattle.kishu_meaning.specs.values.Kinds.{no_key}
+use Rattle.kishu_meaning.specs.moments.Moment.{change}
+use Rattle.kishu_meaning.specs.values.Nodes.{remove, value_under}
+use Rattle.kishu_meaning.specs.items.Subscripts.{where_found}
 use Rattle.kishu_machine.specs.Raising.{raises_with, sound_with}
 use Rattle.kishu_access.proofs.Changing.{run_changed, length_changed}
 use Rattle.kishu_access.proofs.Storing.{found_there, found_nowhere}

@@ -1,11 +1,11 @@
 use Rattle.std.proofs.Common.{◌∙◌, ap, arith, length}
 use Rattle.std.specs.Prelude.{slice_get}
 use Rattle.std.proofs.lemmas.List.{length-map}
-use Rattle.kishu_model.specs.Operators.{list_from}
-use Rattle.kishu_model.specs.Sound.{is_sound}
-use Rattle.kishu_model.specs.Subscripts.{without_place}
-use Rattle.kishu_model.specs.Values.{value_of}
-use Rattle.kishu_model.specs.Walks.{or_none_there}
+use Rattle.kishu_meaning.specs.calls.Operators.{list_from}
+use Rattle.kishu_meaning.specs.values.Sound.{is_sound}
+use Rattle.kishu_meaning.specs.items.Subscripts.{without_place}
+use Rattle.kishu_meaning.specs.values.Values.{value_of}
+use Rattle.kishu_meaning.specs.items.Walks.{or_none_there}
 use Rattle.kishu_access.proofs.Changing.{all_without, length_changed, replaced, seen_removed}
 use Rattle.kishu_access.proofs.stores.remove_place.Goals as goal
 

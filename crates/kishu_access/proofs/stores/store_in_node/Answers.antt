@@ -1,14 +1,14 @@
 use Rattle.std.proofs.Common.{◌∙◌, ap, sym, arith, ℕ, true, List, length}
-use Rattle.kishu_model.specs.Values.{value_of, node, Node}
+use Rattle.kishu_meaning.specs.values.Values.{value_of, node, Node}
 use Rattle.kishu_machine.specs.Machine.{moment_of}
 use Rattle.std.specs.Prelude.{option_map, slice_get}
-use Rattle.kishu_model.specs.Moment.{fine}
+use Rattle.kishu_meaning.specs.moments.Moment.{fine}
 use Rattle.kishu_machine.specs.Frames.{locals_of}
 use Rattle.std.proofs.lemmas.Result.{err_from_is_err_and}
-use Rattle.kishu_model.specs.Nodes.{set_item, insert}
-use Rattle.kishu_model.specs.Subscripts.{store_in_node}
-use Rattle.kishu_model.specs.Keys.{key_of}
-use Rattle.kishu_model.specs.declared.key.Key as rust_key
+use Rattle.kishu_meaning.specs.values.Nodes.{set_item, insert}
+use Rattle.kishu_meaning.specs.items.Subscripts.{store_in_node}
+use Rattle.kishu_meaning.specs.values.Keys.{key_of}
+use Rattle.kishu_meaning.specs.declared.key.Key as rust_key
 use Rattle.kishu_access.proofs.Changing.{run_changed, run_kept, length_changed}
 use Rattle.kishu_access.proofs.Storing.{has_place, list_stored, list_store_fails, dict_stored, dict_store_fails, not_stored}
 use Rattle.kishu_access.proofs.Ends.{by_end, passed_on, refused, refused_sound}

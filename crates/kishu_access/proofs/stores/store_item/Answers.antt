@@ -1,7 +1,7 @@
 use Rattle.std.proofs.Common.{true, length}
-use Rattle.kishu_model.specs.Values.{value_of}
+use Rattle.kishu_meaning.specs.values.Values.{value_of}
 use Rattle.kishu_machine.specs.Machine.{moment_of}
-use Rattle.kishu_model.specs.Subscripts.{store_item}
+use Rattle.kishu_meaning.specs.items.Subscripts.{store_item}
 use Rattle.kishu_access.proofs.Others.{no_store}
 use Rattle.kishu_access.proofs.Ends.{by_end, refused, refused_sound}
 use Rattle.kishu_access.proofs.stores.store_item.Goals as goal

@@ -1,14 +1,14 @@
 use Rattle.std.proofs.Common.{refl, true, length, Some, None}
-use Rattle.kishu_model.specs.Values.{value_of}
+use Rattle.kishu_meaning.specs.values.Values.{value_of}
 use Rattle.kishu_machine.specs.Machine.{moment_of}
 use Rattle.std.proofs.lemmas.Result.{err_from_is_err_and}
-use Rattle.kishu_model.specs.Sound.{is_sound}
-use Rattle.kishu_model.specs.Keys.{key_of}
-use Rattle.kishu_model.specs.Kinds.{no_key}
-use Rattle.kishu_model.specs.Moment.{node_at, or_else}
-use Rattle.kishu_model.specs.Subscripts.{node_item}
-use Rattle.kishu_model.specs.declared.key.Key as rust_key
-use Rattle.kishu_model.specs.declared.value.Value as rust
+use Rattle.kishu_meaning.specs.values.Sound.{is_sound}
+use Rattle.kishu_meaning.specs.values.Keys.{key_of}
+use Rattle.kishu_meaning.specs.values.Kinds.{no_key}
+use Rattle.kishu_meaning.specs.moments.Moment.{node_at, or_else}
+use Rattle.kishu_meaning.specs.items.Subscripts.{node_item}
+use Rattle.kishu_meaning.specs.declared.key.Key as rust_key
+use Rattle.kishu_meaning.specs.declared.value.Value as rust
 use Rattle.kishu_machine.specs.Raising.{raises_with, sound_with}
 use Rattle.kishu_access.proofs.Taking.{entry_taken, entry_fails}
 use Rattle.kishu_access.proofs.Ends.{by_end, passed_on}

@@ -1,6 +1,6 @@
-use Rattle.kishu_model.specs.BareLaws.{index_bare}
-use Rattle.kishu_model.specs.Indexes.{index_of}
-use Rattle.kishu_model.specs.Values.{value_of}
+use Rattle.kishu_meaning_laws.specs.BareLaws.{index_bare}
+use Rattle.kishu_meaning.specs.items.Indexes.{index_of}
+use Rattle.kishu_meaning.specs.values.Values.{value_of}
 use Rattle.kishu_items.specs.Called as called
 use Rattle.kishu_machine.specs.Lifted.{lifted}
 use Rattle.kishu_machine.specs.Machine.{moment_of}

@@ -1,8 +1,8 @@
 use Rattle.std.proofs.Common.{length}
-use Rattle.kishu_model.specs.Values.{value_of}
+use Rattle.kishu_meaning.specs.values.Values.{value_of}
 use Rattle.kishu_machine.specs.Machine.{moment_of}
-use Rattle.kishu_model.specs.Sound.{is_sound}
-use Rattle.kishu_model.specs.Subscripts.{item}
+use Rattle.kishu_meaning.specs.values.Sound.{is_sound}
+use Rattle.kishu_meaning.specs.items.Subscripts.{item}
 use Rattle.kishu_access.proofs.Others.{no_item}
 use Rattle.kishu_access.proofs.Ends.{by_end, refused, refused_sound}
 use Rattle.kishu_access.proofs.subscripts.item.Goals as goal

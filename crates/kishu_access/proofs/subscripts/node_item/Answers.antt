@@ -1,9 +1,9 @@
 use Rattle.std.proofs.Common.{◌∙◌, sym, length, map}
-use Rattle.kishu_model.specs.Values.{value_of}
+use Rattle.kishu_meaning.specs.values.Values.{value_of}
 use Rattle.kishu_machine.specs.Machine.{moment_of}
-use Rattle.kishu_model.specs.Sound.{is_sound}
-use Rattle.kishu_model.specs.Moment.{node_at}
-use Rattle.kishu_model.specs.Subscripts.{node_item, not_subscriptable, taken}
+use Rattle.kishu_meaning.specs.values.Sound.{is_sound}
+use Rattle.kishu_meaning.specs.moments.Moment.{node_at}
+use Rattle.kishu_meaning.specs.items.Subscripts.{node_item, not_subscriptable, taken}
 use Rattle.kishu_access.proofs.Ends.{by_end, refused, refused_sound}
 use Rattle.kishu_access.proofs.Taking.{items_taken, no_items}
 use Rattle.kishu_access.proofs.subscripts.node_item.Goals as goal

@@ -1,8 +1,8 @@
 use Rattle.std.proofs.Common.{◌<◌, []}
 use Rattle.std.specs.Int.{w128}
 use Rattle.std.proofs.lemmas.Int.{to_z-of_z}
-use Rattle.kishu_model.specs.Bare.{bare}
-use Rattle.kishu_model.specs.Indexes.{place_of}
+use Rattle.kishu_meaning_laws.specs.Bare.{bare}
+use Rattle.kishu_meaning.specs.items.Indexes.{place_of}
 use Rattle.kishu_machine.specs.Raising.{passed_raised}
 use Rattle.kishu_access.proofs.Ends.{passed_gives, passed_ok}
 use Rattle.kishu_access.proofs.Raises.{place_raises}

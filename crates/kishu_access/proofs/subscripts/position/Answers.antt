@@ -3,8 +3,8 @@ use Rattle.std.proofs.Common.{ℕ, SFits, rules, length, true}
 use Rattle.std.specs.Prelude.{ℤ}
 use Rattle.std.specs.Int.{w128}
 use Rattle.std.proofs.lemmas.Int.{to_z-of_z}
-use Rattle.kishu_model.specs.Indexes.{index_of, place_of}
-use Rattle.kishu_model.specs.Values.{value_of}
+use Rattle.kishu_meaning.specs.items.Indexes.{index_of, place_of}
+use Rattle.kishu_meaning.specs.values.Values.{value_of}
 use Rattle.kishu_machine.specs.Composing.{fails_on, gives_on}
 use Rattle.kishu_machine.specs.Machine.{moment_of}
 use Rattle.kishu_access.proofs.Ends.{passed_on}

@@ -1,10 +1,10 @@
 use Rattle.std.proofs.Common.{◌∙◌, ap, sym, ℕ, true, length, map, Some}
-use Rattle.kishu_model.specs.Values.{Value, value_of}
+use Rattle.kishu_meaning.specs.values.Values.{Value, value_of}
 use Rattle.kishu_machine.specs.Machine.{moment_of}
 use Rattle.std.proofs.lemmas.Result.{err_from_is_err_and}
-use Rattle.kishu_model.specs.Sound.{is_sound}
+use Rattle.kishu_meaning.specs.values.Sound.{is_sound}
 use Rattle.std.proofs.lemmas.List.{length-map}
-use Rattle.kishu_model.specs.declared.value.Value as rust
+use Rattle.kishu_meaning.specs.declared.value.Value as rust
 use Rattle.kishu_access.proofs.Ends.{passed_on}
 use Rattle.kishu_access.proofs.Taking.{at_index, taken_at, taken_fails, sound_there}
 use Rattle.kishu_access.proofs.subscripts.taken.Goals as goal

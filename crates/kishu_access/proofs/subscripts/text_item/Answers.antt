@@ -1,10 +1,10 @@
 use Rattle.std.proofs.Common.{ℕ, true, length}
 use Rattle.std.specs.Str.{chars}
-use Rattle.kishu_model.specs.Values.{value_of}
+use Rattle.kishu_meaning.specs.values.Values.{value_of}
 use Rattle.kishu_machine.specs.Machine.{moment_of}
 use Rattle.std.proofs.lemmas.Result.{err_from_is_err_and}
-use Rattle.kishu_model.specs.Sound.{is_sound}
-use Rattle.kishu_model.specs.declared.value.Value as rust
+use Rattle.kishu_meaning.specs.values.Sound.{is_sound}
+use Rattle.kishu_meaning.specs.declared.value.Value as rust
 use Rattle.kishu_access.proofs.Ends.{passed_on}
 use Rattle.kishu_access.proofs.Taking.{text_at, text_fails, character_sound}
 use Rattle.kishu_access.proofs.subscripts.text_item.Goals as goal

@@ -1,5 +1,5 @@
 use Rattle.std.proofs.Common.{length}
-use Rattle.kishu_model.specs.Keys.{key_of}
+use Rattle.kishu_meaning.specs.values.Keys.{key_of}
 use Rattle.kishu_heap.specs.Cells.{entries_of, node_of}
 use Rattle.kishu_access.proofs.Looking.{value_sound}
 use Rattle.kishu_access.proofs.Holds.{entries_are_sound}

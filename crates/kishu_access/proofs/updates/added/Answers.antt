@@ -1,12 +1,12 @@
 use Rattle.std.proofs.Common.{◌∙◌, ap, length}
-use Rattle.kishu_model.specs.Values.{value_of}
+use Rattle.kishu_meaning.specs.values.Values.{value_of}
 use Rattle.kishu_machine.specs.Machine.{moment_of}
 use Rattle.std.proofs.lemmas.Result.{err_from_is_err_and}
 use Rattle.std.proofs.Common.{Err}
-use Rattle.kishu_model.specs.Meaning.{updated}
-use Rattle.kishu_model.specs.Moment.{Ends, and_then, give}
-use Rattle.kishu_model.specs.Sequences.{extended}
-use Rattle.kishu_model.specs.declared.tree.Operator.TheVariants as operators
+use Rattle.kishu_meaning.specs.cells.Meaning.{updated}
+use Rattle.kishu_meaning.specs.moments.Moment.{Ends, and_then, give}
+use Rattle.kishu_meaning.specs.items.Sequences.{extended}
+use Rattle.kishu_language.specs.declared.tree.Operator.TheVariants as operators
 use Rattle.kishu_machine.specs.Composing.{fails_on}
 use Rattle.kishu_machine.specs.SoundMore.{sound_more}
 use Rattle.kishu_access.proofs.Ends.{by_end}

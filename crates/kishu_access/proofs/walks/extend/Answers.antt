@@ -1,15 +1,15 @@
 use Rattle.std.proofs.Common.{◌++◌, true, length, map}
 use Rattle.std.specs.Prelude.{option_map}
-use Rattle.kishu_model.specs.Values.{value_of}
-use Rattle.kishu_model.specs.Sound.{are_sound}
+use Rattle.kishu_meaning.specs.values.Values.{value_of}
+use Rattle.kishu_meaning.specs.values.Sound.{are_sound}
 use Rattle.kishu_machine.specs.Machine.{moment_of}
 use Rattle.std.proofs.lemmas.Result.{err_from_is_err_and}
 use Rattle.std.specs.declared.alloc.Global.{Global}
 use Rattle.std.specs.declared.vec.Vec.{Vec}
-use Rattle.kishu_model.specs.declared.value.Value as rust
-use Rattle.kishu_model.specs.Moment.{change}
-use Rattle.kishu_model.specs.Nodes.{on_list}
-use Rattle.kishu_model.specs.Sequences.{walked}
+use Rattle.kishu_meaning.specs.declared.value.Value as rust
+use Rattle.kishu_meaning.specs.moments.Moment.{change}
+use Rattle.kishu_meaning.specs.values.Nodes.{on_list}
+use Rattle.kishu_meaning.specs.items.Sequences.{walked}
 use Rattle.kishu_machine.specs.Frames.{locals_of}
 use Rattle.kishu_machine.specs.Composing.{fails_on}
 use Rattle.kishu_access.proofs.Changing.{as_long}

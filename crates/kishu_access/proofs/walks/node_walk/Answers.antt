@@ -1,7 +1,7 @@
 use Rattle.std.proofs.Common.{◌∙◌, sym}
 use Rattle.std.specs.Prelude.{slice_get}
-use Rattle.kishu_model.specs.Values.{node}
-use Rattle.kishu_model.specs.Walks.{node_walk}
+use Rattle.kishu_meaning.specs.values.Values.{node}
+use Rattle.kishu_meaning.specs.items.Walks.{node_walk}
 use Rattle.kishu_machine.specs.Machine.{moment_of}
 use Rattle.kishu_access.specs.Access.{walk_of}
 use Rattle.kishu_access.proofs.Ends.{by_end, unwalked}

@@ -1,15 +1,15 @@
 use Rattle.std.proofs.Common.{◌≡◌, ◌∙◌, ◌++◌, refl, ap, sym, arith, ℕ, true, false, List, length, map, Option}
 use Rattle.std.specs.Prelude.{codes, decimal, unwrap_or, ◌==◌}
-use Rattle.kishu_model.specs.Values.{value_of, Node}
-use Rattle.kishu_model.specs.Sound.{are_sound}
+use Rattle.kishu_meaning.specs.values.Values.{value_of, Node}
+use Rattle.kishu_meaning.specs.values.Sound.{are_sound}
 use Rattle.kishu_machine.specs.Machine.{moment_of}
 use Rattle.std.proofs.lemmas.Result.{err_from_is_err_and}
 use Rattle.std.proofs.lemmas.Bool.Decides.{nat_tests}
 use Rattle.std.specs.declared.alloc.Global.{Global}
 use Rattle.std.specs.declared.vec.Vec.{Vec}
-use Rattle.kishu_model.specs.declared.value.Value as rust
-use Rattle.kishu_model.specs.Sequences.{count_in}
-use Rattle.kishu_model.specs.Walks.{unpacked}
+use Rattle.kishu_meaning.specs.declared.value.Value as rust
+use Rattle.kishu_meaning.specs.items.Sequences.{count_in}
+use Rattle.kishu_meaning.specs.items.Walks.{unpacked}
 use Rattle.kishu_machine.specs.Raising.{raises_text, sound_text}
 use Rattle.kishu_access.proofs.Ends.{by_end, passed_on, unwalked, unwalked_sound}
 use Rattle.kishu_access.proofs.Walking.{not_unpacked, unpack_fails, unpacked_items, unpacked_wrong}

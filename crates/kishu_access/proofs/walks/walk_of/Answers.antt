@@ -1,7 +1,7 @@
 use Rattle.std.proofs.Common.{length}
-use Rattle.kishu_model.specs.Values.{value_of}
+use Rattle.kishu_meaning.specs.values.Values.{value_of}
 use Rattle.kishu_machine.specs.Machine.{moment_of}
-use Rattle.kishu_model.specs.Walks as walks
+use Rattle.kishu_meaning.specs.items.Walks as walks
 use Rattle.kishu_access.specs.Access.{walk_of, is_sound_walk}
 use Rattle.kishu_access.proofs.Others.{no_walk}
 use Rattle.kishu_access.proofs.Ends.{by_end, unwalked, unwalked_sound}

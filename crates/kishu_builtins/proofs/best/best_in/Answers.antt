@@ -1,8 +1,8 @@
 use Rattle.std.proofs.Common.{◌∙◌, ap, refl, sym, subst, arith, suc, ◌-◌, ◌+◌, length, Option, Some, None}
 use Rattle.std.specs.Prelude.{option_map}
 use Rattle.std.proofs.lemmas.Result.{err_from_is_err_and}
-use Rattle.kishu_model.specs.Builtins.{folded, better}
-use Rattle.kishu_model.specs.Values.{Value, value_of}
+use Rattle.kishu_meaning.specs.calls.Builtins.{folded, better}
+use Rattle.kishu_meaning.specs.values.Values.{Value, value_of}
 use Rattle.kishu_builtins.specs.Called.{moment_of, Fails}
 use Rattle.kishu_builtins.specs.Extremes.{comparison_of}
 use Rattle.kishu_builtins.specs.Walking.{walk_in}

@@ -1,8 +1,8 @@
 use Rattle.std.proofs.Common.{◌≡◌, suc, ◌+◌, ◌-◌, ◌*◌, ◌≤◌, IsTrue, length, None}
 use Rattle.std.specs.Prelude.{IfSome, option_map}
-use Rattle.kishu_model.specs.Builtins.{folded, better}
-use Rattle.kishu_model.specs.Sound.{is_sound}
-use Rattle.kishu_model.specs.Values.{value_of}
+use Rattle.kishu_meaning.specs.calls.Builtins.{folded, better}
+use Rattle.kishu_meaning.specs.values.Sound.{is_sound}
+use Rattle.kishu_meaning.specs.values.Values.{value_of}
 use Rattle.kishu_builtins.specs.Called.{moment_of}
 use Rattle.kishu_builtins.specs.Extremes.{comparison_of}
 use Rattle.kishu_builtins.specs.Walking.{walk_in, is_there}

@@ -1,7 +1,7 @@
 use Rattle.std.proofs.Common.{arith, ◌≤◌}
-use Rattle.kishu_model.specs.CountingLaws.{less_in_falls}
-use Rattle.kishu_model.specs.Equal.{less_in}
-use Rattle.kishu_model.specs.Values.{value_of}
+use Rattle.kishu_meaning_laws.specs.CountingLaws.{less_in_falls}
+use Rattle.kishu_meaning.specs.comparing.Equal.{less_in}
+use Rattle.kishu_meaning.specs.values.Values.{value_of}
 use Rattle.kishu_builtins.proofs.Compares.{takes}
 use Rattle.kishu_builtins.proofs.best.less.Goals as goal
 

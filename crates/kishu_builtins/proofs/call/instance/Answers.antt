@@ -1,7 +1,7 @@
 use Rattle.std.proofs.Common.{◌≡◌, sym, subst, arith, length}
 use Rattle.std.specs.Prelude.{codes}
-use Rattle.kishu_model.specs.Builtins.{of_two, is_instance}
-use Rattle.kishu_model.specs.Values.{value_of}
+use Rattle.kishu_meaning.specs.calls.Builtins.{of_two, is_instance}
+use Rattle.kishu_meaning.specs.values.Values.{value_of}
 use Rattle.kishu_builtins.specs.Called.{moment_of, Gives}
 use Rattle.kishu_builtins.proofs.Given.{two_are}
 use Rattle.kishu_builtins.proofs.call.instance.Goals as goal

@@ -1,6 +1,6 @@
 use Rattle.std.proofs.Common.{◌≡◌, [], sym, subst, arith}
-use Rattle.kishu_model.specs.Callees.{construct}
-use Rattle.kishu_model.specs.Values.{value_of}
+use Rattle.kishu_meaning.specs.calls.Callees.{construct}
+use Rattle.kishu_meaning.specs.values.Values.{value_of}
 use Rattle.kishu_builtins.specs.Called.{moment_of, plainly, Gives}
 use Rattle.kishu_builtins.proofs.classes.empty.Goals as goal
 

@@ -1,5 +1,5 @@
 use Rattle.std.proofs.Common.{◌≢◌, ◌∙◌, sym, subst, length, false-eqb}
-use Rattle.kishu_model.specs.Values.{value_of}
+use Rattle.kishu_meaning.specs.values.Values.{value_of}
 use Rattle.kishu_builtins.specs.Called.{moment_of, Gives}
 use Rattle.kishu_builtins.proofs.Given.{no_object}
 use Rattle.kishu_builtins.proofs.classes.namespace.Goals as goal

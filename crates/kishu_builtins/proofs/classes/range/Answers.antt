@@ -1,7 +1,7 @@
 use Rattle.std.proofs.Common.{sym, subst, map}
-use Rattle.kishu_model.specs.Builtins.{range_from}
-use Rattle.kishu_model.specs.Equal.{number_in}
-use Rattle.kishu_model.specs.Values.{value_of}
+use Rattle.kishu_meaning.specs.calls.Builtins.{range_from}
+use Rattle.kishu_meaning.specs.comparing.Equal.{number_in}
+use Rattle.kishu_meaning.specs.values.Values.{value_of}
 use Rattle.kishu_builtins.specs.Called.{Gives}
 use Rattle.kishu_builtins.proofs.Given.{three_are}
 use Rattle.kishu_builtins.proofs.classes.range.Goals as goal

@@ -1,7 +1,7 @@
 use Rattle.std.proofs.Common.{◌∙◌, ap, refl, sym, subst, arith, suc, ◌-◌, ◌+◌}
 use Rattle.std.proofs.lemmas.Result.{err_from_is_err_and}
-use Rattle.kishu_model.specs.Builtins.{decided}
-use Rattle.kishu_model.specs.Values.{value_of}
+use Rattle.kishu_meaning.specs.calls.Builtins.{decided}
+use Rattle.kishu_meaning.specs.values.Values.{value_of}
 use Rattle.kishu_builtins.specs.Called.{moment_of, Fails}
 use Rattle.kishu_builtins.specs.Walking.{walk_in}
 use Rattle.kishu_builtins.proofs.Visits.{fuel, next, start, decided_fault, decided_none, decided_here, decided_further}

@@ -1,5 +1,5 @@
 use Rattle.std.proofs.Common.{◌≡◌, suc, ◌+◌, ◌-◌, ◌*◌, ◌≤◌, IsTrue, length}
-use Rattle.kishu_model.specs.Builtins.{decided}
+use Rattle.kishu_meaning.specs.calls.Builtins.{decided}
 use Rattle.kishu_builtins.specs.Called.{moment_of}
 use Rattle.kishu_builtins.specs.Walking.{walk_in, is_there}
 use Rattle.kishu_builtins.proofs.deciding.decided.Given as goal

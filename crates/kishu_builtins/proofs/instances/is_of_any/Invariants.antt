@@ -1,8 +1,8 @@
 use Rattle.std.proofs.Common.{◌≡◌, drop}
 use Rattle.std.specs.Prelude.{option_map}
 use Rattle.std.specs.List.{list_any}
-use Rattle.kishu_model.specs.Builtins.{is_of_class}
-use Rattle.kishu_model.specs.Values.{value_of}
+use Rattle.kishu_meaning.specs.calls.Builtins.{is_of_class}
+use Rattle.kishu_meaning.specs.values.Values.{value_of}
 use Rattle.kishu_heap.specs.Cells.{node_of}
 use Rattle.kishu_builtins.proofs.instances.is_of_any.Given as goal
 

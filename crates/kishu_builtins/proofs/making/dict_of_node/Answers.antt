@@ -1,7 +1,7 @@
 use Rattle.std.proofs.lemmas.List.{length-map}
 use Rattle.kishu_heap.specs.Cells.{entries_of, node_of}
-use Rattle.kishu_model.specs.Keys.{Key, key_of}
-use Rattle.kishu_model.specs.Values.{Value, value_of}
+use Rattle.kishu_meaning.specs.values.Keys.{Key, key_of}
+use Rattle.kishu_meaning.specs.values.Values.{Value, value_of}
 use Rattle.kishu_builtins.proofs.Copies.{copied_as}
 use Rattle.kishu_builtins.proofs.making.dict_of_node.Goals as goal
 

@@ -1,7 +1,7 @@
 use Rattle.std.proofs.Common.{◌∙◌, ap, subst}
 use Rattle.std.specs.Int.{w128}
 use Rattle.std.proofs.lemmas.Int.{to_z-of_z}
-use Rattle.kishu_model.specs.Values.{integer}
+use Rattle.kishu_meaning.specs.values.Values.{integer}
 use Rattle.kishu_builtins.specs.Answered.{answered}
 use Rattle.kishu_builtins.specs.Called.{Gives}
 use Rattle.kishu_builtins.proofs.Wholes.{same_quotient}

@@ -3,10 +3,10 @@ use Rattle.std.specs.Prelude.{Err}
 use Rattle.std.specs.Int.{w128}
 use Rattle.std.proofs.lemmas.Int.{to_z-of_z}
 use Rattle.std.proofs.lemmas.Result.{err_from_is_err_and}
-use Rattle.kishu_model.specs.declared.tree.Operator.TheVariants as operators
-use Rattle.kishu_model.specs.Moment.{◌>>=◌}
-use Rattle.kishu_model.specs.Operators.{operate, new_tuple}
-use Rattle.kishu_model.specs.Values.{Value, value_of, integer}
+use Rattle.kishu_language.specs.declared.tree.Operator.TheVariants as operators
+use Rattle.kishu_meaning.specs.moments.Moment.{◌>>=◌}
+use Rattle.kishu_meaning.specs.calls.Operators.{operate, new_tuple}
+use Rattle.kishu_meaning.specs.values.Values.{Value, value_of, integer}
 use Rattle.kishu_items.specs.Failing.{fails_through}
 use Rattle.kishu_builtins.specs.Called.{moment_of, Gives}
 use Rattle.kishu_builtins.proofs.Wholes.{first_number, both_numbers}

@@ -1,5 +1,5 @@
 use Rattle.std.proofs.Common.{length, map}
-use Rattle.kishu_model.specs.Values.{value_of}
+use Rattle.kishu_meaning.specs.values.Values.{value_of}
 use Rattle.kishu_builtins.proofs.InOrder.{ordered_sound}
 use Rattle.kishu_builtins.proofs.sorted.list_in_order.Goals as goal
 

@@ -1,8 +1,8 @@
 use Rattle.std.proofs.lemmas.Result.{err_from_is_err_and}
 use Rattle.std.specs.Prelude.{pos}
-use Rattle.kishu_model.specs.Builtins.{fold, added}
-use Rattle.kishu_model.specs.Values.{Value, value_of, integer}
-use Rattle.kishu_model.specs.Walks.{Walk, walk_of}
+use Rattle.kishu_meaning.specs.calls.Builtins.{fold, added}
+use Rattle.kishu_meaning.specs.values.Values.{Value, value_of, integer}
+use Rattle.kishu_meaning.specs.items.Walks.{Walk, walk_of}
 use Rattle.kishu_builtins.specs.Called.{moment_of}
 use Rattle.kishu_builtins.proofs.Visits.{fails_through}
 use Rattle.kishu_builtins.proofs.sums.sum_of.Goals as goal

@@ -3,8 +3,8 @@ use Rattle.std.specs.Prelude.{pos}
 use Rattle.std.specs.Int.{w128}
 use Rattle.std.proofs.lemmas.Int.{to_z-of_z}
 use Rattle.std.proofs.lemmas.Result.{err_from_is_err_and}
-use Rattle.kishu_model.specs.Builtins.{folded, added}
-use Rattle.kishu_model.specs.Values.{Value, value_of, integer}
+use Rattle.kishu_meaning.specs.calls.Builtins.{folded, added}
+use Rattle.kishu_meaning.specs.values.Values.{Value, value_of, integer}
 use Rattle.kishu_builtins.specs.Called.{moment_of, Fails}
 use Rattle.kishu_builtins.specs.Walking.{walk_in}
 use Rattle.kishu_builtins.proofs.Visits.{fuel, next, start, folded_fault, folded_none, folded_item_fault, folded_further}

@@ -1,7 +1,7 @@
 use Rattle.std.proofs.Common.{◌≡◌, suc, ◌+◌, ◌-◌, ◌*◌, ◌≤◌, IsTrue, length}
 use Rattle.std.specs.Prelude.{pos}
-use Rattle.kishu_model.specs.Builtins.{folded, added}
-use Rattle.kishu_model.specs.Values.{integer}
+use Rattle.kishu_meaning.specs.calls.Builtins.{folded, added}
+use Rattle.kishu_meaning.specs.values.Values.{integer}
 use Rattle.kishu_builtins.specs.Called.{moment_of}
 use Rattle.kishu_builtins.specs.Walking.{walk_in, is_there}
 use Rattle.kishu_builtins.proofs.sums.total.Given as goal

@@ -2,7 +2,7 @@ use Rattle.std.proofs.Common.{SFits, rules, length, map}
 use Rattle.std.specs.Int.{w128}
 use Rattle.std.proofs.lemmas.Int.{to_z-of_z}
 use Rattle.kishu_builtins.specs.Called.{moment_of}
-use Rattle.kishu_model.specs.Values.{value_of}
+use Rattle.kishu_meaning.specs.values.Values.{value_of}
 use Rattle.kishu_builtins.proofs.Items.{found_sound}
 use Rattle.kishu_builtins.proofs.walk.item_for.Goals as goal
 

@@ -1,8 +1,8 @@
 use Rattle.std.proofs.Common.{length, map}
 use Rattle.std.specs.Prelude.{option_map}
 use Rattle.kishu_heap.specs.Cells.{entries_of}
-use Rattle.kishu_model.specs.Keys.{key_of}
-use Rattle.kishu_model.specs.Values.{value_of, none}
+use Rattle.kishu_meaning.specs.values.Keys.{key_of}
+use Rattle.kishu_meaning.specs.values.Values.{value_of, none}
 use Rattle.kishu_builtins.specs.Called.{moment_of}
 use Rattle.kishu_builtins.proofs.Items.{found_sound, dict_item}
 use Rattle.kishu_builtins.proofs.walk.node_item.Goals as goal

@@ -1,9 +1,9 @@
 use Rattle.std.proofs.Common.{◌∙◌, sym, subst}
 use Rattle.std.specs.Prelude.{length}
 use Rattle.std.specs.Rc.{rc_str_bytes}
-use Rattle.kishu_model.specs.Callees.{Callee}
-use Rattle.kishu_model.specs.Moment.{Ends}
-use Rattle.kishu_model.specs.Values.{value_of}
+use Rattle.kishu_meaning.specs.calls.Callees.{Callee}
+use Rattle.kishu_meaning.specs.moments.Moment.{Ends}
+use Rattle.kishu_meaning.specs.values.Values.{value_of}
 use Rattle.kishu_items.specs.Holding.{both}
 use Rattle.kishu_items.specs.Messages.{is_plain}
 use Rattle.kishu_machine.specs.Machine.{Gives, moment_of}

@@ -1,11 +1,11 @@
 use Rattle.std.proofs.lemmas.Result.{err_from_is_err_and}
 use Rattle.std.specs.Prelude.{true}
-use Rattle.kishu_model.specs.declared.value.Value as rust
+use Rattle.kishu_meaning.specs.declared.value.Value as rust
 use Rattle.kishu_calls.specs.declared.callees.Callee as called
-use Rattle.kishu_model.specs.Callees.{function}
-use Rattle.kishu_model.specs.Moment.{give}
-use Rattle.kishu_model.specs.Subscripts.{attribute}
-use Rattle.kishu_model.specs.Values.{Value, value_of}
+use Rattle.kishu_meaning.specs.calls.Callees.{function}
+use Rattle.kishu_meaning.specs.moments.Moment.{give}
+use Rattle.kishu_meaning.specs.items.Subscripts.{attribute}
+use Rattle.kishu_meaning.specs.values.Values.{Value, value_of}
 use Rattle.kishu_machine.specs.Composing.{fails_on}
 use Rattle.kishu_machine.specs.Machine.{moment_of}
 use Rattle.kishu_calls.proofs.Passing.{passed_on}

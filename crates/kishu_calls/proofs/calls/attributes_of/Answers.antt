@@ -3,8 +3,8 @@ use Rattle.std.specs.Vec.Iter.{into_iter_items}
 use Rattle.std.specs.declared.alloc.Global.{Global}
 use Rattle.std.specs.declared.rc.RcStr.{RcStr}
 use Rattle.kishu_heap.specs.Cells.{attributes_of}
-use Rattle.kishu_model.specs.Refusals.{all_differ}
-use Rattle.kishu_model.specs.declared.value.Value as rust
+use Rattle.kishu_language.specs.grammar.Refusals.{all_differ}
+use Rattle.kishu_meaning.specs.declared.value.Value as rust
 use Rattle.kishu_calls.specs.Calls.{named_of}
 use Rattle.kishu_calls.proofs.Attributes.{attribute_put, nothing_left}
 use Rattle.kishu_calls.proofs.calls.attributes_of.Goals as goal

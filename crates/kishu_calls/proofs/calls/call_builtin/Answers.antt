@@ -1,9 +1,9 @@
 use Rattle.std.proofs.Common.{[], ◌∷◌, arith, map}
 use Rattle.std.proofs.lemmas.Bool.Decides.{nat_tests}
 use Rattle.std.specs.Prelude.{codes, length}
-use Rattle.kishu_model.specs.Callees.{print_by}
-use Rattle.kishu_model.specs.Lines.{line_feed}
-use Rattle.kishu_model.specs.Values.{value_of}
+use Rattle.kishu_meaning.specs.calls.Callees.{print_by}
+use Rattle.kishu_language.specs.tokens.Lines.{line_feed}
+use Rattle.kishu_meaning.specs.values.Values.{value_of}
 use Rattle.kishu_machine.specs.Machine.{moment_of}
 use Rattle.kishu_calls.specs.Calls.{given_of, named_of}
 use Rattle.kishu_calls.proofs.Called.{named_there}

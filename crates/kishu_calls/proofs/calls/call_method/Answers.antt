@@ -1,9 +1,9 @@
 use Rattle.std.proofs.Common.{◌++◌, refl, arith, sym, subst, map, ℕ, List}
 use Rattle.std.specs.Prelude.{length, codes}
-use Rattle.kishu_model.specs.Methods.{call_method}
-use Rattle.kishu_model.specs.Moment.{Ends}
-use Rattle.kishu_model.specs.Sound.{is_sound}
-use Rattle.kishu_model.specs.Values.{Value, value_of}
+use Rattle.kishu_meaning.specs.calls.Methods.{call_method}
+use Rattle.kishu_meaning.specs.moments.Moment.{Ends}
+use Rattle.kishu_meaning.specs.values.Sound.{is_sound}
+use Rattle.kishu_meaning.specs.values.Values.{Value, value_of}
 use Rattle.kishu_items.specs.Messages.{chars-plain}
 use Rattle.kishu_machine.specs.Machine.{Gives, IsRaised, moment_of}
 use Rattle.kishu_machine.specs.Raising.{raises_text, sound_text}

@@ -2,10 +2,10 @@ use Rattle.std.proofs.Common.{◌≡◌, drop, List, [], ◌∷◌}
 use Rattle.std.specs.Prelude.{codes}
 use Rattle.std.specs.Rc.{rc_str_bytes}
 use Rattle.std.specs.Str.{chars}
-use Rattle.kishu_model.specs.Callees.{print_by}
-use Rattle.kishu_model.specs.Lines.{line_feed}
-use Rattle.kishu_model.specs.Moment.{Moment}
-use Rattle.kishu_model.specs.Values.{Value}
+use Rattle.kishu_meaning.specs.calls.Callees.{print_by}
+use Rattle.kishu_language.specs.tokens.Lines.{line_feed}
+use Rattle.kishu_meaning.specs.moments.Moment.{Moment}
+use Rattle.kishu_meaning.specs.values.Values.{Value}
 use Rattle.kishu_calls.specs.Calls.{named_of}
 use Rattle.kishu_calls.proofs.calls.marks_in.Given as goal
 

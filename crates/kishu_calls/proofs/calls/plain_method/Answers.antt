@@ -1,8 +1,8 @@
 use Rattle.std.proofs.Common.{◌∙◌, sym, subst, map}
 use Rattle.std.specs.Prelude.{length}
-use Rattle.kishu_model.specs.Moment.{Ends}
-use Rattle.kishu_model.specs.Sound.{is_sound}
-use Rattle.kishu_model.specs.Values.{Value, value_of}
+use Rattle.kishu_meaning.specs.moments.Moment.{Ends}
+use Rattle.kishu_meaning.specs.values.Sound.{is_sound}
+use Rattle.kishu_meaning.specs.values.Values.{Value, value_of}
 use Rattle.kishu_machine.specs.Machine.{Gives, moment_of}
 use Rattle.kishu_calls.proofs.Called.{no_method}
 use Rattle.kishu_calls.proofs.Passing.{unnamed, unnamed_sound}

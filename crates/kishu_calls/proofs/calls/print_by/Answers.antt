@@ -1,8 +1,8 @@
 use Rattle.std.proofs.Common.{[], map}
 use Rattle.std.proofs.lemmas.Result.{err_from_is_err_and}
 use Rattle.std.specs.Prelude.{length, true}
-use Rattle.kishu_model.specs.Values.{value_of}
-use Rattle.kishu_model.specs.declared.value.Value as rust
+use Rattle.kishu_meaning.specs.values.Values.{value_of}
+use Rattle.kishu_meaning.specs.declared.value.Value as rust
 use Rattle.kishu_machine.specs.Machine.{moment_of}
 use Rattle.kishu_calls.specs.Calls.{named_of}
 use Rattle.kishu_calls.proofs.Prints.{marks_fail, marks_sound}

@@ -1,4 +1,4 @@
-use Rattle.kishu_model.specs.Show.{show_thrown}
+use Rattle.kishu_meaning.specs.comparing.Show.{show_thrown}
 use Rattle.kishu_machine.specs.Machine.{moment_of, thrown_of}
 use Rattle.kishu_calls.proofs.Printed.{uncaught_shown}
 use Rattle.kishu_calls.proofs.endings.finish_raised.Goals as goal

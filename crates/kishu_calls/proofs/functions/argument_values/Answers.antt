@@ -2,9 +2,9 @@ use Rattle.std.proofs.Common.{◌≡◌, ◌∙◌, ◌+◌, ap, sym, arith, Lis
 use Rattle.std.specs.Prelude.{option_map, slice_get}
 use Rattle.std.specs.Rc.{rc_str_bytes}
 use Rattle.std.proofs.lemmas.List.{map-append}
-use Rattle.kishu_model.specs.Functions.{with_defaults, or_default}
-use Rattle.kishu_model.specs.Tree.{parameter_of, value_of as tree_value}
-use Rattle.kishu_model.specs.Values.{Value, value_of, find}
+use Rattle.kishu_meaning.specs.calls.Functions.{with_defaults, or_default}
+use Rattle.kishu_language.specs.trees.Tree.{parameter_of, value_of as tree_value}
+use Rattle.kishu_meaning.specs.values.Values.{Value, value_of, find}
 use Rattle.kishu_calls.specs.Calls.{named_of}
 use Rattle.kishu_calls.specs.Forms.{arguments_for, or_argument, next_default, default_count}
 use Rattle.kishu_calls.proofs.Binding.{behind, step_at, some_there, none_there}

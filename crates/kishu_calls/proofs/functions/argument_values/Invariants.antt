@@ -1,7 +1,7 @@
 use Rattle.std.proofs.Common.{◌≡◌, ◌≤◌, drop, map, length}
-use Rattle.kishu_model.specs.Functions.{with_defaults}
-use Rattle.kishu_model.specs.Tree.{parameter_of}
-use Rattle.kishu_model.specs.Values.{value_of}
+use Rattle.kishu_meaning.specs.calls.Functions.{with_defaults}
+use Rattle.kishu_language.specs.trees.Tree.{parameter_of}
+use Rattle.kishu_meaning.specs.values.Values.{value_of}
 use Rattle.kishu_calls.specs.Calls.{named_of}
 use Rattle.kishu_calls.specs.Forms.{arguments_for}
 use Rattle.kishu_calls.proofs.Binding.{behind}

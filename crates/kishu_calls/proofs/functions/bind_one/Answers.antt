@@ -1,5 +1,5 @@
 use Rattle.std.proofs.Common.{◌∙◌, ap}
-use Rattle.kishu_model.specs.Values.{value_of, bind}
+use Rattle.kishu_meaning.specs.values.Values.{value_of, bind}
 use Rattle.kishu_machine.specs.Frames.{names_of}
 use Rattle.kishu_calls.proofs.Binding.{binds}
 use Rattle.kishu_calls.proofs.functions.bind_one.Goals as goal

@@ -1,9 +1,9 @@
 use Rattle.std.proofs.Common.{◌≡◌, ◌∙◌, ◌<◌, ap, sym, arith, List, [], ◌∷◌, length, length-append, map, get_or}
 use Rattle.kishu_machine.specs.Frames.{names_of}
-use Rattle.kishu_model.specs.declared.value.Value as rust
-use Rattle.kishu_model.specs.Refusals.{titles}
-use Rattle.kishu_model.specs.Tree.{parameter_of}
-use Rattle.kishu_model.specs.Values.{value_of}
+use Rattle.kishu_meaning.specs.declared.value.Value as rust
+use Rattle.kishu_language.specs.grammar.Refusals.{titles}
+use Rattle.kishu_language.specs.trees.Tree.{parameter_of}
+use Rattle.kishu_meaning.specs.values.Values.{value_of}
 use Rattle.kishu_calls.proofs.Binding.{bound_onto, onto_none, onto_finished, popped}
 use Rattle.kishu_calls.proofs.functions.bound_each.Goals as goal
 

@@ -1,8 +1,8 @@
 use Rattle.std.proofs.Common.{◌≡◌, ◌≤◌, [], map, length}
 use Rattle.kishu_machine.specs.Frames.{names_of}
-use Rattle.kishu_model.specs.Refusals.{titles}
-use Rattle.kishu_model.specs.Tree.{parameter_of}
-use Rattle.kishu_model.specs.Values.{value_of}
+use Rattle.kishu_language.specs.grammar.Refusals.{titles}
+use Rattle.kishu_language.specs.trees.Tree.{parameter_of}
+use Rattle.kishu_meaning.specs.values.Values.{value_of}
 use Rattle.kishu_calls.proofs.Binding.{bound_onto}
 use Rattle.kishu_calls.proofs.functions.bound_each.Given as goal
 

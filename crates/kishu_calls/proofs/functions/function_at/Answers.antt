@@ -2,10 +2,10 @@ use Rattle.std.proofs.Common.{sym, subst, map}
 use Rattle.std.proofs.lemmas.Str.{IsUtf8-string_bytes}
 use Rattle.std.specs.Prelude.{slice_get}
 use Rattle.std.specs.Rc.{rc_str_bytes}
-use Rattle.kishu_model.specs.declared.tree.Def.{Def}
-use Rattle.kishu_model.specs.Parse.{ParseDef}
-use Rattle.kishu_model.specs.Tree.{definition_of}
-use Rattle.kishu_model.specs.Values.{value_of}
+use Rattle.kishu_language.specs.declared.tree.Def.{Def}
+use Rattle.kishu_language.specs.grammar.Parse.{ParseDef}
+use Rattle.kishu_language.specs.trees.Tree.{definition_of}
+use Rattle.kishu_meaning.specs.values.Values.{value_of}
 use Rattle.kishu_calls.proofs.Binding.{function_there}
 use Rattle.kishu_calls.proofs.functions.function_at.Goals as goal
 

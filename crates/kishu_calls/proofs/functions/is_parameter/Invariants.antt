@@ -1,7 +1,7 @@
 use Rattle.std.proofs.Common.{◌≡◌, drop, map}
-use Rattle.kishu_model.specs.Names.{is_among}
-use Rattle.kishu_model.specs.Refusals.{titles}
-use Rattle.kishu_model.specs.Tree.{parameter_of}
+use Rattle.kishu_language.specs.tokens.Names.{is_among}
+use Rattle.kishu_language.specs.grammar.Refusals.{titles}
+use Rattle.kishu_language.specs.trees.Tree.{parameter_of}
 use Rattle.kishu_calls.proofs.functions.is_parameter.Given as goal
 
 abbrev pub invariant-loop-other : goal.invariant-loop-other

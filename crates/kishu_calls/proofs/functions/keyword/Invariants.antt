@@ -1,5 +1,5 @@
 use Rattle.std.proofs.Common.{◌≡◌, drop}
-use Rattle.kishu_model.specs.Values.{find}
+use Rattle.kishu_meaning.specs.values.Values.{find}
 use Rattle.kishu_calls.specs.Calls.{named_of}
 use Rattle.kishu_calls.proofs.functions.keyword.Given as goal
 

@@ -1,8 +1,8 @@
 use Rattle.std.proofs.Common.{◌≡◌, drop, map}
 use Rattle.std.specs.List.{list_all}
-use Rattle.kishu_model.specs.Names.{is_among}
-use Rattle.kishu_model.specs.Refusals.{titles}
-use Rattle.kishu_model.specs.Tree.{parameter_of}
+use Rattle.kishu_language.specs.tokens.Names.{is_among}
+use Rattle.kishu_language.specs.grammar.Refusals.{titles}
+use Rattle.kishu_language.specs.trees.Tree.{parameter_of}
 use Rattle.kishu_calls.specs.Calls.{named_of}
 use Rattle.kishu_calls.proofs.functions.keywords_fit.Given as goal
 

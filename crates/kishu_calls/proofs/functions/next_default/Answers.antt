@@ -1,5 +1,5 @@
 use Rattle.std.proofs.Common.{◌∙◌, map}
-use Rattle.kishu_model.specs.Values.{value_of}
+use Rattle.kishu_meaning.specs.values.Values.{value_of}
 use Rattle.kishu_calls.proofs.Binding.{got_value, default_there}
 use Rattle.kishu_calls.proofs.functions.next_default.Goals as goal
 

@@ -1,9 +1,9 @@
 use Rattle.std.proofs.Common.{arith, refl, map, ◌++◌, List}
 use Rattle.kishu_machine.specs.Frames.{texts_of}
-use Rattle.kishu_model.specs.declared.tree.Expr.{Expr}
-use Rattle.kishu_model.specs.Functions.{bound_by, all_bound_by}
-use Rattle.kishu_model.specs.Height.{of_expression, of_expressions}
-use Rattle.kishu_model.specs.Tree.{expressions, expression_of}
+use Rattle.kishu_language.specs.declared.tree.Expr.{Expr}
+use Rattle.kishu_meaning.specs.calls.Functions.{bound_by, all_bound_by}
+use Rattle.kishu_language.specs.trees.Height.{of_expression, of_expressions}
+use Rattle.kishu_language.specs.trees.Tree.{expressions, expression_of}
 use Rattle.kishu_calls.proofs.LocalNames.{one_more, height_here}
 use Rattle.kishu_calls.proofs.locals.+targets.Goals as goal
 

@@ -1,8 +1,8 @@
 use Rattle.std.proofs.Common.{◌≡◌, ◌+◌, ◌*◌, ◌++◌, ◌≤◌, drop}
 use Rattle.kishu_machine.specs.Frames.{texts_of}
-use Rattle.kishu_model.specs.Functions.{all_bound_by}
-use Rattle.kishu_model.specs.Height.{of_expression, of_expressions}
-use Rattle.kishu_model.specs.Tree.{expression_of}
+use Rattle.kishu_meaning.specs.calls.Functions.{all_bound_by}
+use Rattle.kishu_language.specs.trees.Height.{of_expression, of_expressions}
+use Rattle.kishu_language.specs.trees.Tree.{expression_of}
 use Rattle.kishu_calls.specs.Trees.{expressions_of}
 use Rattle.kishu_calls.proofs.locals.+targets.Given as goal
 

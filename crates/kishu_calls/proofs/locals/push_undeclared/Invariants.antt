@@ -1,7 +1,7 @@
 use Rattle.std.proofs.Common.{◌≡◌, ◌++◌, drop}
 use Rattle.std.specs.List.{filter}
 use Rattle.std.specs.Prelude.{not}
-use Rattle.kishu_model.specs.Names.{is_among}
+use Rattle.kishu_language.specs.tokens.Names.{is_among}
 use Rattle.kishu_machine.specs.Frames.{texts_of}
 use Rattle.kishu_calls.proofs.locals.push_undeclared.Given as goal
 

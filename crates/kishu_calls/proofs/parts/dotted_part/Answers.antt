@@ -1,10 +1,10 @@
 use Rattle.std.proofs.lemmas.Result.{err_from_is_err_and}
 use Rattle.std.specs.Prelude.{true}
 use Rattle.std.specs.Rc.{rc_str_bytes}
-use Rattle.kishu_model.specs.Callees.{dotted, settled}
-use Rattle.kishu_model.specs.Moment.{give}
-use Rattle.kishu_model.specs.declared.value.Value as rust
-use Rattle.kishu_model.specs.Values.{Value}
+use Rattle.kishu_meaning.specs.calls.Callees.{dotted, settled}
+use Rattle.kishu_meaning.specs.moments.Moment.{give}
+use Rattle.kishu_meaning.specs.declared.value.Value as rust
+use Rattle.kishu_meaning.specs.values.Values.{Value}
 use Rattle.kishu_calls.specs.declared.parts.Part as part
 use Rattle.kishu_machine.specs.Composing.{fails_on}
 use Rattle.kishu_machine.specs.Machine.{moment_of}

@@ -1,6 +1,6 @@
 use Rattle.std.specs.Prelude.{length}
-use Rattle.kishu_model.specs.Sound.{is_sound}
-use Rattle.kishu_model.specs.Values.{value_of, node}
+use Rattle.kishu_meaning.specs.values.Sound.{is_sound}
+use Rattle.kishu_meaning.specs.values.Values.{value_of, node}
 use Rattle.kishu_machine.specs.Machine.{moment_of}
 use Rattle.kishu_calls.proofs.Passing.{unnamed, unnamed_sound}
 use Rattle.kishu_calls.proofs.parts.settled.Goals as goal

@@ -1,7 +1,7 @@
 use Rattle.std.proofs.Common.{◌≡◌, drop, map}
 use Rattle.std.specs.List.{list_all}
-use Rattle.kishu_model.specs.Values.{value_of}
-use Rattle.kishu_model.specs.Ways.{is_class_of_exceptions}
+use Rattle.kishu_meaning.specs.values.Values.{value_of}
+use Rattle.kishu_meaning.specs.cells.Ways.{is_class_of_exceptions}
 use Rattle.kishu_calls.proofs.ways.are_classes_of_exceptions.Given as goal
 
 abbrev pub invariant-loop-value : goal.invariant-loop-value

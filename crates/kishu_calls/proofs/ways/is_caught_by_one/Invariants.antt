@@ -1,7 +1,7 @@
 use Rattle.std.proofs.Common.{◌≡◌, drop, map}
 use Rattle.std.specs.List.{list_any}
-use Rattle.kishu_model.specs.Values.{value_of}
-use Rattle.kishu_model.specs.Ways.{is_caught_by}
+use Rattle.kishu_meaning.specs.values.Values.{value_of}
+use Rattle.kishu_meaning.specs.cells.Ways.{is_caught_by}
 use Rattle.kishu_calls.proofs.ways.is_caught_by_one.Given as goal
 
 abbrev pub invariant-loop-value : goal.invariant-loop-value

@@ -3,10 +3,10 @@ use Rattle.std.specs.Prelude.{option_map}
 use Rattle.std.specs.Rc.{rc_str_bytes}
 use Rattle.std.specs.Str.{bytes_eq}
 use Rattle.std.proofs.lemmas.Result.{err_from_is_err_and}
-use Rattle.kishu_model.specs.Keys.{key_of, is_one}
-use Rattle.kishu_model.specs.Values.{value_of}
-use Rattle.kishu_model.specs.Nodes.{value_at}
-use Rattle.kishu_model.specs.Equal.{equal_nodes}
+use Rattle.kishu_meaning.specs.values.Keys.{key_of, is_one}
+use Rattle.kishu_meaning.specs.values.Values.{value_of}
+use Rattle.kishu_meaning.specs.values.Nodes.{value_at}
+use Rattle.kishu_meaning.specs.comparing.Equal.{equal_nodes}
 use Rattle.kishu_heap.specs.Cells.{entries_of, attributes_of}
 use Rattle.kishu_heap.proofs.Walks.{both_nodes, item_fault, item_differs, item_equals, entry_fault, entry_differs, entry_equals}
 use Rattle.kishu_heap.proofs.compare.+equal.Goals as goal

@@ -1,8 +1,8 @@
 use Rattle.std.proofs.Common.{◌≡◌, ◌+◌, ◌*◌, ◌≤◌, drop, map}
 use Rattle.std.specs.Str.{bytes_eq}
-use Rattle.kishu_model.specs.Keys.{is_one}
-use Rattle.kishu_model.specs.Values.{value_of}
-use Rattle.kishu_model.specs.Equal.{equal_nodes, items_equal, entries_equal}
+use Rattle.kishu_meaning.specs.values.Keys.{is_one}
+use Rattle.kishu_meaning.specs.values.Values.{value_of}
+use Rattle.kishu_meaning.specs.comparing.Equal.{equal_nodes, items_equal, entries_equal}
 use Rattle.kishu_heap.specs.Cells.{entries_of, attributes_of}
 use Rattle.kishu_heap.proofs.compare.+equal.Given as goal
 

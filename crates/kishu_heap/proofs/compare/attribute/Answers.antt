@@ -2,7 +2,7 @@ use Rattle.std.proofs.Common.{◌∙◌, ap}
 use Rattle.std.specs.Prelude.{option_map}
 use Rattle.std.specs.Rc.{rc_str_bytes}
 use Rattle.std.specs.Str.{bytes_eq}
-use Rattle.kishu_model.specs.Values.{value_of}
+use Rattle.kishu_meaning.specs.values.Values.{value_of}
 use Rattle.kishu_heap.proofs.Entries.{copied_value, finds}
 use Rattle.kishu_heap.proofs.compare.attribute.Goals as goal
 

@@ -1,7 +1,7 @@
 use Rattle.std.proofs.Common.{◌∙◌, ap}
 use Rattle.std.specs.Prelude.{option_map}
-use Rattle.kishu_model.specs.Keys.{key_of, is_one}
-use Rattle.kishu_model.specs.Values.{value_of}
+use Rattle.kishu_meaning.specs.values.Keys.{key_of, is_one}
+use Rattle.kishu_meaning.specs.values.Values.{value_of}
 use Rattle.kishu_heap.proofs.Entries.{copied_value, finds}
 use Rattle.kishu_heap.proofs.compare.value_under.Goals as goal
 

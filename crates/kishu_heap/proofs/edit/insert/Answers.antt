@@ -1,6 +1,6 @@
 use Rattle.std.proofs.Common.{◌∙◌, ap}
-use Rattle.kishu_model.specs.Keys.{key_of, is_one}
-use Rattle.kishu_model.specs.Values.{dict}
+use Rattle.kishu_meaning.specs.values.Keys.{key_of, is_one}
+use Rattle.kishu_meaning.specs.values.Values.{dict}
 use Rattle.kishu_heap.specs.Cells.{entries_of}
 use Rattle.kishu_heap.proofs.Entries.{inserts}
 use Rattle.kishu_heap.proofs.edit.insert.Goals as goal

@@ -1,5 +1,5 @@
 use Rattle.std.proofs.Common.{ap, sym, vec_len}
-use Rattle.kishu_model.specs.Values.{value_of, list}
+use Rattle.kishu_meaning.specs.values.Values.{value_of, list}
 use Rattle.kishu_heap.proofs.Changes.{last_popped, rest_popped}
 use Rattle.kishu_heap.proofs.edit.pop.Goals as goal
 

@@ -1,6 +1,6 @@
 use Rattle.std.proofs.Common.{◌∙◌, ap, option_map}
-use Rattle.kishu_model.specs.Keys.{key_of, is_one}
-use Rattle.kishu_model.specs.Values.{value_of, dict}
+use Rattle.kishu_meaning.specs.values.Keys.{key_of, is_one}
+use Rattle.kishu_meaning.specs.values.Values.{value_of, dict}
 use Rattle.kishu_heap.specs.Cells.{entries_of}
 use Rattle.kishu_heap.proofs.Entries.{finds, removes}
 use Rattle.kishu_heap.proofs.edit.remove.Goals as goal

@@ -1,7 +1,7 @@
 use Rattle.std.proofs.Common.{◌∙◌, ap, option_map}
 use Rattle.std.specs.Rc.{rc_str_bytes}
 use Rattle.std.specs.Str.{bytes_eq}
-use Rattle.kishu_model.specs.Values.{value_of, object}
+use Rattle.kishu_meaning.specs.values.Values.{value_of, object}
 use Rattle.kishu_heap.specs.Cells.{attributes_of}
 use Rattle.kishu_heap.proofs.Entries.{finds, removes}
 use Rattle.kishu_heap.proofs.edit.remove_attr.Goals as goal

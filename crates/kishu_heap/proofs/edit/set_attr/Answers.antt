@@ -1,7 +1,7 @@
 use Rattle.std.proofs.Common.{◌∙◌, ap}
 use Rattle.std.specs.Rc.{rc_str_bytes}
 use Rattle.std.specs.Str.{bytes_eq}
-use Rattle.kishu_model.specs.Values.{object}
+use Rattle.kishu_meaning.specs.values.Values.{object}
 use Rattle.kishu_heap.specs.Cells.{attributes_of}
 use Rattle.kishu_heap.proofs.Entries.{inserts}
 use Rattle.kishu_heap.proofs.edit.set_attr.Goals as goal

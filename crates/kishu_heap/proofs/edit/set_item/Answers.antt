@@ -1,5 +1,5 @@
 use Rattle.std.proofs.Common.{ap}
-use Rattle.kishu_model.specs.Values.{value_of, list}
+use Rattle.kishu_meaning.specs.values.Values.{value_of, list}
 use Rattle.kishu_heap.proofs.Changes.{map_set}
 use Rattle.kishu_heap.proofs.edit.set_item.Goals as goal
 

@@ -1,6 +1,6 @@
 use Rattle.std.proofs.Common.{◌∙◌, arith}
 use Rattle.std.proofs.lemmas.Result.{err_from_is_err_and}
-use Rattle.kishu_model.specs.Equal.{equal_nodes, less_nodes}
+use Rattle.kishu_meaning.specs.comparing.Equal.{equal_nodes, less_nodes}
 use Rattle.kishu_heap.proofs.OrderWalks.{one_read, order_fault, order_differs, order_goes_on, order_end}
 use Rattle.kishu_heap.proofs.less.+less.Goals as goal
 

@@ -1,6 +1,6 @@
 use Rattle.std.proofs.Common.{◌≡◌, ◌+◌, ◌*◌, ◌≤◌, drop, map}
-use Rattle.kishu_model.specs.Values.{value_of}
-use Rattle.kishu_model.specs.Equal.{equal_nodes, less_nodes, items_less}
+use Rattle.kishu_meaning.specs.values.Values.{value_of}
+use Rattle.kishu_meaning.specs.comparing.Equal.{equal_nodes, less_nodes, items_less}
 use Rattle.kishu_heap.proofs.less.+less.Given as goal
 
 abbrev pub decreases-less_values : goal.decreases-less_values

@@ -1,5 +1,5 @@
 use Rattle.std.proofs.Common.{◌∙◌}
-use Rattle.kishu_model.specs.KeyLaws.{same_text}
+use Rattle.kishu_meaning.specs.values.KeyLaws.{same_text}
 use Rattle.kishu_heap.proofs.plain.is_same_text.Goals as goal
 
 pub returns : goal.returns

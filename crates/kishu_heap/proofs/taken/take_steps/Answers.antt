@@ -1,5 +1,5 @@
 use Rattle.std.proofs.Common.{◌∙◌, ap, arith}
-use Rattle.kishu_model.specs.Counting.{answer}
+use Rattle.kishu_meaning.specs.moments.Counting.{answer}
 use Rattle.kishu_heap.proofs.Counts.{enough, short}
 use Rattle.kishu_heap.proofs.taken.take_steps.Goals as goal
 

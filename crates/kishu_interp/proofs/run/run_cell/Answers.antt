@@ -1,10 +1,10 @@
 use Rattle.std.proofs.Common.{◌≡◌, IfOk, rules, subst, ℕ}
-use Rattle.kishu_model.specs.declared.result.CellResult.{CellResult}
-use Rattle.kishu_model.specs.Meaning.{unread}
-use Rattle.kishu_model.specs.ParsedFits.{text_fits}
-use Rattle.kishu_model.specs.Parse.{Line}
-use Rattle.kishu_model.specs.Tree.{program_of}
-use Rattle.kishu_model.specs.Values.{report_of}
+use Rattle.kishu_meaning.specs.declared.result.CellResult.{CellResult}
+use Rattle.kishu_meaning.specs.cells.Meaning.{unread}
+use Rattle.kishu_language_laws.specs.trees.ParsedFits.{text_fits}
+use Rattle.kishu_language.specs.grammar.Parse.{Line}
+use Rattle.kishu_language.specs.trees.Tree.{program_of}
+use Rattle.kishu_meaning.specs.values.Values.{report_of}
 use Rattle.kishu_machine.specs.Machine.{state_in}
 use Rattle.kishu_interp.proofs.Runs.{run_of_tree, run_of_fault, line_of}
 use Rattle.kishu_interp.proofs.run.run_cell.Goals as goal

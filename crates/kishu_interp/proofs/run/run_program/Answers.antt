@@ -1,12 +1,12 @@
 use Rattle.std.proofs.Common.{◌≡◌, ◌∙◌, ◌+◌, ◌*◌, ◌-◌, ◌≤◌, ap, arith, length, map, List, ℕ, Option}
 use Rattle.std.proofs.lemmas.Result.{IfOk-weaker}
 use Rattle.std.specs.String.{string_bytes}
-use Rattle.kishu_model.specs.declared.result.CellResult.{CellResult}
-use Rattle.kishu_model.specs.Accesses.{with_accesses}
-use Rattle.kishu_model.specs.Meaning.{begun, cell, finished}
-use Rattle.kishu_model.specs.Moment.{Ends, most_steps}
-use Rattle.kishu_model.specs.Tree.{program_of, statement_of}
-use Rattle.kishu_model.specs.Values.{Names, report_of}
+use Rattle.kishu_meaning.specs.declared.result.CellResult.{CellResult}
+use Rattle.kishu_meaning.specs.moments.Accesses.{with_accesses}
+use Rattle.kishu_meaning.specs.cells.Meaning.{begun, cell, finished}
+use Rattle.kishu_meaning.specs.moments.Moment.{Ends, most_steps}
+use Rattle.kishu_language.specs.trees.Tree.{program_of, statement_of}
+use Rattle.kishu_meaning.specs.values.Values.{Names, report_of}
 use Rattle.kishu_names.specs.Namespace.{Namespace}
 use Rattle.kishu_names.specs.Record.{texts_of}
 use Rattle.kishu_machine.specs.Machine.{Gives, moment_of, shown_of, state_in, state_of}

@@ -4,10 +4,10 @@ use Rattle.std.proofs.lemmas.Result.{IfOk-weaker}
 use Rattle.std.specs.Prelude.{codes, decimal}
 use Rattle.std.specs.Str.{chars}
 use Rattle.std.specs.String.{string_bytes}
-use Rattle.kishu_model.specs.declared.result.CellResult.{CellResult}
-use Rattle.kishu_model.specs.declared.result.Outcome.TheVariants.{Raised}
-use Rattle.kishu_model.specs.Meaning.{printed, unread}
-use Rattle.kishu_model.specs.Values.{Output, fault, report_of}
+use Rattle.kishu_meaning.specs.declared.result.CellResult.{CellResult}
+use Rattle.kishu_meaning.specs.declared.result.Outcome.TheVariants.{Raised}
+use Rattle.kishu_meaning.specs.cells.Meaning.{printed, unread}
+use Rattle.kishu_meaning.specs.values.Values.{Output, fault, report_of}
 use Rattle.kishu_machine.specs.Machine.{outputs_in}
 use Rattle.kishu_interp.proofs.Runs.{alone}
 use Rattle.kishu_interp.proofs.run.syntax_fault.Goals as goal

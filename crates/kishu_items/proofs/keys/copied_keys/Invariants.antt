@@ -1,5 +1,5 @@
 use Rattle.std.proofs.Common.{◌≡◌, map, take}
-use Rattle.kishu_model.specs.Keys.{key_of}
+use Rattle.kishu_meaning.specs.values.Keys.{key_of}
 use Rattle.kishu_heap.specs.Cells.{entries_of}
 use Rattle.kishu_items.proofs.keys.copied_keys.Given as goal
 

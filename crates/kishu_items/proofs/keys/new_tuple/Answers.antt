@@ -1,5 +1,5 @@
 use Rattle.std.proofs.Common.{length, map}
-use Rattle.kishu_model.specs.Keys.{part_of}
+use Rattle.kishu_meaning.specs.values.Keys.{part_of}
 use Rattle.kishu_items.proofs.Parts.{parts_sound}
 use Rattle.kishu_items.proofs.keys.new_tuple.Goals as goal
 

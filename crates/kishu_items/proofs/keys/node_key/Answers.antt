@@ -1,4 +1,4 @@
-use Rattle.kishu_model.specs.Values.{node}
+use Rattle.kishu_meaning.specs.values.Values.{node}
 use Rattle.kishu_items.proofs.keys.node_key.Goals as goal
 
 pub returns-in-Tuple-clause-gives : goal.returns-in-Tuple-clause-gives

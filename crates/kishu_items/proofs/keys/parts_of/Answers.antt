@@ -1,11 +1,11 @@
 use Rattle.std.proofs.Common.{◌∙◌, ◌+◌, ◌∷◌, [], ap, sym, map, drop, length, arith}
 use Rattle.std.proofs.lemmas.Result.{err_from_is_err_and}
 use Rattle.std.proofs.lemmas.List.{map-append}
-use Rattle.kishu_model.specs.Keys.{part_of}
-use Rattle.kishu_model.specs.KeyOf.{part_in, parts_of}
-use Rattle.kishu_model.specs.Kinds.{unhashable}
-use Rattle.kishu_model.specs.Moment.{and_then, or_else}
-use Rattle.kishu_model.specs.Values.{value_of}
+use Rattle.kishu_meaning.specs.values.Keys.{part_of}
+use Rattle.kishu_meaning.specs.items.KeyOf.{part_in, parts_of}
+use Rattle.kishu_meaning.specs.values.Kinds.{unhashable}
+use Rattle.kishu_meaning.specs.moments.Moment.{and_then, or_else}
+use Rattle.kishu_meaning.specs.values.Values.{value_of}
 use Rattle.kishu_items.specs.Called.{moment_of}
 use Rattle.kishu_items.specs.Gathering.{behind, dropped, each_fault, each_further, sound_at}
 use Rattle.kishu_items.proofs.keys.parts_of.Goals as goal

@@ -1,9 +1,9 @@
 use Rattle.std.proofs.Common.{◌≡◌, ◌≤◌, map, drop}
-use Rattle.kishu_model.specs.declared.budget.Budget.{Budget}
-use Rattle.kishu_model.specs.Keys.{part_of}
-use Rattle.kishu_model.specs.KeyOf.{parts_of}
-use Rattle.kishu_model.specs.Moment.{and_then}
-use Rattle.kishu_model.specs.Values.{value_of}
+use Rattle.kishu_meaning.specs.declared.budget.Budget.{Budget}
+use Rattle.kishu_meaning.specs.values.Keys.{part_of}
+use Rattle.kishu_meaning.specs.items.KeyOf.{parts_of}
+use Rattle.kishu_meaning.specs.moments.Moment.{and_then}
+use Rattle.kishu_meaning.specs.values.Values.{value_of}
 use Rattle.kishu_items.specs.Called.{moment_of}
 use Rattle.kishu_items.specs.Gathering.{behind}
 use Rattle.kishu_items.proofs.keys.parts_of.Given as goal

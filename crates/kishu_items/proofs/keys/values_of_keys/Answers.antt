@@ -1,9 +1,9 @@
 use Rattle.std.proofs.Common.{◌∙◌, ◌+◌, ◌∷◌, [], ap, sym, map, drop, arith}
 use Rattle.std.proofs.lemmas.List.{map-append}
-use Rattle.kishu_model.specs.Keys.{key_of}
-use Rattle.kishu_model.specs.KeyOf.{value_of_key, values_of_keys}
-use Rattle.kishu_model.specs.Moment.{and_then}
-use Rattle.kishu_model.specs.Values.{value_of}
+use Rattle.kishu_meaning.specs.values.Keys.{key_of}
+use Rattle.kishu_meaning.specs.items.KeyOf.{value_of_key, values_of_keys}
+use Rattle.kishu_meaning.specs.moments.Moment.{and_then}
+use Rattle.kishu_meaning.specs.values.Values.{value_of}
 use Rattle.kishu_items.specs.Called.{moment_of}
 use Rattle.kishu_items.specs.Gathering.{behind, dropped, each_further, grows_on, grown_least, sound_on, values_more}
 use Rattle.kishu_items.proofs.keys.values_of_keys.Goals as goal

@@ -1,9 +1,9 @@
 use Rattle.std.proofs.Common.{◌≡◌, ◌+◌, ◌*◌, ◌≤◌, IsTrue, length, map, drop}
-use Rattle.kishu_model.specs.Keys.{key_of}
-use Rattle.kishu_model.specs.KeyOf.{values_of_keys}
-use Rattle.kishu_model.specs.Moment.{and_then}
-use Rattle.kishu_model.specs.Sound.{are_sound}
-use Rattle.kishu_model.specs.Values.{value_of}
+use Rattle.kishu_meaning.specs.values.Keys.{key_of}
+use Rattle.kishu_meaning.specs.items.KeyOf.{values_of_keys}
+use Rattle.kishu_meaning.specs.moments.Moment.{and_then}
+use Rattle.kishu_meaning.specs.values.Sound.{are_sound}
+use Rattle.kishu_meaning.specs.values.Values.{value_of}
 use Rattle.kishu_items.specs.Called.{moment_of}
 use Rattle.kishu_items.specs.Contents.{IsGrown}
 use Rattle.kishu_items.specs.Gathering.{behind}

@@ -1,7 +1,7 @@
 use Rattle.std.proofs.Common.{◌≡◌, map, take}
-use Rattle.kishu_model.specs.Keys.{part_of}
-use Rattle.kishu_model.specs.KeyOf.{value_of_part}
-use Rattle.kishu_model.specs.Values.{value_of}
+use Rattle.kishu_meaning.specs.values.Keys.{part_of}
+use Rattle.kishu_meaning.specs.items.KeyOf.{value_of_part}
+use Rattle.kishu_meaning.specs.values.Values.{value_of}
 use Rattle.kishu_items.proofs.keys.values_of_parts.Given as goal
 
 abbrev pub invariant-loop-part : goal.invariant-loop-part

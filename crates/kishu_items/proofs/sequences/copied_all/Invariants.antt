@@ -1,5 +1,5 @@
 use Rattle.std.proofs.Common.{◌≡◌, map, take}
-use Rattle.kishu_model.specs.Values.{value_of}
+use Rattle.kishu_meaning.specs.values.Values.{value_of}
 use Rattle.kishu_items.proofs.sequences.copied_all.Given as goal
 
 abbrev pub invariant-loop-value : goal.invariant-loop-value

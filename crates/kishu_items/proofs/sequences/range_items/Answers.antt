@@ -2,7 +2,7 @@ use Rattle.std.proofs.Common.{◌≡◌, ◌∙◌, ◌+◌, ◌<◌, SFits, to_
 use Rattle.std.specs.Prelude.{◌+ℤ◌}
 use Rattle.std.specs.Int.{w128}
 use Rattle.std.proofs.lemmas.Int.{to_z-of_z}
-use Rattle.kishu_model.specs.Equal.{range_length}
+use Rattle.kishu_meaning.specs.comparing.Equal.{range_length}
 use Rattle.kishu_items.proofs.Ranges.{number_on}
 use Rattle.kishu_items.proofs.sequences.range_items.Goals as goal
 use Rattle.kishu_items.proofs.sequences.range_items.Goals.{then-k-len, else-k-len}

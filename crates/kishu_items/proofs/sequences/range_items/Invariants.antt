@@ -1,7 +1,7 @@
 use Rattle.std.proofs.Common.{◌≡◌, ◌+◌, ◌-◌, ◌<◌, ◌++◌, map}
-use Rattle.kishu_model.specs.Equal.{range_length}
-use Rattle.kishu_model.specs.Texts.{places}
-use Rattle.kishu_model.specs.Values.{value_of, integer}
+use Rattle.kishu_meaning.specs.comparing.Equal.{range_length}
+use Rattle.kishu_meaning.specs.values.Texts.{places}
+use Rattle.kishu_meaning.specs.values.Values.{value_of, integer}
 use Rattle.kishu_items.proofs.sequences.range_items.Given as goal
 
 abbrev pub invariant-loop-k : goal.invariant-loop-k

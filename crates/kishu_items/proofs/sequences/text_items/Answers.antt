@@ -1,6 +1,6 @@
 use Rattle.std.proofs.Common.{◌∙◌, ap, arith}
 use Rattle.std.proofs.lemmas.List.{take_all}
-use Rattle.kishu_model.specs.Sequences.{text_items}
+use Rattle.kishu_meaning.specs.items.Sequences.{text_items}
 use Rattle.kishu_items.proofs.sequences.text_items.Goals as goal
 
 pub returns : goal.returns

@@ -1,6 +1,6 @@
 use Rattle.std.proofs.Common.{◌≡◌, map, take}
-use Rattle.kishu_model.specs.Sequences.{text_items}
-use Rattle.kishu_model.specs.Values.{value_of}
+use Rattle.kishu_meaning.specs.items.Sequences.{text_items}
+use Rattle.kishu_meaning.specs.values.Values.{value_of}
 use Rattle.kishu_items.proofs.sequences.text_items.Given as goal
 
 abbrev pub invariant-loop-i : goal.invariant-loop-i

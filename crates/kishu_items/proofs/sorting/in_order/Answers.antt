@@ -1,8 +1,8 @@
 use Rattle.std.proofs.Common.{◌≡◌, ◌∙◌, sym, ap, true, false, map}
 use Rattle.std.specs.List.{list_all}
 use Rattle.std.proofs.lemmas.List.Folds.{list_all-map}
-use Rattle.kishu_model.specs.Sorting.{is_number, is_text}
-use Rattle.kishu_model.specs.Values.{value_of}
+use Rattle.kishu_meaning.specs.items.Sorting.{is_number, is_text}
+use Rattle.kishu_meaning.specs.values.Values.{value_of}
 use Rattle.kishu_items.specs.Orders.{numbers_in_order, texts_in_order, others_in_order}
 use Rattle.kishu_items.proofs.sorting.in_order.Goals as goal
 

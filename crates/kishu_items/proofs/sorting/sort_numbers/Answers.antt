@@ -1,7 +1,7 @@
 use Rattle.std.proofs.Common.{rules}
 use Rattle.std.specs.Ordering.{int_cmp}
 use Rattle.std.specs.Cmp.{int_cmp_total}
-use Rattle.kishu_model.specs.Sorting.{number_key}
+use Rattle.kishu_meaning.specs.items.Sorting.{number_key}
 use Rattle.kishu_items.specs.Orders.{sorts_by}
 use Rattle.kishu_items.proofs.sorting.sort_numbers.Goals as goal
 

@@ -1,7 +1,7 @@
 use Rattle.std.proofs.Common.{rules}
 use Rattle.std.specs.Ordering.{nat_cmp}
 use Rattle.std.specs.Cmp.Lexicographic.{slice_cmp, nat_list_cmp_total}
-use Rattle.kishu_model.specs.Sorting.{text_key}
+use Rattle.kishu_meaning.specs.items.Sorting.{text_key}
 use Rattle.kishu_items.specs.Orders.{sorts_by}
 use Rattle.kishu_items.proofs.sorting.sort_texts.Goals as goal
 

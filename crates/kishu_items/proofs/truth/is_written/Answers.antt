@@ -1,5 +1,5 @@
 use Rattle.std.proofs.Common.{◌∙◌, sym, ap, not}
-use Rattle.kishu_model.specs.Moment.{fine}
+use Rattle.kishu_meaning.specs.moments.Moment.{fine}
 use Rattle.kishu_items.specs.Messages.{is_nothing}
 use Rattle.kishu_items.proofs.truth.is_written.Goals as goal
 

@@ -1,6 +1,6 @@
 use Rattle.std.proofs.Common.{◌<◌, ◌≤◌, length, List, ℕ, sym, ◌∙◌, ap, subst, arith}
 use Rattle.std.specs.Rc.{rc_str_bytes}
-use Rattle.kishu_model.specs.Record.{IsCell}
+use Rattle.kishu_store.specs.Record.{IsCell}
 use Rattle.kishu_journal.proofs.Fitting.{cell-there, cells-on, cells-end}
 use Rattle.kishu_journal.proofs.fit.are_cells.Goals as goal
 

@@ -1,7 +1,7 @@
 use Rattle.std.proofs.Common.{◌≤◌, length, arith}
 use Rattle.std.proofs.lemmas.Bool.Decides.{nat_tests}
 use Rattle.std.proofs.lemmas.Str.{is_utf8-from_IsUtf8}
-use Rattle.kishu_model.specs.Record.{longest_cell}
+use Rattle.kishu_store.specs.Record.{longest_cell}
 use Rattle.kishu_journal.proofs.fit.is_cell.Goals as goal
 
 pub returns-clause-yes : goal.returns-clause-yes

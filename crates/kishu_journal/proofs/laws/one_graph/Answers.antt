@@ -1,4 +1,4 @@
-use Rattle.kishu_model.specs.Laws as laws
+use Rattle.kishu_store_laws.specs.Laws as laws
 use Rattle.kishu_journal.proofs.laws.one_graph.Goals as goal
 
 pub returns : goal.returns

@@ -1,5 +1,5 @@
 use Rattle.std.proofs.Common.{refl, ◌∙◌}
-use Rattle.kishu_model.specs.Holds.{header}
+use Rattle.kishu_store.specs.Holds.{header}
 use Rattle.kishu_journal.proofs.Anew.{anew}
 use Rattle.kishu_journal.proofs.opening.begin.Goals as goal
 

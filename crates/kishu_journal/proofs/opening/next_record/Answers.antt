@@ -1,6 +1,6 @@
 use Rattle.std.proofs.Common.{◌≡◌, IsErrOf, ◌∙◌, ◌∷◌, ◌++◌, refl, drop, rules}
-use Rattle.kishu_model.specs.Record.{Entry, body_of, Fits}
-use Rattle.kishu_model.specs.Holds.{open_gate, framed}
+use Rattle.kishu_store.specs.Record.{Entry, body_of, Fits}
+use Rattle.kishu_store.specs.Holds.{open_gate, framed}
 use Rattle.kishu_journal.specs.declared.journal.JournalFault.TheVariants.{Damaged}
 use Rattle.kishu_journal.specs.Found.{BeginsBody}
 use Rattle.kishu_journal.proofs.Gates.{body_there, none_fits}

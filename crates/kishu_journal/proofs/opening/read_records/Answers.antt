@@ -2,10 +2,10 @@ use Rattle.std.proofs.Common.{◌≡◌, ◌≤◌, ◌<◌, ◌+◌, ℕ, List,
 use Rattle.std.proofs.lemmas.List.{length-map}
 use Rattle.kishu_record.specs.declared.entry.Entry as program
 use Rattle.kishu_record.specs.Entries.{entry_of}
-use Rattle.kishu_model.specs.Graph.{new_graph}
-use Rattle.kishu_model.specs.Record.{Entry, body_of, longest_body, AreRecords}
-use Rattle.kishu_model.specs.Holds.{open_gate, end_of, graph_of, IsBroken}
-use Rattle.kishu_model.specs.Laws.{IsLinear, graph-linear, records-push}
+use Rattle.kishu_store.specs.Graph.{new_graph}
+use Rattle.kishu_store.specs.Record.{Entry, body_of, longest_body, AreRecords}
+use Rattle.kishu_store.specs.Holds.{open_gate, end_of, graph_of, IsBroken}
+use Rattle.kishu_store_laws.specs.Laws.{IsLinear, graph-linear, records-push}
 use Rattle.kishu_journal.specs.declared.journal.JournalFault.TheVariants.{Damaged}
 use Rattle.kishu_journal.specs.Found.{entries_of, before_body, ArePlaced, BeginsBody}
 use Rattle.kishu_journal.specs.Stands.{with_entry}

@@ -1,8 +1,8 @@
 use Rattle.std.proofs.Common.{◌≡◌, ◌<◌, ◌-◌, []}
 use Rattle.kishu_host.specs.Host.{Told}
-use Rattle.kishu_model.specs.Graph.{new_graph}
-use Rattle.kishu_model.specs.Record.{AreRecords}
-use Rattle.kishu_model.specs.Holds.{end_of}
+use Rattle.kishu_store.specs.Graph.{new_graph}
+use Rattle.kishu_store.specs.Record.{AreRecords}
+use Rattle.kishu_store.specs.Holds.{end_of}
 use Rattle.kishu_journal.specs.Going.{IsQuiet, ReadsAtMost}
 use Rattle.kishu_journal.specs.Found.{entries_of, ArePlaced}
 use Rattle.kishu_journal.proofs.Walks.{Walked}

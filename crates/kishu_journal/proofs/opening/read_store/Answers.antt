@@ -1,7 +1,7 @@
 use Rattle.std.proofs.Common.{◌∙◌, ap, take, List, ℕ, arith}
 use Rattle.std.proofs.lemmas.List.{take_at}
-use Rattle.kishu_model.specs.Holds.{header}
-use Rattle.kishu_model.specs.Laws.{length-header}
+use Rattle.kishu_store.specs.Holds.{header}
+use Rattle.kishu_store_laws.specs.Laws.{length-header}
 use Rattle.kishu_journal.proofs.opening.read_store.Goals as goal
 
 pub returns-then-not-is_header-clause-foreign : goal.returns-then-not-is_header-clause-foreign

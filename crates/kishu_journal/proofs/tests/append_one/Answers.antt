@@ -2,8 +2,8 @@ use Rattle.std.proofs.Common.{◌≡◌, ℕ, List, [], sym, subst, arith}
 use Rattle.std.proofs.lemmas.Bool.Decides.{nat_tests}
 use Rattle.std.proofs.lemmas.List.{nil_from_length}
 use Rattle.kishu_record.specs.declared.entry.Entry as program
-use Rattle.kishu_model.specs.Record.{Fits}
-use Rattle.kishu_model.specs.Holds.{graph_of}
+use Rattle.kishu_store.specs.Record.{Fits}
+use Rattle.kishu_store.specs.Holds.{graph_of}
 use Rattle.kishu_journal.specs.Found.{entries_of}
 use Rattle.kishu_journal.proofs.OneSum.{one_sum, one_sum-body, one_sum-fits}
 use Rattle.kishu_journal.proofs.tests.append_one.Goals as goal

@@ -1,6 +1,6 @@
 use Rattle.std.proofs.Common.{◌≡◌, ◌+◌, ◌≤◌, length}
-use Rattle.kishu_model.specs.Lexemes.{feeds}
-use Rattle.kishu_model.specs.Layout as spec
+use Rattle.kishu_language.specs.tokens.Lexemes.{feeds}
+use Rattle.kishu_language.specs.tokens.Layout as spec
 use Rattle.kishu_lexer.specs.Machine.{state_of}
 use Rattle.kishu_lexer.proofs.cutting.layout.Given as goal
 

@@ -1,7 +1,7 @@
 use Rattle.std.proofs.Common.{◌∙◌}
 use Rattle.std.proofs.lemmas.Str.{scalars-chars}
 use Rattle.std.specs.Str.{chars}
-use Rattle.kishu_model.specs.PlainLines.{plain_lines}
+use Rattle.kishu_language.specs.tokens.PlainLines.{plain_lines}
 use Rattle.kishu_lexer.proofs.Edges.{placed_at_edges}
 use Rattle.kishu_lexer.proofs.Order.{placed}
 use Rattle.kishu_lexer.proofs.Alone.{rules_alone, written_alone, only_alone}

@@ -1,5 +1,5 @@
 use Rattle.std.proofs.Common.{◌≡◌, ◌≤◌, ◌*◌, take}
-use Rattle.kishu_model.specs.Layout as spec
+use Rattle.kishu_language.specs.tokens.Layout as spec
 use Rattle.kishu_lexer.proofs.cutting.width.Given as goal
 
 abbrev pub invariant-loop-c : goal.invariant-loop-c

@@ -1,5 +1,5 @@
 use Rattle.std.proofs.Common.{◌≡◌, ◌++◌, replicate}
-use Rattle.kishu_model.specs.Layout as spec
+use Rattle.kishu_language.specs.tokens.Layout as spec
 use Rattle.kishu_lexer.specs.Machine.{tokens_of}
 use Rattle.kishu_lexer.proofs.layout.with_dedents.Given as goal
 

@@ -1,5 +1,5 @@
 use Rattle.std.proofs.Common.{sym, ap, ◌∙◌}
-use Rattle.kishu_model.specs.Layout.{name}
+use Rattle.kishu_language.specs.tokens.Layout.{name}
 use Rattle.kishu_lexer.proofs.Words.{word_encodes, kind_is}
 use Rattle.kishu_lexer.proofs.layout.word_kind.Goals as goal
 

@@ -1,5 +1,5 @@
 use Rattle.std.proofs.Common.{◌≡◌, ◌≤◌, ◌++◌, length, drop}
-use Rattle.kishu_model.specs.PlainLines as spec
+use Rattle.kishu_language.specs.tokens.PlainLines as spec
 use Rattle.kishu_lexer.proofs.lines.without_returns.Given as goal
 
 abbrev pub invariant-loop-i : goal.invariant-loop-i

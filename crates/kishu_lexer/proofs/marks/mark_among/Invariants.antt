@@ -1,5 +1,5 @@
 use Rattle.std.proofs.Common.{◌≡◌, drop}
-use Rattle.kishu_model.specs.Marks as spec
+use Rattle.kishu_language.specs.tokens.Marks as spec
 use Rattle.kishu_lexer.specs.Views.{spelled}
 use Rattle.kishu_lexer.proofs.marks.mark_among.Given as goal
 

@@ -1,5 +1,5 @@
 use Rattle.std.proofs.Common.{ap, ◌∙◌}
-use Rattle.kishu_model.specs.Marks.{reserved_marks, mark_among}
+use Rattle.kishu_language.specs.tokens.Marks.{reserved_marks, mark_among}
 use Rattle.kishu_lexer.specs.Views.{spelled}
 use Rattle.kishu_lexer.proofs.marks.reserved_mark.Goals as goal
 

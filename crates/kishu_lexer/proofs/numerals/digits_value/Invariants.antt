@@ -1,5 +1,5 @@
 use Rattle.std.proofs.Common.{◌≡◌, drop, fold}
-use Rattle.kishu_model.specs.Numerals as spec
+use Rattle.kishu_language.specs.tokens.Numerals as spec
 use Rattle.kishu_lexer.proofs.numerals.digits_value.Given as goal
 
 abbrev pub invariant-loop-c : goal.invariant-loop-c

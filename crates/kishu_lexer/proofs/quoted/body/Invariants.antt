@@ -1,6 +1,6 @@
 use Rattle.std.proofs.Common.{◌≡◌, ◌+◌, length}
 use Rattle.std.specs.String.{string_bytes}
-use Rattle.kishu_model.specs.Quoted.{body}
+use Rattle.kishu_language.specs.tokens.Quoted.{body}
 use Rattle.kishu_lexer.proofs.Bodies.{Reads}
 use Rattle.kishu_lexer.proofs.quoted.body.Given as goal
 

@@ -2,7 +2,7 @@ use Rattle.std.proofs.Common.{◌≡◌, List, ℕ, [], ◌∷◌, ◌++◌, ap,
 use Rattle.serde_json.specs.View.{view}
 use Rattle.serde_json.specs.Written.{has_float, compact_text}
 use Rattle.kishu_model.specs.Answers.{answer_data}
-use Rattle.kishu_model.specs.Lines.{line_feed}
+use Rattle.kishu_language.specs.tokens.Lines.{line_feed}
 use Rattle.kishu_lines.specs.Lines.{answer_of}
 use Rattle.kishu_lines.proofs.Floats.{no_float}
 use Rattle.kishu_lines.proofs.line.write_answer.Goals as goal

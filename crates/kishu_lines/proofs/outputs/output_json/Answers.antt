@@ -2,7 +2,7 @@ use Rattle.std.proofs.Common.{ℕ, List, ap, ◌∙◌}
 use Rattle.std.proofs.lemmas.Result.{IfOk-weaker}
 use Rattle.std.specs.Rc.{rc_str_bytes}
 use Rattle.kishu_model.specs.Answers.{output_data}
-use Rattle.kishu_model.specs.Values.{stream, fault}
+use Rattle.kishu_meaning.specs.values.Values.{stream, fault}
 use Rattle.kishu_lines.proofs.outputs.output_json.Goals as goal
 
 pub returns-in-Stream : goal.returns-in-Stream

@@ -5,7 +5,7 @@ use Rattle.serde_json.specs.View.{view, items_of}
 use Rattle.serde_json.specs.declared.value.Value.{the_lemmas}
 use Rattle.serde_json.specs.declared.value.Value.TheVariants.{Array}
 use Rattle.kishu_model.specs.Answers.{output_data}
-use Rattle.kishu_model.specs.Values.{output_of}
+use Rattle.kishu_meaning.specs.values.Values.{output_of}
 use Rattle.kishu_lines.proofs.Arrays.{items_of_outputs}
 use Rattle.kishu_lines.proofs.outputs.outputs_json.Goals as goal
 

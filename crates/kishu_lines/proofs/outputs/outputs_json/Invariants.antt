@@ -1,7 +1,7 @@
 use Rattle.std.proofs.Common.{◌≡◌, map, take}
 use Rattle.serde_json.specs.View.{view}
 use Rattle.kishu_model.specs.Answers.{output_data}
-use Rattle.kishu_model.specs.Values.{output_of}
+use Rattle.kishu_meaning.specs.values.Values.{output_of}
 use Rattle.kishu_lines.proofs.outputs.outputs_json.Given as goal
 
 abbrev pub invariant-loop-output : goal.invariant-loop-output

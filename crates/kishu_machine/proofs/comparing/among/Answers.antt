@@ -1,10 +1,10 @@
 use Rattle.std.proofs.Common.{◌∙◌, ap, refl, arith, List, map}
 use Rattle.std.proofs.lemmas.List.{drop_all}
-use Rattle.kishu_model.specs.declared.value.Value as rust
-use Rattle.kishu_model.specs.Comparing.{among}
+use Rattle.kishu_meaning.specs.declared.value.Value as rust
+use Rattle.kishu_meaning.specs.comparing.Comparing.{among}
 use Rattle.std.proofs.lemmas.Result.{err_from_is_err_and}
-use Rattle.kishu_model.specs.Equal.{pair_equal, equal_nodes, room_at}
-use Rattle.kishu_model.specs.Values.{value_of}
+use Rattle.kishu_meaning.specs.comparing.Equal.{pair_equal, equal_nodes, room_at}
+use Rattle.kishu_meaning.specs.values.Values.{value_of}
 use Rattle.kishu_machine.specs.Machine.{placed_in}
 use Rattle.kishu_machine.proofs.Members.{found_fails, found_here, found_later}
 use Rattle.kishu_machine.proofs.comparing.among.Goals as goal

@@ -1,7 +1,7 @@
 use Rattle.std.proofs.Common.{◌≡◌, ◌+◌, ◌*◌, ◌≤◌, map, drop}
-use Rattle.kishu_model.specs.Comparing.{among}
-use Rattle.kishu_model.specs.Moment.{Moment}
-use Rattle.kishu_model.specs.Values.{value_of}
+use Rattle.kishu_meaning.specs.comparing.Comparing.{among}
+use Rattle.kishu_meaning.specs.moments.Moment.{Moment}
+use Rattle.kishu_meaning.specs.values.Values.{value_of}
 use Rattle.kishu_machine.specs.Machine.{placed_in}
 use Rattle.kishu_machine.proofs.comparing.among.Given as goal
 

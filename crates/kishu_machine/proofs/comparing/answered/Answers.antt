@@ -1,5 +1,5 @@
-use Rattle.kishu_model.specs.Bare.{bare}
-use Rattle.kishu_model.specs.Counting.{ended_in}
+use Rattle.kishu_meaning_laws.specs.Bare.{bare}
+use Rattle.kishu_meaning.specs.moments.Counting.{ended_in}
 use Rattle.std.specs.Prelude.{[]}
 use Rattle.kishu_machine.proofs.Members.{passed_gives, ended_sound}
 use Rattle.kishu_machine.proofs.Sequences.{raised_sound}

@@ -1,7 +1,7 @@
 use Rattle.std.proofs.Common.{length, subst, arith, ℕ, ◌≤◌}
-use Rattle.kishu_model.specs.Equal.{equal_in}
-use Rattle.kishu_model.specs.Values.{value_of}
-use Rattle.kishu_model.specs.CountingLaws.{equal_in_falls}
+use Rattle.kishu_meaning.specs.comparing.Equal.{equal_in}
+use Rattle.kishu_meaning.specs.values.Values.{value_of}
+use Rattle.kishu_meaning_laws.specs.CountingLaws.{equal_in_falls}
 use Rattle.kishu_machine.specs.Machine.{moment_of}
 use Rattle.kishu_machine.proofs.Members.{gives_left}
 use Rattle.kishu_machine.proofs.comparing.equal.Goals as goal

@@ -1,11 +1,11 @@
 use Rattle.std.proofs.Common.{ap}
 use Rattle.std.proofs.lemmas.Result.{err_from_is_err_and}
 use Rattle.std.specs.Prelude.{is_some}
-use Rattle.kishu_model.specs.KeyOf.{key_of_value}
-use Rattle.kishu_model.specs.Keys.{Key, is_one}
-use Rattle.kishu_model.specs.Moment.{and_then, give}
-use Rattle.kishu_model.specs.Nodes.{value_at}
-use Rattle.kishu_model.specs.Values.{value_of}
+use Rattle.kishu_meaning.specs.items.KeyOf.{key_of_value}
+use Rattle.kishu_meaning.specs.values.Keys.{Key, is_one}
+use Rattle.kishu_meaning.specs.moments.Moment.{and_then, give}
+use Rattle.kishu_meaning.specs.values.Nodes.{value_at}
+use Rattle.kishu_meaning.specs.values.Values.{value_of}
 use Rattle.kishu_heap.specs.Cells.{entries_of}
 use Rattle.kishu_machine.specs.Composing.{fails_on}
 use Rattle.kishu_machine.specs.Machine.{placed_in}

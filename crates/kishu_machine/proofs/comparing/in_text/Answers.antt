@@ -1,5 +1,5 @@
 use Rattle.std.specs.Str.{chars}
-use Rattle.kishu_model.specs.Values.{value_of}
+use Rattle.kishu_meaning.specs.values.Values.{value_of}
 use Rattle.kishu_machine.specs.Machine.{moment_of}
 use Rattle.kishu_machine.proofs.Members.{in_text_is}
 use Rattle.kishu_machine.proofs.comparing.in_text.Goals as goal

@@ -1,9 +1,9 @@
 use Rattle.std.proofs.Common.{subst, arith, ℕ, ◌≤◌, Bool, Option}
-use Rattle.kishu_model.specs.Comparing.{or_unordered}
-use Rattle.kishu_model.specs.Equal.{less_in}
-use Rattle.kishu_model.specs.Moment.{Ends, and_then}
-use Rattle.kishu_model.specs.Values.{value_of}
-use Rattle.kishu_model.specs.CountingLaws.{less_in_falls}
+use Rattle.kishu_meaning.specs.comparing.Comparing.{or_unordered}
+use Rattle.kishu_meaning.specs.comparing.Equal.{less_in}
+use Rattle.kishu_meaning.specs.moments.Moment.{Ends, and_then}
+use Rattle.kishu_meaning.specs.values.Values.{value_of}
+use Rattle.kishu_meaning_laws.specs.CountingLaws.{less_in_falls}
 use Rattle.kishu_machine.specs.Machine.{Gives, moment_of}
 use Rattle.kishu_machine.proofs.Members.{ended_at, orders_left}
 use Rattle.kishu_machine.proofs.comparing.less.Goals as goal

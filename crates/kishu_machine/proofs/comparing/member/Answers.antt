@@ -1,7 +1,7 @@
 use Rattle.std.proofs.Common.{SFits, refl, rules}
 use Rattle.std.specs.Int.{w128}
 use Rattle.std.proofs.lemmas.Int.{to_z-of_z}
-use Rattle.kishu_model.specs.Values.{value_of}
+use Rattle.kishu_meaning.specs.values.Values.{value_of}
 use Rattle.kishu_machine.specs.Machine.{moment_of}
 use Rattle.kishu_machine.proofs.Members.{member_range, member_node, member_plain}
 use Rattle.kishu_machine.proofs.comparing.member.Goals as goal

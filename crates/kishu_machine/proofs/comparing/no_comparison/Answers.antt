@@ -1,6 +1,6 @@
 use Rattle.std.proofs.Common.{length, true}
-use Rattle.kishu_model.specs.Comparing.{comparison_sign}
-use Rattle.kishu_model.specs.Values.{value_of}
+use Rattle.kishu_meaning.specs.comparing.Comparing.{comparison_sign}
+use Rattle.kishu_meaning.specs.values.Values.{value_of}
 use Rattle.kishu_machine.specs.Machine.{moment_of}
 use Rattle.kishu_machine.proofs.Sequences.{bad_sound}
 use Rattle.kishu_machine.proofs.comparing.no_comparison.Goals as goal

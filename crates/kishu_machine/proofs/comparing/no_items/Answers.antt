@@ -1,6 +1,6 @@
 use Rattle.std.proofs.Common.{Bool, length}
-use Rattle.kishu_model.specs.Kinds.{not_iterable}
-use Rattle.kishu_model.specs.Values.{value_of}
+use Rattle.kishu_meaning.specs.values.Kinds.{not_iterable}
+use Rattle.kishu_meaning.specs.values.Values.{value_of}
 use Rattle.kishu_machine.specs.Machine.{moment_of}
 use Rattle.kishu_machine.specs.Raising.{RaisesSound, not_iterable_raises}
 use Rattle.kishu_machine.proofs.Sequences.{raised_sound}

@@ -1,12 +1,12 @@
 use Rattle.std.specs.Prelude.{option_map}
-use Rattle.kishu_model.specs.Values.{value_of}
+use Rattle.kishu_meaning.specs.values.Values.{value_of}
 use Rattle.kishu_items.specs.Gathering.{grown_least}
 use Rattle.kishu_machine.specs.Frames.{locals_of}
 use Rattle.kishu_machine.specs.SoundMore.{sound_more_run}
 use Rattle.std.specs.Prelude.{map, length}
-use Rattle.kishu_model.specs.BareLaws.{items_bare}
-use Rattle.kishu_model.specs.Sequences.{items_of}
-use Rattle.kishu_model.specs.Sound.{are_sound}
+use Rattle.kishu_meaning_laws.specs.BareLaws.{items_bare}
+use Rattle.kishu_meaning.specs.items.Sequences.{items_of}
+use Rattle.kishu_meaning.specs.values.Sound.{are_sound}
 use Rattle.kishu_machine.specs.Lifted.{lifted}
 use Rattle.kishu_machine.specs.Machine.{moment_of}
 use Rattle.kishu_items.specs.Called as called

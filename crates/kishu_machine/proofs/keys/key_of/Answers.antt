@@ -1,7 +1,7 @@
-use Rattle.kishu_model.specs.BareLaws.{key_bare}
-use Rattle.kishu_model.specs.KeyOf.{key_of_value}
-use Rattle.kishu_model.specs.Keys.{key_of}
-use Rattle.kishu_model.specs.Values.{value_of}
+use Rattle.kishu_meaning_laws.specs.BareLaws.{key_bare}
+use Rattle.kishu_meaning.specs.items.KeyOf.{key_of_value}
+use Rattle.kishu_meaning.specs.values.Keys.{key_of}
+use Rattle.kishu_meaning.specs.values.Values.{value_of}
 use Rattle.kishu_machine.specs.Lifted.{lifted}
 use Rattle.kishu_machine.specs.Machine.{moment_of}
 use Rattle.kishu_items.specs.Called as called

@@ -1,10 +1,10 @@
 use Rattle.std.specs.Prelude.{option_map}
-use Rattle.kishu_model.specs.Values.{value_of}
+use Rattle.kishu_meaning.specs.values.Values.{value_of}
 use Rattle.kishu_machine.specs.Frames.{locals_of}
 use Rattle.kishu_machine.specs.Machine.{moment_of}
 use Rattle.std.proofs.Common.{◌≡◌, ◌∙◌, sym, ap, true, false, Option, List, ℕ}
 use Rattle.std.specs.Rc.{rc_str_bytes}
-use Rattle.kishu_model.specs.Moment.{Locals, fine}
+use Rattle.kishu_meaning.specs.moments.Moment.{Locals, fine}
 use Rattle.kishu_machine.specs.Frames.{is_own}
 use Rattle.kishu_machine.proofs.OwnNames.{assign_own, assign_other, bound_global, own_bound_run}
 use Rattle.kishu_machine.proofs.SoundNames.{bound_run}

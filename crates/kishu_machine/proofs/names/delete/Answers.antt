@@ -1,9 +1,9 @@
 use Rattle.std.specs.Prelude.{option_map}
-use Rattle.kishu_model.specs.Values.{value_of}
+use Rattle.kishu_meaning.specs.values.Values.{value_of}
 use Rattle.kishu_machine.specs.Frames.{locals_of}
 use Rattle.kishu_machine.specs.Machine.{moment_of, Gives}
 use Rattle.std.proofs.Common.{◌∙◌, sym, subst}
-use Rattle.kishu_model.specs.Moment.{Ends}
+use Rattle.kishu_meaning.specs.moments.Moment.{Ends}
 use Rattle.kishu_machine.proofs.OwnNames.{deleted_own, delete_other, own_unbound_run}
 use Rattle.kishu_machine.proofs.names.delete.Goals as goal
 

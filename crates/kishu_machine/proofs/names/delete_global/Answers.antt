@@ -1,10 +1,10 @@
 use Rattle.std.specs.Prelude.{option_map}
-use Rattle.kishu_model.specs.Values.{value_of}
+use Rattle.kishu_meaning.specs.values.Values.{value_of}
 use Rattle.kishu_machine.specs.Frames.{locals_of}
 use Rattle.kishu_machine.specs.Machine.{moment_of}
 use Rattle.std.proofs.Common.{◌≡◌, ◌∙◌, sym, ap, false}
 use Rattle.std.specs.Prelude.{is_some}
-use Rattle.kishu_model.specs.Values.{find}
+use Rattle.kishu_meaning.specs.values.Values.{find}
 use Rattle.kishu_machine.proofs.OwnNames.{missing_global, some_mapped}
 use Rattle.kishu_machine.proofs.SoundNames.{unbound_run}
 use Rattle.kishu_machine.proofs.names.delete_global.Goals as goal

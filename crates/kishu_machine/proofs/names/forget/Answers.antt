@@ -1,9 +1,9 @@
 use Rattle.std.specs.Prelude.{option_map}
-use Rattle.kishu_model.specs.Values.{value_of}
+use Rattle.kishu_meaning.specs.values.Values.{value_of}
 use Rattle.kishu_machine.specs.Frames.{locals_of}
 use Rattle.kishu_machine.specs.Machine.{moment_of}
 use Rattle.std.proofs.Common.{◌∙◌, sym, ap, Option}
-use Rattle.kishu_model.specs.Moment.{Locals, fine}
+use Rattle.kishu_meaning.specs.moments.Moment.{Locals, fine}
 use Rattle.kishu_machine.proofs.OwnNames.{forget_own, forget_other, forgotten_global, own_unbound_run}
 use Rattle.kishu_machine.proofs.SoundNames.{unbound_run}
 use Rattle.kishu_machine.proofs.names.forget.Goals as goal

@@ -3,7 +3,7 @@ use Rattle.std.specs.Rc.{rc_str_bytes}
 use Rattle.std.specs.Str.{bytes_eq}
 use Rattle.std.specs.declared.alloc.Global.{Global}
 use Rattle.std.specs.declared.rc.RcStr.{RcStr}
-use Rattle.kishu_model.specs.Names.{is_among}
+use Rattle.kishu_language.specs.tokens.Names.{is_among}
 use Rattle.kishu_items.specs.Gathering.{dropped}
 use Rattle.kishu_machine.proofs.SoundNames.{among_here}
 use Rattle.kishu_machine.proofs.names.is_among.Goals as goal

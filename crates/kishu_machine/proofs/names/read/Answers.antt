@@ -1,10 +1,10 @@
 use Rattle.std.specs.Prelude.{option_map}
-use Rattle.kishu_model.specs.Values.{value_of}
+use Rattle.kishu_meaning.specs.values.Values.{value_of}
 use Rattle.kishu_machine.specs.Frames.{locals_of}
 use Rattle.kishu_machine.specs.Machine.{moment_of, Gives}
 use Rattle.std.proofs.Common.{◌∙◌, sym, length, subst}
-use Rattle.kishu_model.specs.Values.{Value}
-use Rattle.kishu_model.specs.Moment.{Ends}
+use Rattle.kishu_meaning.specs.values.Values.{Value}
+use Rattle.kishu_meaning.specs.moments.Moment.{Ends}
 use Rattle.kishu_machine.specs.SoundMore.{locals_in_run}
 use Rattle.kishu_machine.proofs.OwnNames.{read_own, read_other}
 use Rattle.kishu_machine.proofs.names.read.Goals as goal

@@ -1,5 +1,5 @@
 use Rattle.std.proofs.Common.{◌≡◌, IsTrue, Option, Some, subst}
-use Rattle.kishu_model.specs.Values.{Value, value_of}
+use Rattle.kishu_meaning.specs.values.Values.{Value, value_of}
 use Rattle.kishu_machine.specs.Frames.{locals_of, own_value}
 use Rattle.kishu_machine.proofs.OwnNames.{own_value_sound}
 use Rattle.kishu_machine.proofs.SoundNames.{is_sound_found}

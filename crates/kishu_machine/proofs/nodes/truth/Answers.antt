@@ -1,5 +1,5 @@
-use Rattle.kishu_model.specs.Values.{value_of}
-use Rattle.kishu_model.specs.Bare.{over}
+use Rattle.kishu_meaning.specs.values.Values.{value_of}
+use Rattle.kishu_meaning_laws.specs.Bare.{over}
 use Rattle.std.proofs.Common.{◌∙◌, ap}
 use Rattle.kishu_machine.specs.Machine.{moment_of}
 use Rattle.kishu_machine.proofs.Makes.{truth_bare}

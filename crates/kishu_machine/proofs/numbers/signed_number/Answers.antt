@@ -1,7 +1,7 @@
 use Rattle.std.proofs.Common.{◌≡◌, ◌∙◌, ap, subst}
 use Rattle.std.specs.Prelude.{pos, ◌-ℤ◌, neg_ℤ}
 use Rattle.kishu_num.specs.Results.{in_range}
-use Rattle.kishu_model.specs.Values.{value_of}
+use Rattle.kishu_meaning.specs.values.Values.{value_of}
 use Rattle.kishu_machine.specs.Machine.{Gives}
 use Rattle.kishu_machine.specs.Forms.{answered}
 use Rattle.kishu_machine.proofs.Arithmetic.{same_whole}

@@ -1,7 +1,7 @@
 use Rattle.std.proofs.Common.{length}
-use Rattle.kishu_model.specs.Operators.{operator_sign}
-use Rattle.kishu_model.specs.Sound.{is_sound}
-use Rattle.kishu_model.specs.Values.{value_of}
+use Rattle.kishu_meaning.specs.calls.Operators.{operator_sign}
+use Rattle.kishu_meaning.specs.values.Sound.{is_sound}
+use Rattle.kishu_meaning.specs.values.Values.{value_of}
 use Rattle.kishu_machine.specs.Machine.{moment_of}
 use Rattle.kishu_machine.proofs.Sequences.{bad_as, bad_sound}
 use Rattle.kishu_machine.proofs.operators.bad_values.Goals as goal

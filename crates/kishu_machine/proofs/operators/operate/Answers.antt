@@ -1,9 +1,9 @@
 use Rattle.std.proofs.Common.{subst, Option, ℤ, SFits, rules}
 use Rattle.std.specs.Int.{w128}
 use Rattle.std.proofs.lemmas.Int.{to_z-of_z}
-use Rattle.kishu_model.specs.Equal.{number_in}
-use Rattle.kishu_model.specs.Operators.{on_numbers, on_sequences}
-use Rattle.kishu_model.specs.Values.{value_of}
+use Rattle.kishu_meaning.specs.comparing.Equal.{number_in}
+use Rattle.kishu_meaning.specs.calls.Operators.{on_numbers, on_sequences}
+use Rattle.kishu_meaning.specs.values.Values.{value_of}
 use Rattle.kishu_machine.specs.Machine.{Gives, moment_of}
 use Rattle.kishu_machine.proofs.operators.operate.Goals as goal
 

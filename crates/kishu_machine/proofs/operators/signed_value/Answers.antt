@@ -1,9 +1,9 @@
 use Rattle.std.proofs.Common.{refl, subst, Option, ℤ, SFits, rules}
 use Rattle.std.specs.Int.{w128}
 use Rattle.std.proofs.lemmas.Int.{to_z-of_z}
-use Rattle.kishu_model.specs.Operators.{sign_text, signed_in, signed_number, whole}
-use Rattle.kishu_model.specs.Sound.{is_sound}
-use Rattle.kishu_model.specs.Values.{value_of}
+use Rattle.kishu_meaning.specs.calls.Operators.{sign_text, signed_in, signed_number, whole}
+use Rattle.kishu_meaning.specs.values.Sound.{is_sound}
+use Rattle.kishu_meaning.specs.values.Values.{value_of}
 use Rattle.kishu_machine.specs.Machine.{Gives, moment_of}
 use Rattle.kishu_machine.proofs.Sequences.{operand_as, raised_all, value_sound, whole_sound}
 use Rattle.kishu_machine.proofs.operators.signed_value.Goals as goal

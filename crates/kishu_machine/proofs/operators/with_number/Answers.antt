@@ -1,8 +1,8 @@
 use Rattle.std.proofs.Common.{length, subst, Option, Some, ℤ, SFits, rules}
 use Rattle.std.specs.Int.{w128}
 use Rattle.std.proofs.lemmas.Int.{to_z-of_z}
-use Rattle.kishu_model.specs.Operators.{arithmetic, on_numbers, on_sequences}
-use Rattle.kishu_model.specs.Values.{value_of}
+use Rattle.kishu_meaning.specs.calls.Operators.{arithmetic, on_numbers, on_sequences}
+use Rattle.kishu_meaning.specs.values.Values.{value_of}
 use Rattle.kishu_machine.specs.Machine.{Gives, moment_of}
 use Rattle.kishu_machine.proofs.Sequences.{arithmetic_sound, value_sound}
 use Rattle.kishu_machine.proofs.operators.with_number.Goals as goal

@@ -1,6 +1,6 @@
 use Rattle.std.proofs.Common.{true, map}
 use Rattle.std.proofs.lemmas.Result.{err_from_is_err_and}
-use Rattle.kishu_model.specs.Values.{value_of}
+use Rattle.kishu_meaning.specs.values.Values.{value_of}
 use Rattle.kishu_machine.specs.Lists.{are_sound_in, items_in}
 use Rattle.kishu_machine.proofs.Sequences.{fault_sound, sound_often}
 use Rattle.kishu_machine.proofs.products.items_times.Goals as goal

@@ -2,9 +2,9 @@ use Rattle.std.proofs.Common.{None, Some, map, List, length, subst, arith}
 use Rattle.std.proofs.lemmas.Result.{err_from_is_err_and}
 use Rattle.std.specs.Int.{w128}
 use Rattle.std.proofs.lemmas.Int.{to_z-of_z}
-use Rattle.kishu_model.specs.Moment.{node_at}
-use Rattle.kishu_model.specs.Operators.{new_list}
-use Rattle.kishu_model.specs.Values.{Node, value_of}
+use Rattle.kishu_meaning.specs.moments.Moment.{node_at}
+use Rattle.kishu_meaning.specs.calls.Operators.{new_list}
+use Rattle.kishu_meaning.specs.values.Values.{Node, value_of}
 use Rattle.kishu_machine.specs.Forms.{some_value, maybe_tuple_times}
 use Rattle.kishu_machine.specs.Lists.{values_in}
 use Rattle.kishu_machine.specs.Machine.{Gives, moment_of}

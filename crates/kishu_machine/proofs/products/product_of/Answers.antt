@@ -1,10 +1,10 @@
 use Rattle.std.proofs.Common.{None, Some, refl}
 use Rattle.std.proofs.lemmas.Result.{err_from_is_err_and}
 use Rattle.std.specs.Prelude.{Ok}
-use Rattle.kishu_model.specs.declared.tree.Operator.TheVariants as operators
-use Rattle.kishu_model.specs.Equal.{number_in}
-use Rattle.kishu_model.specs.Operators.{bad_operands, operator_sign, value_times}
-use Rattle.kishu_model.specs.Values.{value_of}
+use Rattle.kishu_language.specs.declared.tree.Operator.TheVariants as operators
+use Rattle.kishu_meaning.specs.comparing.Equal.{number_in}
+use Rattle.kishu_meaning.specs.calls.Operators.{bad_operands, operator_sign, value_times}
+use Rattle.kishu_meaning.specs.values.Values.{value_of}
 use Rattle.kishu_machine.specs.Machine.{moment_of}
 use Rattle.kishu_machine.proofs.Sequences.{value_fails, value_gives}
 use Rattle.kishu_machine.proofs.products.product_of.Goals as goal

@@ -3,9 +3,9 @@ use Rattle.std.specs.List.{flat_map}
 use Rattle.std.specs.Str.{chars}
 use Rattle.std.specs.Int.{w128}
 use Rattle.std.proofs.lemmas.Int.{to_z-of_z}
-use Rattle.kishu_model.specs.Moment.{spend}
-use Rattle.kishu_model.specs.Operators.{times}
-use Rattle.kishu_model.specs.Values.{text, value_of}
+use Rattle.kishu_meaning.specs.moments.Moment.{spend}
+use Rattle.kishu_meaning.specs.calls.Operators.{times}
+use Rattle.kishu_meaning.specs.values.Values.{text, value_of}
 use Rattle.kishu_machine.specs.Machine.{moment_of}
 use Rattle.kishu_machine.proofs.Sequences.{spent_value}
 use Rattle.kishu_machine.proofs.products.repeated.Goals as goal

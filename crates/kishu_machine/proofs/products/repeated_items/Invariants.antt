@@ -1,6 +1,6 @@
 use Rattle.std.proofs.Common.{◌≡◌, map, replicate}
 use Rattle.std.specs.List.{flat_map}
-use Rattle.kishu_model.specs.Values.{value_of}
+use Rattle.kishu_meaning.specs.values.Values.{value_of}
 use Rattle.kishu_machine.proofs.products.repeated_items.Given as goal
 
 abbrev pub invariant-loop-turn : goal.invariant-loop-turn

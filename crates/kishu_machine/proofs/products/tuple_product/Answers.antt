@@ -2,9 +2,9 @@ use Rattle.std.proofs.Common.{Some, ap, map, length}
 use Rattle.std.proofs.lemmas.Result.{err_from_is_err_and}
 use Rattle.std.specs.Int.{w128}
 use Rattle.std.proofs.lemmas.Int.{to_z-of_z}
-use Rattle.kishu_model.specs.Moment.{and_then, node_at}
-use Rattle.kishu_model.specs.Operators.{new_tuple, times, tuple_from}
-use Rattle.kishu_model.specs.Values.{value_of}
+use Rattle.kishu_meaning.specs.moments.Moment.{and_then, node_at}
+use Rattle.kishu_meaning.specs.calls.Operators.{new_tuple, times, tuple_from}
+use Rattle.kishu_meaning.specs.values.Values.{value_of}
 use Rattle.kishu_machine.specs.Composing.{fails_on, gives_on}
 use Rattle.kishu_machine.specs.Forms.{maybe_often, some_tuple, some_value}
 use Rattle.kishu_machine.specs.Lists.{values_in}

@@ -2,8 +2,8 @@ use Rattle.std.proofs.Common.{length}
 use Rattle.std.specs.Str.{chars}
 use Rattle.std.specs.Int.{w128}
 use Rattle.std.proofs.lemmas.Int.{to_z-of_z}
-use Rattle.kishu_model.specs.Operators.{repeated}
-use Rattle.kishu_model.specs.Values.{value_of}
+use Rattle.kishu_meaning.specs.calls.Operators.{repeated}
+use Rattle.kishu_meaning.specs.values.Values.{value_of}
 use Rattle.kishu_machine.specs.Machine.{moment_of}
 use Rattle.kishu_machine.proofs.Sequences.{some_gives, some_sound, some_there, times_text, times_node}
 use Rattle.kishu_machine.proofs.products.value_often.Goals as goal

@@ -1,7 +1,7 @@
 use Rattle.std.proofs.Common.{SFits, rules}
 use Rattle.std.specs.Int.{w128}
 use Rattle.std.proofs.lemmas.Int.{to_z-of_z}
-use Rattle.kishu_model.specs.Values.{value_of}
+use Rattle.kishu_meaning.specs.values.Values.{value_of}
 use Rattle.kishu_machine.specs.Machine.{moment_of}
 use Rattle.kishu_machine.proofs.Sequences.{times_nothing}
 use Rattle.kishu_machine.proofs.products.value_times.Goals as goal

@@ -5,11 +5,11 @@ use Rattle.std.specs.declared.alloc.Global.{Global}
 use Rattle.std.specs.declared.string.String.{String}
 use Rattle.std.proofs.lemmas.List.{append-nil, drop_all, map-append}
 use Rattle.std.proofs.lemmas.Result.{err_from_is_err_and}
-use Rattle.kishu_model.specs.declared.value.Value as rust
-use Rattle.kishu_model.specs.Counting.{ended_in}
-use Rattle.kishu_model.specs.Moment.{Ends, and_then, fine}
-use Rattle.kishu_model.specs.Show.{show_all_in}
-use Rattle.kishu_model.specs.Values.{value_of}
+use Rattle.kishu_meaning.specs.declared.value.Value as rust
+use Rattle.kishu_meaning.specs.moments.Counting.{ended_in}
+use Rattle.kishu_meaning.specs.moments.Moment.{Ends, and_then, fine}
+use Rattle.kishu_meaning.specs.comparing.Show.{show_all_in}
+use Rattle.kishu_meaning.specs.values.Values.{value_of}
 use Rattle.kishu_items.specs.Gathering.{dropped}
 use Rattle.kishu_machine.specs.Lists.{string_texts}
 use Rattle.kishu_machine.specs.Machine.{Gives}

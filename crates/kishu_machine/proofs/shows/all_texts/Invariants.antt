@@ -1,8 +1,8 @@
 use Rattle.std.proofs.Common.{◌≡◌, ◌+◌, ◌*◌, ◌≤◌, map, drop}
-use Rattle.kishu_model.specs.Counting.{ended_in}
-use Rattle.kishu_model.specs.Moment.{Moment, and_then}
-use Rattle.kishu_model.specs.Show.{show_all_in}
-use Rattle.kishu_model.specs.Values.{value_of}
+use Rattle.kishu_meaning.specs.moments.Counting.{ended_in}
+use Rattle.kishu_meaning.specs.moments.Moment.{Moment, and_then}
+use Rattle.kishu_meaning.specs.comparing.Show.{show_all_in}
+use Rattle.kishu_meaning.specs.values.Values.{value_of}
 use Rattle.kishu_machine.specs.Lists.{string_texts}
 use Rattle.kishu_machine.proofs.Showing.{behind}
 use Rattle.kishu_machine.proofs.shows.all_texts.Given as goal

@@ -1,10 +1,10 @@
 use Rattle.std.proofs.Common.{subst, sym, List, ℕ, [], ◌-◌}
 use Rattle.std.specs.Str.{chars}
 use Rattle.std.specs.String.{string_bytes}
-use Rattle.kishu_model.specs.Counting.{ended_in}
-use Rattle.kishu_model.specs.Moment.{Ends, most_depth}
-use Rattle.kishu_model.specs.Show.{argument_text, repr_nodes, show_nodes}
-use Rattle.kishu_model.specs.Values.{Node, value_of}
+use Rattle.kishu_meaning.specs.moments.Counting.{ended_in}
+use Rattle.kishu_meaning.specs.moments.Moment.{Ends, most_depth}
+use Rattle.kishu_meaning.specs.comparing.Show.{argument_text, repr_nodes, show_nodes}
+use Rattle.kishu_meaning.specs.values.Values.{Node, value_of}
 use Rattle.kishu_machine.specs.Composing.{gives_on}
 use Rattle.kishu_machine.specs.Machine.{Gives, moment_of}
 use Rattle.kishu_machine.proofs.Showing.{ticked}

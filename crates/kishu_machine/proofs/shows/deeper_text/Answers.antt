@@ -1,11 +1,11 @@
 use Rattle.std.proofs.Common.{List, ℕ, [], ◌-◌, ◌∙◌, arith, subst, sym}
 use Rattle.std.specs.Str.{chars}
 use Rattle.std.specs.String.{string_bytes}
-use Rattle.kishu_model.specs.Counting.{Count}
-use Rattle.kishu_model.specs.Equal.{room_at}
-use Rattle.kishu_model.specs.Moment.{most_depth}
-use Rattle.kishu_model.specs.Show.{repr_nodes, show_nodes}
-use Rattle.kishu_model.specs.Values.{value_of}
+use Rattle.kishu_meaning.specs.moments.Counting.{Count}
+use Rattle.kishu_meaning.specs.comparing.Equal.{room_at}
+use Rattle.kishu_meaning.specs.moments.Moment.{most_depth}
+use Rattle.kishu_meaning.specs.comparing.Show.{repr_nodes, show_nodes}
+use Rattle.kishu_meaning.specs.values.Values.{value_of}
 use Rattle.kishu_show.specs.Shown as shown
 use Rattle.kishu_machine.proofs.Showing.{deep_inside, plain_inside}
 use Rattle.kishu_machine.proofs.shows.deeper_text.Goals as goal

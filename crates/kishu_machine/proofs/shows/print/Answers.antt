@@ -4,9 +4,9 @@ use Rattle.std.specs.String.{string_bytes}
 use Rattle.std.specs.declared.alloc.Global.{Global}
 use Rattle.std.specs.declared.string.String.{String}
 use Rattle.std.proofs.lemmas.List.{length-map}
-use Rattle.kishu_model.specs.Moment.{fine, spend}
-use Rattle.kishu_model.specs.Texts.{joined}
-use Rattle.kishu_model.specs.Values.{value_of}
+use Rattle.kishu_meaning.specs.moments.Moment.{fine, spend}
+use Rattle.kishu_meaning.specs.values.Texts.{joined}
+use Rattle.kishu_meaning.specs.values.Values.{value_of}
 use Rattle.std.specs.Prelude.{map}
 use Rattle.kishu_machine.specs.Lists.{string_texts}
 use Rattle.kishu_machine.specs.Machine.{moment_of}

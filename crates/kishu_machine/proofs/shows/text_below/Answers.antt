@@ -1,8 +1,8 @@
 use Rattle.std.proofs.Common.{ℕ, [], subst}
 use Rattle.std.specs.Str.{chars}
 use Rattle.std.specs.String.{string_bytes}
-use Rattle.kishu_model.specs.Show.{argument_text, repr_nodes, show_nodes}
-use Rattle.kishu_model.specs.Values.{value_of}
+use Rattle.kishu_meaning.specs.comparing.Show.{argument_text, repr_nodes, show_nodes}
+use Rattle.kishu_meaning.specs.values.Values.{value_of}
 use Rattle.kishu_show.specs.Shown as shown
 use Rattle.kishu_machine.proofs.Showing.{room_inside}
 use Rattle.kishu_machine.proofs.shows.text_below.Goals as goal

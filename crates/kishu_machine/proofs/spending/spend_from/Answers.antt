@@ -1,6 +1,6 @@
 use Rattle.std.specs.Prelude.{[]}
-use Rattle.kishu_model.specs.BareLaws.{spend_bare}
-use Rattle.kishu_model.specs.Moment.{spend}
+use Rattle.kishu_meaning_laws.specs.BareLaws.{spend_bare}
+use Rattle.kishu_meaning.specs.moments.Moment.{spend}
 use Rattle.kishu_machine.specs.Lifted.{lifted}
 use Rattle.kishu_machine.specs.Machine.{placed}
 use Rattle.kishu_machine.specs.Raising.{passed_raised, spend_raises}

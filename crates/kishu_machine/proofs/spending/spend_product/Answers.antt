@@ -1,5 +1,5 @@
 use Rattle.std.proofs.Common.{◌≡◌, ◌*◌, ◌+◌, ◌<◌, ℕ, subst, arith}
-use Rattle.kishu_model.specs.Moment.{spend}
+use Rattle.kishu_meaning.specs.moments.Moment.{spend}
 use Rattle.kishu_machine.specs.Machine.{Gives, placed}
 use Rattle.kishu_machine.proofs.Sequences.{spend_beyond, taken_beyond}
 use Rattle.kishu_machine.proofs.spending.spend_product.Goals as goal

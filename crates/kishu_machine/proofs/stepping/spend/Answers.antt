@@ -1,5 +1,5 @@
-use Rattle.kishu_model.specs.BareLaws.{spend_bare}
-use Rattle.kishu_model.specs.Moment.{spend}
+use Rattle.kishu_meaning_laws.specs.BareLaws.{spend_bare}
+use Rattle.kishu_meaning.specs.moments.Moment.{spend}
 use Rattle.kishu_machine.specs.Lifted.{lifted}
 use Rattle.kishu_machine.specs.Machine.{moment_of}
 use Rattle.kishu_items.specs.Called as called

@@ -1,9 +1,9 @@
 use Rattle.std.proofs.Common.{None, Some, map, List, subst}
 use Rattle.std.proofs.lemmas.Result.{err_from_is_err_and}
-use Rattle.kishu_model.specs.declared.tree.Operator.TheVariants as operators
-use Rattle.kishu_model.specs.Moment.{node_at}
-use Rattle.kishu_model.specs.Operators.{bad_operands, new_list, operator_sign, list_from}
-use Rattle.kishu_model.specs.Values.{Node, value_of}
+use Rattle.kishu_language.specs.declared.tree.Operator.TheVariants as operators
+use Rattle.kishu_meaning.specs.moments.Moment.{node_at}
+use Rattle.kishu_meaning.specs.calls.Operators.{bad_operands, new_list, operator_sign, list_from}
+use Rattle.kishu_meaning.specs.values.Values.{Node, value_of}
 use Rattle.kishu_machine.specs.Machine.{Gives, moment_of}
 use Rattle.kishu_machine.proofs.Sequences.{sum_fails, sum_gives, tuples_or}
 use Rattle.kishu_machine.proofs.sums.sum_of_nodes.Goals as goal

@@ -1,9 +1,9 @@
 use Rattle.std.proofs.Common.{None, Some, map}
 use Rattle.std.proofs.lemmas.Result.{err_from_is_err_and}
-use Rattle.kishu_model.specs.declared.tree.Operator.TheVariants as operators
-use Rattle.kishu_model.specs.Moment.{node_at}
-use Rattle.kishu_model.specs.Operators.{bad_operands, new_tuple, operator_sign, tuple_from}
-use Rattle.kishu_model.specs.Values.{value_of}
+use Rattle.kishu_language.specs.declared.tree.Operator.TheVariants as operators
+use Rattle.kishu_meaning.specs.moments.Moment.{node_at}
+use Rattle.kishu_meaning.specs.calls.Operators.{bad_operands, new_tuple, operator_sign, tuple_from}
+use Rattle.kishu_meaning.specs.values.Values.{value_of}
 use Rattle.kishu_machine.specs.Machine.{moment_of}
 use Rattle.kishu_machine.proofs.Sequences.{sum_fails, sum_gives}
 use Rattle.kishu_machine.proofs.sums.sum_of_tuples.Goals as goal

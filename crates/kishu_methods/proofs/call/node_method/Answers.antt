@@ -1,6 +1,6 @@
 use Rattle.std.proofs.Common.{◌∙◌, ap, sym, subst, map, Option, Some}
-use Rattle.kishu_model.specs.Methods.{node_row}
-use Rattle.kishu_model.specs.Values.{Node, value_of}
+use Rattle.kishu_meaning.specs.calls.Methods.{node_row}
+use Rattle.kishu_meaning.specs.values.Values.{Node, value_of}
 use Rattle.kishu_heap.specs.Cells.{entries_of, node_of}
 use Rattle.kishu_methods.specs.Called.{moment_of, method_of, Gives}
 use Rattle.kishu_methods.proofs.Changes.{is_list}

@@ -1,5 +1,5 @@
 use Rattle.std.proofs.Common.{◌∙◌, ap, length}
-use Rattle.kishu_model.specs.Keys.{key_of}
+use Rattle.kishu_meaning.specs.values.Keys.{key_of}
 use Rattle.kishu_methods.specs.Contents.{entries_at}
 use Rattle.kishu_methods.proofs.Changes.{length_changed}
 use Rattle.kishu_methods.proofs.DictNodes.{misses}

@@ -1,6 +1,6 @@
 use Rattle.std.proofs.Common.{◌∙◌, ap, option_map}
-use Rattle.kishu_model.specs.Keys.{key_of}
-use Rattle.kishu_model.specs.Values.{value_of}
+use Rattle.kishu_meaning.specs.values.Keys.{key_of}
+use Rattle.kishu_meaning.specs.values.Values.{value_of}
 use Rattle.kishu_methods.proofs.DictNodes.{finds, copied_value}
 use Rattle.kishu_methods.proofs.entries.found.Goals as goal
 

@@ -1,6 +1,6 @@
 use Rattle.std.proofs.Common.{◌≡◌, length, drop}
-use Rattle.kishu_model.specs.Methods.{with_entries}
-use Rattle.kishu_model.specs.Nodes.{changed, on_dict}
+use Rattle.kishu_meaning.specs.calls.Methods.{with_entries}
+use Rattle.kishu_meaning.specs.values.Nodes.{changed, on_dict}
 use Rattle.kishu_heap.specs.Cells.{entries_of}
 use Rattle.kishu_methods.proofs.entries.insert_all.Given as goal
 

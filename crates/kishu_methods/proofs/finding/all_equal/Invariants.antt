@@ -1,6 +1,6 @@
 use Rattle.std.proofs.Common.{◌≡◌, ◌+◌, ◌*◌, ◌≤◌, drop, map}
-use Rattle.kishu_model.specs.Values.{value_of}
-use Rattle.kishu_model.specs.Finding.{count_from}
+use Rattle.kishu_meaning.specs.values.Values.{value_of}
+use Rattle.kishu_meaning.specs.items.Finding.{count_from}
 use Rattle.kishu_methods.proofs.finding.all_equal.Given as goal
 
 abbrev pub invariant-loop-i : goal.invariant-loop-i

@@ -1,6 +1,6 @@
 use Rattle.std.proofs.Common.{map}
-use Rattle.kishu_model.specs.Finding.{count_from}
-use Rattle.kishu_model.specs.Values.{value_of}
+use Rattle.kishu_meaning.specs.items.Finding.{count_from}
+use Rattle.kishu_meaning.specs.values.Values.{value_of}
 use Rattle.kishu_methods.specs.Called.{moment_of}
 use Rattle.kishu_methods.proofs.finding.count_among.Goals as goal
 

@@ -1,7 +1,7 @@
 use Rattle.std.proofs.Common.{◌<◌, length, map}
 use Rattle.std.specs.Prelude.{IfSome}
-use Rattle.kishu_model.specs.Finding.{place_from}
-use Rattle.kishu_model.specs.Values.{value_of}
+use Rattle.kishu_meaning.specs.items.Finding.{place_from}
+use Rattle.kishu_meaning.specs.values.Values.{value_of}
 use Rattle.kishu_methods.specs.Called.{moment_of}
 use Rattle.kishu_methods.proofs.Passing.{answer_holds}
 use Rattle.kishu_methods.proofs.finding.place_among.Goals as goal

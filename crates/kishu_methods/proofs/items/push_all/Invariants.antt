@@ -1,6 +1,6 @@
 use Rattle.std.proofs.Common.{◌≡◌, ◌++◌, length, map, drop}
-use Rattle.kishu_model.specs.Values.{value_of}
-use Rattle.kishu_model.specs.Nodes.{changed, on_list}
+use Rattle.kishu_meaning.specs.values.Values.{value_of}
+use Rattle.kishu_meaning.specs.values.Nodes.{changed, on_list}
 use Rattle.kishu_methods.proofs.items.push_all.Given as goal
 
 abbrev pub invariant-loop-i : goal.invariant-loop-i

@@ -1,5 +1,5 @@
 use Rattle.std.proofs.Common.{◌∙◌, ap, length, reverse}
-use Rattle.kishu_model.specs.Sound.{is_sound}
+use Rattle.kishu_meaning.specs.values.Sound.{is_sound}
 use Rattle.kishu_methods.specs.Contents.{items_at}
 use Rattle.kishu_methods.proofs.Changes.{length_changed, replaced}
 use Rattle.kishu_methods.proofs.Edits.{seen_reversed, all_reverse}

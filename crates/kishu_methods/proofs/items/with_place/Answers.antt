@@ -1,7 +1,7 @@
 use Rattle.std.proofs.Common.{◌∙◌, ap, length}
 use Rattle.std.specs.List.{insert}
-use Rattle.kishu_model.specs.Values.{value_of}
-use Rattle.kishu_model.specs.Sound.{is_sound}
+use Rattle.kishu_meaning.specs.values.Values.{value_of}
+use Rattle.kishu_meaning.specs.values.Sound.{is_sound}
 use Rattle.kishu_methods.specs.Contents.{items_at}
 use Rattle.kishu_methods.proofs.Changes.{length_changed, replaced, all_insert}
 use Rattle.kishu_methods.proofs.Edits.{seen_inserted}

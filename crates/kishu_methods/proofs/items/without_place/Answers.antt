@@ -1,6 +1,6 @@
 use Rattle.std.proofs.Common.{◌∙◌, ap, length}
 use Rattle.std.specs.List.{remove}
-use Rattle.kishu_model.specs.Sound.{is_sound}
+use Rattle.kishu_meaning.specs.values.Sound.{is_sound}
 use Rattle.kishu_methods.specs.Contents.{items_at}
 use Rattle.kishu_methods.proofs.Changes.{length_changed, replaced, all_remove}
 use Rattle.kishu_methods.proofs.Edits.{seen_removed}

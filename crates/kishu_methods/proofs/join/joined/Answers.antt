@@ -4,7 +4,7 @@ use Rattle.std.specs.Rc.{rc_str_bytes}
 use Rattle.std.specs.Str.{chars}
 use Rattle.std.specs.String.{string_bytes}
 use Rattle.std.proofs.lemmas.Str.{chars-nil}
-use Rattle.kishu_model.specs.Texts.{joined}
+use Rattle.kishu_meaning.specs.values.Texts.{joined}
 use Rattle.kishu_methods.specs.TextValues.{texts_of}
 use Rattle.kishu_methods.proofs.Joins.{nothing_joined}
 use Rattle.kishu_methods.proofs.join.joined.Goals as goal

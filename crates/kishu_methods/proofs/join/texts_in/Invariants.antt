@@ -1,6 +1,6 @@
 use Rattle.std.proofs.Common.{◌≡◌, ◌++◌, map, drop, option_map, List, ℕ}
-use Rattle.kishu_model.specs.Values.{value_of}
-use Rattle.kishu_model.specs.Methods.{texts_in}
+use Rattle.kishu_meaning.specs.values.Values.{value_of}
+use Rattle.kishu_meaning.specs.calls.Methods.{texts_in}
 use Rattle.kishu_methods.specs.TextValues.{texts_of}
 use Rattle.kishu_methods.proofs.join.texts_in.Given as goal
 

@@ -2,7 +2,7 @@ use Rattle.std.proofs.Common.{SFits, arith, rules}
 use Rattle.std.proofs.lemmas.Int.{to_z-of_z}
 use Rattle.std.proofs.lemmas.Result.{err_from_is_err_and}
 use Rattle.std.specs.Int.{w128}
-use Rattle.kishu_model.specs.Values.{value_of}
+use Rattle.kishu_meaning.specs.values.Values.{value_of}
 use Rattle.kishu_methods.specs.Called.{moment_of}
 use Rattle.kishu_methods.specs.Contents.{items_at}
 use Rattle.kishu_methods.proofs.PopsAt.{taken, untaken}

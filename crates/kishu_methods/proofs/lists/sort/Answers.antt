@@ -1,6 +1,6 @@
 use Rattle.std.proofs.Common.{◌∙◌, ap, arith, length, map}
 use Rattle.kishu_methods.proofs.Changes.{length_changed}
-use Rattle.kishu_model.specs.Values.{value_of}
+use Rattle.kishu_meaning.specs.values.Values.{value_of}
 use Rattle.kishu_methods.specs.Contents.{items_at}
 use Rattle.kishu_methods.proofs.SortsSound.{sorted_sound}
 use Rattle.kishu_methods.proofs.lists.sort.Goals as goal

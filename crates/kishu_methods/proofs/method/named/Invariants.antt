@@ -1,5 +1,5 @@
 use Rattle.std.proofs.Common.{◌≡◌, map, drop}
-use Rattle.kishu_model.specs.Methods.{method_named}
+use Rattle.kishu_meaning.specs.calls.Methods.{method_named}
 use Rattle.kishu_methods.specs.Called.{method_of}
 use Rattle.kishu_methods.proofs.method.named.Given as goal
 

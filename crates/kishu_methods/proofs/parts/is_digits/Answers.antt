@@ -3,7 +3,7 @@ use Rattle.std.specs.List.{list_all}
 use Rattle.std.specs.Str.{chars}
 use Rattle.std.proofs.lemmas.Iterator.{YieldsList-from_chars}
 use Rattle.std.proofs.lemmas.Iterator.Search.{all_from_yields_List}
-use Rattle.kishu_model.specs.Names.{is_digit}
+use Rattle.kishu_language.specs.tokens.Names.{is_digit}
 use Rattle.kishu_methods.proofs.PieceLengths.{nonempty}
 use Rattle.kishu_methods.proofs.parts.is_digits.Goals as goal
 

@@ -1,6 +1,6 @@
 use Rattle.std.proofs.Common.{length, map}
-use Rattle.kishu_model.specs.Texts.{code_points}
-use Rattle.kishu_model.specs.Values.{value_of}
+use Rattle.kishu_meaning.specs.values.Texts.{code_points}
+use Rattle.kishu_meaning.specs.values.Values.{value_of}
 use Rattle.kishu_methods.proofs.Joins.{sound_texts}
 use Rattle.kishu_methods.proofs.pieces.new_texts.Goals as goal
 

@@ -3,10 +3,10 @@ use Rattle.std.specs.List.{sum_by}
 use Rattle.std.specs.Str.{chars}
 use Rattle.std.proofs.lemmas.Result.{err_from_is_err_and}
 use Rattle.std.proofs.lemmas.Str.{chars-nil}
-use Rattle.kishu_model.specs.Methods.{new_texts}
-use Rattle.kishu_model.specs.Moment.{Ends}
-use Rattle.kishu_model.specs.Texts.{pieces, replaced}
-use Rattle.kishu_model.specs.Values.{Value, value_of}
+use Rattle.kishu_meaning.specs.calls.Methods.{new_texts}
+use Rattle.kishu_meaning.specs.moments.Moment.{Ends}
+use Rattle.kishu_meaning.specs.values.Texts.{pieces, replaced}
+use Rattle.kishu_meaning.specs.values.Values.{Value, value_of}
 use Rattle.kishu_methods.specs.Called.{moment_of, Gives}
 use Rattle.kishu_methods.proofs.PieceLengths.{length-unjoined}
 use Rattle.kishu_methods.proofs.TextSteps.{is_text, passed_on, split_taken, split_uncut, split_unmade, split_unsearched}

@@ -1,8 +1,8 @@
 use Rattle.std.proofs.Common.{subst, length, List, ℕ}
 use Rattle.std.specs.Str.{chars}
-use Rattle.kishu_model.specs.Methods.{new_texts}
-use Rattle.kishu_model.specs.Texts.{words}
-use Rattle.kishu_model.specs.Values.{value_of}
+use Rattle.kishu_meaning.specs.calls.Methods.{new_texts}
+use Rattle.kishu_meaning.specs.values.Texts.{words}
+use Rattle.kishu_meaning.specs.values.Values.{value_of}
 use Rattle.kishu_methods.specs.Called.{moment_of, Gives}
 use Rattle.kishu_methods.proofs.TextSteps.{listed}
 use Rattle.kishu_methods.proofs.pieces.split_space.Goals as goal

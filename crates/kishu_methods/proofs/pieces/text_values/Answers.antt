@@ -1,8 +1,8 @@
 use Rattle.std.proofs.Common.{◌≡◌, ◌∙◌, ◌∷◌, [], ◌++◌, length, sym, ap, map, arith, append-nil}
 use Rattle.std.specs.Str.{chars}
 use Rattle.std.specs.Vec.Iter.{into_iter_items}
-use Rattle.kishu_model.specs.Texts.{code_points}
-use Rattle.kishu_model.specs.Values.{text, value_of}
+use Rattle.kishu_meaning.specs.values.Texts.{code_points}
+use Rattle.kishu_meaning.specs.values.Values.{text, value_of}
 use Rattle.kishu_methods.proofs.Joins.{text_pushed, nothing_left}
 use Rattle.kishu_methods.proofs.pieces.text_values.Goals as goal
 

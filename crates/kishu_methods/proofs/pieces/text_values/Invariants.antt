@@ -1,7 +1,7 @@
 use Rattle.std.proofs.Common.{◌≡◌, ◌++◌, map, length}
 use Rattle.std.specs.Vec.Iter.{into_iter_items, into_iter_len}
-use Rattle.kishu_model.specs.Texts.{code_points}
-use Rattle.kishu_model.specs.Values.{text, value_of}
+use Rattle.kishu_meaning.specs.values.Texts.{code_points}
+use Rattle.kishu_meaning.specs.values.Values.{text, value_of}
 use Rattle.kishu_methods.proofs.pieces.text_values.Given as goal
 
 -- what is left of the texts goes on from here

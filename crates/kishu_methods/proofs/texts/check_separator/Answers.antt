@@ -1,8 +1,8 @@
 use Rattle.std.proofs.Common.{◌∙◌, ap, sym, subst, ◌∷◌, []}
 use Rattle.std.specs.Str.{chars}
-use Rattle.kishu_model.specs.Values.{text}
-use Rattle.kishu_model.specs.Methods.{is_cutting}
-use Rattle.kishu_model.specs.Moment.{raised, fresh}
+use Rattle.kishu_meaning.specs.values.Values.{text}
+use Rattle.kishu_meaning.specs.calls.Methods.{is_cutting}
+use Rattle.kishu_meaning.specs.moments.Moment.{raised, fresh}
 use Rattle.kishu_methods.specs.Called.{Gives}
 use Rattle.kishu_methods.proofs.TextSteps.{cutting_some, cutting_none}
 use Rattle.kishu_methods.proofs.texts.check_separator.Goals as goal

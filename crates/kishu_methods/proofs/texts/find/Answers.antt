@@ -2,7 +2,7 @@ use Rattle.std.proofs.Common.{SFits, rules}
 use Rattle.std.specs.Int.{w128}
 use Rattle.std.specs.Str.{chars}
 use Rattle.std.proofs.lemmas.Int.{to_z-of_z}
-use Rattle.kishu_model.specs.Values.{value_of}
+use Rattle.kishu_meaning.specs.values.Values.{value_of}
 use Rattle.kishu_methods.specs.Called.{moment_of}
 use Rattle.kishu_methods.proofs.TextSteps.{found_row}
 use Rattle.kishu_methods.proofs.texts.find.Goals as goal

@@ -1,7 +1,7 @@
 use Rattle.std.proofs.Common.{◌∙◌, ap, ℕ}
 use Rattle.std.specs.Prelude.{pos}
 use Rattle.std.specs.Str.{chars}
-use Rattle.kishu_model.specs.Values.{value_of, integer}
+use Rattle.kishu_meaning.specs.values.Values.{value_of, integer}
 use Rattle.kishu_methods.specs.Called.{moment_of}
 use Rattle.kishu_methods.proofs.TextSteps.{counted_row}
 use Rattle.kishu_methods.proofs.texts.occurrences.Goals as goal

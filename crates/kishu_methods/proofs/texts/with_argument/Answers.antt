@@ -1,5 +1,5 @@
 use Rattle.std.specs.Str.{chars}
-use Rattle.kishu_model.specs.Values.{value_of}
+use Rattle.kishu_meaning.specs.values.Values.{value_of}
 use Rattle.kishu_methods.specs.Called.{moment_of}
 use Rattle.kishu_methods.proofs.TextRows.{refused, one_refused}
 use Rattle.kishu_methods.proofs.texts.with_argument.Goals as goal

@@ -1,5 +1,5 @@
 use Rattle.std.proofs.Common.{◌≡◌}
-use Rattle.kishu_model.specs.Accesses.{with_accesses}
+use Rattle.kishu_meaning.specs.moments.Accesses.{with_accesses}
 use Rattle.kishu_names.specs.Record.{Rises, texts_of}
 use Rattle.kishu_names.proofs.record.note_all.Given as goal
 

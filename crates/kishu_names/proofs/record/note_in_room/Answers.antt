@@ -1,7 +1,7 @@
 use Rattle.std.proofs.Common.{◌≡◌, ◌∙◌, ap, sym, subst, refl}
 use Rattle.std.specs.Prelude.{insert}
 use Rattle.std.specs.Rc.{rc_str_bytes}
-use Rattle.kishu_model.specs.Accesses.{with_access}
+use Rattle.kishu_meaning.specs.moments.Accesses.{with_access}
 use Rattle.kishu_names.specs.Record.{Rises, texts_of}
 use Rattle.kishu_names.proofs.Kept.{inserted}
 use Rattle.kishu_names.proofs.Records.{rises_by, goes_in, there}

@@ -3,7 +3,7 @@ use Rattle.std.specs.Int.{w128}
 use Rattle.std.proofs.lemmas.Int.{to_z-of_z}
 use Rattle.std.proofs.lemmas.Int.Digits.{length-digits_of_step}
 use Rattle.std.proofs.lemmas.Result.{err_from_is_err_and}
-use Rattle.kishu_model.specs.Numbers.{power}
+use Rattle.kishu_meaning.specs.values.Numbers.{power}
 use Rattle.kishu_num.specs.Results.{in_range}
 use Rattle.kishu_num.proofs.Ranges.{from_ok}
 use Rattle.kishu_num.proofs.Halves.{power_zero, beyond, beyond_square, even_power, odd_power}

@@ -1,5 +1,5 @@
 use Rattle.std.proofs.Common.{◌≡◌, ◌-◌, ◌≤◌, length, drop}
-use Rattle.kishu_model.specs.White.{without_front}
+use Rattle.kishu_meaning.specs.values.White.{without_front}
 use Rattle.kishu_num.proofs.text.without_leading_white.Given as goal
 
 abbrev pub invariant-loop-start : goal.invariant-loop-start

@@ -1,5 +1,5 @@
 use Rattle.std.proofs.Common.{◌≡◌, ◌≤◌, length, take}
-use Rattle.kishu_model.specs.White.{without_back}
+use Rattle.kishu_meaning.specs.values.White.{without_back}
 use Rattle.kishu_num.proofs.text.without_trailing_white.Given as goal
 
 abbrev pub invariant-loop-end : goal.invariant-loop-end

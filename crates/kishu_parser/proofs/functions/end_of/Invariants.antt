@@ -1,5 +1,5 @@
 use Rattle.std.proofs.Common.{◌≡◌, drop}
-use Rattle.kishu_model.specs.Code.{end_after}
+use Rattle.kishu_language.specs.trees.Code.{end_after}
 use Rattle.kishu_parser.specs.Views.{tokens_of}
 use Rattle.kishu_parser.proofs.functions.end_of.Given as goal
 

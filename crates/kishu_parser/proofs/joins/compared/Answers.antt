@@ -1,5 +1,5 @@
 use Rattle.std.proofs.Common.{◌≡◌, refl, sym, ap, ◌∙◌, length, false-eqb}
-use Rattle.kishu_model.specs.Grammar.{compared_with}
+use Rattle.kishu_language.specs.grammar.Grammar.{compared_with}
 use Rattle.kishu_parser.specs.Trees.{link_of}
 use Rattle.kishu_parser.proofs.Rows.{compared_is}
 use Rattle.kishu_parser.proofs.Parts.{many}

@@ -1,7 +1,7 @@
 use Rattle.std.proofs.Common.{◌≡◌, ◌++◌, drop, map}
 use Rattle.std.specs.Rc.{rc_str_bytes}
 use Rattle.std.specs.String.{string_bytes}
-use Rattle.kishu_model.specs.Grammar.{joined}
+use Rattle.kishu_language.specs.grammar.Grammar.{joined}
 use Rattle.kishu_parser.proofs.joins.in_order.Given as goal
 
 abbrev pub invariant-loop-part : goal.invariant-loop-part

@@ -1,5 +1,5 @@
 use Rattle.std.proofs.Common.{◌≡◌, refl, sym, ap, ◌∙◌, length, false-eqb}
-use Rattle.kishu_model.specs.Grammar.{multiplied}
+use Rattle.kishu_language.specs.grammar.Grammar.{multiplied}
 use Rattle.kishu_parser.specs.Trees.{operand_of}
 use Rattle.kishu_parser.proofs.Rows.{product_is}
 use Rattle.kishu_parser.proofs.Parts.{many}

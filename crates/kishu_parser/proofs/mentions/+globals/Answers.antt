@@ -1,12 +1,12 @@
 use Rattle.std.proofs.Common.{◌≡◌, ◌+◌, ◌<◌, suc, max, ap, sym, ◌∙◌, arith, refl, map, drop, length, get_or, ◌++◌, List, ◌∷◌}
 use Rattle.std.specs.Prelude.{flat_map}
 use Rattle.std.specs.Rc.{rc_str_bytes}
-use Rattle.kishu_model.specs.declared.tree.Stmt.{Stmt}
-use Rattle.kishu_model.specs.declared.tree.Arm.{Arm as Arm'}
-use Rattle.kishu_model.specs.declared.tree.Handler.{Handler as Handler'}
-use Rattle.kishu_model.specs.Tree.{expressions, statements, arms, handlers, value_of, text_of, expression_of, statement_of, definition_of}
-use Rattle.kishu_model.specs.Refusals.{variables, in_expression, in_expressions, in_optional, in_statement, in_statements, in_arms, in_handlers}
-use Rattle.kishu_model.specs.Height.{of_expression, of_optional, of_list, of_parameters, of_statement, of_statements, of_arms, of_handlers}
+use Rattle.kishu_language.specs.declared.tree.Stmt.{Stmt}
+use Rattle.kishu_language.specs.declared.tree.Arm.{Arm as Arm'}
+use Rattle.kishu_language.specs.declared.tree.Handler.{Handler as Handler'}
+use Rattle.kishu_language.specs.trees.Tree.{expressions, statements, arms, handlers, value_of, text_of, expression_of, statement_of, definition_of}
+use Rattle.kishu_language.specs.grammar.Refusals.{variables, in_expression, in_expressions, in_optional, in_statement, in_statements, in_arms, in_handlers}
+use Rattle.kishu_language.specs.trees.Height.{of_expression, of_optional, of_list, of_parameters, of_statement, of_statements, of_arms, of_handlers}
 use Rattle.kishu_parser.specs.Bodies.{arm_of, handler_of}
 use Rattle.kishu_parser.specs.Sets.{names_in, note, noted}
 use Rattle.kishu_parser.proofs.StatementRows.{pass_is, break_is, continue_is, return_is, raise_is, assert_is, delete_is, global_is, import_is, update_is, assign_is, if_is, while_is, for_is, try_is, finally_is, def_is}

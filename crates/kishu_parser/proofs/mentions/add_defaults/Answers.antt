@@ -2,9 +2,9 @@ use Rattle.std.proofs.Common.{◌≡◌, List, map, refl}
 use Rattle.std.specs.Prelude.{flat_map, Option}
 use Rattle.std.specs.declared.alloc.Global.{Global}
 use Rattle.std.specs.declared.rc.RcStr.{RcStr}
-use Rattle.kishu_model.specs.declared.tree.Expr.{Expr}
-use Rattle.kishu_model.specs.Tree.{parameter_of, value_of}
-use Rattle.kishu_model.specs.Refusals.{in_optional, in_parameter}
+use Rattle.kishu_language.specs.declared.tree.Expr.{Expr}
+use Rattle.kishu_language.specs.trees.Tree.{parameter_of, value_of}
+use Rattle.kishu_language.specs.grammar.Refusals.{in_optional, in_parameter}
 use Rattle.kishu_parser.specs.Sets.{names_in, note}
 use Rattle.kishu_parser.proofs.Walks.{told_more}
 use Rattle.kishu_parser.proofs.mentions.add_defaults.Goals as goal

@@ -1,7 +1,7 @@
 use Rattle.std.proofs.Common.{◌≡◌, drop, map}
 use Rattle.std.specs.Prelude.{flat_map}
-use Rattle.kishu_model.specs.Tree.{parameter_of}
-use Rattle.kishu_model.specs.Refusals.{in_parameter}
+use Rattle.kishu_language.specs.trees.Tree.{parameter_of}
+use Rattle.kishu_language.specs.grammar.Refusals.{in_parameter}
 use Rattle.kishu_parser.specs.Sets.{names_in, note}
 use Rattle.kishu_parser.proofs.mentions.add_defaults.Given as goal
 

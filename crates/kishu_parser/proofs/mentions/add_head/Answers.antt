@@ -1,8 +1,8 @@
 use Rattle.std.proofs.Common.{◌≡◌, [], ◌∷◌, map}
 use Rattle.std.specs.Prelude.{flat_map}
 use Rattle.std.specs.Rc.{rc_str_bytes}
-use Rattle.kishu_model.specs.Tree.{parameter_of}
-use Rattle.kishu_model.specs.Refusals.{variable, in_parameter}
+use Rattle.kishu_language.specs.trees.Tree.{parameter_of}
+use Rattle.kishu_language.specs.grammar.Refusals.{variable, in_parameter}
 use Rattle.kishu_parser.specs.Sets.{names_in}
 use Rattle.kishu_parser.proofs.Walks.{then_ok, title_is, parameters_are}
 use Rattle.kishu_parser.proofs.mentions.add_head.Goals as goal

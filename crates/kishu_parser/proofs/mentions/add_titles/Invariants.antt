@@ -1,6 +1,6 @@
 use Rattle.std.proofs.Common.{◌≡◌, drop, map}
-use Rattle.kishu_model.specs.Tree.{parameter_of}
-use Rattle.kishu_model.specs.Refusals.{titles}
+use Rattle.kishu_language.specs.trees.Tree.{parameter_of}
+use Rattle.kishu_language.specs.grammar.Refusals.{titles}
 use Rattle.kishu_parser.specs.Sets.{names_in, with_names}
 use Rattle.kishu_parser.proofs.mentions.add_titles.Given as goal
 

@@ -1,6 +1,6 @@
 use Rattle.std.proofs.Common.{◌≡◌, [], map, sym, ap, ◌∙◌, subst}
-use Rattle.kishu_model.specs.Tree.{parameter_of, statements, statement_of}
-use Rattle.kishu_model.specs.Refusals.{titles, in_statements}
+use Rattle.kishu_language.specs.trees.Tree.{parameter_of, statements, statement_of}
+use Rattle.kishu_language.specs.grammar.Refusals.{titles, in_statements}
 use Rattle.kishu_parser.specs.Sets.{names_in, with_names}
 use Rattle.kishu_parser.proofs.NameSets.{Same, parameters_seen}
 use Rattle.kishu_parser.proofs.Walks.{fits_globals}

@@ -1,6 +1,6 @@
 use Rattle.std.proofs.Common.{◌≡◌, drop, map}
 use Rattle.std.specs.Rc.{rc_str_bytes}
-use Rattle.kishu_model.specs.Refusals.{declared}
+use Rattle.kishu_language.specs.grammar.Refusals.{declared}
 use Rattle.kishu_parser.specs.Sets.{names_in, note}
 use Rattle.kishu_parser.proofs.mentions.none_seen.Given as goal
 

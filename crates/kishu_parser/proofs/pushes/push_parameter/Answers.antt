@@ -1,5 +1,5 @@
 use Rattle.std.proofs.Common.{refl}
-use Rattle.kishu_model.specs.Tree.{parameter_of}
+use Rattle.kishu_language.specs.trees.Tree.{parameter_of}
 use Rattle.kishu_parser.proofs.Parts.{pushed}
 use Rattle.kishu_parser.proofs.pushes.push_parameter.Goals as goal
 

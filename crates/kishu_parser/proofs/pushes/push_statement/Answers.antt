@@ -1,5 +1,5 @@
 use Rattle.std.proofs.Common.{refl}
-use Rattle.kishu_model.specs.Tree.{statement_of}
+use Rattle.kishu_language.specs.trees.Tree.{statement_of}
 use Rattle.kishu_parser.proofs.Parts.{pushed}
 use Rattle.kishu_parser.proofs.pushes.push_statement.Goals as goal
 

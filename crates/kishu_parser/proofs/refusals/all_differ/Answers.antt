@@ -1,6 +1,6 @@
 use Rattle.std.proofs.Common.{map, sym, ap, ◌∙◌}
-use Rattle.kishu_model.specs.Tree.{parameter_of}
-use Rattle.kishu_model.specs.Refusals.{titles}
+use Rattle.kishu_language.specs.trees.Tree.{parameter_of}
+use Rattle.kishu_language.specs.grammar.Refusals.{titles}
 use Rattle.kishu_parser.proofs.NameSets.{fresh, fresh_differ}
 use Rattle.kishu_parser.proofs.refusals.all_differ.Goals as goal
 

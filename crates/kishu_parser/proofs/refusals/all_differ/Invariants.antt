@@ -1,6 +1,6 @@
 use Rattle.std.proofs.Common.{◌≡◌, [], drop, map}
-use Rattle.kishu_model.specs.Tree.{parameter_of}
-use Rattle.kishu_model.specs.Refusals.{all_differ, titles}
+use Rattle.kishu_language.specs.trees.Tree.{parameter_of}
+use Rattle.kishu_language.specs.grammar.Refusals.{all_differ, titles}
 use Rattle.kishu_parser.specs.Sets.{names_in}
 use Rattle.kishu_parser.proofs.NameSets.{fresh}
 use Rattle.kishu_parser.proofs.refusals.all_differ.Given as goal

@@ -1,9 +1,9 @@
 use Rattle.std.proofs.Common.{◌≡◌, Bool, List, ◌∷◌, Option, sym, ap, ◌∙◌}
 use Rattle.std.specs.Prelude.{Result, Ok, Err, IfOk, OnOk, not, ◌&&◌}
 use Rattle.std.specs.Rc.{rc_str_bytes}
-use Rattle.kishu_model.specs.Names.{is_among}
-use Rattle.kishu_model.specs.Tree.{Text, Expression, Argument, keyword, expression_of}
-use Rattle.kishu_model.specs.Grammar.{fits_after}
+use Rattle.kishu_language.specs.tokens.Names.{is_among}
+use Rattle.kishu_language.specs.trees.Tree.{Text, Expression, Argument, keyword, expression_of}
+use Rattle.kishu_language.specs.grammar.Grammar.{fits_after}
 use Rattle.kishu_parser.specs.Sets.{names_in, with_name}
 use Rattle.kishu_parser.specs.Trees.{argument_of}
 use Rattle.kishu_parser.proofs.NameSets.{plain_fits, keyword_fits}

@@ -1,6 +1,6 @@
 use Rattle.std.proofs.Common.{◌≡◌, drop, map}
-use Rattle.kishu_model.specs.Tree.{parameter_of}
-use Rattle.kishu_model.specs.Refusals.{defaults_last}
+use Rattle.kishu_language.specs.trees.Tree.{parameter_of}
+use Rattle.kishu_language.specs.grammar.Refusals.{defaults_last}
 use Rattle.kishu_parser.proofs.Orders.{after_default}
 use Rattle.kishu_parser.proofs.refusals.defaults_last.Given as goal
 

@@ -1,7 +1,7 @@
 use Rattle.std.proofs.Common.{map, ◌≡◌, ◌+◌, Bool, true, false, drop, Option, Some, None, sym, ap, ◌∙◌, refl}
 use Rattle.std.specs.Prelude.{is_some, is_none, not, ◌&&◌}
-use Rattle.kishu_model.specs.declared.tree.Expr.{Expr}
-use Rattle.kishu_model.specs.Tree.{value_of}
+use Rattle.kishu_language.specs.declared.tree.Expr.{Expr}
+use Rattle.kishu_language.specs.trees.Tree.{value_of}
 use Rattle.kishu_parser.specs.Bodies.{handler_of}
 use Rattle.kishu_parser.proofs.StatementRows.{handler_is}
 use Rattle.kishu_parser.proofs.Orders.{after_open, handlers_after}

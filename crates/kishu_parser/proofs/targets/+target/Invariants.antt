@@ -1,6 +1,6 @@
 use Rattle.std.proofs.Common.{◌≡◌, ◌+◌, ◌*◌, ◌≤◌, drop, map}
-use Rattle.kishu_model.specs.Tree.{expressions, expression_of}
-use Rattle.kishu_model.specs.Height.{of_expression, of_expressions}
+use Rattle.kishu_language.specs.trees.Tree.{expressions, expression_of}
+use Rattle.kishu_language.specs.trees.Height.{of_expression, of_expressions}
 use Rattle.kishu_parser.proofs.Assignable.{each}
 use Rattle.kishu_parser.proofs.targets.+target.Given as goal
 

@@ -1,9 +1,9 @@
 use Rattle.std.proofs.Common.{sym, subst, map}
 use Rattle.std.proofs.lemmas.Result.{err_from_is_err_and}
-use Rattle.kishu_model.specs.Parse.{Parse}
-use Rattle.kishu_model.specs.CodeLaws.{codes_read}
-use Rattle.kishu_model.specs.ExactText.{one_parse}
-use Rattle.kishu_model.specs.HeightLaws.{tree_height}
+use Rattle.kishu_language.specs.grammar.Parse.{Parse}
+use Rattle.kishu_language_laws.specs.codes.CodeLaws.{codes_read}
+use Rattle.kishu_language_laws.specs.reading.ExactText.{one_parse}
+use Rattle.kishu_language_laws.specs.trees.HeightLaws.{tree_height}
 use Rattle.kishu_parser.specs.TopLevel.{piece_of}
 use Rattle.kishu_parser.specs.TopLaws.{pieces_tree}
 use Rattle.kishu_parser.proofs.Whole.{no_fault}

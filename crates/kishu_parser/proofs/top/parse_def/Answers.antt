@@ -1,6 +1,6 @@
 use Rattle.std.proofs.Common.{sym, ap, ◌∙◌, refl, inr, map, Ok, [], ◌∷◌}
 use Rattle.std.proofs.lemmas.Result.{err_from_is_err_and}
-use Rattle.kishu_model.specs.Tree.{definition_of}
+use Rattle.kishu_language.specs.trees.Tree.{definition_of}
 use Rattle.kishu_parser.specs.Views.{tokens_of}
 use Rattle.kishu_parser.specs.Statements as lines
 use Rattle.kishu_parser.specs.TopLevel.{piece_of}

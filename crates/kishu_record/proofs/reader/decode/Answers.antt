@@ -1,5 +1,5 @@
 use Rattle.std.proofs.Common.{◌≡◌, ◌<◌, ◌^◌, length, arith, ap, ◌∙◌, sym}
-use Rattle.kishu_model.specs.Record.{head_of, commit}
+use Rattle.kishu_store.specs.Record.{head_of, commit}
 use Rattle.kishu_record.proofs.Heads.{head_from_body, keeps_from_cells, only_entry}
 use Rattle.kishu_record.proofs.reader.decode.Goals as goal
 

@@ -1,6 +1,6 @@
 use Rattle.std.proofs.Common.{◌≡◌, [], ◌∷◌, arith}
 use Rattle.std.specs.Rc.{rc_str_bytes}
-use Rattle.kishu_model.specs.declared.profile.Profile.TheVariants.{One}
+use Rattle.kishu_language.specs.declared.profile.Profile.TheVariants.{One}
 use Rattle.kishu_record.specs.Laws.{length-one_cell}
 use Rattle.kishu_record.proofs.tests.one_cell.Goals as goal
 

@@ -1,6 +1,6 @@
 use Rattle.std.proofs.Common.{◌≡◌, ◌<◌, ◌^◌, ◌++◌, length, map, drop}
 use Rattle.std.specs.Rc.{rc_str_bytes}
-use Rattle.kishu_model.specs.Record.{texts_bytes}
+use Rattle.kishu_store.specs.Record.{texts_bytes}
 use Rattle.kishu_record.proofs.writer.put_texts.Given as goal
 
 abbrev pub invariant-loop-text : goal.invariant-loop-text

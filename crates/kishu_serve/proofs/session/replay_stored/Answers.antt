@@ -1,8 +1,8 @@
 use Rattle.std.proofs.Common.{◌+◌, ◌≤◌, ◌*◌, ◌^◌, ℕ, List, drop, subst, arith}
 use Rattle.std.proofs.lemmas.List.{drop_all, length-map}
 use Rattle.std.proofs.lemmas.Result.{err_from_is_err_and}
-use Rattle.kishu_model.specs.Record.{Entry}
-use Rattle.kishu_model.specs.Holds.{graph_of}
+use Rattle.kishu_store.specs.Record.{Entry}
+use Rattle.kishu_store.specs.Holds.{graph_of}
 use Rattle.kishu_record.specs.Entries.{entry_of}
 use Rattle.kishu_journal.specs.Found.{entries_of}
 use Rattle.kishu_serve.specs.Lives.{state_of}

@@ -1,5 +1,5 @@
 use Rattle.std.proofs.Common.{drop}
-use Rattle.kishu_model.specs.Holds.{graph_of}
+use Rattle.kishu_store.specs.Holds.{graph_of}
 use Rattle.kishu_journal.specs.Found.{entries_of}
 use Rattle.kishu_serve.specs.Lives.{state_of}
 use Rattle.kishu_serve.specs.Midway.{Midway}

@@ -1,6 +1,6 @@
 use Rattle.std.proofs.Common.{arith, inl, inr, [], ◌∷◌, ◌∙◌, ap, Err}
 use Rattle.kishu_host.specs.Going.{now_has, now_each}
-use Rattle.kishu_model.specs.Laws.{broken-holds, foreign-holds}
+use Rattle.kishu_store_laws.specs.Laws.{broken-holds, foreign-holds}
 use Rattle.kishu_serve.specs.declared.serving.OpenFault.{OpenFault}
 use Rattle.kishu_serve.specs.Headline.{IsPart}
 use Rattle.kishu_serve.specs.Requests.{request_of}

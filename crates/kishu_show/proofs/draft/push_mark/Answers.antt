@@ -1,5 +1,5 @@
 use Rattle.std.proofs.Common.{◌+◌, ◌≤◌, OnOk, length, subst}
-use Rattle.kishu_model.specs.Show.{made}
+use Rattle.kishu_meaning.specs.comparing.Show.{made}
 use Rattle.kishu_show.specs.Shown.{Makes, onto}
 use Rattle.kishu_show.proofs.Ascii.{chars-plain}
 use Rattle.kishu_show.proofs.draft.push_mark.Goals as goal

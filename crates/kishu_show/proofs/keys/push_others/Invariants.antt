@@ -3,8 +3,8 @@ use Rattle.std.specs.Prelude.{codes}
 use Rattle.std.specs.List.{flat_map}
 use Rattle.std.specs.Str.{chars}
 use Rattle.std.specs.String.{string_bytes}
-use Rattle.kishu_model.specs.Keys.{part_of}
-use Rattle.kishu_model.specs.Show.{part_text}
+use Rattle.kishu_meaning.specs.values.Keys.{part_of}
+use Rattle.kishu_meaning.specs.comparing.Show.{part_text}
 use Rattle.kishu_show.proofs.keys.push_others.Given as goal
 
 -- what is left of the parts goes on from here

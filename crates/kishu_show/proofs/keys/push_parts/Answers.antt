@@ -3,9 +3,9 @@ use Rattle.std.specs.Prelude.{codes}
 use Rattle.std.specs.Str.{chars}
 use Rattle.std.specs.String.{string_bytes}
 use Rattle.std.proofs.lemmas.List.{append-nil}
-use Rattle.kishu_model.specs.Keys.{part_of}
-use Rattle.kishu_model.specs.Show.{part_text}
-use Rattle.kishu_model.specs.Texts.{joined}
+use Rattle.kishu_meaning.specs.values.Keys.{part_of}
+use Rattle.kishu_meaning.specs.comparing.Show.{part_text}
+use Rattle.kishu_meaning.specs.values.Texts.{joined}
 use Rattle.kishu_show.proofs.Joins.{empty_when, joined_more}
 use Rattle.kishu_show.proofs.keys.push_parts.Goals as goal
 

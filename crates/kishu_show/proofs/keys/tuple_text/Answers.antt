@@ -2,9 +2,9 @@ use Rattle.std.proofs.Common.{◌∙◌, map}
 use Rattle.std.specs.Prelude.{codes}
 use Rattle.std.specs.Str.{chars}
 use Rattle.std.specs.String.{string_bytes}
-use Rattle.kishu_model.specs.Keys.{part_of}
-use Rattle.kishu_model.specs.Show.{part_text, tuple_end}
-use Rattle.kishu_model.specs.Texts.{joined}
+use Rattle.kishu_meaning.specs.values.Keys.{part_of}
+use Rattle.kishu_meaning.specs.comparing.Show.{part_text, tuple_end}
+use Rattle.kishu_meaning.specs.values.Texts.{joined}
 use Rattle.kishu_show.proofs.Joins.{three, ending}
 use Rattle.kishu_show.proofs.keys.tuple_text.Goals as goal
 

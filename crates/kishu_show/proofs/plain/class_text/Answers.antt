@@ -1,7 +1,7 @@
 use Rattle.std.proofs.Common.{◌≡◌, ◌++◌, IfOk, rules, append_assoc}
 use Rattle.std.specs.Prelude.{codes}
 use Rattle.std.specs.String.{string_bytes}
-use Rattle.kishu_model.specs.Show.{class_name}
+use Rattle.kishu_meaning.specs.comparing.Show.{class_name}
 use Rattle.kishu_show.proofs.Ascii.{ok_ascii, class-IsAscii}
 use Rattle.kishu_show.proofs.plain.class_text.Goals as goal
 

@@ -4,11 +4,11 @@ use Rattle.std.specs.Rc.{rc_str_bytes}
 use Rattle.std.specs.Str.{chars}
 use Rattle.std.proofs.lemmas.Option.{slice_get_within, get_or_from_slice_get}
 use Rattle.std.proofs.lemmas.Result.{err_from_is_err_and}
-use Rattle.kishu_model.specs.Keys.{key_of}
-use Rattle.kishu_model.specs.Values.{value_of}
-use Rattle.kishu_model.specs.Show.{◌⊕◌, made, contents_repr, listed, repr_by, repr_nodes, entry_repr, attribute_repr, key_text, tuple_end, class_name}
+use Rattle.kishu_meaning.specs.values.Keys.{key_of}
+use Rattle.kishu_meaning.specs.values.Values.{value_of}
+use Rattle.kishu_meaning.specs.comparing.Show.{◌⊕◌, made, contents_repr, listed, repr_by, repr_nodes, entry_repr, attribute_repr, key_text, tuple_end, class_name}
 use Rattle.kishu_heap.specs.Cells.{node_of, entries_of, attributes_of}
-use Rattle.kishu_model.specs.Counting.{answer}
+use Rattle.kishu_meaning.specs.moments.Counting.{answer}
 use Rattle.kishu_show.specs.Shown.{Makes, onto, text_of}
 use Rattle.kishu_show.specs.Stack.{around_of}
 use Rattle.kishu_show.proofs.Parts.{then_makes, stops, nothing_made}

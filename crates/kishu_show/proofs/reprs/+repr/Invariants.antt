@@ -1,7 +1,7 @@
 use Rattle.std.proofs.Common.{◌≡◌, ◌+◌, ◌*◌, ◌≤◌}
-use Rattle.kishu_model.specs.Keys.{key_of}
-use Rattle.kishu_model.specs.Values.{value_of}
-use Rattle.kishu_model.specs.Show.{listed, repr_by, repr_nodes, entry_repr, attribute_repr}
+use Rattle.kishu_meaning.specs.values.Keys.{key_of}
+use Rattle.kishu_meaning.specs.values.Values.{value_of}
+use Rattle.kishu_meaning.specs.comparing.Show.{listed, repr_by, repr_nodes, entry_repr, attribute_repr}
 use Rattle.std.specs.Prelude.{map, min}
 use Rattle.std.specs.Rc.{rc_str_bytes}
 use Rattle.kishu_heap.specs.Cells.{entries_of, attributes_of}

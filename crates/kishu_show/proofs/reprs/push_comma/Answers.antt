@@ -1,6 +1,6 @@
 use Rattle.std.proofs.Common.{◌≡◌, ℕ, zero, suc, refl, subst}
 use Rattle.std.specs.Prelude.{codes}
-use Rattle.kishu_model.specs.Show.{made}
+use Rattle.kishu_meaning.specs.comparing.Show.{made}
 use Rattle.kishu_show.specs.Shown.{Makes, onto}
 use Rattle.kishu_show.specs.Turns.{comma}
 use Rattle.kishu_show.proofs.Parts.{nothing_made}

@@ -1,6 +1,6 @@
 use Rattle.std.proofs.Common.{◌∙◌, ap, subst}
 use Rattle.std.specs.Str.{chars}
-use Rattle.kishu_model.specs.Show.{made}
+use Rattle.kishu_meaning.specs.comparing.Show.{made}
 use Rattle.kishu_show.specs.Shown.{Makes, onto}
 use Rattle.kishu_show.proofs.reprs.push_plain.Goals as goal
 

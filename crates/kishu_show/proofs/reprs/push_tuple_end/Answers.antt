@@ -1,6 +1,6 @@
 use Rattle.std.proofs.Common.{◌∙◌, subst}
-use Rattle.kishu_model.specs.Show.{made}
-use Rattle.kishu_model.specs.Values.{value_of}
+use Rattle.kishu_meaning.specs.comparing.Show.{made}
+use Rattle.kishu_meaning.specs.values.Values.{value_of}
 use Rattle.kishu_show.specs.Shown.{Makes, onto}
 use Rattle.kishu_show.proofs.Joins.{ending}
 use Rattle.kishu_show.proofs.reprs.push_tuple_end.Goals as goal

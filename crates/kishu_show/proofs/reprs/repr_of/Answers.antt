@@ -1,5 +1,5 @@
-use Rattle.kishu_model.specs.Show.{repr_in}
-use Rattle.kishu_model.specs.Values.{value_of}
+use Rattle.kishu_meaning.specs.comparing.Show.{repr_in}
+use Rattle.kishu_meaning.specs.values.Values.{value_of}
 use Rattle.kishu_show.proofs.Ends.{repr_whole, fault_told}
 use Rattle.kishu_show.proofs.reprs.repr_of.Goals as goal
 

@@ -2,9 +2,9 @@ use Rattle.std.proofs.Common.{◌≡◌, ap, subst, refl, arith, false, ◌==◌
 use Rattle.std.specs.Prelude.{slice_get}
 use Rattle.std.proofs.lemmas.Result.{err_from_is_err_and}
 use Rattle.std.specs.List.{list_any}
-use Rattle.kishu_model.specs.Counting.{answer}
-use Rattle.kishu_model.specs.Values.{value_of}
-use Rattle.kishu_model.specs.Show.{argument_text, exception_text, repr_at, repr_nodes, show_nodes, tuple_repr}
+use Rattle.kishu_meaning.specs.moments.Counting.{answer}
+use Rattle.kishu_meaning.specs.values.Values.{value_of}
+use Rattle.kishu_meaning.specs.comparing.Show.{argument_text, exception_text, repr_at, repr_nodes, show_nodes, tuple_repr}
 use Rattle.kishu_show.specs.Shown.{Makes, onto, text_of}
 use Rattle.kishu_show.proofs.Ends.{nothing_around}
 use Rattle.kishu_show.proofs.Exceptions.{plain_show, is_exception, either_way, as_other, one_argument, more_arguments, no_arguments, step_stops, after_step}

@@ -1,5 +1,5 @@
-use Rattle.kishu_model.specs.Show.{show_in}
-use Rattle.kishu_model.specs.Values.{value_of}
+use Rattle.kishu_meaning.specs.comparing.Show.{show_in}
+use Rattle.kishu_meaning.specs.values.Values.{value_of}
 use Rattle.kishu_show.proofs.Ends.{show_whole, fault_told}
 use Rattle.kishu_show.proofs.shows.show.Goals as goal
 

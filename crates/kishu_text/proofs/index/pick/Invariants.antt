@@ -1,7 +1,7 @@
 use Rattle.std.proofs.Common.{◌≡◌, ◌-◌, ◌++◌, length, pos}
 use Rattle.std.specs.Str.{chars}
 use Rattle.std.specs.String.{string_bytes}
-use Rattle.kishu_model.specs.Texts.{places, LieWithin, picked}
+use Rattle.kishu_meaning.specs.values.Texts.{places, LieWithin, picked}
 use Rattle.kishu_text.proofs.index.pick.Given as goal
 
 abbrev pub invariant-loop-k : goal.invariant-loop-k

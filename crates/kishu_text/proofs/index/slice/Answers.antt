@@ -5,7 +5,7 @@ use Rattle.std.specs.String.{string_bytes}
 use Rattle.std.proofs.lemmas.Bool.Decides.{nat_tests}
 use Rattle.std.proofs.lemmas.Int.{to_z-of_z}
 use Rattle.std.proofs.lemmas.Str.{chars-nil}
-use Rattle.kishu_model.specs.Texts.{places, picked}
+use Rattle.kishu_meaning.specs.values.Texts.{places, picked}
 use Rattle.kishu_text.proofs.Places.{first_within, fits, same_place, moved, same_picked}
 use Rattle.kishu_text.proofs.index.slice.Goals as goal
 

@@ -1,7 +1,7 @@
 use Rattle.std.proofs.Common.{◌∙◌, ap, List, ℕ, [], ◌∷◌, ◌++◌, flat_map}
 use Rattle.std.specs.Str.{chars}
 use Rattle.std.proofs.lemmas.Str.{chars-nil}
-use Rattle.kishu_model.specs.Texts.{escaped}
+use Rattle.kishu_meaning.specs.values.Texts.{escaped}
 use Rattle.kishu_text.proofs.repr.quote.Goals as goal
 
 pub loop-c-init : goal.loop-c-init

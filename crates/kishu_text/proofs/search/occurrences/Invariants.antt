@@ -2,7 +2,7 @@ use Rattle.std.proofs.Common.{◌≡◌, ◌≤◌, ◌+◌, length}
 use denote.Text.{Utf8}
 use denote.Shadow.{shadow}
 use Rattle.std.specs.Str.{chars}
-use Rattle.kishu_model.specs.Texts.{pieces}
+use Rattle.kishu_meaning.specs.values.Texts.{pieces}
 use Rattle.kishu_text.proofs.search.occurrences.Given as goal
 
 abbrev pub invariant-loop-behind : goal.invariant-loop-behind

@@ -3,7 +3,7 @@ use Rattle.std.specs.Str.{chars}
 use Rattle.std.specs.String.{string_bytes}
 use Rattle.std.proofs.lemmas.List.{append_assoc}
 use Rattle.std.proofs.lemmas.Str.{chars-nil}
-use Rattle.kishu_model.specs.Texts.{joined, pieces, replaced}
+use Rattle.kishu_meaning.specs.values.Texts.{joined, pieces, replaced}
 use Rattle.kishu_text.proofs.Cuts.{joined_more, pieces-some}
 use Rattle.kishu_text.proofs.search.replace.Goals as goal
 

@@ -3,7 +3,7 @@ use denote.Text.{Utf8}
 use denote.Shadow.{shadow}
 use Rattle.std.specs.Str.{chars}
 use Rattle.std.specs.String.{string_bytes}
-use Rattle.kishu_model.specs.Texts.{replaced}
+use Rattle.kishu_meaning.specs.values.Texts.{replaced}
 use Rattle.kishu_text.proofs.search.replace.Given as goal
 
 abbrev pub invariant-loop-piece : goal.invariant-loop-piece

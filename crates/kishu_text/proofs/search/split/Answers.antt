@@ -3,7 +3,7 @@ use Rattle.std.specs.Str.{chars}
 use Rattle.std.specs.String.{string_bytes}
 use Rattle.std.proofs.lemmas.List.{map_push}
 use Rattle.std.proofs.lemmas.Str.{encodes-chars}
-use Rattle.kishu_model.specs.Texts.{code_points, joined, pieces}
+use Rattle.kishu_meaning.specs.values.Texts.{code_points, joined, pieces}
 use Rattle.kishu_text.proofs.Cuts.{joined_pieces}
 use Rattle.kishu_text.proofs.Found.{some_chars}
 use Rattle.kishu_text.proofs.search.split.Goals as goal

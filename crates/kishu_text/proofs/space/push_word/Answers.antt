@@ -4,7 +4,7 @@ use Rattle.std.specs.String.{string_bytes}
 use Rattle.std.proofs.lemmas.List.{append-nil, map_push, nil_from_length}
 use Rattle.std.proofs.lemmas.Str.{chars-nil, encodes-chars}
 use Rattle.std.proofs.lemmas.Bool.Decides.{nat_tests}
-use Rattle.kishu_model.specs.Texts.{code_points, is_nonempty}
+use Rattle.kishu_meaning.specs.values.Texts.{code_points, is_nonempty}
 use Rattle.kishu_text.proofs.Found.{some_chars}
 use Rattle.kishu_text.proofs.White.{nonempty}
 use Rattle.kishu_text.proofs.space.push_word.Goals as goal

@@ -2,7 +2,7 @@ use Rattle.std.proofs.Common.{◌≡◌, ◌++◌, length}
 use denote.Text.{Utf8}
 use denote.Shadow.{shadow}
 use Rattle.std.specs.Str.{chars}
-use Rattle.kishu_model.specs.Texts.{code_points, words}
+use Rattle.kishu_meaning.specs.values.Texts.{code_points, words}
 use Rattle.kishu_text.proofs.space.split_space.Given as goal
 
 abbrev pub invariant-loop-word : goal.invariant-loop-word

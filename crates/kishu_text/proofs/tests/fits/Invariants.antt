@@ -1,4 +1,4 @@
-use Rattle.kishu_model.specs.Texts.{places, LieWithin}
+use Rattle.kishu_meaning.specs.values.Texts.{places, LieWithin}
 use Rattle.kishu_text.proofs.tests.fits.Given as goal
 
 abbrev pub invariant-loop-left : goal.invariant-loop-left

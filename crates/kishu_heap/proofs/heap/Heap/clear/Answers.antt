@@ -1,5 +1,5 @@
 use Rattle.std.proofs.Common.{length, []}
-use Rattle.kishu_model.specs.Nodes.{on_dict}
+use Rattle.kishu_meaning.specs.values.Nodes.{on_dict}
 use Rattle.kishu_heap.proofs.Held.{changes, changes_heap}
 use Rattle.kishu_heap.proofs.Soundness.{keeps_clear}
 use Rattle.kishu_heap.proofs.heap.Heap.clear.Goals as goal

@@ -1,9 +1,9 @@
 use Rattle.std.proofs.Common.{length, ◌∙◌}
 use Rattle.std.proofs.lemmas.Result.{on_ok_weaker, on_err_weaker}
-use Rattle.kishu_model.specs.Keys.{key_of}
-use Rattle.kishu_model.specs.Values.{value_of}
-use Rattle.kishu_model.specs.Nodes.{insert}
-use Rattle.kishu_model.specs.EqualLaws.{inserts_by_values}
+use Rattle.kishu_meaning.specs.values.Keys.{key_of}
+use Rattle.kishu_meaning.specs.values.Values.{value_of}
+use Rattle.kishu_meaning.specs.values.Nodes.{insert}
+use Rattle.kishu_meaning_laws.specs.EqualLaws.{inserts_by_values}
 use Rattle.kishu_heap.proofs.Held.{changes, ends_heap, stays}
 use Rattle.kishu_heap.proofs.Soundness.{keeps_insert}
 use Rattle.kishu_heap.proofs.heap.Heap.insert.Goals as goal

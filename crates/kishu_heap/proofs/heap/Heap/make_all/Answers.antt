@@ -1,6 +1,6 @@
 use Rattle.std.proofs.Common.{◌+◌, ◌<◌, subst, length, map, IsTrue}
 use Rattle.std.specs.Result.{is_ok}
-use Rattle.kishu_model.specs.Sound.{are_sound_nodes}
+use Rattle.kishu_meaning.specs.values.Sound.{are_sound_nodes}
 use Rattle.kishu_heap.specs.Cells.{node_of}
 use Rattle.kishu_heap.proofs.Held.{may_add_heap}
 use Rattle.kishu_heap.proofs.heap.Heap.make_all.Goals as goal

@@ -1,6 +1,6 @@
 use Rattle.std.proofs.Common.{◌≡◌, ◌<◌, ℕ, zero, suc, ap, sym, subst, arith, length, map, get_or, IsTrue, List, [], ◌∷◌}
 use Rattle.std.proofs.lemmas.List.{length-map}
-use Rattle.kishu_model.specs.Sound.{is_sound_node, are_sound_nodes}
+use Rattle.kishu_meaning.specs.values.Sound.{is_sound_node, are_sound_nodes}
 use Rattle.kishu_heap.specs.declared.node.Node as rust
 use Rattle.kishu_heap.specs.Cells.{node_of}
 use Rattle.kishu_heap.proofs.Soundness.{first, second}

@@ -1,5 +1,5 @@
 use Rattle.std.proofs.Common.{length, ◌∙◌}
-use Rattle.kishu_model.specs.Nodes.{last_item, pop}
+use Rattle.kishu_meaning.specs.values.Nodes.{last_item, pop}
 use Rattle.kishu_heap.proofs.Held.{changes, changes_heap, finds_in}
 use Rattle.kishu_heap.proofs.Soundness.{keeps_pop}
 use Rattle.kishu_heap.proofs.heap.Heap.pop.Goals as goal

@@ -1,7 +1,7 @@
 use Rattle.std.proofs.Common.{length}
 use Rattle.std.proofs.lemmas.Result.{on_ok_weaker, on_err_weaker}
-use Rattle.kishu_model.specs.Values.{value_of}
-use Rattle.kishu_model.specs.Nodes.{push}
+use Rattle.kishu_meaning.specs.values.Values.{value_of}
+use Rattle.kishu_meaning.specs.values.Nodes.{push}
 use Rattle.kishu_heap.proofs.Held.{changes, ends_heap, stays}
 use Rattle.kishu_heap.proofs.Soundness.{keeps_push}
 use Rattle.kishu_heap.proofs.heap.Heap.push.Goals as goal

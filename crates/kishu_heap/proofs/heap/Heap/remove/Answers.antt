@@ -1,7 +1,7 @@
 use Rattle.std.proofs.Common.{length, ◌∙◌}
-use Rattle.kishu_model.specs.Keys.{key_of}
-use Rattle.kishu_model.specs.Nodes.{value_under, remove}
-use Rattle.kishu_model.specs.EqualLaws.{finds_equal}
+use Rattle.kishu_meaning.specs.values.Keys.{key_of}
+use Rattle.kishu_meaning.specs.values.Nodes.{value_under, remove}
+use Rattle.kishu_meaning_laws.specs.EqualLaws.{finds_equal}
 use Rattle.kishu_heap.proofs.Held.{changes, changes_heap, finds_in}
 use Rattle.kishu_heap.proofs.Soundness.{keeps_remove}
 use Rattle.kishu_heap.proofs.heap.Heap.remove.Goals as goal

@@ -1,5 +1,5 @@
 use Rattle.std.proofs.Common.{length, ◌∙◌}
-use Rattle.kishu_model.specs.Nodes.{attribute, remove_attr}
+use Rattle.kishu_meaning.specs.values.Nodes.{attribute, remove_attr}
 use Rattle.kishu_heap.proofs.Held.{changes, changes_heap, finds_in}
 use Rattle.kishu_heap.proofs.Soundness.{keeps_remove_attr}
 use Rattle.kishu_heap.proofs.heap.Heap.remove_attr.Goals as goal

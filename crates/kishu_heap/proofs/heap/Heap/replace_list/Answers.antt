@@ -1,7 +1,7 @@
 use Rattle.std.proofs.Common.{length}
 use Rattle.std.specs.Prelude.{map}
-use Rattle.kishu_model.specs.Values.{value_of}
-use Rattle.kishu_model.specs.Nodes.{replace_list}
+use Rattle.kishu_meaning.specs.values.Values.{value_of}
+use Rattle.kishu_meaning.specs.values.Nodes.{replace_list}
 use Rattle.kishu_heap.proofs.Held.{changes, changes_heap}
 use Rattle.kishu_heap.proofs.Soundness.{keeps_replace_list}
 use Rattle.kishu_heap.proofs.heap.Heap.replace_list.Goals as goal

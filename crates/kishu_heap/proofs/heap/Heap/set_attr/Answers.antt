@@ -1,8 +1,8 @@
 use Rattle.std.proofs.Common.{length}
 use Rattle.std.proofs.lemmas.Result.{on_ok_weaker, on_err_weaker}
 use Rattle.std.specs.Rc.{rc_str_bytes}
-use Rattle.kishu_model.specs.Values.{value_of}
-use Rattle.kishu_model.specs.Nodes.{set_attr}
+use Rattle.kishu_meaning.specs.values.Values.{value_of}
+use Rattle.kishu_meaning.specs.values.Nodes.{set_attr}
 use Rattle.kishu_heap.proofs.Held.{changes, ends_heap, stays}
 use Rattle.kishu_heap.proofs.Soundness.{keeps_set_attr}
 use Rattle.kishu_heap.proofs.heap.Heap.set_attr.Goals as goal

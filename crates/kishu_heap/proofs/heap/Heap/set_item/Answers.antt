@@ -1,6 +1,6 @@
 use Rattle.std.proofs.Common.{length}
-use Rattle.kishu_model.specs.Values.{value_of}
-use Rattle.kishu_model.specs.Nodes.{set_item}
+use Rattle.kishu_meaning.specs.values.Values.{value_of}
+use Rattle.kishu_meaning.specs.values.Nodes.{set_item}
 use Rattle.kishu_heap.proofs.Held.{changes, changes_heap}
 use Rattle.kishu_heap.proofs.Soundness.{keeps_set_item}
 use Rattle.kishu_heap.proofs.heap.Heap.set_item.Goals as goal

@@ -1,5 +1,5 @@
 use Rattle.std.proofs.Common.{◌++◌, ◌∷◌, [], ◌∙◌, ap, length, List, ℕ, arith}
-use Rattle.kishu_model.specs.Holds.{framed}
+use Rattle.kishu_store.specs.Holds.{framed}
 use Rattle.kishu_journal.specs.Stands.{JournalState}
 use Rattle.kishu_journal.proofs.Behind.{end-with}
 use Rattle.kishu_journal.proofs.journal.Journal.append.Goals as goal

@@ -2,8 +2,8 @@ use Rattle.std.proofs.Common.{◌≡◌, ◌∷◌, ◌++◌, ◌^◌, [], ℕ, 
 use Rattle.std.proofs.lemmas.List.{length-map}
 use Rattle.kishu_record.specs.declared.entry.Entry as program
 use Rattle.kishu_record.specs.Entries.{entry_of}
-use Rattle.kishu_model.specs.Holds.{Ends, end_of, front, IsBroken, IsForeign}
-use Rattle.kishu_model.specs.Laws.{records-most, broken-ends, broken-holds, foreign-holds, foreign-broken, one_place}
+use Rattle.kishu_store.specs.Holds.{Ends, end_of, front, IsBroken, IsForeign}
+use Rattle.kishu_store_laws.specs.Laws.{records-most, broken-ends, broken-holds, foreign-holds, foreign-broken, one_place}
 use Rattle.kishu_journal.specs.declared.journal.JournalFault.TheVariants.{NotAJournal, Damaged}
 use Rattle.kishu_journal.specs.Stands.{JournalState}
 use Rattle.kishu_journal.specs.Found.{entries_of}

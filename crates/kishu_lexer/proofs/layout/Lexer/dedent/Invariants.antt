@@ -1,5 +1,5 @@
 use Rattle.std.proofs.Common.{◌≡◌, ◌-◌, length, reverse}
-use Rattle.kishu_model.specs.Layout as spec
+use Rattle.kishu_language.specs.tokens.Layout as spec
 use Rattle.kishu_lexer.specs.Machine.{state_of, tokens_of}
 use Rattle.kishu_lexer.proofs.layout.Lexer.dedent.Given as goal
 

@@ -1,8 +1,8 @@
 use Rattle.std.proofs.Common.{◌∙◌, sym, subst, IsTrue}
 use Rattle.std.specs.List.{list_all}
 use Rattle.std.specs.Rc.{rc_str_bytes}
-use Rattle.kishu_model.specs.Names.{is_name}
-use Rattle.kishu_model.specs.Values.{value_of}
+use Rattle.kishu_language.specs.tokens.Names.{is_name}
+use Rattle.kishu_meaning.specs.values.Values.{value_of}
 use Rattle.kishu_names.specs.Namespace.{names_of}
 use Rattle.kishu_names.specs.Record.{Rises, texts_of}
 use Rattle.kishu_names.proofs.Kept.{good, stay_bound}

@@ -1,6 +1,6 @@
 use Rattle.std.proofs.Common.{sym, subst}
 use Rattle.std.specs.Rc.{rc_str_bytes}
-use Rattle.kishu_model.specs.Values.{find}
+use Rattle.kishu_meaning.specs.values.Values.{find}
 use Rattle.kishu_names.specs.Namespace.{names_of}
 use Rattle.kishu_names.specs.Record.{Rises, texts_of}
 use Rattle.kishu_names.proofs.Kept.{finds_valid, valid_through}

@@ -1,7 +1,7 @@
 use Rattle.std.proofs.Common.{sym, subst, IsTrue}
 use Rattle.std.specs.Rc.{rc_str_bytes}
-use Rattle.kishu_model.specs.Names.{is_name}
-use Rattle.kishu_model.specs.Values.{value_of}
+use Rattle.kishu_language.specs.tokens.Names.{is_name}
+use Rattle.kishu_meaning.specs.values.Values.{value_of}
 use Rattle.kishu_names.proofs.Kept.{kept_set}
 use Rattle.kishu_names.proofs.names.Names.restore.Goals as goal
 

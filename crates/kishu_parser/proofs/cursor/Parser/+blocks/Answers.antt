@@ -1,10 +1,10 @@
 use Rattle.std.proofs.Common.{rules, arith, ◌≡◌, [], ◌∷◌, ◌++◌, ℕ, ◌+◌, ◌-◌, ◌*◌}
 use Rattle.std.specs.Rc.{rc_str_bytes}
-use Rattle.kishu_model.specs.declared.token.Mark.TheVariants as m
-use Rattle.kishu_model.specs.Tree.{expression_of, statement_of, parameter_of}
-use Rattle.kishu_model.specs.Reader as reader
-use Rattle.kishu_model.specs.ReadExpressions as expressions
-use Rattle.kishu_model.specs.ReadStatements as spec
+use Rattle.kishu_language.specs.declared.token.Mark.TheVariants as m
+use Rattle.kishu_language.specs.trees.Tree.{expression_of, statement_of, parameter_of}
+use Rattle.kishu_language.specs.reading.Reader as reader
+use Rattle.kishu_language.specs.reading.ReadExpressions as expressions
+use Rattle.kishu_language.specs.reading.ReadStatements as spec
 use Rattle.kishu_parser.specs.Views.{left}
 use Rattle.kishu_parser.specs.Trees as views
 use Rattle.kishu_parser.specs.Turns as turns
@@ -18,8 +18,8 @@ use Rattle.std.proofs.lemmas.Result.{err_from_is_err_and}
 use Rattle.kishu_parser.proofs.Chunks.{fails_chunk}
 use Rattle.kishu_parser.proofs.Counts.{chunk_opens}
 use Rattle.std.proofs.Common.{map, Some}
-use Rattle.kishu_model.specs.Tree.{statements}
-use Rattle.kishu_model.specs.Refusals.{parameters_fit, globals_fit}
+use Rattle.kishu_language.specs.trees.Tree.{statements}
+use Rattle.kishu_language.specs.grammar.Refusals.{parameters_fit, globals_fit}
 use Rattle.kishu_parser.proofs.StatementRows.{definition_is}
 use Rattle.kishu_parser.proofs.Compounds.{while_reads, head_reads, parameters_refused, body_reads, globals_refused, globals_pass}
 use Rattle.kishu_parser.proofs.cursor.Parser.+blocks.Goals as goal

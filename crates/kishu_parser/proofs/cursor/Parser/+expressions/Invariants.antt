@@ -1,9 +1,9 @@
 use Rattle.std.proofs.Common.{◌≡◌, [], ◌∷◌, ◌++◌, ℕ, ◌+◌, ◌-◌, ◌*◌}
-use Rattle.kishu_model.specs.declared.token.Mark.TheVariants as m
-use Rattle.kishu_model.specs.Tree.{expression_of}
-use Rattle.kishu_model.specs.Grammar as g
-use Rattle.kishu_model.specs.Reader as reader
-use Rattle.kishu_model.specs.ReadExpressions as spec
+use Rattle.kishu_language.specs.declared.token.Mark.TheVariants as m
+use Rattle.kishu_language.specs.trees.Tree.{expression_of}
+use Rattle.kishu_language.specs.grammar.Grammar as g
+use Rattle.kishu_language.specs.reading.Reader as reader
+use Rattle.kishu_language.specs.reading.ReadExpressions as spec
 use Rattle.kishu_parser.specs.Views.{left}
 use Rattle.kishu_parser.specs.Trees as views
 use Rattle.kishu_parser.specs.Turns as turns

@@ -1,8 +1,8 @@
 use Rattle.std.proofs.Common.{◌≡◌, [], ◌-◌}
-use Rattle.kishu_model.specs.declared.token.Mark.TheVariants as m
-use Rattle.kishu_model.specs.Tree.{expression_of}
-use Rattle.kishu_model.specs.Reader as reader
-use Rattle.kishu_model.specs.ReadStatements as spec
+use Rattle.kishu_language.specs.declared.token.Mark.TheVariants as m
+use Rattle.kishu_language.specs.trees.Tree.{expression_of}
+use Rattle.kishu_language.specs.reading.Reader as reader
+use Rattle.kishu_language.specs.reading.ReadStatements as spec
 use Rattle.kishu_parser.specs.Views.{left}
 use Rattle.kishu_parser.specs.Statements as lines
 use Rattle.kishu_parser.proofs.cursor.Parser.assigned.Given as goal

@@ -1,6 +1,6 @@
 use Rattle.std.proofs.Common.{◌≡◌, sym, ap, ◌∙◌}
 use Rattle.std.specs.Prelude.{is_some}
-use Rattle.kishu_model.specs.ReadExpressions as spec
+use Rattle.kishu_language.specs.reading.ReadExpressions as spec
 use Rattle.kishu_parser.specs.Views.{left, by_table}
 use Rattle.kishu_parser.proofs.Fronts.{by_mark}
 use Rattle.kishu_parser.proofs.cursor.Parser.begins_comparison.Goals as goal

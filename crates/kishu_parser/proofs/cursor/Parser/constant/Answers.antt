@@ -1,6 +1,6 @@
 use Rattle.std.proofs.Common.{◌≡◌, Some, None, sym, ap, ◌∙◌}
-use Rattle.kishu_model.specs.Tree.{expression_of, value_of}
-use Rattle.kishu_model.specs.Grammar.{constant_of}
+use Rattle.kishu_language.specs.trees.Tree.{expression_of, value_of}
+use Rattle.kishu_language.specs.grammar.Grammar.{constant_of}
 use Rattle.kishu_parser.specs.Views.{left, by_table}
 use Rattle.kishu_parser.proofs.Fronts.{one_gives, one_misses}
 use Rattle.kishu_parser.proofs.cursor.Parser.constant.Goals as goal

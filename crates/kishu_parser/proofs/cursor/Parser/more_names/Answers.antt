@@ -1,7 +1,7 @@
 use Rattle.std.proofs.Common.{rules, arith, ◌-◌, sym, ◌∙◌}
-use Rattle.kishu_model.specs.declared.token.Mark.TheVariants as m
-use Rattle.kishu_model.specs.Reader as reader
-use Rattle.kishu_model.specs.ReadExpressions as expressions
+use Rattle.kishu_language.specs.declared.token.Mark.TheVariants as m
+use Rattle.kishu_language.specs.reading.Reader as reader
+use Rattle.kishu_language.specs.reading.ReadExpressions as expressions
 use Rattle.kishu_parser.specs.Views.{left}
 use Rattle.kishu_parser.specs.Trees as views
 use Rattle.kishu_parser.specs.Turns as turns

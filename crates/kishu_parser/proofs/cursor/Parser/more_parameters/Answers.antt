@@ -1,10 +1,10 @@
 use Rattle.std.proofs.Common.{rules, arith, ◌≡◌, [], ◌∷◌, ◌++◌, ℕ, ◌+◌, ◌-◌, ◌*◌}
 use Rattle.std.specs.Rc.{rc_str_bytes}
-use Rattle.kishu_model.specs.declared.token.Mark.TheVariants as m
-use Rattle.kishu_model.specs.Tree.{expression_of, statement_of, parameter_of}
-use Rattle.kishu_model.specs.Reader as reader
-use Rattle.kishu_model.specs.ReadExpressions as expressions
-use Rattle.kishu_model.specs.ReadStatements as spec
+use Rattle.kishu_language.specs.declared.token.Mark.TheVariants as m
+use Rattle.kishu_language.specs.trees.Tree.{expression_of, statement_of, parameter_of}
+use Rattle.kishu_language.specs.reading.Reader as reader
+use Rattle.kishu_language.specs.reading.ReadExpressions as expressions
+use Rattle.kishu_language.specs.reading.ReadStatements as spec
 use Rattle.kishu_parser.specs.Views.{left}
 use Rattle.kishu_parser.specs.Trees as views
 use Rattle.kishu_parser.specs.Turns as turns

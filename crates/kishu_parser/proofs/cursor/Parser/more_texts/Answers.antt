@@ -1,7 +1,7 @@
 use Rattle.std.proofs.Common.{rules, arith, [], ◌∷◌}
 use Rattle.std.proofs.lemmas.Grind.{common_steps}
 use Rattle.std.specs.Rc.{rc_str_bytes}
-use Rattle.kishu_model.specs.Reader as reader
+use Rattle.kishu_language.specs.reading.Reader as reader
 use Rattle.kishu_parser.specs.Views.{left}
 use Rattle.kishu_parser.specs.Trees as views
 use Rattle.kishu_parser.proofs.Counts.{one_more, stops}

@@ -1,6 +1,6 @@
 use Rattle.std.proofs.Common.{◌≡◌, [], ◌∷◌, ◌-◌}
 use Rattle.std.specs.Rc.{rc_str_bytes}
-use Rattle.kishu_model.specs.Reader as reader
+use Rattle.kishu_language.specs.reading.Reader as reader
 use Rattle.kishu_parser.specs.Views.{left}
 use Rattle.kishu_parser.specs.Trees as views
 use Rattle.kishu_parser.proofs.cursor.Parser.more_texts.Given as goal

@@ -1,6 +1,6 @@
 use Rattle.std.proofs.Common.{◌∙◌, length, sym, ap, arith}
 use Rattle.std.specs.Option.{option_map}
-use Rattle.kishu_model.specs.Tokens.{kind_of}
+use Rattle.kishu_language.specs.tokens.Tokens.{kind_of}
 use Rattle.kishu_parser.specs.Views.{left}
 use Rattle.kishu_parser.proofs.Cuts.{ends, goes, same_piece, in_block, in_line, rest_length, one_block}
 use Rattle.kishu_parser.proofs.cursor.Parser.next_piece.Goals.{else-ends-via-then-ends+then-open-eq0+else-starts_piece, else-ends-via-then-ends+else-open-eq0, else-ends-via-else-ends}

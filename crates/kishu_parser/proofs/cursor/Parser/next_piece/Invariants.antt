@@ -1,5 +1,5 @@
 use Rattle.std.proofs.Common.{◌≡◌, ◌-◌, ◌≤◌, length}
-use Rattle.kishu_model.specs.Pieces as spec
+use Rattle.kishu_language.specs.grammar.Pieces as spec
 use Rattle.kishu_parser.specs.Views.{left}
 use Rattle.kishu_parser.proofs.cursor.Parser.next_piece.Given as goal
 

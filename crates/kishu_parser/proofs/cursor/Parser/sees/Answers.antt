@@ -1,7 +1,7 @@
 use Rattle.std.proofs.Common.{◌≡◌, sym, ap, ◌∙◌}
 use Rattle.std.specs.Prelude.{is_some}
-use Rattle.kishu_model.specs.Layout.{same}
-use Rattle.kishu_model.specs.Reader as reader
+use Rattle.kishu_language.specs.tokens.Layout.{same}
+use Rattle.kishu_language.specs.reading.Reader as reader
 use Rattle.kishu_parser.specs.Views.{left, by_table}
 use Rattle.kishu_parser.proofs.Fronts.{by_mark}
 use Rattle.kishu_parser.proofs.cursor.Parser.sees.Goals as goal

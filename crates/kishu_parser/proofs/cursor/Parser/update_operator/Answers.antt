@@ -1,5 +1,5 @@
 use Rattle.std.proofs.Common.{◌≡◌, sym, ap, ◌∙◌}
-use Rattle.kishu_model.specs.Statements as spec
+use Rattle.kishu_language.specs.grammar.Statements as spec
 use Rattle.kishu_parser.specs.Views.{left, by_table}
 use Rattle.kishu_parser.proofs.Fronts.{by_mark}
 use Rattle.kishu_parser.proofs.cursor.Parser.update_operator.Goals as goal

@@ -1,6 +1,6 @@
 use Rattle.std.proofs.Common.{◌∙◌, arith}
 use Rattle.std.proofs.lemmas.Result.{err_from_is_err_and}
-use Rattle.kishu_model.specs.Tree.{definition_of}
+use Rattle.kishu_language.specs.trees.Tree.{definition_of}
 use Rattle.kishu_parser.specs.Views.{left, tokens_of}
 use Rattle.kishu_parser.proofs.Cuts.{all_left}
 use Rattle.kishu_parser.proofs.Whole.{differs, equal}

@@ -1,7 +1,7 @@
 use Rattle.std.proofs.Common.{◌∙◌, ap}
 use Rattle.std.specs.Prelude.{not}
 use Rattle.std.specs.Rc.{rc_str_bytes}
-use Rattle.kishu_model.specs.Names.{is_among}
+use Rattle.kishu_language.specs.tokens.Names.{is_among}
 use Rattle.kishu_parser.specs.Sets.{names_in}
 use Rattle.kishu_parser.proofs.NameSets.{among_keys, inserted}
 use Rattle.kishu_parser.proofs.texts.Texts.insert.Goals as goal

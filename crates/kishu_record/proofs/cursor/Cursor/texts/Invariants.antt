@@ -1,6 +1,6 @@
 use Rattle.std.proofs.Common.{◌≡◌, ◌++◌, length, map}
 use Rattle.std.specs.Rc.{rc_str_bytes}
-use Rattle.kishu_model.specs.Record.{texts_bytes}
+use Rattle.kishu_store.specs.Record.{texts_bytes}
 use Rattle.kishu_record.specs.Entries.{AreTexts}
 use Rattle.kishu_record.proofs.cursor.Cursor.texts.Given as goal
 

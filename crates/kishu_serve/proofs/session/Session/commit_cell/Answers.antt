@@ -1,6 +1,6 @@
 use Rattle.std.proofs.Common.{◌+◌, length, refl, ◌∙◌, ap, arith}
 use Rattle.kishu_journal.specs.Stands.{JournalState}
-use Rattle.kishu_model.specs.declared.profile.Profile.TheVariants.{One}
+use Rattle.kishu_language.specs.declared.profile.Profile.TheVariants.{One}
 use Rattle.kishu_serve.proofs.Bodies.{length-body_of}
 use Rattle.kishu_serve.proofs.Commits.{entry_for, cell-is, next-is, append-stop, put-stop, line-is, recorded-is, charge-is, attached-after}
 use Rattle.kishu_serve.proofs.session.Session.commit_cell.Goals as goal

@@ -1,10 +1,10 @@
 use Rattle.std.proofs.Common.{inl, inr, ⊎_elim, ◌≡◌, List, length, sym, ◌∙◌, ap, subst, arith, Err}
 use Rattle.std.proofs.lemmas.List.{length-map}
 use Rattle.kishu_host.specs.Host.{Told, Only}
-use Rattle.kishu_model.specs.Graph.{Graph, newest}
-use Rattle.kishu_model.specs.Growth.{FillsBefore}
-use Rattle.kishu_model.specs.Holds.{graph_of}
-use Rattle.kishu_model.specs.Laws.{one_graph, graph-linear}
+use Rattle.kishu_store.specs.Graph.{Graph, newest}
+use Rattle.kishu_serve.specs.Growth.{FillsBefore}
+use Rattle.kishu_store.specs.Holds.{graph_of}
+use Rattle.kishu_store_laws.specs.Laws.{one_graph, graph-linear}
 use Rattle.kishu_record.specs.Entries.{entry_of}
 use Rattle.kishu_journal.specs.declared.journal.JournalFault.{JournalFault}
 use Rattle.kishu_journal.specs.declared.journal.JournalFault.TheVariants.{Damaged}

@@ -1,6 +1,6 @@
 use Rattle.std.proofs.Common.{length, ap, arith}
-use Rattle.kishu_model.specs.declared.profile.Profile.TheVariants.{One}
-use Rattle.kishu_model.specs.Record.{head_of}
+use Rattle.kishu_language.specs.declared.profile.Profile.TheVariants.{One}
+use Rattle.kishu_store.specs.Record.{head_of}
 use Rattle.kishu_serve.proofs.Bodies.{length-head_of}
 use Rattle.kishu_serve.proofs.session.Session.prepared.Goals as goal
 

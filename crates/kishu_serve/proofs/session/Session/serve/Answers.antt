@@ -1,8 +1,8 @@
 use Rattle.std.proofs.Common.{◌≡◌, sym, ◌∙◌, ap, subst, arith, OnOk}
 use Rattle.kishu_host.specs.Host.{Told}
 use Rattle.kishu_model.specs.Answers.{bad_request, store_full}
-use Rattle.kishu_model.specs.Graph.{Graph}
-use Rattle.kishu_model.specs.Growth.{step-full}
+use Rattle.kishu_store.specs.Graph.{Graph}
+use Rattle.kishu_serve.specs.Growth.{step-full}
 use Rattle.kishu_model.specs.Step.{step, refused_with}
 use Rattle.kishu_model.specs.Serve.{after}
 use Rattle.kishu_serve.specs.Attached.{IsAttached}

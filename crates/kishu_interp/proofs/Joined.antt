@@ -1,6 +1,0 @@
--- Arguments behind others.
-use Rattle.std.proofs.Common.{◌++◌}
-use Rattle.kishu_model.specs.Callees.{Given}
-
-abbrev pub joined : Given → Given → Given
-joined g h = record { plain = g.plain ++ h.plain; named = g.named ++ h.named }

@@ -1,0 +1,5 @@
+pub mod tokens
+pub mod rules
+pub mod trees
+pub mod grammar
+pub mod reading

@@ -1,0 +1,4 @@
+pub mod Reader
+pub mod ReadExpressions
+pub mod ReadStatements
+pub mod ReadText

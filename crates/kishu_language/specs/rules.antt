@@ -1,0 +1,4 @@
+pub mod LineRules
+pub mod TextRules
+pub mod PieceRules
+pub mod TokenRules

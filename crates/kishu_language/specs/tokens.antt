@@ -1,0 +1,10 @@
+pub mod Lines
+pub mod Names
+pub mod PlainLines
+pub mod Marks
+pub mod Numerals
+pub mod Quoted
+pub mod Lexemes
+pub mod Layout
+pub mod Tokens
+pub mod Places

@@ -1,0 +1,6 @@
+pub mod Tree
+pub mod Code
+pub mod Height
+pub mod Fits
+pub mod Inside
+pub mod FunctionCodes

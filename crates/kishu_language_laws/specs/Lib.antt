@@ -1,0 +1,4 @@
+pub mod reading
+pub mod staying
+pub mod trees
+pub mod codes

@@ -1,0 +1,11 @@
+pub mod CodeTokens
+pub mod Emits
+pub mod EmitsLayout
+pub mod CodeLayout
+pub mod CodeLines
+pub mod CodeFind
+pub mod CodeDefinition
+pub mod CodeCut
+pub mod CodeTexts
+pub mod CodeAlone
+pub mod CodeLaws

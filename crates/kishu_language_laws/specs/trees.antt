@@ -1,0 +1,13 @@
+pub mod Gives
+pub mod Keywords
+pub mod Named
+pub mod FitLaws
+pub mod NamedPhrases
+pub mod NamedStatements
+pub mod HeightPhrases
+pub mod HeightStatements
+pub mod HeightLaws
+pub mod InsideStatements
+pub mod FunctionLaws
+pub mod NamedTokens
+pub mod ParsedFits

@@ -1,0 +1,11 @@
+pub mod White
+pub mod Numbers
+pub mod Keys
+pub mod KeyLaws
+pub mod BuiltinNames
+pub mod Values
+pub mod Texts
+pub mod Nodes
+pub mod Kinds
+pub mod Sound
+pub mod Classes

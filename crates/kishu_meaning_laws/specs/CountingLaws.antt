@@ -1,0 +1,169 @@
+-- What only counts gives no step back: comparisons, searches for an item and texts of values.
+use Rattle.std.specs.Prelude.{ℕ, zero, suc, ◌-◌, ◌≤◌, ◌==◌, nat_le, Bool, true, false, if◌then◌else◌, List, [], ◌∷◌, length, Option, Some, None, slice_get}
+use Rattle.std.proofs.Common.{arith}
+use Rattle.std.specs.Str.{bytes_eq}
+use Rattle.kishu_meaning.specs.values.Keys.{is_one}
+use Rattle.kishu_meaning.specs.values.Values.{Value, Node}
+use Rattle.kishu_meaning.specs.values.Nodes.{value_at, list_in, tuple_in, dict_in, object_in}
+use Rattle.kishu_meaning.specs.moments.Counting.{Count, Counted, answer, too_deep, spent, and_then, ◌>>=◌, ◌>>◌, give, spend, stop_deep}
+use Rattle.kishu_meaning.specs.comparing.Equal as e
+use Rattle.kishu_meaning.specs.comparing.Equal.{by_both, node_in, is_same, is_equal, pair_steps, less_plain, equal_by, pair_equal, equal_nodes, less_by, less_nodes, room_at, equal_in, less_in}
+use Rattle.kishu_meaning.specs.items.Finding.{is_found, place_from, count_from}
+use Rattle.kishu_meaning.specs.comparing.Show.{repr_in, show_in}
+use Rattle.kishu_meaning_laws.specs.ShowLaws.{Covers, made_covers, repr_takes, show_covers}
+
+abbrev pub left_of : {A : Type 0} → Counted A → ℕ
+left_of (answer a left) = left
+left_of (too_deep left) = left
+left_of (spent left) = left
+
+pub record Falls {A : Type 0} (m : Count A) : Type 0 where
+  pub falls : (n : ℕ) → left_of (m n) ≤ n
+
+-- ---- how such computations are put together
+
+after : {A B : Type 0} (f : A → Count B) → ((a : A) → Falls (f a)) → (n : ℕ) (e : Counted A) → left_of e ≤ n → left_of (and_then e f) ≤ n
+after f h n (answer a k) fits = (let t = (h a).falls k in omega (arith, t, fits))
+after f h n (too_deep k) fits = fits
+after f h n (spent k) fits = fits
+
+pub then_falls : {A B : Type 0} (m : Count A) (f : A → Count B) → Falls m → ((a : A) → Falls (f a)) → Falls (m >>= f)
+then_falls m f hm hf = record { falls = λ n. after f hf n (m n) (hm.falls n) }
+
+pub both_fall : {A B : Type 0} (m : Count A) (k : Count B) → Falls m → Falls k → Falls (m >> k)
+both_fall m k hm hk = then_falls m (λ _. k) hm (λ _. hk)
+
+pub give_falls : {A : Type 0} (a : A) → Falls (give a)
+give_falls a = record { falls = λ n. omega arith }
+
+either_spent : (k n : ℕ) (b : Bool) → left_of {A = Unit {0}} (if b then answer tt (n - k) else spent 0) ≤ n
+either_spent k n true = omega arith
+either_spent k n false = omega arith
+
+pub spend_falls : (k : ℕ) → Falls (spend k)
+spend_falls k = record { falls = λ n. either_spent k n (nat_le k n) }
+
+pub deep_falls : {A : Type 0} → Falls (stop_deep {A = A})
+deep_falls = record { falls = λ n. omega arith }
+
+pub either_falls : {A : Type 0} (b : Bool) (m k : Count A) → Falls m → Falls k → Falls (if b then m else k)
+either_falls true m k hm hk = hm
+either_falls false m k hm hk = hk
+
+by_both_falls : {X A : Type 0} (x y : Option X) (f : X → X → Count A) (other : Count A) → ((a b : X) → Falls (f a b)) → Falls other → Falls (by_both x y f other)
+by_both_falls (Some a) (Some b) f other hf h = hf a b
+by_both_falls (Some a) None f other hf h = h
+by_both_falls None y f other hf h = h
+
+-- ---- equality
+
+spent_then_given : {A : Type 0} (k : ℕ) (a : A) → Falls (spend k >> give a)
+spent_then_given k a = both_fall (spend k) (give a) (spend_falls k) (give_falls a)
+
+module _ (nodes : ℕ → ℕ → Count Bool) (h : (i j : ℕ) → Falls (nodes i j)) where
+  equal_falls : (a b : Value) → Falls (equal_by nodes a b)
+  equal_falls a b = by_both_falls (node_in a) (node_in b) nodes (spend (pair_steps a b) >> give (is_equal a b)) h (spent_then_given (pair_steps a b) (is_equal a b))
+
+  pair_falls : (a b : Value) → Falls (pair_equal nodes a b)
+  pair_falls a b =
+      both_fall (spend 1) (if is_same a b then (spend (pair_steps a b) >> give true) else equal_by nodes a b) (spend_falls 1)
+      (either_falls (is_same a b) (spend (pair_steps a b) >> give true) (equal_by nodes a b) (spent_then_given (pair_steps a b) true) (equal_falls a b))
+
+  items_fall : (vs ws : List Value) → Falls (e.items_equal nodes vs ws)
+  items_fall [] ws = give_falls true
+  items_fall (v ∷ vs) [] = give_falls true
+  items_fall (v ∷ vs) (w ∷ ws) =
+      then_falls (pair_equal nodes v w) (λ same. if same then e.items_equal nodes vs ws else give false) (pair_falls v w)
+      (λ same. either_falls same (e.items_equal nodes vs ws) (give false) (items_fall vs ws) (give_falls false))
+
+  lists_fall : (vs ws : List Value) → Falls (e.lists_equal nodes vs ws)
+  lists_fall vs ws = either_falls (length vs == length ws) (e.items_equal nodes vs ws) (give false) (items_fall vs ws) (give_falls false)
+
+  value_falls : (v : Value) (o : Option Value) → Falls (e.value_equal nodes v o)
+  value_falls v None = give_falls false
+  value_falls v (Some w) = pair_falls v w
+
+  module _ {K : Type 0} (is_key : K → K → Bool) where
+    entries_fall : (es gs : List (K × Value)) → Falls (e.entries_equal nodes is_key es gs)
+    entries_fall [] gs = give_falls true
+    entries_fall (f ∷ es) gs =
+        then_falls (e.value_equal nodes f.1 (value_at is_key f.0 gs)) (λ same. if same then e.entries_equal nodes is_key es gs else give false) (value_falls f.1 (value_at is_key f.0 gs))
+        (λ same. either_falls same (e.entries_equal nodes is_key es gs) (give false) (entries_fall es gs) (give_falls false))
+
+    maps_fall : (es gs : List (K × Value)) → Falls (e.maps_equal nodes is_key es gs)
+    maps_fall es gs = either_falls (length es == length gs) (e.entries_equal nodes is_key es gs) (give false) (entries_fall es gs) (give_falls false)
+
+  contents_fall : (i j : ℕ) (a b : Node) → Falls (e.contents_equal nodes i j a b)
+  contents_fall i j a b =
+      by_both_falls (list_in a) (list_in b) _ _ lists_fall
+      (by_both_falls (tuple_in a) (tuple_in b) _ _ lists_fall
+      (by_both_falls (dict_in a) (dict_in b) _ _ (maps_fall is_one)
+      (by_both_falls (object_in a) (object_in b) _ _ (maps_fall bytes_eq) (give_falls (i == j)))))
+
+  nodes_fall : (i j : ℕ) (a b : Option Node) → Falls (e.nodes_equal nodes i j a b)
+  nodes_fall i j a b = by_both_falls a b _ _ (contents_fall i j) (give_falls (i == j))
+
+pub equal_nodes_fall : (ns : List Node) (room i j : ℕ) → Falls (equal_nodes ns room i j)
+equal_nodes_fall ns zero i j = deep_falls
+equal_nodes_fall ns (suc room) i j = nodes_fall (equal_nodes ns room) (equal_nodes_fall ns room) i j (slice_get ns i) (slice_get ns j)
+
+pub equal_in_falls : (ns : List Node) (depth : ℕ) (a b : Value) → Falls (equal_in ns depth a b)
+equal_in_falls ns depth = equal_falls (equal_nodes ns (room_at depth)) (equal_nodes_fall ns (room_at depth))
+
+-- ---- order
+
+module _ (same_nodes : ℕ → ℕ → Count Bool) (nodes : ℕ → ℕ → Count (Option Bool)) (hs : (i j : ℕ) → Falls (same_nodes i j)) (h : (i j : ℕ) → Falls (nodes i j)) where
+  less_falls : (a b : Value) → Falls (less_by nodes a b)
+  less_falls a b = by_both_falls (node_in a) (node_in b) nodes (spend (pair_steps a b) >> give (less_plain a b)) h (spent_then_given (pair_steps a b) (less_plain a b))
+
+  items_less_fall : (vs ws : List Value) → Falls (e.items_less same_nodes nodes vs ws)
+  items_less_fall [] [] = give_falls (Some false)
+  items_less_fall [] (w ∷ ws) = give_falls (Some true)
+  items_less_fall (v ∷ vs) [] = give_falls (Some false)
+  items_less_fall (v ∷ vs) (w ∷ ws) =
+      then_falls (pair_equal same_nodes v w) (λ same. if same then e.items_less same_nodes nodes vs ws else less_by nodes v w) (pair_falls same_nodes hs v w)
+      (λ same. either_falls same (e.items_less same_nodes nodes vs ws) (less_by nodes v w) (items_less_fall vs ws) (less_falls v w))
+
+  contents_less_fall : (a b : Node) → Falls (e.contents_less same_nodes nodes a b)
+  contents_less_fall a b = by_both_falls (list_in a) (list_in b) _ _ items_less_fall (by_both_falls (tuple_in a) (tuple_in b) _ _ items_less_fall (give_falls None))
+
+  nodes_less_fall : (a b : Option Node) → Falls (e.nodes_less same_nodes nodes a b)
+  nodes_less_fall a b = by_both_falls a b _ _ contents_less_fall (give_falls None)
+
+pub less_nodes_fall : (ns : List Node) (room i j : ℕ) → Falls (less_nodes ns room i j)
+less_nodes_fall ns zero i j = deep_falls
+less_nodes_fall ns (suc room) i j = nodes_less_fall (equal_nodes ns room) (less_nodes ns room) (equal_nodes_fall ns room) (less_nodes_fall ns room) (slice_get ns i) (slice_get ns j)
+
+pub less_in_falls : (ns : List Node) (depth : ℕ) (a b : Value) → Falls (less_in ns depth a b)
+less_in_falls ns depth = less_falls (equal_nodes ns (room_at depth)) (less_nodes ns (room_at depth)) (equal_nodes_fall ns (room_at depth)) (less_nodes_fall ns (room_at depth))
+
+-- ---- items that are equal to a value
+
+module _ (ns : List Node) (depth : ℕ) (x : Value) where
+  found_falls : (item : Value) → Falls (is_found ns depth x item)
+  found_falls item = pair_falls (equal_nodes ns (room_at depth)) (equal_nodes_fall ns (room_at depth)) item x
+
+  pub place_falls : (at : ℕ) (vs : List Value) → Falls (place_from ns depth x at vs)
+  place_falls at [] = give_falls None
+  place_falls at (v ∷ vs) =
+      then_falls (is_found ns depth x v) (λ same. if same then give (Some at) else place_from ns depth x (suc at) vs) (found_falls v)
+      (λ same. either_falls same (give (Some at)) (place_from ns depth x (suc at) vs) (give_falls (Some at)) (place_falls (suc at) vs))
+
+  pub count_falls : (n : ℕ) (vs : List Value) → Falls (count_from ns depth x n vs)
+  count_falls n [] = give_falls n
+  count_falls n (v ∷ vs) =
+      then_falls (is_found ns depth x v) (λ same. count_from ns depth x (if same then suc n else n) vs) (found_falls v)
+      (λ same. count_falls (if same then suc n else n) vs)
+
+-- ---- texts
+
+taken_falls : (n : ℕ) (e : Counted (List ℕ)) → Covers n e → left_of e ≤ n
+taken_falls n (answer cs left) t = omega (arith, t)
+taken_falls n (too_deep left) t = t
+taken_falls n (spent left) t = omega (arith, t)
+
+pub show_falls : (ns : List Node) (depth : ℕ) (v : Value) → Falls (show_in ns depth v)
+show_falls ns depth v = record { falls = λ n. taken_falls n (show_in ns depth v n) ((show_covers ns depth v).covers n) }
+
+pub repr_falls : (ns : List Node) (depth : ℕ) (v : Value) → Falls (repr_in ns depth v)
+repr_falls ns depth v = record { falls = λ n. taken_falls n (repr_in ns depth v n) ((made_covers (repr_in ns depth v) (repr_takes ns depth v)).covers n) }

@@ -1,6 +1,0 @@
-use Rattle.std.proofs.Common.{◌∙◌}
-use Rattle.kishu_model.specs.KeyLaws.{same_text}
-use Rattle.kishu_model.proofs.key.is_same_text.Goals as goal
-
-pub returns : goal.returns
-returns c = c.eq.ensures ∙ same_text c.args.a.now c.args.b.now c.utf8.a c.utf8.b

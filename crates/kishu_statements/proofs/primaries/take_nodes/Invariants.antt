@@ -1,0 +1,14 @@
+use Rattle.std.proofs.Common.{◌≡◌, ◌+◌, ◌≤◌, drop}
+use Rattle.kishu_meaning.specs.cells.Meaning.{nodes}
+use Rattle.kishu_calls.specs.Trees.{trailers_of}
+use Rattle.kishu_machine.specs.Machine.{GrownBy, moment_of}
+use Rattle.kishu_statements.proofs.primaries.take_nodes.Given as goal
+
+abbrev pub invariant-loop-trailer : goal.invariant-loop-trailer
+invariant-loop-trailer g l = record {
+  told : nodes (trailers_of l.trailers) (moment_of l.fn.machine) ≡ nodes (trailers_of (drop l._trailer-index l.trailers)) (moment_of l.machine);
+  kept : GrownBy 0 l.fn.machine l.fn.steps l.machine l.steps;
+  counted : l.steps + l.machine.budget.left ≡ l.fn.steps + l.fn.machine.budget.left;
+  taken : l.machine.budget.left + l._trailer-index ≡ l.fn.machine.budget.left;
+  heap : l.machine.heap ≡ l.fn.machine.heap;
+}

@@ -1,0 +1,4 @@
+pub mod Limits
+pub mod Graph
+pub mod Record
+pub mod Holds
