@@ -24,7 +24,7 @@ use Rattle.kishu_language.specs.tokens.Names.{is_among}
 use Rattle.kishu_language.specs.grammar.Refusals.{titles}
 use Rattle.kishu_language.specs.declared.profile.Profile.{Profile}
 use Rattle.kishu_language.specs.declared.tree.Expr.{Expr}
-use Rattle.kishu_language.specs.grammar.Parse.{ParseDef}
+use Rattle.kishu_language.specs.trees.Fits.{IsCodeOf}
 use Rattle.kishu_language.specs.trees.Tree.{Text, Parameter, definition_of, expression_of, parameter_of, value_of as tree_value}
 use Rattle.kishu_items.specs.Gathering.{dropped}
 use Rattle.kishu_meaning.specs.values.Values.{Value, Names, Node, function, find, bind, value_of}
@@ -199,5 +199,5 @@ pub onto_finished : (xs : List Text) (vs : List rust.Value) (bound : Names) → 
 onto_finished xs [] bound h = onto_end xs bound
 onto_finished xs (v ∷ vs) bound h = absurd (omega (arith, h))
 
-pub function_there : (o : Option Node) (profile : Profile) (code : Text) (vs : List Value) (f : rust_function.Function) → Some (function profile code vs) ≡ o → ∥ ParseDef profile code (definition_of f.def.value) ∥₁ → IsUtf8 code → length code ≤ 1048576 → vs ≡ map value_of f.defaults.items → IsFunction o f
+pub function_there : (o : Option Node) (profile : Profile) (code : Text) (vs : List Value) (f : rust_function.Function) → Some (function profile code vs) ≡ o → ∥ IsCodeOf profile code (definition_of f.def.value) ∥₁ → IsUtf8 code → length code ≤ 1048576 → vs ≡ map value_of f.defaults.items → IsFunction o f
 function_there o profile code vs f h r u n e = subst (λ (x : Option Node). IsFunction x f) h (r, u, n, e)

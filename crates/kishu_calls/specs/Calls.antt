@@ -9,7 +9,7 @@ use Rattle.kishu_meaning.specs.declared.value.Value as rust
 use Rattle.kishu_language.specs.tokens.Names.{is_name}
 use Rattle.kishu_language.specs.tokens.Lines.{line_feed}
 use Rattle.kishu_language.specs.grammar.Refusals.{all_differ}
-use Rattle.kishu_language.specs.grammar.Parse.{ParseDef}
+use Rattle.kishu_language.specs.trees.Fits.{IsCodeOf}
 use Rattle.kishu_language.specs.trees.Tree.{definition_of}
 use Rattle.kishu_meaning.specs.moments.Moment.{Moment, raised}
 use Rattle.kishu_meaning.specs.values.Values.{Value, node, Node, function, value_of, Names}
@@ -93,7 +93,7 @@ OwesReads k old a (Err f) new b = b + 128 * new.budget.left ≤ a + 128 * old.bu
 
 -- The node is a function with this tree and these defaults, and its code is short.
 abbrev pub IsFunction : Option Node → rust_function.Function → Type 0
-IsFunction (Some (function profile code vs)) f = ∥ ParseDef profile code (definition_of f.def.value) ∥₁ × IsUtf8 code × (length code ≤ 1048576) × (vs ≡ map value_of f.defaults.items)
+IsFunction (Some (function profile code vs)) f = ∥ IsCodeOf profile code (definition_of f.def.value) ∥₁ × IsUtf8 code × (length code ≤ 1048576) × (vs ≡ map value_of f.defaults.items)
 IsFunction _ f = ⊥
 
 abbrev pub is_sound_way : ℕ → Result rust_flow.Flow Fault → Bool

@@ -1,7 +1,7 @@
 // Functions.
 ghost use Rattle.std.specs.Prelude.{◌≡◌, ◌≤◌, length};
 ghost use Rattle.std.specs.Rc.{rc_str_bytes};
-ghost use Rattle.kishu_language.specs.grammar.Parse.{ParseDef};
+ghost use Rattle.kishu_language.specs.trees.Fits.{IsCodeOf};
 ghost use Rattle.kishu_meaning.specs.values.Sound.{default_count};
 ghost use Rattle.kishu_language.specs.trees.Tree.{definition_of};
 
@@ -18,6 +18,6 @@ pub struct FunctionNode {
     pub def: Rc<Def>,
     pub defaults: Vec<Value>,
     ghost short: { length (rc_str_bytes code) ≤ 1048576 },
-    ghost read: { ∥ ParseDef profile (rc_str_bytes code) (definition_of def.value) ∥₁ },
+    ghost read: { ∥ IsCodeOf profile (rc_str_bytes code) (definition_of def.value) ∥₁ },
     ghost filled: { length defaults.items ≡ default_count (definition_of def.value) },
 }

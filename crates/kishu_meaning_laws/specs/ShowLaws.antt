@@ -4,8 +4,7 @@ use Rattle.std.specs.Str.{chars}
 use Rattle.std.proofs.Common.{refl, ap, ◌∙◌, arith, length-append, leb-true}
 use Rattle.kishu_language.specs.declared.profile.Profile.{Profile}
 use Rattle.kishu_language.specs.trees.Tree.{Text, Definition}
-use Rattle.kishu_language.specs.grammar.Parse.{ParseDef}
-use Rattle.kishu_language_laws.specs.reading.ExactText.{read_only}
+use Rattle.kishu_language.specs.reading.ReadText.{ReadsDef}
 use Rattle.kishu_meaning.specs.values.Keys.{Key}
 use Rattle.kishu_meaning.specs.values.Values.{Value, none, bool, integer, text, range, builtin, class, node, Node, list, tuple, dict, object, function, exception}
 use Rattle.kishu_meaning.specs.moments.Moment.{most_depth}
@@ -13,8 +12,8 @@ use Rattle.kishu_meaning.specs.moments.Counting.{Count, Counted, answer, too_dee
 use Rattle.kishu_meaning.specs.comparing.Equal.{room_at}
 use Rattle.kishu_meaning.specs.comparing.Show.{title_in, function_name, function_text, class_name, repr_text, key_text, tuple_end, made, ◌⊕◌, further, listed, repr_by, entry_repr, attribute_repr, tuple_repr, contents_repr, again, repr_at, repr_nodes, repr_in, show_by, argument_text, exception_text, show_at, show_nodes, show_in, thrown_in, key_error}
 
-pub name_as_read : (profile : Profile) (code : Text) (d : Definition) → ParseDef profile code d → function_name profile code ≡ chars d.title
-name_as_read profile code d h = ap (λ r. chars (title_in r)) (read_only profile code _ h)
+pub name_as_read : (profile : Profile) (code : Text) (d : Definition) → ReadsDef profile code d → function_name profile code ≡ chars d.title
+name_as_read profile code d h = ap (λ r. chars (title_in r)) h
 
 -- ---- a repr takes as many steps as it has code points
 

@@ -1,10 +1,7 @@
 -- What a call of a function does, and that what its parameters get is sound.
 use Rattle.std.proofs.Common.{◌≡◌, refl, ap, arith, ℕ, zero, suc, ◌-◌, ◌<◌, Bool, true, false, IsTrue, List, [], ◌∷◌, Option, Some, None, cond}
 use Rattle.kishu_language.specs.declared.profile.Profile.{Profile}
-use Rattle.kishu_language.specs.trees.Height.{of_statements}
-use Rattle.kishu_language_laws.specs.trees.HeightLaws.{tree_height}
-use Rattle.kishu_language_laws.specs.reading.ExactText.{read_only}
-use Rattle.kishu_language.specs.grammar.Parse.{ParseDef}
+use Rattle.kishu_language.specs.reading.ReadText.{ReadsDef}
 use Rattle.kishu_language.specs.trees.Tree.{Text, Parameter, Definition}
 use Rattle.kishu_language.specs.trees.Tree as t
 use Rattle.kishu_meaning.specs.values.Values.{Value, Names, find}
@@ -23,13 +20,10 @@ pub called_at : (room : ℕ) (d : Definition) (vs : List Value) (given : Given) 
 called_at zero d vs given p = absurd (omega arith)
 called_at (suc n) d vs given p = let e : n ≡ suc n - 1 = omega arith in ap (λ k. enter (call k) d (bound_values d vs given)) e
 
-pub call_is : (room : ℕ) (profile : Profile) (code : Text) (d : Definition) (vs : List Value) (given : Given) → ParseDef profile code d → call room profile code vs given ≡ called room d vs given
+pub call_is : (room : ℕ) (profile : Profile) (code : Text) (d : Definition) (vs : List Value) (given : Given) → ReadsDef profile code d → call room profile code vs given ≡ called room d vs given
 unfolding call
 call_is zero profile code d vs given h = refl
-call_is (suc n) profile code d vs given h = ap (λ r. enter_code (call n) vs given (function_in r)) (read_only profile code (t.define d.title d.parameters d.body code ∷ []) h)
-
-pub low_body : (profile : Profile) (code : Text) (d : Definition) → ParseDef profile code d → of_statements d.body < 1048576
-low_body profile code d h = let k = tree_height profile code (t.define d.title d.parameters d.body code ∷ []) h in omega (arith, k)
+call_is (suc n) profile code d vs given h = ap (λ r. enter_code (call n) vs given (function_in r)) h
 
 -- ---- what parameters get
 

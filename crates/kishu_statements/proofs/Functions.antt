@@ -7,14 +7,13 @@ use Rattle.std.specs.Coded.{×_prop, Π_prop, Unit-prop, le_prop}
 use Rattle.std.specs.Str.{IsUtf8}
 use Rattle.kishu_language.specs.declared.profile.Profile.{Profile}
 use Rattle.kishu_meaning.specs.calls.Callees.{Given, not_callable}
-use Rattle.kishu_language.specs.trees.Fits.{ExpressionFits, ExpressionsFit, OperandsFit, LinksFit, PairsFit, TrailersFit, TrailerFits, BoundFits, ArgumentsFit, ArgumentFits, OptionalFits, ListFits, TitleFits, ParametersFit, CodeFits, StatementFits, StatementsFit, ArmsFit, HandlersFit, FunctionFits}
+use Rattle.kishu_language.specs.trees.Fits.{ExpressionFits, ExpressionsFit, OperandsFit, LinksFit, PairsFit, TrailersFit, TrailerFits, BoundFits, ArgumentsFit, ArgumentFits, OptionalFits, ListFits, TitleFits, ParametersFit, CodeFits, StatementFits, StatementsFit, ArmsFit, HandlersFit, FunctionFits, IsCodeOf}
+use Rattle.kishu_language.specs.reading.ReadText.{ReadsDef}
 use Rattle.kishu_language.specs.trees.Height.{of_statements}
 use Rattle.kishu_meaning.specs.values.Keys.{KeyPart, Key}
 use Rattle.kishu_meaning.specs.cells.Meaning.{call, call_node}
 use Rattle.kishu_meaning.specs.moments.Moment.{Moment, Thrown, Ends, M}
 use Rattle.kishu_language.specs.tokens.Names.{is_name}
-use Rattle.kishu_language.specs.grammar.Parse.{ParseDef}
-use Rattle.kishu_language_laws.specs.trees.ParsedFits.{text_fits}
 use Rattle.kishu_language.specs.trees.Tree.{Text, Expression, Expressions, Operands, Links, Pairs, Trailers, Trailer, Bound, Arguments, Argument, Parameter, Statement, Statements, Arms, Handlers, Definition, definition_of}
 use Rattle.kishu_language.specs.trees.Tree as t
 use Rattle.kishu_meaning.specs.values.Values.{Value, node, Node, list, tuple, dict, object, function, exception, value_of}
@@ -25,7 +24,7 @@ use Rattle.kishu_machine.specs.declared.fault.Fault.{Fault}
 use Rattle.kishu_machine.specs.declared.fault.Fault.TheVariants as faults
 use Rattle.kishu_machine.specs.Machine.{Gives}
 use Rattle.kishu_statements.specs.Forms.{called}
-use Rattle.kishu_statements.proofs.Calling.{call_is, low_body}
+use Rattle.kishu_statements.proofs.Calling.{call_is}
 
 -- ---- of what there is one proof at most
 
@@ -187,13 +186,11 @@ FunctionHolds d = FunctionFits d × IsTrue (is_name d.title) × (of_statements d
 function_prop : (d : Definition) → IsProp (FunctionHolds d)
 function_prop d = three_prop (×_prop (parameters_prop d.parameters) (statements_prop d.body)) (Bool-set _ _) le_prop
 
-read_holds : (profile : Profile) (code : Text) (d : Definition) → IsUtf8 code → length code ≤ 1048576 → ParseDef profile code d → FunctionHolds d
-read_holds profile code d utf8 small h =
-    let fit = text_fits profile code utf8 small (t.define d.title d.parameters d.body code ∷ []) h in
-    ((fit.0.1, fit.0.2), fit.0.0, low_body profile code d h)
+code_holds : (profile : Profile) (code : Text) (d : Definition) → IsCodeOf profile code d → FunctionHolds d
+code_holds profile code d h = (h.fits, h.name, h.low)
 
 pub function_holds : (o : Option Node) (f : rust_function.Function) → IsFunction o f → FunctionHolds (definition_of f.def.value)
-function_holds (Some (function profile code vs)) f h = ∥∥₁_elim h.0 (function_prop (definition_of f.def.value)) (λ p. read_holds profile code (definition_of f.def.value) h.1 h.2 p)
+function_holds (Some (function profile code vs)) f h = ∥∥₁_elim h.0 (function_prop (definition_of f.def.value)) (λ p. code_holds profile code (definition_of f.def.value) p)
 function_holds (Some (list vs)) f h = absurd h
 function_holds (Some (tuple vs)) f h = absurd h
 function_holds (Some (dict es)) f h = absurd h
@@ -204,7 +201,7 @@ function_holds None f h = absurd h
 module _ {X : Type 0} (view : X → Value) (r : Result X Fault) (room n : ℕ) (given : Given) (s u : Moment) where
   pub called_node : (o : Option Node) (f : rust_function.Function) → IsFunction o f → Gives view r u (called room (definition_of f.def.value) (map value_of f.defaults.items) given s) → Gives view r u (call_node (call room) (node n) o given s)
   called_node (Some (function profile code vs)) f h k =
-      ∥∥₁_elim h.0 (gives_prop view r u _) (λ p. subst (λ (m : M Value). Gives view r u (m s)) (sym (call_is room profile code (definition_of f.def.value) vs given p))
+      ∥∥₁_elim h.0 (gives_prop view r u _) (λ p. subst (λ (m : M Value). Gives view r u (m s)) (sym (call_is room profile code (definition_of f.def.value) vs given p.reads))
       (subst (λ (ws : List Value). Gives view r u (called room (definition_of f.def.value) ws given s)) (sym h.3) k))
   called_node (Some (list vs)) f h k = absurd h
   called_node (Some (tuple vs)) f h k = absurd h
@@ -221,3 +218,9 @@ module _ {X : Type 0} (view : X → Value) (r : Result X Fault) (room n : ℕ) (
   called_other (Some (object as')) h k = k
   called_other (Some (exception kind vs)) h k = k
   called_other None h k = k
+
+-- ---- the code of a function that is made
+
+pub defined_code : (profile : Profile) (code : Text) (d : Definition) → IsTrue (is_name d.title) → ParametersFit d.parameters → StatementsFit d.body → of_statements d.body < 1048576
+    → ∥ ReadsDef profile code d ∥₁ → ∥ IsCodeOf profile code d ∥₁
+defined_code profile code d name parameters body low h = ∥∥₁_elim h ∥∥₁_prop (λ p. ∣ record { reads = p; name = name; fits = (parameters, body); low = low } ∣₁)

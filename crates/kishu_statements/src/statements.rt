@@ -9,7 +9,7 @@ ghost use Rattle.kishu_language.specs.trees.Height.{of_arms, of_expression, of_l
 ghost use Rattle.kishu_meaning.specs.cells.Meaning.{act, acts, call, defaults, in_block, raise_by, returned_by};
 ghost use Rattle.kishu_meaning.specs.moments.Moment.{assign, give, ◌>>◌ as ◌▹◌};
 ghost use Rattle.kishu_language.specs.tokens.Names.{is_name};
-ghost use Rattle.kishu_language.specs.grammar.Parse.{ParseDef};
+ghost use Rattle.kishu_language.specs.reading.ReadText.{ReadsDef};
 ghost use Rattle.kishu_meaning.specs.values.Sound.{are_sound, with_default};
 ghost use Rattle.kishu_language.specs.trees.Tree.{definition_of, expression_of, parameter_of, statement_of, text_of, value_of as tree_value};
 ghost use Rattle.kishu_meaning.specs.values.Values.{class, value_of};
@@ -397,7 +397,9 @@ fn run_def<L: Ledger>(
     requires small { of_parameters (definition_of def.now.value).parameters < 2 ^ 20 }
     requires fits { ParametersFit (definition_of def.now.value).parameters }
     requires short { length (rc_str_bytes code.now) ≤ 1048576 }
-    requires read { ∥ ParseDef machine.old.profile (rc_str_bytes code.now) (definition_of def.now.value) ∥₁ }
+    requires body { StatementsFit (definition_of def.now.value).body }
+    requires low { of_statements (definition_of def.now.value).body < 2 ^ 20 }
+    requires read { ∥ ReadsDef machine.old.profile (rc_str_bytes code.now) (definition_of def.now.value) ∥₁ }
     requires name { IsTrue (is_name (definition_of def.now.value).title) }
     requires room { HasRoomBy 4 machine.old }
     ensures gives { Gives flow_of result (moment_of machine.new) (act (call room) (t.define (definition_of def.now.value).title (definition_of def.now.value).parameters (definition_of def.now.value).body (rc_str_bytes code.now)) (moment_of machine.old)) }

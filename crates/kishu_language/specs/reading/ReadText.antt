@@ -1,11 +1,12 @@
 -- The tree of a text, or the line of its fault, read piece by piece.
-use Rattle.std.specs.Prelude.{ℕ, zero, suc, ◌==◌, if◌then◌else◌, List, [], ◌∷◌, ◌++◌, length, Option, Some, None, Result, Ok, Err}
-use Rattle.std.specs.Str.{encode_utf8_all}
+use Rattle.std.specs.Prelude.{◌≡◌, ℕ, zero, suc, ◌==◌, if◌then◌else◌, List, [], ◌∷◌, ◌++◌, length, Option, Some, None, Result, Ok, Err}
+use Rattle.std.specs.Str.{chars, encode_utf8_all}
 use Rattle.kishu_language.specs.declared.profile.Profile.{Profile}
 use Rattle.kishu_language.specs.tokens.PlainLines.{plain_lines}
 use Rattle.kishu_language.specs.tokens.Tokens.{tokens_of_chars}
 use Rattle.kishu_language.specs.tokens.Layout.{Token}
-use Rattle.kishu_language.specs.trees.Tree.{Text, Statement}
+use Rattle.kishu_language.specs.trees.Tree.{Text, Statement, Definition}
+use Rattle.kishu_language.specs.trees.Tree as t
 use Rattle.kishu_language.specs.grammar.Language.{Tokens}
 use Rattle.kishu_language.specs.grammar.Grammar.{deepest}
 use Rattle.kishu_language.specs.grammar.Refusals.{top}
@@ -38,3 +39,7 @@ tree_in source (Err line) = Err line
 
 unfoldable pub read_chars : Profile → List ℕ → Result (List Statement) ℕ
 read_chars profile cs = tree_in (encode_utf8_all (plain_lines cs)) (tokens_of_chars profile cs)
+
+-- The text reads as the code of this function, and as nothing else.
+abbrev pub ReadsDef : Profile → Text → Definition → Type 0
+ReadsDef profile code d = read_chars profile (chars code) ≡ Ok (t.define d.title d.parameters d.body code ∷ [])

@@ -1,11 +1,12 @@
 -- When a tree may run: its names are names, its targets are targets, no keyword stands twice in a call, and the code of each function in it reads as that function. The tree of a text is so.
-use Rattle.std.specs.Prelude.{◌≤◌, IsTrue, List, [], ◌∷◌, length, Option, Some, None}
+use Rattle.std.specs.Prelude.{◌<◌, ◌≤◌, IsTrue, List, [], ◌∷◌, length, Option, Some, None}
 use Rattle.std.specs.List.{list_all}
 use Rattle.kishu_language.specs.declared.profile.Profile.{Profile}
 use Rattle.kishu_language.specs.tokens.Names.{is_name}
 use Rattle.kishu_language.specs.grammar.Refusals.{all_differ}
 use Rattle.kishu_language.specs.grammar.Targets.{is_target}
-use Rattle.kishu_language.specs.grammar.Parse.{ParseDef}
+use Rattle.kishu_language.specs.trees.Height.{of_statements}
+use Rattle.kishu_language.specs.reading.ReadText.{ReadsDef}
 use Rattle.kishu_language.specs.trees.Tree.{Text, Expression, Expressions, Operands, Links, Pairs, Trailers, Trailer, Bound, Arguments, Argument, Parameter, Statement, Statements, Arms, Handlers, Definition}
 use Rattle.kishu_language.specs.trees.Tree as t
 
@@ -93,7 +94,7 @@ ParametersFit (p ∷ ps) = IsTrue (is_name p.0) × OptionalFits p.1 × Parameter
 
 -- The code of a function is short and reads as that function.
 abbrev pub CodeFits : Text → Definition → Type 0
-CodeFits code d = (length code ≤ 1048576) × ((profile : Profile) → ∥ ParseDef profile code d ∥₁)
+CodeFits code d = (length code ≤ 1048576) × ((profile : Profile) → ∥ ReadsDef profile code d ∥₁)
 
 abbrev mutual
   pub StatementFits : Statement → Type 0
@@ -130,3 +131,10 @@ abbrev mutual
 -- a function by itself: its parameters and its body
 abbrev pub FunctionFits : Definition → Type 0
 FunctionFits d = ParametersFit d.parameters × StatementsFit d.body
+
+-- The code of a function: it reads as that function, which has a name, fits and is low.
+pub record IsCodeOf (profile : Profile) (code : Text) (d : Definition) : Type 0 where
+  pub reads : ReadsDef profile code d
+  pub name : IsTrue (is_name d.title)
+  pub fits : FunctionFits d
+  pub low : of_statements d.body < 1048576

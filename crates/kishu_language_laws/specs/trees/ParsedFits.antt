@@ -1,12 +1,15 @@
 -- The tree of a text fits: its names are names, and the code of each function in it reads as that function.
-use Rattle.std.specs.Prelude.{◌≤◌, List, [], length}
+use Rattle.std.specs.Prelude.{◌≤◌, List, [], ◌∷◌, length}
 use Rattle.std.specs.Str.{IsUtf8}
 use Rattle.std.proofs.Common.{arith}
 use Rattle.kishu_language.specs.declared.profile.Profile.{Profile}
 use Rattle.kishu_language.specs.declared.profile.Profile.TheVariants.{One}
 use Rattle.kishu_language.specs.trees.Tree.{Text, Statement, Definition, statements}
 use Rattle.kishu_language.specs.grammar.Parse.{plain_text, Parse, ParseDef}
-use Rattle.kishu_language.specs.trees.Fits.{CodeFits, StatementsFit}
+use Rattle.kishu_language.specs.trees.Fits.{CodeFits, StatementsFit, IsCodeOf}
+use Rattle.kishu_language.specs.trees.Tree as t
+use Rattle.kishu_language_laws.specs.reading.ExactText.{read_only}
+use Rattle.kishu_language_laws.specs.trees.HeightLaws.{tree_height}
 use Rattle.kishu_language_laws.specs.trees.FitLaws.{StatementsNamed, fit_statements}
 use Rattle.kishu_language.specs.trees.FunctionCodes.{CodesRead}
 use Rattle.kishu_language_laws.specs.codes.CodeLaws.{codes_read}
@@ -21,7 +24,7 @@ code_reads : (profile other : Profile) (code : Text) (d : Definition) → ParseD
 code_reads One One code d h = h
 
 code_fits : (profile : Profile) (code : Text) (d : Definition) → length code ≤ 1048576 → ParseDef profile code d → CodeFits code d
-code_fits profile code d small h = (small, λ other. ∣ code_reads profile other code d h ∣₁)
+code_fits profile code d small h = (small, λ other. ∣ read_only other code (t.define d.title d.parameters d.body code ∷ []) (code_reads profile other code d h) ∣₁)
 
 -- With codes that read, it fits.
 pub tree_fits : (profile : Profile) (text : Text) (tree : List Statement) → length text ≤ 1048576 → Parse profile text tree → CodesRead profile text tree → StatementsFit (statements tree)
@@ -31,3 +34,14 @@ tree_fits profile text tree small h read = fit_statements (statements tree) (par
 -- The tree of a text of at most 1 MiB fits.
 pub text_fits : (profile : Profile) (text : Text) → IsUtf8 text → length text ≤ 1048576 → (tree : List Statement) → Parse profile text tree → StatementsFit (statements tree)
 text_fits profile text utf8 small tree h = tree_fits profile text tree small h (codes_read profile text utf8 tree h)
+
+-- The code of a function, by the relation of text and tree, is one by the reading.
+pub code_of_parsed : (profile : Profile) (code : Text) (d : Definition) → IsUtf8 code → length code ≤ 1048576 → ParseDef profile code d → IsCodeOf profile code d
+code_of_parsed profile code d utf8 small h =
+    let fit = text_fits profile code utf8 small (t.define d.title d.parameters d.body code ∷ []) h in
+    record {
+      reads = read_only profile code (t.define d.title d.parameters d.body code ∷ []) h;
+      name = fit.0.0;
+      fits = (fit.0.1, fit.0.2);
+      low = (let k = tree_height profile code (t.define d.title d.parameters d.body code ∷ []) h in omega (arith, k));
+    }

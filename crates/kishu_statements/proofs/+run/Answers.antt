@@ -14,7 +14,7 @@ use Rattle.kishu_language.specs.trees.Height.{of_expression, of_arguments, of_op
 use Rattle.kishu_meaning.specs.cells.Meaning.{call, arguments, operands, first_that, inner_values, pairs, expr, part, trailer, trailers, nodes, values, Place, no_place, place, place_by, store_each, acts, defaults, in_block, store, act}
 use Rattle.kishu_meaning.specs.moments.Moment.{Ends, and_then, give, ◌>>=◌, fine, Locals, assign, make, ◌>>◌}
 use Rattle.kishu_language.specs.tokens.Names.{is_name}
-use Rattle.kishu_language.specs.grammar.Parse.{ParseDef}
+use Rattle.kishu_language.specs.trees.Fits.{IsCodeOf}
 use Rattle.kishu_language.specs.grammar.Refusals.{all_differ}
 use Rattle.kishu_meaning.specs.values.Sound.{are_sound, with_default, is_sound}
 use Rattle.kishu_language.specs.trees.Tree.{Text, Arguments, expression_of, Operands, Links, Expressions, more_expressions, Pairs, Trailer, bound_of, value_of as tree_value, Definition, definition_of, Statements, parameter_of, Parameter}
@@ -36,7 +36,7 @@ use Rattle.kishu_statements.proofs.Bodies.{title_is, called_bound, called_refuse
 use Rattle.kishu_statements.proofs.Calling.{AreSoundNames, bound_sound}
 use Rattle.kishu_statements.proofs.Defining.{parameters_are, same_profile}
 use Rattle.kishu_statements.proofs.Displaying.{pairs_on, pair_pushed, seen_pairs}
-use Rattle.kishu_statements.proofs.Functions.{function_holds, called_node}
+use Rattle.kishu_statements.proofs.Functions.{function_holds, called_node, defined_code}
 use Rattle.kishu_statements.proofs.Handlers.{handlers_fit, handlers_low, not_this, not_told, this_one}
 use Rattle.kishu_statements.proofs.Joined.{joined}
 use Rattle.kishu_statements.proofs.Leaving.{block_is}
@@ -1591,9 +1591,10 @@ statements::run_def-invariant_of-function g falls c =
     record {
       short = subst (λ (x : Text). length x ≤ 1048576) (sym code_is) c.requires.short;
       read =
-          subst (λ (p : Profile). ∥ ParseDef p (rc_str_bytes c.in_ok-clone.field-0) (definition_of c.in_ok-clone-2.field-0.value) ∥₁) (same_profile c.args.machine.now.profile c.default_values.new.machine.profile)
-          (subst (λ (x : Text). ∥ ParseDef c.args.machine.now.profile x (definition_of c.in_ok-clone-2.field-0.value) ∥₁) (sym code_is)
-          (subst (λ (k : Def). ∥ ParseDef c.args.machine.now.profile (rc_str_bytes c.args.code.now) (definition_of k) ∥₁) (sym def_is) c.requires.read));
+          subst (λ (p : Profile). ∥ IsCodeOf p (rc_str_bytes c.in_ok-clone.field-0) (definition_of c.in_ok-clone-2.field-0.value) ∥₁) (same_profile c.args.machine.now.profile c.default_values.new.machine.profile)
+          (subst (λ (x : Text). ∥ IsCodeOf c.args.machine.now.profile x (definition_of c.in_ok-clone-2.field-0.value) ∥₁) (sym code_is)
+          (subst (λ (k : Def). ∥ IsCodeOf c.args.machine.now.profile (rc_str_bytes c.args.code.now) (definition_of k) ∥₁) (sym def_is)
+          (defined_code c.args.machine.now.profile (rc_str_bytes c.args.code.now) (definition_of d) c.requires.name c.requires.fits c.requires.body c.requires.low c.requires.read)));
       filled = c.in_ok-defaults.ensures.count ∙ ap with_default is ∙ ap (λ (k : Def). with_default (definition_of k).parameters) (sym def_is);
     }
 
