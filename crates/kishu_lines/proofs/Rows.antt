@@ -6,7 +6,7 @@ use Rattle.kishu_meaning.specs.declared.result.Outcome.TheVariants.{Done, Raised
 use Rattle.kishu_meaning.specs.values.Values.{stream, shown, fault}
 use Rattle.kishu_store.specs.Graph.{new_graph}
 use Rattle.kishu_model.specs.Answers.{answer_line, ran_cell, refused, store_full}
-use Rattle.kishu_model.specs.Step.{unreadable}
+use Rattle.kishu_model.specs.Request.{unreadable}
 use Rattle.kishu_model.specs.Serve.{answers}
 
 answer-stopped : answer_line (ran_cell 1 1 (record { outcome = Stopped; outputs = [] })) ≡ codes "{\"answer\":\"cell\",\"commit\":1,\"count\":1,\"outcome\":\"stopped\",\"outputs\":[]}\n"

@@ -1,5 +1,7 @@
 pub mod Replay
 pub mod Answers
+pub mod Request
+pub mod requests
 pub mod Step
 pub mod Serve
 pub mod Task

@@ -2,7 +2,8 @@
 use Rattle.std.specs.Prelude.{◌≡◌, ◌⊎◌, ◌+◌, ℕ, List, [], ◌∷◌, ◌++◌}
 use Rattle.kishu_store.specs.Graph.{Graph}
 use Rattle.kishu_model.specs.Answers.{answer_line}
-use Rattle.kishu_model.specs.Step.{Request, step, charge_of}
+use Rattle.kishu_model.specs.Request.{Request}
+use Rattle.kishu_model.specs.Step.{step, charge_of}
 
 -- the graph after a request, and the line that answers it
 abbrev pub after : Graph → Request → Graph

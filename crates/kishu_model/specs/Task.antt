@@ -1,7 +1,7 @@
 -- The requests of a run, by the form of its words and its input.
 use Rattle.std.specs.Prelude.{ℕ, if◌then◌else◌, List, [], ◌∷◌, Option, Some, None}
 use Rattle.std.specs.Str.{is_utf8}
-use Rattle.kishu_model.specs.Step.{Request, cell, unreadable}
+use Rattle.kishu_model.specs.Request.{Request, cell, unreadable}
 
 pub data Form : Type 0 where
   -- the whole input is one cell

@@ -21,7 +21,8 @@ use Rattle.kishu_language.specs.reading.ReadText as R
 use Rattle.kishu_meaning.specs.cells.Meaning.{run}
 use Rattle.kishu_store.specs.Graph.{Graph, new_graph}
 use Rattle.kishu_model.specs.Answers.{answer_line}
-use Rattle.kishu_model.specs.Step.{cell, unreadable, step}
+use Rattle.kishu_model.specs.Request.{cell, unreadable}
+use Rattle.kishu_model.specs.Step.{step}
 use Rattle.kishu_model.specs.Task.{task, one_cell}
 use Rattle.kishu_store.specs.Record.{commit, head_of, body_of, IsCell, Fits}
 use Rattle.kishu_store.specs.Holds.{header, framed, front, Holds, IsForeign}

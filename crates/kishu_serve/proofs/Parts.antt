@@ -3,7 +3,7 @@ use Rattle.std.proofs.Common.{◌≡◌, inl, inr, ⊎_elim, ℕ, List, [], ◌�
 use Rattle.std.proofs.lemmas.List.{append-nil}
 use Rattle.kishu_host.specs.Host.{State, Now, Only, DuringPut}
 use Rattle.kishu_store.specs.Graph.{Graph}
-use Rattle.kishu_model.specs.Step.{Request}
+use Rattle.kishu_model.specs.Request.{Request}
 use Rattle.kishu_store.specs.Record.{Entry, changed}
 use Rattle.kishu_store.specs.Holds.{Holds, graph_of}
 use Rattle.kishu_model.specs.Serve.{after, answer_of, IsPrefix}

@@ -2,7 +2,7 @@
 use Rattle.std.proofs.Common.{◌≡◌, ℕ, List, Bool, true, false, if◌then◌else◌, refl, ap}
 use Rattle.std.specs.Str.{IsUtf8, is_utf8}
 use Rattle.std.proofs.lemmas.Str.{IsUtf8-from_is_utf8, is_utf8-from_IsUtf8}
-use Rattle.kishu_model.specs.Step.{cell, unreadable}
+use Rattle.kishu_model.specs.Request.{cell, unreadable}
 use Rattle.kishu_model.specs.Task.{cell_request}
 
 pub reads-as-cell : (input : List ℕ) → IsUtf8 input → cell_request input ≡ cell input

@@ -10,7 +10,7 @@ use Rattle.std.specs.Int.{w64, to_be_bytes, from_be_bytes}
 use Rattle.std.specs.Str.{chars, is_utf8}
 use Rattle.kishu_language.specs.declared.profile.Profile.TheVariants.{One}
 use Rattle.kishu_store.specs.Graph.{Graph, new_graph, count_of}
-use Rattle.kishu_model.specs.Step.{unreadable}
+use Rattle.kishu_model.specs.Request.{unreadable}
 use Rattle.kishu_model.specs.Serve.{after_all, charges}
 use Rattle.kishu_model.specs.Task.{task, one_cell}
 use Rattle.kishu_store.specs.Record.{Entry, commit, head_of, body_of, IsCell, AreCells, Fits, AreRecords, longest_body}

@@ -7,7 +7,7 @@ use Rattle.std.proofs.lemmas.List.{append-nil}
 use Rattle.kishu_host.specs.Host.{State, Now, Only, Keeps, Elapses}
 use Rattle.kishu_host.specs.Going.{weaker, goes_on}
 use Rattle.kishu_store.specs.Graph.{Graph, new_graph}
-use Rattle.kishu_model.specs.Step.{Request}
+use Rattle.kishu_model.specs.Request.{Request}
 use Rattle.kishu_model.specs.Task.{Form, one_cell, cell_request, task}
 use Rattle.kishu_store.specs.Holds.{Holds}
 use Rattle.kishu_model.specs.Serve.{after, answer_of}

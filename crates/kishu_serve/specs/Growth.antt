@@ -8,7 +8,9 @@ use Rattle.kishu_store.specs.Graph.{Commit, Graph, newest, with_commit, path, pa
 use Rattle.kishu_model.specs.Replay.{after_cells, after_commits, replay, charge_in, charge_on, replay_charge, FillsIn, FillsOn}
 use Rattle.kishu_model.specs.Answers.{store_full}
 use Rattle.kishu_store.specs.Limits.{most_records}
-use Rattle.kishu_model.specs.Step.{cell, step, committed, refused_with, charge_for, charge_of}
+use Rattle.kishu_model.specs.Request.{cell, refused_with}
+use Rattle.kishu_model.specs.requests.Cell.{committed, charge_for}
+use Rattle.kishu_model.specs.Step.{step, charge_of}
 use Rattle.kishu_store.specs.Record.{Entry, commit, changed_by}
 
 is_itself : (n : ℕ) → (n == n) ≡ true

@@ -3,7 +3,7 @@ use Rattle.std.specs.Prelude.{◌≡◌, ◌⊎◌, ℕ, nat_le, true, if◌then
 use Rattle.kishu_host.specs.Host.{State, Only}
 use Rattle.kishu_host.specs.Source.{SourceState}
 use Rattle.kishu_store.specs.Graph.{Graph}
-use Rattle.kishu_model.specs.Step.{Request}
+use Rattle.kishu_model.specs.Request.{Request}
 use Rattle.kishu_store.specs.Record.{Entry, body_of}
 use Rattle.kishu_store.specs.Holds.{Ends, Holds, end_of, fresh_length}
 use Rattle.kishu_model.specs.Serve.{Reached, after_all, answers}

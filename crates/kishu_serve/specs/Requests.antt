@@ -1,7 +1,7 @@
 -- What a session is asked, and which requests it can answer.
 use Rattle.std.specs.Prelude.{◌≤◌, length}
 use Rattle.kishu_store.specs.Record.{longest_cell}
-use Rattle.kishu_model.specs.Step.{Request, cell, unreadable}
+use Rattle.kishu_model.specs.Request.{Request, cell, unreadable}
 use Rattle.kishu_serve.specs.declared.request.Request as rust
 use Rattle.kishu_serve.specs.declared.request.Request.TheVariants.{Cell, Unreadable}
 

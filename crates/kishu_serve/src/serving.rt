@@ -3,8 +3,9 @@ ghost use Rattle.kishu_host.specs.Host.{State, Told, Now, Keeps, Elapses, Rises,
 ghost use Rattle.kishu_store.specs.Graph.{Graph};
 ghost use Rattle.kishu_store.specs.Record.{longest_cell};
 ghost use Rattle.kishu_model.specs.Replay.{replay, replay_charge, Fills, IsFull};
-ghost use Rattle.kishu_model.specs.Step as spec;
-ghost use Rattle.kishu_model.specs.Step.{cell, step, refused_with, charge_of};
+ghost use Rattle.kishu_model.specs.Request as spec;
+ghost use Rattle.kishu_model.specs.Request.{cell, refused_with};
+ghost use Rattle.kishu_model.specs.Step.{step, charge_of};
 ghost use Rattle.kishu_store.specs.Holds.{Holds, IsForeign, IsBroken};
 ghost use Rattle.kishu_model.specs.Serve.{after, answer_of};
 ghost use Rattle.kishu_lines.specs.Lines.{refusal_of};

@@ -1,5 +1,5 @@
 use Rattle.std.proofs.Common.{◌∙◌, ap, sym}
-use Rattle.kishu_model.specs.Step.{cell}
+use Rattle.kishu_model.specs.Request.{cell}
 use Rattle.kishu_serve.proofs.Readings.{reads-as-cell, reads-as-none}
 use Rattle.kishu_serve.proofs.request.cell_request.Goals as goal
 

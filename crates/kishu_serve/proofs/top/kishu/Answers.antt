@@ -1,6 +1,6 @@
 use Rattle.std.proofs.Common.{◌⊎◌, ◌+◌, ◌≤◌, inl, inr, ℕ, List, sym, ◌∙◌, subst}
 use Rattle.kishu_host.specs.Host.{Now, Elapses}
-use Rattle.kishu_model.specs.Step.{Request}
+use Rattle.kishu_model.specs.Request.{Request}
 use Rattle.kishu_serve.specs.Words.{texts, form_of}
 use Rattle.kishu_serve.specs.Headline.{IsPart, IsWhole}
 use Rattle.kishu_model.specs.Replay.{replay_charge}

@@ -3,7 +3,8 @@ use Rattle.kishu_host.specs.Host.{Told}
 use Rattle.kishu_model.specs.Answers.{bad_request, store_full}
 use Rattle.kishu_store.specs.Graph.{Graph}
 use Rattle.kishu_serve.specs.Growth.{step-full}
-use Rattle.kishu_model.specs.Step.{step, refused_with}
+use Rattle.kishu_model.specs.Request.{refused_with}
+use Rattle.kishu_model.specs.Step.{step}
 use Rattle.kishu_model.specs.Serve.{after}
 use Rattle.kishu_serve.specs.Attached.{IsAttached}
 use Rattle.kishu_serve.specs.Requests.{request_of}

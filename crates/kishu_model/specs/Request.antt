@@ -1,0 +1,17 @@
+-- What is asked of a session, and what one request gives.
+use Rattle.std.specs.Prelude.{ℕ, List}
+use Rattle.kishu_store.specs.Graph.{Graph}
+use Rattle.kishu_model.specs.Answers.{Refusal, Answer, refused}
+
+pub data Request : Type 0 where
+  cell : (text : List ℕ) → Request
+  -- what has no reading as a request
+  unreadable : Request
+
+pub record Stepped : Type 0 where
+  pub graph : Graph
+  pub answer : Answer
+
+-- A refusal changes nothing.
+abbrev pub refused_with : Refusal → Graph → Stepped
+refused_with refusal g = record { graph = g; answer = refused refusal }

@@ -1,0 +1,26 @@
+-- One cell: it runs on the state of the head's commit, and is committed.
+use Rattle.std.specs.Prelude.{ℕ, suc, nat_le, if◌then◌else◌, List, [], ◌∷◌}
+use Rattle.kishu_meaning.specs.cells.Meaning.{run}
+use Rattle.kishu_store.specs.Limits.{most_records, newest_profile}
+use Rattle.kishu_store.specs.Graph.{Graph, newest, with_commit, count_of}
+use Rattle.kishu_model.specs.Replay.{replay}
+use Rattle.kishu_model.specs.Answers.{ran_cell, store_full}
+use Rattle.kishu_model.specs.Request.{Stepped, refused_with}
+
+abbrev pub committed : List ℕ → Graph → Stepped
+committed text g = record {
+  graph = with_commit newest_profile (text ∷ []) g;
+  answer = ran_cell (suc (newest g)) (suc (count_of g g.head.commit)) (run newest_profile text (replay g g.head.commit)).report;
+}
+
+-- the steps that it takes
+abbrev pub charge_for : List ℕ → Graph → ℕ
+charge_for text g = (run newest_profile text (replay g g.head.commit)).charge
+
+-- A store that is full takes no cell.
+abbrev pub step_cell : List ℕ → Graph → Stepped
+step_cell text g = if nat_le most_records g.records then refused_with store_full g else committed text g
+
+-- A refused cell takes no step.
+abbrev pub charge_of_cell : List ℕ → Graph → ℕ
+charge_of_cell text g = if nat_le most_records g.records then 0 else charge_for text g
