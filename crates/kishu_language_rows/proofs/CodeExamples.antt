@@ -1,4 +1,4 @@
--- The codes of functions, as CPython finds them, and that each reads by itself: computed on the definition. Made by tools/tree_rows.py.
+-- The codes of functions, as CPython finds them, and that each reads by itself: computed on the definition. Made by tools/rows/tree_rows.py.
 use Rattle.std.proofs.Common.{◌≡◌, ◌∷◌, [], refl}
 use Rattle.std.specs.Prelude.{ℕ, List, codes, Result, Ok, Err}
 use Rattle.std.specs.Char.{encode_utf8}

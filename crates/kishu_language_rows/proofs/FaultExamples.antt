@@ -1,4 +1,4 @@
--- On which line some texts have a fault: computed on the definition. Made by tools/trees.py.
+-- On which line some texts have a fault: computed on the definition. Made by tools/rows/trees.py.
 use Rattle.std.proofs.Common.{◌≡◌, refl}
 use Rattle.std.specs.Prelude.{codes, Err}
 use Rattle.std.specs.Char.{encode_utf8}

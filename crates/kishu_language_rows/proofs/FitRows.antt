@@ -1,4 +1,4 @@
--- Trees that fit, and functions whose codes read by themselves, by the laws that those of texts do. Made by tools/tree_rows.py.
+-- Trees that fit, and functions whose codes read by themselves, by the laws that those of texts do. Made by tools/rows/tree_rows.py.
 use Rattle.std.proofs.Common.{◌∷◌, [], refl, arith}
 use Rattle.std.specs.Prelude.{pos, codes, Some, None}
 use Rattle.std.specs.Char.{encode_utf8}

@@ -1,4 +1,4 @@
--- The pieces at the front of some texts: computed on the definition. Made by tools/text_rows.py.
+-- The pieces at the front of some texts: computed on the definition. Made by tools/rows/text_rows.py.
 use Rattle.std.proofs.Common.{◌≡◌, refl, [], ◌∷◌, ◌++◌, replicate}
 use Rattle.std.specs.Prelude.{pos, codes}
 use Rattle.kishu_language.specs.declared.token.Mark.TheVariants as m

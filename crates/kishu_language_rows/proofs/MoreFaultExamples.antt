@@ -1,4 +1,4 @@
--- On which line further texts have a fault: computed on the definition. Made by tools/tree_rows.py.
+-- On which line further texts have a fault: computed on the definition. Made by tools/rows/tree_rows.py.
 use Rattle.std.proofs.Common.{◌≡◌, ◌∷◌, [], refl}
 use Rattle.std.specs.Prelude.{codes, Err}
 use Rattle.std.specs.Char.{encode_utf8}

@@ -1,4 +1,4 @@
--- Which tokens further texts have, from CPython where the languages agree: computed on the definition. Made by tools/text_rows.py.
+-- Which tokens further texts have, from CPython where the languages agree: computed on the definition. Made by tools/rows/text_rows.py.
 use Rattle.std.proofs.Common.{◌≡◌, refl, [], ◌∷◌, replicate}
 use Rattle.std.specs.Prelude.{pos, codes, Ok}
 use Rattle.kishu_language.specs.declared.profile.Profile.TheVariants.{One}

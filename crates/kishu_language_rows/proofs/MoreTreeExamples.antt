@@ -1,4 +1,4 @@
--- Which trees further texts have: computed on the definition. Made by tools/tree_rows.py.
+-- Which trees further texts have: computed on the definition. Made by tools/rows/tree_rows.py.
 use Rattle.std.proofs.Common.{◌≡◌, ◌∷◌, [], refl}
 use Rattle.std.specs.Prelude.{pos, codes, Some, None, Ok}
 use Rattle.std.specs.Char.{encode_utf8}

@@ -1,4 +1,4 @@
--- Which numbers some words are, as CPython's `int` tells, and which are none: computed on the definition. Made by tools/text_rows.py.
+-- Which numbers some words are, as CPython's `int` tells, and which are none: computed on the definition. Made by tools/rows/text_rows.py.
 use Rattle.std.proofs.Common.{◌≡◌, refl}
 use Rattle.std.specs.Prelude.{pos, codes, Some, None}
 use Rattle.kishu_language.specs.tokens.Numerals.{numeral}

@@ -1,4 +1,4 @@
--- Texts with the trees, lines and functions that the relation of the grammar gives them, by the law that the reader finds just these. Made by tools/tree_rows.py.
+-- Texts with the trees, lines and functions that the relation of the grammar gives them, by the law that the reader finds just these. Made by tools/rows/tree_rows.py.
 use Rattle.std.proofs.Common.{◌≡◌, ◌∷◌, [], refl, inl, inr}
 use Rattle.std.specs.Prelude.{pos, codes, Some, None}
 use Rattle.std.specs.Char.{encode_utf8}

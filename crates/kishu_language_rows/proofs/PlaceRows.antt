@@ -1,4 +1,4 @@
--- Tokens whose places lie in order within a text, and some whose places don't. Made by tools/text_rows.py.
+-- Tokens whose places lie in order within a text, and some whose places don't. Made by tools/rows/text_rows.py.
 use Rattle.std.proofs.Common.{◌≤◌, [], ◌∷◌, arith, codes}
 use Rattle.std.specs.Prelude.{pos}
 use Rattle.kishu_language.specs.declared.token.Mark.TheVariants as m

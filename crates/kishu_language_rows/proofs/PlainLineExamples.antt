@@ -1,4 +1,4 @@
--- Texts with plain line ends, as CPython reads a text: computed on the definition. Made by tools/text_rows.py.
+-- Texts with plain line ends, as CPython reads a text: computed on the definition. Made by tools/rows/text_rows.py.
 use Rattle.std.proofs.Common.{◌≡◌, refl, [], ◌∷◌}
 use Rattle.std.specs.Prelude.{codes}
 use Rattle.kishu_language.specs.tokens.PlainLines.{plain_lines}

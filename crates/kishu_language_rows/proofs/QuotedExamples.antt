@@ -1,4 +1,4 @@
--- Which texts stand between quotes, with the characters that they take, as CPython tells where the languages agree: computed on the definition. Made by tools/text_rows.py.
+-- Which texts stand between quotes, with the characters that they take, as CPython tells where the languages agree: computed on the definition. Made by tools/rows/text_rows.py.
 use Rattle.std.proofs.Common.{◌≡◌, refl, [], ◌∷◌, true, false}
 use Rattle.std.specs.Prelude.{codes, Some, None}
 use Rattle.kishu_language.specs.tokens.Quoted as Q

@@ -1,4 +1,4 @@
--- Which tokens some texts have, and where some have a fault: computed on the definition. Made by tools/tokens.py.
+-- Which tokens some texts have, and where some have a fault: computed on the definition. Made by tools/rows/tokens.py.
 use Rattle.std.proofs.Common.{◌≡◌, ◌∷◌, [], refl}
 use Rattle.std.specs.Prelude.{pos, codes, Ok, Err}
 use Rattle.std.specs.Char.{encode_utf8}

@@ -1,4 +1,4 @@
--- On which line further texts have a fault in their tokens: computed on the definition. Made by tools/text_rows.py.
+-- On which line further texts have a fault in their tokens: computed on the definition. Made by tools/rows/text_rows.py.
 use Rattle.std.proofs.Common.{◌≡◌, refl, [], ◌∷◌, ◌++◌, replicate}
 use Rattle.std.specs.Prelude.{codes, Err}
 use Rattle.kishu_language.specs.declared.profile.Profile.TheVariants.{One}

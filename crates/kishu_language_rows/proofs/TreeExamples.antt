@@ -1,4 +1,4 @@
--- Which trees some texts have: computed on the definition. Made by tools/trees.py.
+-- Which trees some texts have: computed on the definition. Made by tools/rows/trees.py.
 use Rattle.std.proofs.Common.{◌≡◌, ◌∷◌, [], refl}
 use Rattle.std.specs.Prelude.{pos, codes, Some, None, Ok}
 use Rattle.std.specs.Char.{encode_utf8}

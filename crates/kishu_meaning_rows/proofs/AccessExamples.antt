@@ -1,4 +1,4 @@
--- Names that are found, bound, unbound and recorded, in byte order: computed on the definition. Made by tools/state_rows.py.
+-- Names that are found, bound, unbound and recorded, in byte order: computed on the definition. Made by tools/rows/state_rows.py.
 use Rattle.std.proofs.Common.{◌≡◌, refl, [], ◌∷◌}
 use Rattle.std.specs.Prelude.{pos, codes, Some, None}
 use Rattle.kishu_meaning.specs.values.Values.{none, integer, find, bind}

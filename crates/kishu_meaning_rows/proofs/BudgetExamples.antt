@@ -1,4 +1,4 @@
--- What some cells give where few steps are left: computed on the definition. Made by tools/cells.py.
+-- What some cells give where few steps are left: computed on the definition. Made by tools/cells/cells.py.
 use Rattle.std.proofs.Common.{◌≡◌, ◌∷◌, [], refl}
 use Rattle.std.specs.Prelude.{pos, true, false, codes}
 use Rattle.std.specs.Char.{encode_utf8}

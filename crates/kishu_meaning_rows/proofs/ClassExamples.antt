@@ -1,4 +1,4 @@
--- Which class of exceptions is which or lies below it, as CPython tells: computed on the definition. Made by tools/state_rows.py.
+-- Which class of exceptions is which or lies below it, as CPython tells: computed on the definition. Made by tools/rows/state_rows.py.
 use Rattle.std.proofs.Common.{◌≡◌, refl, true, false}
 use Rattle.kishu_meaning.specs.values.Classes.{is_within}
 

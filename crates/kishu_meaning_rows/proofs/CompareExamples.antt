@@ -1,4 +1,4 @@
--- What comparisons answer on values of each kind, as CPython tells, with the steps that are left: computed on the definition. Made by tools/call_rows.py.
+-- What comparisons answer on values of each kind, as CPython tells, with the steps that are left: computed on the definition. Made by tools/rows/call_rows.py.
 use Rattle.std.proofs.Common.{◌≡◌, refl, [], ◌∷◌, true, false}
 use Rattle.std.specs.Prelude.{pos, negsuc, codes}
 use Rattle.kishu_meaning.specs.values.Keys as p

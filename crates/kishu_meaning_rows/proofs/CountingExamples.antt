@@ -1,4 +1,4 @@
--- What counts its steps, and how it ends: computed on the definition. Made by tools/state_rows.py.
+-- What counts its steps, and how it ends: computed on the definition. Made by tools/rows/state_rows.py.
 use Rattle.std.proofs.Common.{◌≡◌, refl, [], ◌∷◌}
 use Rattle.std.specs.Prelude.{codes, ℕ}
 use Rattle.kishu_meaning.specs.values.Values.{text, list}

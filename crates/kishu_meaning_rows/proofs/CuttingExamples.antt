@@ -1,4 +1,4 @@
--- Texts that are searched, cut, joined, picked from and put between quotes, as CPython tells where the languages agree: computed on the definition. Made by tools/text_rows.py.
+-- Texts that are searched, cut, joined, picked from and put between quotes, as CPython tells where the languages agree: computed on the definition. Made by tools/rows/text_rows.py.
 use Rattle.std.proofs.Common.{◌≡◌, refl, [], ◌∷◌, true, false}
 use Rattle.std.specs.Prelude.{pos, negsuc, codes, Some, None}
 use Rattle.kishu_meaning.specs.values.Texts.{places, picked, begins, first_place, occurrences, pieces, joined, replaced, quoted}

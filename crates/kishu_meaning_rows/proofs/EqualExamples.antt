@@ -1,4 +1,4 @@
--- How some comparisons end, as CPython tells, with the steps that are left: computed on the definition. Made by tools/nodes.py.
+-- How some comparisons end, as CPython tells, with the steps that are left: computed on the definition. Made by tools/rows/nodes.py.
 use Rattle.std.proofs.Common.{◌≡◌, refl, [], ◌∷◌, true, false}
 use Rattle.std.specs.Prelude.{pos, negsuc, codes, Some, None}
 use Rattle.kishu_meaning.specs.values.Keys as p

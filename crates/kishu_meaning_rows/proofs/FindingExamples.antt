@@ -1,4 +1,4 @@
--- Items that are equal to a value, as CPython tells, with the steps that are left: computed on the definition. Made by tools/state_rows.py.
+-- Items that are equal to a value, as CPython tells, with the steps that are left: computed on the definition. Made by tools/rows/state_rows.py.
 use Rattle.std.proofs.Common.{◌≡◌, refl, [], ◌∷◌, true, false}
 use Rattle.std.specs.Prelude.{pos, codes, Some, None}
 use Rattle.kishu_meaning.specs.values.Keys as p

@@ -1,4 +1,4 @@
--- Texts of functions, with the steps that are left: computed on the definition. Made by tools/values.py.
+-- Texts of functions, with the steps that are left: computed on the definition. Made by tools/rows/values.py.
 use Rattle.std.proofs.Common.{◌≡◌, ◌∷◌, [], refl}
 use Rattle.std.specs.Prelude.{pos, codes}
 use Rattle.std.specs.Char.{encode_utf8}

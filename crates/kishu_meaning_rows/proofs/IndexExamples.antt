@@ -1,4 +1,4 @@
--- Places by an index and by a bound, as CPython tells: computed on the definition. Made by tools/state_rows.py.
+-- Places by an index and by a bound, as CPython tells: computed on the definition. Made by tools/rows/state_rows.py.
 use Rattle.std.proofs.Common.{◌≡◌, refl, [], ◌∷◌, true, false}
 use Rattle.std.specs.Prelude.{pos, negsuc, codes, Some, None}
 use Rattle.kishu_meaning.specs.values.Values.{none, bool, integer, text, range, builtin, class}

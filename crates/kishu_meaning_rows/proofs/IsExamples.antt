@@ -1,4 +1,4 @@
--- Which values are the same, and which ranges are equal and how long, as CPython tells where the languages agree: computed on the definition. Made by tools/state_rows.py.
+-- Which values are the same, and which ranges are equal and how long, as CPython tells where the languages agree: computed on the definition. Made by tools/rows/state_rows.py.
 use Rattle.std.proofs.Common.{◌≡◌, refl, [], true, false}
 use Rattle.std.specs.Prelude.{pos, negsuc, codes}
 use Rattle.kishu_meaning.specs.values.Values.{none, bool, integer, text, range, builtin, class, node}

@@ -1,4 +1,4 @@
--- Which keys are one, as CPython's dicts tell: computed on the definition. Made by tools/nodes.py.
+-- Which keys are one, as CPython's dicts tell: computed on the definition. Made by tools/rows/nodes.py.
 use Rattle.std.proofs.Common.{◌≡◌, refl, [], ◌∷◌, true, false}
 use Rattle.std.specs.Prelude.{pos, negsuc, codes}
 use Rattle.kishu_meaning.specs.values.Keys as p

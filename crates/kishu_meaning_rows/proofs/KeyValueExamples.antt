@@ -1,4 +1,4 @@
--- Values as keys and keys as values, with the steps that are left: computed on the definition. Made by tools/state_rows.py.
+-- Values as keys and keys as values, with the steps that are left: computed on the definition. Made by tools/rows/state_rows.py.
 use Rattle.std.proofs.Common.{◌≡◌, refl, [], ◌∷◌, true, false}
 use Rattle.std.specs.Prelude.{pos, negsuc, codes}
 use Rattle.kishu_meaning.specs.values.Keys as p

@@ -1,4 +1,4 @@
--- The kinds of values, and the exceptions that tell them: computed on the definition. Made by tools/state_rows.py.
+-- The kinds of values, and the exceptions that tell them: computed on the definition. Made by tools/rows/state_rows.py.
 use Rattle.std.proofs.Common.{◌≡◌, refl, [], ◌∷◌, true}
 use Rattle.std.specs.Prelude.{pos, codes, ℕ}
 use Rattle.kishu_language.specs.declared.profile.Profile.TheVariants.{One}

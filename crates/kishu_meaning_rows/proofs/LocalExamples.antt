@@ -1,4 +1,4 @@
--- Which names are local to a function, and what a call binds to its parameters, as CPython tells: computed on the definition. Made by tools/call_rows.py.
+-- Which names are local to a function, and what a call binds to its parameters, as CPython tells: computed on the definition. Made by tools/rows/call_rows.py.
 use Rattle.std.proofs.Common.{◌≡◌, ◌∷◌, [], refl}
 use Rattle.std.specs.Prelude.{ℕ, pos, List, codes, Option, Some, None, Result, option_map, option_and_then}
 use Rattle.std.specs.Char.{encode_utf8}

@@ -1,4 +1,4 @@
--- What some cells give: computed on the definition. Made by tools/cells.py.
+-- What some cells give: computed on the definition. Made by tools/cells/cells.py.
 use Rattle.std.proofs.Common.{◌≡◌, ◌∷◌, [], refl}
 use Rattle.std.specs.Prelude.{pos, codes}
 use Rattle.std.specs.Char.{encode_utf8}

@@ -1,4 +1,4 @@
--- What some calls of methods answer and leave, as CPython tells where the languages agree, with the steps that are left: computed on the definition. Made by tools/values.py.
+-- What some calls of methods answer and leave, as CPython tells where the languages agree, with the steps that are left: computed on the definition. Made by tools/rows/values.py.
 use Rattle.std.proofs.Common.{◌≡◌, refl, [], ◌∷◌, true, false}
 use Rattle.std.specs.Prelude.{pos, negsuc, codes}
 use Rattle.std.specs.Str.{chars}

@@ -1,4 +1,4 @@
--- What is done at a moment: steps, depth, names and nodes: computed on the definition. Made by tools/state_rows.py.
+-- What is done at a moment: steps, depth, names and nodes: computed on the definition. Made by tools/rows/state_rows.py.
 use Rattle.std.proofs.Common.{◌≡◌, refl, [], ◌∷◌}
 use Rattle.std.specs.Prelude.{pos, codes, Some, None, ℕ}
 use Rattle.kishu_meaning.specs.values.Values.{Names, none, integer, text, builtin, class, node, list, tuple}

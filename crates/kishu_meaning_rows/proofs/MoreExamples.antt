@@ -1,4 +1,4 @@
--- What further cells give: computed on the definition. Made by tools/cells.py.
+-- What further cells give: computed on the definition. Made by tools/cells/cells.py.
 use Rattle.std.proofs.Common.{◌≡◌, ◌∷◌, [], refl}
 use Rattle.std.specs.Prelude.{pos, negsuc, true, false, codes}
 use Rattle.std.specs.Char.{encode_utf8}

@@ -1,4 +1,4 @@
--- Which words are names, reserved words, builtin functions and classes, as CPython tells of ASCII words: computed on the definition. Made by tools/text_rows.py.
+-- Which words are names, reserved words, builtin functions and classes, as CPython tells of ASCII words: computed on the definition. Made by tools/rows/text_rows.py.
 use Rattle.std.proofs.Common.{◌≡◌, refl, [], ◌∷◌, true, false, ◌++◌, replicate}
 use Rattle.std.specs.Prelude.{codes, Some, None}
 use Rattle.kishu_language.specs.tokens.Names.{is_name, is_reserved_word, place_among, reserved_words, is_letter, is_digit, is_word_char}

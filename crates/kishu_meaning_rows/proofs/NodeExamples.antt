@@ -1,4 +1,4 @@
--- What some changes make of nodes, as CPython's lists, dicts and objects tell: computed on the definition. Made by tools/nodes.py.
+-- What some changes make of nodes, as CPython's lists, dicts and objects tell: computed on the definition. Made by tools/rows/nodes.py.
 use Rattle.std.proofs.Common.{◌≡◌, refl, [], ◌∷◌, true}
 use Rattle.std.specs.Prelude.{pos, codes, Some, None}
 use Rattle.kishu_meaning.specs.values.Keys as p

@@ -1,4 +1,4 @@
--- What the operators answer on whole numbers at the edges of their range, as CPython's numbers tell: computed on the definition. Made by tools/text_rows.py.
+-- What the operators answer on whole numbers at the edges of their range, as CPython's numbers tell: computed on the definition. Made by tools/rows/text_rows.py.
 use Rattle.std.proofs.Common.{◌≡◌, refl, [], ◌∷◌}
 use Rattle.std.specs.Prelude.{pos, negsuc, codes}
 use Rattle.kishu_language.specs.declared.tree.Operator.TheVariants as operators

@@ -1,4 +1,4 @@
--- Numbers that texts write, and floors and powers, as CPython tells: computed on the definition. Made by tools/text_rows.py.
+-- Numbers that texts write, and floors and powers, as CPython tells: computed on the definition. Made by tools/rows/text_rows.py.
 use Rattle.std.proofs.Common.{◌≡◌, refl, [], ◌∷◌, true, false}
 use Rattle.std.specs.Prelude.{pos, negsuc, codes, Some, None}
 use Rattle.kishu_meaning.specs.values.Numbers.{is_whole, number_read, floor_quotient, floor_remainder, power}

@@ -1,4 +1,4 @@
--- The results of operations and their faults, as CPython's numbers tell: computed on the definition. Made by tools/text_rows.py.
+-- The results of operations and their faults, as CPython's numbers tell: computed on the definition. Made by tools/rows/text_rows.py.
 use Rattle.std.proofs.Common.{◌≡◌, refl}
 use Rattle.std.specs.Prelude.{pos, negsuc, Ok, Err}
 use Rattle.kishu_num.specs.declared.fault.NumFault.TheVariants.{Overflow, ZeroDivisor, NegativePower}

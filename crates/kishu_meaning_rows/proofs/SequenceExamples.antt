@@ -1,4 +1,4 @@
--- How many items some values have, which, and what they are as keys and in order, as CPython tells where the languages agree: computed on the definition. Made by tools/values.py.
+-- How many items some values have, which, and what they are as keys and in order, as CPython tells where the languages agree: computed on the definition. Made by tools/rows/values.py.
 use Rattle.std.proofs.Common.{◌≡◌, refl, [], ◌∷◌, true, false}
 use Rattle.std.specs.Prelude.{pos, negsuc, codes, Some, None}
 use Rattle.kishu_meaning.specs.values.Keys as p

@@ -1,4 +1,4 @@
--- Texts of some values, as CPython tells where the languages agree, with the steps that are left: computed on the definition. Made by tools/values.py.
+-- Texts of some values, as CPython tells where the languages agree, with the steps that are left: computed on the definition. Made by tools/rows/values.py.
 use Rattle.std.proofs.Common.{◌≡◌, refl, [], ◌∷◌, true, false}
 use Rattle.std.specs.Prelude.{pos, negsuc, codes}
 use Rattle.std.specs.Fmt.{digits}

@@ -1,4 +1,4 @@
--- Slices with several causes of an exception, of which the first from the left is told: computed on the definition. Made by tools/state_rows.py.
+-- Slices with several causes of an exception, of which the first from the left is told: computed on the definition. Made by tools/rows/state_rows.py.
 use Rattle.std.proofs.Common.{◌≡◌, refl, [], ◌∷◌, false}
 use Rattle.std.specs.Prelude.{pos, codes}
 use Rattle.kishu_meaning.specs.values.Values.{none, bool, integer, text, range, builtin, class, node, list, tuple, dict}

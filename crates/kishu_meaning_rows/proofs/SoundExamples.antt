@@ -1,4 +1,4 @@
--- Which values, nodes and names are sound: computed on the definition. Made by tools/state_rows.py.
+-- Which values, nodes and names are sound: computed on the definition. Made by tools/rows/state_rows.py.
 use Rattle.std.proofs.Common.{◌≡◌, refl, [], ◌∷◌, true, false, replicate}
 use Rattle.std.specs.Prelude.{pos, negsuc, codes, Some, None}
 use Rattle.kishu_meaning.specs.values.Keys as p

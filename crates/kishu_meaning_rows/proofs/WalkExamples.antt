@@ -1,4 +1,4 @@
--- What is walked, and its items, with the steps that are left: computed on the definition. Made by tools/call_rows.py.
+-- What is walked, and its items, with the steps that are left: computed on the definition. Made by tools/rows/call_rows.py.
 use Rattle.std.proofs.Common.{◌≡◌, refl, [], ◌∷◌, true}
 use Rattle.std.specs.Prelude.{pos, negsuc, codes, Some, None}
 use Rattle.kishu_meaning.specs.values.Keys as p

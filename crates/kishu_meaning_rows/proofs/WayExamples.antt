@@ -1,4 +1,4 @@
--- Where a statement leads: exceptions that are raised and caught, and the last block: computed on the definition. Made by tools/call_rows.py.
+-- Where a statement leads: exceptions that are raised and caught, and the last block: computed on the definition. Made by tools/rows/call_rows.py.
 use Rattle.std.proofs.Common.{◌≡◌, refl, [], ◌∷◌, true, false}
 use Rattle.std.specs.Prelude.{pos, codes, Some, ℕ}
 use Rattle.kishu_meaning.specs.values.Values.{none, integer, text, builtin, class, node, list, tuple, dict, exception}

@@ -1,4 +1,4 @@
--- Texts without the white space round them, and their words, as CPython tells of ASCII texts: computed on the definition. Made by tools/text_rows.py.
+-- Texts without the white space round them, and their words, as CPython tells of ASCII texts: computed on the definition. Made by tools/rows/text_rows.py.
 use Rattle.std.proofs.Common.{◌≡◌, refl, [], ◌∷◌, true, false}
 use Rattle.std.specs.Prelude.{codes}
 use Rattle.kishu_meaning.specs.values.White.{is_white, stripped}

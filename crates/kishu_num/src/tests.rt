@@ -1,4 +1,4 @@
-// Tables of worked numbers, as tools/numbers.py prints them.
+// Tables of worked numbers, as tools/rows/numbers.py prints them.
 use crate::NumFault::{NegativePower, Overflow, ZeroDivisor};
 use crate::{NumFault, add, floor_div, modulo, mul, power, read_int, sub, write_int};
 use std::test::Fail;

@@ -1,4 +1,4 @@
-// Printed by tools/texts.py, from what CPython answers.
+// Printed by tools/rows/texts.py, from what CPython answers.
 
 /// A text and its length.
 pub(crate) const COUNTS: [(&str, usize); 8] = [

@@ -1,4 +1,4 @@
-// Calls of builtin functions and classes, written and told as texts (tools/builtin_rows.py).
+// Calls of builtin functions and classes, written and told as texts (tools/cells/builtin_rows.py).
 ghost use Rattle.std.specs.Prelude.{◌≡◌, ◌<◌};
 
 mod table;

@@ -1,4 +1,4 @@
-// Calls of methods, written and told as texts (tools/method_rows.py).
+// Calls of methods, written and told as texts (tools/rows/method_rows.py).
 ghost use Rattle.std.specs.Prelude.{◌≡◌, ◌+◌, ◌-◌, ◌<◌, ◌^◌, map, length, true};
 ghost use Rattle.std.specs.List.{list_all};
 ghost use Rattle.kishu_meaning.specs.values.Sound.{is_sound, are_sound};

@@ -1,4 +1,4 @@
-// Made by tools/cells.py: how a cell ended and what it shows, and its text, with \x1f between, and \x1e
+// Made by tools/cells/cells.py: how a cell ended and what it shows, and its text, with \x1f between, and \x1e
 // behind each row. What was printed stands in `<` and `>`.
 pub(crate) const COUNT: usize = 732;
 

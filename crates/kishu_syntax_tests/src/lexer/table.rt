@@ -1,4 +1,4 @@
-// Made by tools/tokens.py: what is wanted and the text, with \x1f between, and \x1e behind each row.
+// Made by tools/rows/tokens.py: what is wanted and the text, with \x1f between, and \x1e behind each row.
 pub(crate) const COUNT: usize = 185;
 
 pub(crate) const ROWS: &str = "\

@@ -1,4 +1,4 @@
-// Made by tools/trees.py: what is wanted and the text, with \x1f between, and \x1e behind each row.
+// Made by tools/rows/trees.py: what is wanted and the text, with \x1f between, and \x1e behind each row.
 pub(crate) const COUNT: usize = 447;
 
 pub(crate) const ROWS: &str = "\

@@ -1,4 +1,4 @@
-// Made by tools/cells.py: the cell's outcome and outputs in its answer, and its text, with \x1f between, and
+// Made by tools/cells/cells.py: the cell's outcome and outputs in its answer, and its text, with \x1f between, and
 // \x1e behind each row. The answer is BEGIN, this, END.
 pub(crate) const COUNT: usize = 732;
 

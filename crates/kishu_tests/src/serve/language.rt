@@ -1,4 +1,4 @@
-// Made by tools/language.py of docs/LANGUAGE.md: rows as those of `cells`.
+// Made by tools/cells/language.py of docs/LANGUAGE.md: rows as those of `cells`.
 pub(crate) const COUNT: usize = 37;
 
 // Of these so many spend their steps.

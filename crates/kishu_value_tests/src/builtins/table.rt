@@ -1,4 +1,4 @@
-// Printed by tools/builtin_rows.py, from what CPython answers.
+// Printed by tools/cells/builtin_rows.py, from what CPython answers.
 
 /// A builtin function or a class, its arguments and the budget; and what the call gives, with the
 /// number of a node, and the steps that it takes.

@@ -1,4 +1,4 @@
-// Printed by tools/method_rows.py, from what CPython answers.
+// Printed by tools/rows/method_rows.py, from what CPython answers.
 
 /// A value, a method, its arguments and the budget; and what the call gives, the steps that it takes
 /// and the value then.

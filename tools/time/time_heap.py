@@ -1,26 +1,26 @@
 #!/usr/bin/env python3
 """Times the heap and the names: a million pushes, a million entries of a dict, and 100,000 names.
 
-Usage: tools/time_heap.py
+Usage: tools/time/time_heap.py
 
 The program that is timed is made, proved and built in a folder of its own, over copies of the
-crates that it stands on. Each row is a run of its own, so that its memory can be told: the time is
-what the calls take, and the memory is the most that the run had.
+crates that it stands on, as timing.py does it. Each row is a run of its own, so that its memory can
+be told: the time is what the calls take, and the memory is the most that the run had.
 """
 import os
 import resource
-import shutil
 import subprocess
 import tempfile
 
-TOP = os.path.dirname(os.path.dirname(os.path.abspath(__file__)))
-CRATES = ("kishu_model", "kishu_text", "kishu_heap", "kishu_names")
+from timing import built, copy_crates
+
+CRATES = ("kishu_meaning", "kishu_heap", "kishu_names")
 PROGRAM = r'''//! Fills a heap or a namespace, and prints how long that takes.
 #![tactic(auto)]
 
 use indexmap::IndexMap;
 use kishu_heap::{Heap, Node};
-use kishu_model::{Key, NodeId, Value};
+use kishu_meaning::{Key, NodeId, Value};
 use kishu_names::{Names, is_name};
 use std::alloc::{AllocError, Global};
 use std::io;
@@ -103,17 +103,6 @@ fn main(rt: HostRuntime) -> io::Result<()> {
 '''
 
 
-def build(folder, which):
-    crate = os.path.join(folder, "crates", "time_" + which)
-    os.makedirs(os.path.join(crate, "src"))
-    with open(os.path.join(crate, "src", "main.rt"), "w") as source:
-        source.write(PROGRAM.replace("WHICH", which))
-    with open(os.path.join(folder, "crates.txt"), "a") as listed:
-        listed.write(f"time_{which}: kishu_model kishu_heap kishu_names indexmap\n")
-    subprocess.run(["rt", "run"], cwd=crate, check=True, stdout=subprocess.DEVNULL)
-    return os.path.join(crate, "out", "time_" + which)
-
-
 def most_memory():
     return resource.getrusage(resource.RUSAGE_CHILDREN).ru_maxrss
 
@@ -130,14 +119,9 @@ def run(program):
 
 def main():
     with tempfile.TemporaryDirectory() as folder:
-        for name in CRATES:
-            shutil.copytree(os.path.join(TOP, "crates", name), os.path.join(folder, "crates", name))
-        with open(os.path.join(TOP, "crates.txt")) as listed:
-            kept = [line for line in listed if line.split(":")[0] in CRATES]
-        with open(os.path.join(folder, "crates.txt"), "w") as listed:
-            listed.writelines(kept)
+        copy_crates(folder, CRATES)
         for which in ("pushes", "entries", "texts", "names"):
-            program = build(folder, which)
+            program = built(folder, "time_" + which, (*CRATES, "indexmap"), PROGRAM.replace("WHICH", which))
             print(f"{which:<8}", end="", flush=True)
             run(program)
 

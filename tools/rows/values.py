@@ -1,15 +1,15 @@
-"""Makes the worked rows on texts of values, sequences and methods of crates/kishu_rows/proofs:
-ShowExamples, SequenceExamples and MethodExamples.
+#!/usr/bin/env python3
+"""Makes the worked rows on texts of values, sequences and methods of
+crates/kishu_meaning_rows/proofs: ShowExamples, FunctionExamples, SequenceExamples and MethodExamples.
 
 What a value's text is and what a method answers and changes is asked of CPython, but for the rows
 that are said to be this language's own. The steps are counted here, by the rules as they are told
 in words, and so is what a run that is cut short leaves."""
 
 import copy
-import re
 from types import SimpleNamespace
 
-from nodes import CLASSES, VALUES, Counter, Deep, Function, Heap, Spent, chain, is_plain, is_same, key, listing, number, text, truth, write
+from nodes import CLASSES, VALUES, Counter, Deep, Function, Heap, Spent, chain, is_plain, is_same, key, listing, needed, number, text, truth, write
 from trees import IMPORTS, UNFOLDING
 
 
@@ -544,18 +544,6 @@ def missing_rows():
     return rows
 
 
-def needed(uses, rows, words=""):
-    """The use lines, with the names that stand in the rows or among the words."""
-    there = set(re.findall(r"[^\s(){}.,\"]+|\[\]", re.sub(r'"[^"]*"', '"', " ".join(rows)) + " " + words)) | {"◌≡◌", "refl"} | ({"◌∷◌"} if any(" ∷ " in row for row in rows) else set())
-    lines = []
-    for use in uses:
-        found = re.fullmatch(r"(.*\.)\{(.*)\}", use)
-        names = [n for n in found[2].split(", ") if n in there] if found else []
-        if not found or names:
-            lines.append(found[1] + "{" + ", ".join(names) + "}" if found else use)
-    return lines
-
-
 def write_rows(name, head, uses, rows, prefix, unfolding):
     write(name, head, needed(uses, rows, unfolding), rows, prefix, unfolding, maker="values.py")
 
@@ -565,22 +553,22 @@ def main():
     prelude = "use Rattle.std.specs.Prelude.{pos, negsuc, codes, Some, None}"
     digits = "use Rattle.std.specs.Fmt.{digits}"
     chars = "use Rattle.std.specs.Str.{chars}"
-    names = "use Rattle.kishu_model.specs.Names.{builtin_names, class_names}"
-    keys = "use Rattle.kishu_model.specs.Keys as p"
-    counting = "use Rattle.kishu_model.specs.Counting.{answer, too_deep, spent}"
-    bare = "use Rattle.kishu_model.specs.Bare.{bare}"
-    profile = "use Rattle.kishu_model.specs.declared.profile.Profile.TheVariants.{One}"
-    ends = "use Rattle.kishu_model.specs.Moment.{fresh, fine, raised, stopped}"
+    names = "use Rattle.kishu_meaning.specs.values.BuiltinNames.{builtin_names, class_names}"
+    keys = "use Rattle.kishu_meaning.specs.values.Keys as p"
+    counting = "use Rattle.kishu_meaning.specs.moments.Counting.{answer, too_deep, spent}"
+    bare = "use Rattle.kishu_meaning_laws.specs.Bare.{bare}"
+    profile = "use Rattle.kishu_language.specs.declared.profile.Profile.TheVariants.{One}"
+    ends = "use Rattle.kishu_meaning.specs.moments.Moment.{fresh, fine, raised, stopped}"
     head = "as CPython tells where the languages agree"
     write_rows("ShowExamples", f"Texts of some values, {head}, with the steps that are left: computed on the definition.",
-          [common, prelude, digits, chars, names, keys, VALUES, counting, "use Rattle.kishu_model.specs.Show.{repr_in, show_in, thrown_in}"], show_rows(), "show", "builtin_names class_names chars digits")
+          [common, prelude, digits, chars, names, keys, VALUES, counting, "use Rattle.kishu_meaning.specs.comparing.Show.{repr_in, show_in, thrown_in}"], show_rows(), "show", "builtin_names class_names chars digits")
     write_rows("FunctionExamples", "Texts of functions, with the steps that are left: computed on the definition.",
-          (IMPORTS % ("◌≡◌, ◌∷◌, [], refl", "pos, codes", "", "")).splitlines() + [chars, digits, VALUES.replace("dict, object, exception", "function"), counting, "use Rattle.kishu_model.specs.Show.{repr_in, show_in}"], function_rows(), "function", UNFOLDING.removeprefix("unfolding ") + " chars digits")
+          (IMPORTS % ("◌≡◌, ◌∷◌, [], refl", "pos, codes", "", "")).splitlines() + [chars, digits, VALUES.replace("dict, object, exception", "function"), counting, "use Rattle.kishu_meaning.specs.comparing.Show.{repr_in, show_in}"], function_rows(), "function", UNFOLDING.removeprefix("unfolding ") + " chars digits")
     write_rows("SequenceExamples", f"How many items some values have, which, and what they are as keys and in order, {head}: computed on the definition.",
-          [common, prelude, keys, VALUES, ends, names, "use Rattle.kishu_model.specs.Indexes.{place_in, bound_in}", "use Rattle.kishu_model.specs.KeyOf.{key_of_value}", "use Rattle.kishu_model.specs.Sequences.{count_of, items_of, walked}",
-           "use Rattle.kishu_model.specs.Sorting.{in_order, sort_steps}", bare], sequence_rows(), "sequence", "class_names")
+          [common, prelude, keys, VALUES, ends, names, "use Rattle.kishu_meaning.specs.items.Indexes.{place_in, bound_in}", "use Rattle.kishu_meaning.specs.items.KeyOf.{key_of_value}", "use Rattle.kishu_meaning.specs.items.Sequences.{count_of, items_of, walked}",
+           "use Rattle.kishu_meaning.specs.items.Sorting.{in_order, sort_steps}", bare], sequence_rows(), "sequence", "class_names")
     write_rows("MethodExamples", f"What some calls of methods answer and leave, {head}, with the steps that are left: computed on the definition.",
-          [common, prelude, chars, keys, VALUES.replace("object,", "object, function,"), profile, ends, names, "use Rattle.kishu_model.specs.Methods.{has_method, call_method}", bare], list_rows() + tuple_rows() + dict_rows() + text_rows() + missing_rows() + has_rows(), "method", "chars class_names")
+          [common, prelude, chars, keys, VALUES.replace("object,", "object, function,"), profile, ends, names, "use Rattle.kishu_meaning.specs.calls.Methods.{has_method, call_method}", bare], list_rows() + tuple_rows() + dict_rows() + text_rows() + missing_rows() + has_rows(), "method", "chars class_names")
 
 
 if __name__ == "__main__":

@@ -1,14 +1,12 @@
 #!/usr/bin/env python3
-"""Prints the table that kishu_methods' tests of all methods hold, of the rows of tools/values.py.
+"""Prints the table that kishu_methods' tests of all methods hold, of the rows of tools/rows/values.py.
 
-    python3 tools/method_rows.py > crates/kishu_value_tests/src/methods/table.rt
+    python3 tools/rows/method_rows.py > crates/kishu_value_tests/src/methods/table.rt
 
 What a call answers and what it leaves is asked of CPython, but for the rows that are marked there as
 this language's own. The steps are counted there. Rows whose values lie deeper than two levels, or
 share nodes, have no line here.
 """
-
-import copy
 
 import values
 from nodes import Heap, Spent
@@ -115,7 +113,7 @@ def main():
     values.call_row = add_row
     for rows in (values.list_rows, values.tuple_rows, values.dict_rows, values.text_rows):
         rows()
-    print("// Printed by tools/method_rows.py, from what CPython answers.")
+    print("// Printed by tools/rows/method_rows.py, from what CPython answers.")
     print()
     print("/// A value, a method, its arguments and the budget; and what the call gives, the steps that it takes")
     print("/// and the value then.")

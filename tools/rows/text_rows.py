@@ -1,13 +1,12 @@
 #!/usr/bin/env python3
-"""Makes the rows on single rules of texts in crates/kishu_rows/proofs: NumeralExamples, QuotedExamples,
-NameExamples, LexemeExamples, MoreTokenExamples, TokenFaultExamples, PlainLineExamples, WhiteExamples,
-CuttingExamples, NumberRows, ReadingRows, ResultRows and PlaceRows.
+"""Makes the rows on single rules of texts: in crates/kishu_language_rows/proofs NumeralExamples,
+QuotedExamples, LexemeExamples, MoreTokenExamples, TokenFaultExamples, PlainLineExamples and PlaceRows, and in
+crates/kishu_meaning_rows/proofs NameExamples, WhiteExamples, CuttingExamples, NumberRows, ReadingRows and ResultRows.
 
 What they want is asked of CPython: of `int` with base 0, of `ast.literal_eval`, `str.isidentifier` and
 `keyword`, of the methods of `str`, and of its whole numbers. What stands under OWN is this language's own.
 """
 import ast
-import builtins
 import io
 import keyword
 import re
@@ -15,16 +14,13 @@ import tokenize
 import warnings
 
 import tokens
-from nodes import BUILTINS, PROOFS, CLASSES, listing, number, text, truth
+from nodes import BUILTINS, CLASSES, LANGUAGE, MEANING, listing, needed, number, row_file, text, truth, write
 from tokens import antt_kind, antt_text
-from values import needed
-from nodes import write
 
 warnings.simplefilter("ignore")
 
 COMMON = "use Rattle.std.proofs.Common.{◌≡◌, refl, [], ◌∷◌, true, false, ◌-◌, ◌^◌, ◌++◌, replicate}"
 PRELUDE = "use Rattle.std.specs.Prelude.{pos, negsuc, codes, Some, None, Ok, Err}"
-SPECS = "use Rattle.kishu_model.specs."
 
 
 def rows_file(name, head, uses, rows, prefix, unfolding=""):
@@ -182,12 +178,12 @@ def place_rows():
 
 def write_places():
     rows = place_rows()
-    uses = ["use Rattle.std.proofs.Common.{◌≤◌, [], ◌∷◌, arith, codes}", "use Rattle.std.specs.Prelude.{pos}", "use Rattle.kishu_model.specs.declared.token.Mark.TheVariants as m", SPECS + "Layout.{name, integer, quoted, newline, indent, dedent, mark, token}", SPECS + "Places.{InOrder}"]
-    lines = ["-- Tokens whose places lie in order within a text, and some whose places don't. Made by tools/text_rows.py."] + needed(uses, [claim for claim, _ in rows], "◌≤◌ arith")
+    uses = ["use Rattle.std.proofs.Common.{◌≤◌, [], ◌∷◌, arith, codes}", "use Rattle.std.specs.Prelude.{pos}", "use Rattle.kishu_language.specs.declared.token.Mark.TheVariants as m", LANGUAGE + "tokens.Layout.{name, integer, quoted, newline, indent, dedent, mark, token}", LANGUAGE + "tokens.Places.{InOrder}"]
+    lines = ["-- Tokens whose places lie in order within a text, and some whose places don't. Made by tools/rows/text_rows.py."] + needed(uses, [claim for claim, _ in rows], "◌≤◌ arith")
     lines = [line.replace("◌≡◌, ", "") for line in lines]
     for i, (claim, proof) in enumerate(rows, 1):
         lines += ["", f"places_{i} : {claim}", f"places_{i} = {proof}"]
-    (PROOFS / "PlaceRows.antt").write_text("\n".join(lines) + "\n")
+    row_file("PlaceRows", uses).write_text("\n".join(lines) + "\n")
 
 
 # ---- line ends
@@ -322,28 +318,28 @@ def result_rows():
     return rows + [f"raised_to {number(a)} {number(b)} ≡ " + (result(a**b) if b >= 0 else "Err NegativePower") for a, b in POWERS]
 
 
-NOW = ["use Rattle.kishu_model.specs.Bare.{bare}", "", "abbrev now : Moment", "now = bare [] 100 0"]
+NOW = ["use Rattle.kishu_meaning_laws.specs.Bare.{bare}", "", "abbrev now : Moment", "now = bare [] 100 0"]
 
 
 def main():
-    bodies = [SPECS + "Quoted.{escape, item, closes, body}", "use Rattle.std.specs.Char.{encode_utf8}"]
-    rows_file("NumeralExamples", "Which numbers some words are, as CPython's `int` tells, and which are none", [SPECS + "Numerals.{numeral}"], [numeral_row(w) for w in WORDS + LIMITS], "numeral", "numeral")
+    bodies = [LANGUAGE + "tokens.Quoted.{escape, item, closes, body}", "use Rattle.std.specs.Char.{encode_utf8}"]
+    rows_file("NumeralExamples", "Which numbers some words are, as CPython's `int` tells, and which are none", [LANGUAGE + "tokens.Numerals.{numeral}"], [numeral_row(w) for w in WORDS + LIMITS], "numeral", "numeral")
     quoted = [quoted_row(t, False) for t in QUOTES] + [quoted_row(t, True) for t in RAW_QUOTES] + [unquoted_row(t, False) for t in NO_QUOTES] + [unquoted_row(t, False, True) for t in OWN_NO_QUOTES] + [unquoted_row(t, True) for t in NO_RAW_QUOTES]
-    rows_file("QuotedExamples", "Which texts stand between quotes, with the characters that they take, as CPython tells where the languages agree", [SPECS + "Quoted as Q"] + bodies, quoted, "quoted", "escape item closes body Q.quoted encode_utf8")
-    rows_file("NameExamples", "Which words are names, reserved words, builtin functions and classes, as CPython tells of ASCII words", [SPECS + "Names.{is_name, is_reserved_word, place_among, reserved_words, builtin_names, class_names, is_letter, is_digit, is_word_char}"], name_rows(), "name", "reserved_words builtin_names class_names")
-    marks = [SPECS + "Marks.{reserved_marks, delimiter, operator}", SPECS + "Numerals.{numeral}", SPECS + "Quoted as Q"] + bodies
-    rows_file("LexemeExamples", "The pieces at the front of some texts", ["use Rattle.kishu_model.specs.declared.token.Mark.TheVariants as m"] + marks + [SPECS + "Lexemes.{blank, comment, bad_comment, joined, feed, word, number, string, sign, bad, token_piece, lexeme}"], lexeme_rows(), "piece", "delimiter operator numeral escape item closes body Q.quoted token_piece lexeme encode_utf8")
-    laid = ["use Rattle.kishu_model.specs.declared.profile.Profile.TheVariants.{One}", "use Rattle.kishu_model.specs.declared.token.Mark.TheVariants as m"] + marks + [SPECS + "Lexemes.{token_piece, lexeme}", SPECS + "Layout.{name, integer, quoted, newline, indent, dedent, mark, token, cut, indented, begin, bracket, step, layout}", SPECS + "Tokens.{tokens_of_chars}"]
+    rows_file("QuotedExamples", "Which texts stand between quotes, with the characters that they take, as CPython tells where the languages agree", [LANGUAGE + "tokens.Quoted as Q"] + bodies, quoted, "quoted", "escape item closes body Q.quoted encode_utf8")
+    rows_file("NameExamples", "Which words are names, reserved words, builtin functions and classes, as CPython tells of ASCII words", [LANGUAGE + "tokens.Names.{is_name, is_reserved_word, place_among, reserved_words, is_letter, is_digit, is_word_char}", MEANING + "values.BuiltinNames.{builtin_names, class_names}"], name_rows(), "name", "reserved_words builtin_names class_names")
+    marks = [LANGUAGE + "tokens.Marks.{reserved_marks, delimiter, operator}", LANGUAGE + "tokens.Numerals.{numeral}", LANGUAGE + "tokens.Quoted as Q"] + bodies
+    rows_file("LexemeExamples", "The pieces at the front of some texts", ["use Rattle.kishu_language.specs.declared.token.Mark.TheVariants as m"] + marks + [LANGUAGE + "tokens.Lexemes.{blank, comment, bad_comment, joined, feed, word, number, string, sign, bad, token_piece, lexeme}"], lexeme_rows(), "piece", "delimiter operator numeral escape item closes body Q.quoted token_piece lexeme encode_utf8")
+    laid = ["use Rattle.kishu_language.specs.declared.profile.Profile.TheVariants.{One}", "use Rattle.kishu_language.specs.declared.token.Mark.TheVariants as m"] + marks + [LANGUAGE + "tokens.Lexemes.{token_piece, lexeme}", LANGUAGE + "tokens.Layout.{name, integer, quoted, newline, indent, dedent, mark, token, cut, indented, begin, bracket, step, layout}", LANGUAGE + "tokens.Tokens.{tokens_of_chars}"]
     rows_file("MoreTokenExamples", "Which tokens further texts have, from CPython where the languages agree", laid, more_tokens(), "text", OPENED)
     rows_file("TokenFaultExamples", "On which line further texts have a fault in their tokens", [u for u in laid if "Mark.TheVariants" not in u], token_faults(), "fault", OPENED)
-    rows_file("PlainLineExamples", "Texts with plain line ends, as CPython reads a text", [SPECS + "PlainLines.{plain_lines}"], [plain_row(t) for t in LINED], "plain")
-    rows_file("WhiteExamples", "Texts without the white space round them, and their words, as CPython tells of ASCII texts", [SPECS + "White.{is_white, stripped}", SPECS + "Texts.{words}"], white_rows(), "white")
-    rows_file("CuttingExamples", "Texts that are searched, cut, joined, picked from and put between quotes, as CPython tells where the languages agree", [SPECS + "Texts.{places, picked, begins, first_place, occurrences, pieces, joined, replaced, quoted}"], cutting_rows(), "cutting")
-    moment = [SPECS + "Values.{integer, text}", SPECS + "Moment.{Moment, fresh, fine, raised}"]
+    rows_file("PlainLineExamples", "Texts with plain line ends, as CPython reads a text", [LANGUAGE + "tokens.PlainLines.{plain_lines}"], [plain_row(t) for t in LINED], "plain")
+    rows_file("WhiteExamples", "Texts without the white space round them, and their words, as CPython tells of ASCII texts", [MEANING + "values.White.{is_white, stripped}", MEANING + "values.Texts.{words}"], white_rows(), "white")
+    rows_file("CuttingExamples", "Texts that are searched, cut, joined, picked from and put between quotes, as CPython tells where the languages agree", [MEANING + "values.Texts.{places, picked, begins, first_place, occurrences, pieces, joined, replaced, quoted}"], cutting_rows(), "cutting")
+    moment = [MEANING + "values.Values.{integer, text}", MEANING + "moments.Moment.{Moment, fresh, fine, raised}"]
     write("NumberRows", "What the operators answer on whole numbers at the edges of their range, as CPython's numbers tell: computed on the definition.",
-          needed([COMMON, PRELUDE, "use Rattle.kishu_model.specs.declared.tree.Operator.TheVariants as operators"], number_rows()) + [SPECS + "Numbers.{power}"] + moment + [SPECS + "Operators.{arithmetic}"] + NOW, number_rows(), "number", "power", maker="text_rows.py")
-    rows_file("ReadingRows", "Numbers that texts write, and floors and powers, as CPython tells", [SPECS + "Numbers.{is_whole, number_read, floor_quotient, floor_remainder, power}"], reading_rows(), "reading", "power")
-    rows_file("ResultRows", "The results of operations and their faults, as CPython's numbers tell", ["use Rattle.kishu_num.specs.declared.fault.NumFault.TheVariants.{Overflow, ZeroDivisor, NegativePower}", SPECS + "Numbers.{power}", "use Rattle.kishu_num.specs.Results.{in_range, divided_by, raised_to}"], result_rows(), "result", "power")
+          needed([COMMON, PRELUDE, "use Rattle.kishu_language.specs.declared.tree.Operator.TheVariants as operators"], number_rows()) + [MEANING + "values.Numbers.{power}"] + moment + [MEANING + "calls.Operators.{arithmetic}"] + NOW, number_rows(), "number", "power", maker="text_rows.py")
+    rows_file("ReadingRows", "Numbers that texts write, and floors and powers, as CPython tells", [MEANING + "values.Numbers.{is_whole, number_read, floor_quotient, floor_remainder, power}"], reading_rows(), "reading", "power")
+    rows_file("ResultRows", "The results of operations and their faults, as CPython's numbers tell", ["use Rattle.kishu_num.specs.declared.fault.NumFault.TheVariants.{Overflow, ZeroDivisor, NegativePower}", MEANING + "values.Numbers.{power}", "use Rattle.kishu_num.specs.Results.{in_range, divided_by, raised_to}"], result_rows(), "result", "power")
     write_places()
 
 

@@ -1,26 +1,23 @@
 #!/usr/bin/env python3
-"""Makes the rows on single rules of values, names and moments in crates/kishu_rows/proofs: SoundExamples,
-AccessExamples, KindExamples, ClassExamples, IsExamples, FindingExamples, SortingExamples, KeyValueExamples,
-IndexExamples, CountingExamples, MomentExamples,
-SliceExamples and SliceOrderExamples.
+"""Makes the rows on single rules of values, names and moments in crates/kishu_meaning_rows/proofs:
+SoundExamples, AccessExamples, KindExamples, ClassExamples, IsExamples, FindingExamples, SortingExamples,
+KeyValueExamples, IndexExamples, CountingExamples, MomentExamples, SliceExamples and SliceOrderExamples.
 
 What CPython has as well is asked of it: the order of sorting, which class stands below which, places by an
 index or a slice, kinds, and what is equal. The steps are counted here, by the rules as they are told in words.
 """
-import keyword
 from types import SimpleNamespace
 
-from nodes import BUILTINS, CLASSES, Function, Heap, Spent, Deep, chain, is_same, key, listing, number, text, truth, write
-from values import Raised, Run, ended, kind, moment, needed, sorted_row, values
+from nodes import BUILTINS, CLASSES, LANGUAGE, MEANING, Function, Heap, chain, is_same, key, listing, needed, number, text, truth, write
+from values import Run, ended, kind, moment, sorted_row, values
 
 COMMON = "use Rattle.std.proofs.Common.{◌≡◌, refl, [], ◌∷◌, true, false, ◌++◌, replicate}"
 PRELUDE = "use Rattle.std.specs.Prelude.{pos, negsuc, codes, Some, None, ℕ}"
-SPECS = "use Rattle.kishu_model.specs."
-KEYS = SPECS + "Keys as p"
-PROFILE = "use Rattle.kishu_model.specs.declared.profile.Profile.TheVariants.{One}"
-VALUES = SPECS + "Values.{Value, Names, none, bool, integer, text, range, builtin, class, node, Node, list, tuple, dict, object, function, exception, find, bind}"
-ENDS = SPECS + "Moment.{Moment, fresh, fine, raised, stopped}"
-BARE = SPECS + "Bare.{bare}"
+KEYS = MEANING + "values.Keys as p"
+PROFILE = "use Rattle.kishu_language.specs.declared.profile.Profile.TheVariants.{One}"
+VALUES = MEANING + "values.Values.{Value, Names, none, bool, integer, text, range, builtin, class, node, Node, list, tuple, dict, object, function, exception, find, bind}"
+ENDS = MEANING + "moments.Moment.{Moment, fresh, fine, raised, stopped}"
+BARE = "use Rattle.kishu_meaning_laws.specs.Bare.{bare}"
 
 
 def rows_file(name, head, uses, rows, prefix, unfolding="", helpers=(), maker="state_rows.py"):
@@ -294,7 +291,7 @@ def index_rows():
 
 # ---- what counts its steps
 
-COUNT = SPECS + "Counting.{Count, ◌>>=◌, ◌>>◌, give, spend, stop_deep, answer, too_deep, spent, ended_in, counted}"
+COUNT = MEANING + "moments.Counting.{Count, ◌>>=◌, ◌>>◌, give, spend, stop_deep, answer, too_deep, spent, ended_in, counted}"
 
 
 def counting_rows():
@@ -414,23 +411,23 @@ def slice_rows():
 
 
 def main():
-    nodes = [VALUES, BARE, ENDS, SPECS + "Names.{class_names}", "use Rattle.std.specs.Str.{chars}"]
-    names = SPECS + "Names.{reserved_words}"
-    rows_file("SoundExamples", "Which values, nodes and names are sound", [VALUES, names, SPECS + "Tree as t", SPECS + "Sound.{is_valid, is_sound, is_exception_class, is_sound_node, is_sound_heap, are_sound_names, default_count}"], sound_rows(), "sound", "reserved_words")
-    rows_file("AccessExamples", "Names that are found, bound, unbound and recorded, in byte order", [VALUES, SPECS + "Accesses.{unbind, with_access, with_accesses}"], access_rows(), "access")
-    kinds = [SPECS + "Kinds.{kind_in, not_iterable, bad_index, unhashable, no_attribute}", SPECS + "Subscripts.{not_subscriptable}", SPECS + "Callees.{not_callable}"]
+    nodes = [VALUES, BARE, ENDS, MEANING + "values.BuiltinNames.{class_names}", "use Rattle.std.specs.Str.{chars}"]
+    names = LANGUAGE + "tokens.Names.{reserved_words}"
+    rows_file("SoundExamples", "Which values, nodes and names are sound", [VALUES, names, LANGUAGE + "trees.Tree as t", MEANING + "values.Sound.{is_valid, is_sound, is_exception_class, is_sound_node, is_sound_heap, are_sound_names, default_count}"], sound_rows(), "sound", "reserved_words")
+    rows_file("AccessExamples", "Names that are found, bound, unbound and recorded, in byte order", [VALUES, MEANING + "moments.Accesses.{unbind, with_access, with_accesses}"], access_rows(), "access")
+    kinds = [MEANING + "values.Kinds.{kind_in, not_iterable, bad_index, unhashable, no_attribute}", MEANING + "items.Subscripts.{not_subscriptable}", MEANING + "calls.Callees.{not_callable}"]
     rows_file("KindExamples", "The kinds of values, and the exceptions that tell them", nodes + kinds, kind_rows(), "kind", "class_names chars")
-    rows_file("ClassExamples", "Which class of exceptions is which or lies below it, as CPython tells", [SPECS + "Classes.{is_within}"], class_rows(), "class")
-    rows_file("IsExamples", "Which values are the same, and which ranges are equal and how long, as CPython tells where the languages agree", [VALUES, SPECS + "Equal.{is_same, is_equal, range_length}"], is_rows(), "is")
-    rows_file("FindingExamples", "Items that are equal to a value, as CPython tells, with the steps that are left", nodes + [SPECS + "Finding.{place_among, count_among}"], finding_rows(), "found")
-    rows_file("SortingExamples", "Values in order, as CPython sorts them, and the steps of a sort", [VALUES, SPECS + "Sorting.{in_order, sort_steps}"], sorting_rows(), "sorting")
-    rows_file("KeyValueExamples", "Values as keys and keys as values, with the steps that are left", nodes + [SPECS + "KeyOf.{key_of_value, value_of_key, values_of_keys}"], key_value_rows(), "keyed", "class_names")
-    rows_file("IndexExamples", "Places by an index and by a bound, as CPython tells", [VALUES, BARE, ENDS, SPECS + "Indexes.{index_of, place_in, place_of, bound_in}"], index_rows(), "place", "")
+    rows_file("ClassExamples", "Which class of exceptions is which or lies below it, as CPython tells", [MEANING + "values.Classes.{is_within}"], class_rows(), "class")
+    rows_file("IsExamples", "Which values are the same, and which ranges are equal and how long, as CPython tells where the languages agree", [VALUES, MEANING + "comparing.Equal.{is_same, is_equal, range_length}"], is_rows(), "is")
+    rows_file("FindingExamples", "Items that are equal to a value, as CPython tells, with the steps that are left", nodes + [MEANING + "items.Finding.{place_among, count_among}"], finding_rows(), "found")
+    rows_file("SortingExamples", "Values in order, as CPython sorts them, and the steps of a sort", [VALUES, MEANING + "items.Sorting.{in_order, sort_steps}"], sorting_rows(), "sorting")
+    rows_file("KeyValueExamples", "Values as keys and keys as values, with the steps that are left", nodes + [MEANING + "items.KeyOf.{key_of_value, value_of_key, values_of_keys}"], key_value_rows(), "keyed", "class_names")
+    rows_file("IndexExamples", "Places by an index and by a bound, as CPython tells", [VALUES, BARE, ENDS, MEANING + "items.Indexes.{index_of, place_in, place_of, bound_in}"], index_rows(), "place", "")
     rows_file("CountingExamples", "What counts its steps, and how it ends", [VALUES, BARE, ENDS, COUNT], counting_rows(), "counted")
-    further = SPECS + "Moment.{Moment, fresh, fine, raised, stopped, ◌>>=◌, ◌>>◌, give, raise, or_else, spend, tick, deeper, read, assign, delete, make, change, node_now, put_out}"
-    rows_file("MomentExamples", "What is done at a moment: steps, depth, names and nodes", [VALUES, BARE, further, SPECS + "Nodes.{push}", SPECS + "Names.{builtin_names, class_names}", "use Rattle.std.specs.Str.{chars}"], moment_rows(), "moment", "builtin_names class_names chars", HERE.split("\n"))
-    rows_file("SliceExamples", "Slices, as CPython tells where the languages agree, with the steps that are left", nodes + [SPECS + "Subscripts.{slice}"], slice_rows(), "slice", "class_names")
-    rows_file("SliceOrderExamples", "Slices with several causes of an exception, of which the first from the left is told", nodes + [SPECS + "Subscripts.{slice}"], [slice_row(*r) for r in ORDERED_SLICES], "ordered", "class_names")
+    further = MEANING + "moments.Moment.{Moment, fresh, fine, raised, stopped, ◌>>=◌, ◌>>◌, give, raise, or_else, spend, tick, deeper, read, assign, delete, make, change, node_now, put_out}"
+    rows_file("MomentExamples", "What is done at a moment: steps, depth, names and nodes", [VALUES, BARE, further, MEANING + "values.Nodes.{push}", MEANING + "values.BuiltinNames.{builtin_names, class_names}", "use Rattle.std.specs.Str.{chars}"], moment_rows(), "moment", "builtin_names class_names chars", HERE.split("\n"))
+    rows_file("SliceExamples", "Slices, as CPython tells where the languages agree, with the steps that are left", nodes + [MEANING + "items.Subscripts.{slice}"], slice_rows(), "slice", "class_names")
+    rows_file("SliceOrderExamples", "Slices with several causes of an exception, of which the first from the left is told", nodes + [MEANING + "items.Subscripts.{slice}"], [slice_row(*r) for r in ORDERED_SLICES], "ordered", "class_names")
 
 
 if __name__ == "__main__":

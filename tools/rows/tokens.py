@@ -1,8 +1,8 @@
 #!/usr/bin/env python3
 """Makes the table of texts and their tokens by which the lexer is tested.
 
-Usage: tools/tokens.py rust      crates/kishu_syntax_tests/src/lexer/table.rt
-       tools/tokens.py antt      crates/kishu_rows/proofs/TokenExamples.antt
+Usage: tools/rows/tokens.py rust > crates/kishu_syntax_tests/src/lexer/table.rt
+       tools/rows/tokens.py antt > crates/kishu_language_rows/proofs/TokenExamples.antt
 
 Where the language agrees with Python the tokens come from CPython's `tokenize`, with their lines
 and places, and the values of numbers and texts from `ast.literal_eval`. The rows of OWN differ
@@ -276,7 +276,7 @@ def rust():
     rows = [(text, shown(tokens)) for text, tokens in ROWS]
     rows += [(text, f"line {line}") for text, line in FAULTS]
     # What a row wants stands first, so that no line of the string begins with the text's blanks.
-    print("// Made by tools/tokens.py: what is wanted and the text, with \\x1f between, and \\x1e behind each row.")
+    print("// Made by tools/rows/tokens.py: what is wanted and the text, with \\x1f between, and \\x1e behind each row.")
     print(f"pub(crate) const COUNT: usize = {len(rows)};\n")
     print('pub(crate) const ROWS: &str = "\\')
     for text, want in rows:
@@ -290,19 +290,19 @@ OPENED = (
 )
 
 
-HEAD = """-- Which tokens some texts have, and where some have a fault: computed on the definition. Made by tools/tokens.py.
+HEAD = """-- Which tokens some texts have, and where some have a fault: computed on the definition. Made by tools/rows/tokens.py.
 use Rattle.std.proofs.Common.{◌≡◌, ◌∷◌, [], refl}
 use Rattle.std.specs.Prelude.{pos, codes, Ok, Err}
 use Rattle.std.specs.Char.{encode_utf8}
-use Rattle.kishu_model.specs.declared.profile.Profile.TheVariants.{One}
-use Rattle.kishu_model.specs.declared.token.Mark.TheVariants as m
-use Rattle.kishu_model.specs.Marks.{reserved_marks, delimiter, operator}
-use Rattle.kishu_model.specs.Numerals.{numeral}
-use Rattle.kishu_model.specs.Quoted as Q
-use Rattle.kishu_model.specs.Quoted.{escape, item, closes, body}
-use Rattle.kishu_model.specs.Lexemes.{token_piece, lexeme}
-use Rattle.kishu_model.specs.Layout.{name, integer, quoted, newline, indent, dedent, mark, token, cut, indented, begin, bracket, step, layout}
-use Rattle.kishu_model.specs.Tokens.{tokens_of_chars}
+use Rattle.kishu_language.specs.declared.profile.Profile.TheVariants.{One}
+use Rattle.kishu_language.specs.declared.token.Mark.TheVariants as m
+use Rattle.kishu_language.specs.tokens.Marks.{reserved_marks, delimiter, operator}
+use Rattle.kishu_language.specs.tokens.Numerals.{numeral}
+use Rattle.kishu_language.specs.tokens.Quoted as Q
+use Rattle.kishu_language.specs.tokens.Quoted.{escape, item, closes, body}
+use Rattle.kishu_language.specs.tokens.Lexemes.{token_piece, lexeme}
+use Rattle.kishu_language.specs.tokens.Layout.{name, integer, quoted, newline, indent, dedent, mark, token, cut, indented, begin, bracket, step, layout}
+use Rattle.kishu_language.specs.tokens.Tokens.{tokens_of_chars}
 """
 
 

@@ -1,14 +1,15 @@
 #!/usr/bin/env python3
 """Runs the examples of docs/LANGUAGE.md, or makes the table by which they are tested.
 
-Usage: tools/language.py PROGRAM     (runs each as `PROGRAM STORE cell`, on a store of its own)
-       tools/language.py --rows      (prints crates/kishu_tests/src/serve/language.rt)
+Usage: tools/cells/language.py PROGRAM     (runs each as `PROGRAM STORE cell`, on a store of its own)
+       tools/cells/language.py --rows      (prints crates/kishu_tests/src/serve/language.rt)
 
 An example is a fenced block of python and behind it a fenced block of text with what the cell shows: what it
 prints, then the value of its last statement, then the exception that ends it as `ename: evalue`.
 """
 import ast
 import os
+import pathlib
 import re
 import subprocess
 import sys
@@ -18,12 +19,12 @@ from collections import namedtuple
 
 from cells import LISTED, answered, rust_row, spent
 
-PAGE = os.path.join(os.path.dirname(os.path.dirname(os.path.abspath(__file__))), "docs", "LANGUAGE.md")
+PAGE = pathlib.Path(__file__).resolve().parents[2] / "docs" / "LANGUAGE.md"
 BLOCK = re.compile(r"^```(python|text)\n(.*?)^```$\n*", re.M | re.S)
 ENDS = LISTED[LISTED.index("Exception") :] + ["Stopped"]
 Example = namedtuple("Example", "outcome outputs")
 
-HEAD = """// Made by tools/language.py of docs/LANGUAGE.md: rows as those of `cells`.
+HEAD = """// Made by tools/cells/language.py of docs/LANGUAGE.md: rows as those of `cells`.
 pub(crate) const COUNT: usize = %d;
 
 // Of these so many spend their steps.

@@ -1,7 +1,7 @@
 #!/usr/bin/env python3
 """Runs Kishu over store files, command lines and inputs made at random, and compares it with a reading of its own of their rules.
 
-Usage: tools/stores.py PROGRAM [COUNT [SEED]]      1000 cases of seed 1 where no numbers are given
+Usage: tools/compare/stores.py PROGRAM [COUNT [SEED]]      1000 cases of seed 1 where no numbers are given
 
 PROGRAM is the built program. A case is a store file, the words of a command line and an input. Its files have records that fit
 and ones that don't, gates, lengths and headers that were changed, bytes taken out and put in, and ends cut off. Compared are the

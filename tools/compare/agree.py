@@ -1,9 +1,9 @@
 #!/usr/bin/env python3
 """Runs random programs by Kishu and by CPython, and compares what they print and raise.
 
-Usage: tools/agree.py PROGRAM [COUNT [SEED]]      5000 programs of seed 1 where no numbers are given
-       tools/agree.py PROGRAM --only K [SEED]     shows program K of a seed, and what both make of it
-       tools/agree.py PROGRAM --file FILE         the same for the text in a file
+Usage: tools/compare/agree.py PROGRAM [COUNT [SEED]]      5000 programs of seed 1 where no numbers are given
+       tools/compare/agree.py PROGRAM --only K [SEED]     shows program K of a seed, and what both make of it
+       tools/compare/agree.py PROGRAM --file FILE         the same for the text in a file
 
 PROGRAM is the built program, called as `PROGRAM STORE cell`. Program K of a seed depends on these two
 numbers alone; agree_programs.py makes it of the forms in agree_forms.py. CPython is the one that runs this

@@ -1,3 +1,4 @@
+#!/usr/bin/env python3
 """Prints the tables of whole numbers that crates/kishu_num/src/tests.rt holds.
 
 The results are CPython's. Where the language is narrower, this script says so itself: numbers lie

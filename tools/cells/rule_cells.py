@@ -1,5 +1,5 @@
 """Further cells, one or more for each rule of expressions, statements and builtin functions, of which cells.py
-makes rows of kishu_rows alone."""
+makes rows of kishu_meaning_rows alone."""
 
 # CPython prints, shows, binds and raises the same.
 SAME = [

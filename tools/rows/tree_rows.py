@@ -1,7 +1,6 @@
 #!/usr/bin/env python3
-"""Makes the further rows on trees in crates/kishu_rows/proofs: MoreTreeExamples, MoreFaultExamples,
-LineExamples, NestingExamples, HeightExamples, CodeExamples, ParseRows
-and FitRows.
+"""Makes the further rows on trees in crates/kishu_language_rows/proofs: MoreTreeExamples,
+MoreFaultExamples, LineExamples, NestingExamples, HeightExamples, CodeExamples, ParseRows and FitRows.
 
 Trees, heights and the codes of functions come from CPython (python_trees.py and `ast`), and it must accept
 or refuse each text as it is said here. The lines of faults stand here by hand.
@@ -11,7 +10,7 @@ import sys
 import warnings
 
 import trees
-from nodes import PROOFS, listing, write
+from nodes import listing, row_file, write
 from python_trees import PythonTrees
 from tokens import antt_bytes, antt_text
 from tree_texts import MORE, MORE_FAULTS, MORE_OTHER
@@ -209,10 +208,10 @@ def fit_rows():
 
 
 def write_lemma_rows(name, head, uses, rows, prefix, further=""):
-    lines = [f"-- {head}. Made by tools/tree_rows.py."] + uses
+    lines = [f"-- {head}. Made by tools/rows/tree_rows.py."] + uses
     for i, (claim, proof) in enumerate(rows, 1):
         lines += ["", f"{prefix}_{i} : {claim}", f"unfolding {OPENED} chars{further}", f"{prefix}_{i} = {proof}"]
-    (PROOFS / f"{name}.antt").write_text("\n".join(lines) + "\n")
+    row_file(name, uses).write_text("\n".join(lines) + "\n")
 
 
 # ---- the files
@@ -245,17 +244,17 @@ def main():
     rows_file("MoreFaultExamples", "On which line further texts have a fault", uses("◌≡◌, ◌∷◌, [], refl", "codes, Err"), read_rows([(text, f"Err {line}") for text, line in MORE_FAULTS + MORE_OTHER]), "fault")
     lined = [(text, f"Err {line}") for text, line in LINED_FAULTS + OWN_LINED_FAULTS]
     rows_file("LineExamples", "On which line some texts of several pieces have a fault", uses("◌≡◌, ◌∷◌, [], refl", "codes, Err"), read_rows(lined), "line")
-    tree = "use Rattle.kishu_model.specs.Tree.{%s}"
+    tree = "use Rattle.kishu_language.specs.trees.Tree.{%s}"
     rows_file("NestingExamples", "How deep texts may be nested, by each cause of nesting", uses("◌≡◌, refl", "ℕ, List, codes, Result, Ok, Err", tree % "Statement", *FAULT_LINE), fault_rows(), "nesting")
-    rows_file("HeightExamples", "How high some trees are", uses("◌≡◌, [], refl", "ℕ, List, codes, Result, Ok, Err", tree % "Statement, statements", "use Rattle.kishu_model.specs.Height.{of_statements}", *HEIGHT), height_rows(), "height")
-    rows_file("CodeExamples", "The codes of functions, as CPython finds them, and that each reads by itself", uses("◌≡◌, ◌∷◌, [], refl", "ℕ, List, codes, Result, Ok, Err", "use Rattle.std.specs.List.{flat_map}", tree % "Text, Statement", "use Rattle.kishu_model.specs.Tree as t", *CODES), code_rows(), "code")
+    rows_file("HeightExamples", "How high some trees are", uses("◌≡◌, [], refl", "ℕ, List, codes, Result, Ok, Err", tree % "Statement, statements", "use Rattle.kishu_language.specs.trees.Height.{of_statements}", *HEIGHT), height_rows(), "height")
+    rows_file("CodeExamples", "The codes of functions, as CPython finds them, and that each reads by itself", uses("◌≡◌, ◌∷◌, [], refl", "ℕ, List, codes, Result, Ok, Err", "use Rattle.std.specs.List.{flat_map}", tree % "Text, Statement", "use Rattle.kishu_language.specs.trees.Tree as t", *CODES), code_rows(), "code")
     first, prelude, more, last = TREE_IMPORTS
     heads = (IMPORTS % (first + ", inl, inr", prelude.replace(", Ok", ""), more, last)).splitlines()
-    heads += ["use Rattle.std.specs.Str.{chars}", "use Rattle.kishu_model.specs.Parse.{Parse, Line, ParseDef, LineDef}", "use Rattle.kishu_model.specs.ExactText.{read_found, line_found, one_parse}"]
+    heads += ["use Rattle.std.specs.Str.{chars}", "use Rattle.kishu_language.specs.grammar.Parse.{Parse, Line, ParseDef, LineDef}", "use Rattle.kishu_language_laws.specs.reading.ExactText.{read_found, line_found, one_parse}"]
     write_lemma_rows("ParseRows", "Texts with the trees, lines and functions that the relation of the grammar gives them, by the law that the reader finds just these", heads, lemma_rows(), "parse")
     heads = (IMPORTS % (first.replace("◌≡◌, ", "") + ", arith", prelude.replace(", Ok", ""), more.splitlines()[0] + "\n", last)).splitlines()
-    heads += ["use Rattle.std.specs.Str.{chars, is_utf8}", "use Rattle.std.proofs.lemmas.Str.{IsUtf8-from_is_utf8}", "use Rattle.kishu_model.specs.ExactText.{read_found}", "use Rattle.kishu_model.specs.Fits.{StatementsFit}", "use Rattle.kishu_model.specs.FunctionCodes.{CodesRead}"]
-    heads += ["use Rattle.kishu_model.specs.CodeLaws.{codes_read}", "use Rattle.kishu_model.specs.ParsedFits.{text_fits}"]
+    heads += ["use Rattle.std.specs.Str.{chars, is_utf8}", "use Rattle.std.proofs.lemmas.Str.{IsUtf8-from_is_utf8}", "use Rattle.kishu_language_laws.specs.reading.ExactText.{read_found}", "use Rattle.kishu_language.specs.trees.Fits.{StatementsFit}", "use Rattle.kishu_language.specs.trees.FunctionCodes.{CodesRead}"]
+    heads += ["use Rattle.kishu_language_laws.specs.codes.CodeLaws.{codes_read}", "use Rattle.kishu_language_laws.specs.trees.ParsedFits.{text_fits}"]
     write_lemma_rows("FitRows", "Trees that fit, and functions whose codes read by themselves, by the laws that those of texts do", heads, fit_rows(), "fit", " is_utf8")
 
 

@@ -2,11 +2,11 @@
 """Times the parser on 256 KiB and on 1 MiB of the same kind of text, as timing.py says. The lexer's
 work counts too.
 
-Usage: tools/time_trees.py
+Usage: tools/time/time_trees.py
 """
 from timing import Reading, repeated, report
 
-TREES = Reading("kishu_parser", "parse", "found.statements", ("kishu_model", "kishu_lexer", "kishu_parser"))
+TREES = Reading("kishu_parser", "parse", "found.statements")
 
 
 def numbered(piece, before, after):

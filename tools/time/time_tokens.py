@@ -1,11 +1,11 @@
 #!/usr/bin/env python3
 """Times the lexer on 256 KiB and on 1 MiB of the same kind of text, as timing.py says.
 
-Usage: tools/time_tokens.py
+Usage: tools/time/time_tokens.py
 """
 from timing import Reading, repeated, report
 
-TOKENS = Reading("kishu_lexer", "tokens", "found", ("kishu_model", "kishu_lexer"))
+TOKENS = Reading("kishu_lexer", "tokens", "found")
 PIECES = ["x = 1\n", "()", "(", "'a\\n' ", "'é' ", "#", '"""\\x41\n"""\n', "0_", "if x:\n  y\n", "a \\\n"]
 
 

@@ -2,9 +2,9 @@
 """Makes the tables of texts with their trees, or the lines of their faults, by which the grammar is
 tested.
 
-Usage: tools/trees.py antt TREES FAULTS OTHERS    (TreeExamples.antt, FaultExamples.antt and
-                                                   OtherExamples.antt in crates/kishu_rows/proofs)
-       tools/trees.py rust                        (crates/kishu_syntax_tests/src/parser/table.rt)
+Usage: tools/rows/trees.py antt TREES FAULTS OTHERS    (TreeExamples.antt, FaultExamples.antt and OtherExamples.antt
+                                                        in crates/kishu_language_rows/proofs)
+       tools/rows/trees.py rust > crates/kishu_syntax_tests/src/parser/table.rt
 
 The texts stand in tree_texts.py, and their trees come from CPython (python_trees.py). A text that
 CPython doesn't take as tree_texts.py says is told on standard error.
@@ -300,23 +300,23 @@ def deep_trees(n):
 IMPORTS = """use Rattle.std.proofs.Common.{%s}
 use Rattle.std.specs.Prelude.{%s}
 use Rattle.std.specs.Char.{encode_utf8}
-use Rattle.kishu_model.specs.declared.profile.Profile.TheVariants.{One}
-%suse Rattle.kishu_model.specs.Marks.{reserved_marks, delimiter, operator}
-use Rattle.kishu_model.specs.Numerals.{numeral}
-use Rattle.kishu_model.specs.Quoted as Q
-use Rattle.kishu_model.specs.Lexemes.{token_piece, lexeme}
-use Rattle.kishu_model.specs.Layout.{cut, indented, begin, bracket, step, layout}
-%suse Rattle.kishu_model.specs.Code.{code_of}
-use Rattle.kishu_model.specs.ReadExpressions as E
-use Rattle.kishu_model.specs.ReadStatements as S
-use Rattle.kishu_model.specs.ReadText as R
-use Rattle.kishu_model.specs.ReadText.{read_chars}
+use Rattle.kishu_language.specs.declared.profile.Profile.TheVariants.{One}
+%suse Rattle.kishu_language.specs.tokens.Marks.{reserved_marks, delimiter, operator}
+use Rattle.kishu_language.specs.tokens.Numerals.{numeral}
+use Rattle.kishu_language.specs.tokens.Quoted as Q
+use Rattle.kishu_language.specs.tokens.Lexemes.{token_piece, lexeme}
+use Rattle.kishu_language.specs.tokens.Layout.{cut, indented, begin, bracket, step, layout}
+%suse Rattle.kishu_language.specs.trees.Code.{code_of}
+use Rattle.kishu_language.specs.reading.ReadExpressions as E
+use Rattle.kishu_language.specs.reading.ReadStatements as S
+use Rattle.kishu_language.specs.reading.ReadText as R
+use Rattle.kishu_language.specs.reading.ReadText.{read_chars}
 """
 TREE_IMPORTS = (
     "◌≡◌, ◌∷◌, [], refl",
     "pos, codes, Some, None, Ok",
-    "use Rattle.kishu_model.specs.declared.tree.Operator.TheVariants as o\nuse Rattle.kishu_model.specs.declared.tree.Sign.TheVariants as s\nuse Rattle.kishu_model.specs.declared.tree.Comparison.TheVariants as c\n",
-    "use Rattle.kishu_model.specs.Tree.{expressions, operands, links, pairs, trailers, arguments, statements, arms, handlers, absent, bound}\nuse Rattle.kishu_model.specs.Tree as t\n",
+    "use Rattle.kishu_language.specs.declared.tree.Operator.TheVariants as o\nuse Rattle.kishu_language.specs.declared.tree.Sign.TheVariants as s\nuse Rattle.kishu_language.specs.declared.tree.Comparison.TheVariants as c\n",
+    "use Rattle.kishu_language.specs.trees.Tree.{expressions, operands, links, pairs, trailers, arguments, statements, arms, handlers, absent, bound}\nuse Rattle.kishu_language.specs.trees.Tree as t\n",
 )
 FAULT_IMPORTS = ("◌≡◌, refl", "codes, Err", "", "")
 EXPRESSIONS = "keyword_begins another argument attribute call slice_after item_or_slice trailer parenthesised list pair dict atom primary_parts primary power unary_level term sum compared negated_level conjunction disjunction expr_level exprs_level phrase"
@@ -329,7 +329,7 @@ UNFOLDING = (
 
 def write(path, head, imports, name, rows):
     with open(path, "w") as out:
-        out.write("-- %s: computed on the definition. Made by tools/trees.py.\n" % head)
+        out.write("-- %s: computed on the definition. Made by tools/rows/trees.py.\n" % head)
         out.write(IMPORTS % imports)
         for i, (text, answer) in enumerate(rows, 1):
             out.write("\n%s_%d : read_chars One %s ≡ %s\n%s\n%s_%d = refl\n" % (name, i, codes(text), answer, UNFOLDING, name, i))
@@ -356,7 +356,7 @@ def quoted(text):
 def write_rust():
     too_deep = [(text, 1) for text in nested(61)]
     rows = rows_of(SAME + MORE, Shown(), Shown()) + [(text, "line %d" % line) for text, line in BOTH_REFUSE + MORE_FAULTS + OTHER + MORE_OTHER + too_deep]
-    print("// Made by tools/trees.py: what is wanted and the text, with \\x1f between, and \\x1e behind each row.")
+    print("// Made by tools/rows/trees.py: what is wanted and the text, with \\x1f between, and \\x1e behind each row.")
     print("pub(crate) const COUNT: usize = %d;\n" % len(rows))
     print('pub(crate) const ROWS: &str = "\\')
     for text, want in rows:

@@ -2,7 +2,7 @@
 """Looks whether CPython reads the code of a function by itself as the function that it reads in the
 whole text, for each row of crates/kishu_syntax_tests/src/parser/codes.rt.
 
-Usage: tools/codes.py
+Usage: tools/compare/codes.py
 
 Prints how many rows there are, and ends with status 1 where one is read otherwise.
 """
@@ -11,7 +11,7 @@ import pathlib
 import re
 import sys
 
-ROWS = pathlib.Path(__file__).resolve().parent.parent / "crates/kishu_syntax_tests/src/parser/codes.rt"
+ROWS = pathlib.Path(__file__).resolve().parents[2] / "crates/kishu_syntax_tests/src/parser/codes.rt"
 ESCAPES = {"n": "\n", "r": "\r", "t": "\t", "0": "\0", "\\": "\\", '"': '"', "'": "'"}
 
 

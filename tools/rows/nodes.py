@@ -1,5 +1,6 @@
-"""Makes the worked rows on keys, nodes and comparisons of crates/kishu_rows/proofs: KeyExamples,
-NodeExamples and EqualExamples.
+#!/usr/bin/env python3
+"""Makes the worked rows on keys, nodes and comparisons of crates/kishu_meaning_rows/proofs:
+KeyExamples, NodeExamples and EqualExamples.
 
 Whether keys are one, what a dict holds after a change, and whether values are equal or less is asked
 of CPython. The steps are counted here, by the rules as they are told in words: one for each further
@@ -7,10 +8,13 @@ pair, and for two texts the code points of the shorter."""
 
 import itertools
 import pathlib
+import re
 from types import SimpleNamespace
 
-TOP = pathlib.Path(__file__).resolve().parent.parent
-PROOFS = TOP / "crates/kishu_rows/proofs"
+TOP = pathlib.Path(__file__).resolve().parents[2]
+# How imports of the definitions begin.
+LANGUAGE = "use Rattle.kishu_language.specs."
+MEANING = "use Rattle.kishu_meaning.specs."
 
 
 # ---- how a value is written as a term
@@ -254,14 +258,33 @@ def less_row(a, b, left=100, depth=0):
 
 # ---- the files
 
+def needed(uses, rows, words=""):
+    """The use lines, with the names that stand in the rows or among the words, other than in comments and behind a dot."""
+    plain = re.sub(r'"(\\.|[^"\\])*"', '"', " ".join(row for row in rows if not row.startswith("--")))
+    there = set(re.findall(r"(?<![^\s(){},\"])[^\s(){}.,\"]+", plain + " " + words)) | {"◌≡◌", "refl"} | ({"◌∷◌"} if any(" ∷ " in row for row in rows) else set())
+    lines = []
+    for use in uses:
+        found = re.fullmatch(r"(.*\.)\{(.*)\}", use)
+        names = [n for n in found[2].split(", ") if n in there] if found else []
+        if not found or names:
+            lines.append(found[1] + "{" + ", ".join(names) + "}" if found else use)
+    return lines
+
+
+def row_file(name, uses):
+    """Where a row file stands: what imports no meaning is about the language alone."""
+    about = "meaning" if any("Rattle.kishu_meaning" in use for use in uses) else "language"
+    return TOP / f"crates/kishu_{about}_rows/proofs/{name}.antt"
+
+
 def write(name, head, uses, rows, prefix, unfolding="", maker="nodes.py"):
-    lines = [f"-- {head} Made by tools/{maker}."] + uses + [""]
+    lines = [f"-- {head} Made by tools/rows/{maker}."] + uses + [""]
     for i, row in enumerate(rows, 1):
         lines.append(f"{prefix}_{i} : {row}")
         if unfolding:
             lines.append(f"unfolding {unfolding}")
         lines += [f"{prefix}_{i} = refl", ""]
-    (PROOFS / f"{name}.antt").write_text("\n".join(lines[:-1]) + "\n")
+    row_file(name, uses).write_text("\n".join(lines[:-1]) + "\n")
 
 
 KEYS = [None, True, False, 1, 0, 2, -1, "a", "b", "", "1", (), (1,), (True,), (0,), ("a",), (None,), (1, "a"), (True, "a"), (1, 2), ((1 == 1), 2)]
@@ -362,20 +385,21 @@ def equal_rows():
     return rows
 
 
-VALUES = "use Rattle.kishu_model.specs.Values.{none, bool, integer, text, range, builtin, class, node, list, tuple, dict, object, exception}"
+VALUES = "use Rattle.kishu_meaning.specs.values.Values.{none, bool, integer, text, range, builtin, class, node, list, tuple, dict, object, exception}"
 
 
 def main():
     common = "use Rattle.std.proofs.Common.{◌≡◌, refl, [], ◌∷◌, true, false}"
     prelude = "use Rattle.std.specs.Prelude.{pos, negsuc, codes, Some, None}"
     write("KeyExamples", "Which keys are one, as CPython's dicts tell: computed on the definition.",
-          [common, "use Rattle.std.specs.Prelude.{pos, negsuc, codes}", "use Rattle.kishu_model.specs.Keys as p", "use Rattle.kishu_model.specs.Keys.{is_one}"], key_rows(), "key")
+          [common, "use Rattle.std.specs.Prelude.{pos, negsuc, codes}", "use Rattle.kishu_meaning.specs.values.Keys as p", "use Rattle.kishu_meaning.specs.values.Keys.{is_one}"], key_rows(), "key")
+    rows = node_rows()
     write("NodeExamples", "What some changes make of nodes, as CPython's lists, dicts and objects tell: computed on the definition.",
-          [common, prelude, "use Rattle.kishu_model.specs.Keys as p", "use Rattle.kishu_model.specs.Keys.{is_one}", VALUES.replace("{none", "{Value, none"),
-           "use Rattle.kishu_model.specs.Nodes.{value_at, with_entry, without_entry, last_of, changed, set_item, push, pop, replace_list, insert, remove, set_attr, remove_attr}"], node_rows(), "node")
+          needed([common, prelude, "use Rattle.kishu_meaning.specs.values.Keys as p", "use Rattle.kishu_meaning.specs.values.Keys.{is_one}", VALUES.replace("{none", "{Value, none"),
+           "use Rattle.kishu_meaning.specs.values.Nodes.{value_at, with_entry, without_entry, last_of, changed, set_item, push, pop, replace_list, insert, remove, set_attr, remove_attr}"], rows), rows, "node")
     write("EqualExamples", "How some comparisons end, as CPython tells, with the steps that are left: computed on the definition.",
-          [common, prelude, "use Rattle.kishu_model.specs.Keys as p", VALUES,
-           "use Rattle.kishu_model.specs.Counting.{answer, too_deep, spent}", "use Rattle.kishu_model.specs.Equal.{equal_in, less_in}"], equal_rows(), "compare")
+          [common, prelude, "use Rattle.kishu_meaning.specs.values.Keys as p", VALUES,
+           "use Rattle.kishu_meaning.specs.moments.Counting.{answer, too_deep, spent}", "use Rattle.kishu_meaning.specs.comparing.Equal.{equal_in, less_in}"], equal_rows(), "compare")
 
 
 if __name__ == "__main__":

@@ -56,6 +56,9 @@ SAME = [
     "a = [1]\na.append(2)\na.append(1 // 0)", "a = [1]\na[0], b, c = 5, 6", "a = [0]\na[0], a[1] = 5, 6", "x, y.a = 1, 2",
 ]
 
+# Of these, what CPython does otherwise: it looks at the step first.
+APART = ["[1]['a'::0]"]
+
 # What CPython does otherwise.
 OWN = [
     "[].append", "{}.keys()", "{1: 2}.items", "for k in [{}.keys()]: pass", "x = {}\nfor k in x.keys(1): pass", "{}.values()[0]", "o = SimpleNamespace(a=1); o.b = [o]; o", "SimpleNamespace(a=1).a", "print(sep=None)", "print(1, end=None)",

@@ -1,7 +1,7 @@
 #!/usr/bin/env python3
 """Makes the rows on single rules of operators, comparisons, items, walks, ways out and functions in
-crates/kishu_rows/proofs: OperatorExamples, CompareExamples, ItemExamples, WalkExamples, WayExamples and
-LocalExamples.
+crates/kishu_meaning_rows/proofs: OperatorExamples, CompareExamples, ItemExamples, WalkExamples, WayExamples
+and LocalExamples.
 
 What CPython has as well is asked of it, and the steps are counted here, by the rules as they are told in words.
 """
@@ -9,12 +9,12 @@ import inspect
 import itertools
 from types import SimpleNamespace
 
-from nodes import CLASSES, Function, Heap, Unordered, chain, is_same, listing, number, text, truth
-from state_rows import BARE, ENDS, SPECS, VALUES, heap_new, rows_file
+from nodes import CLASSES, LANGUAGE, MEANING, Function, Heap, Unordered, chain, is_same, listing, number, text, truth, write
+from state_rows import BARE, ENDS, VALUES, heap_new, rows_file
 from tokens import antt_text
 from tree_rows import OPENED
 from trees import IMPORTS
-from values import Raised, Run, ended, kind, moment
+from values import Run, ended, kind, moment
 
 TOP, LOW = 2**127 - 1, -(2**127)
 
@@ -377,20 +377,19 @@ def local_rows():
 
 
 def main():
-    nodes = [VALUES, BARE, ENDS, SPECS + "Names.{class_names}", "use Rattle.std.specs.Str.{chars}", SPECS + "Numbers.{power}"]
-    operators = ["use Rattle.kishu_model.specs.declared.tree.Operator.TheVariants as operators", "use Rattle.kishu_model.specs.declared.tree.Sign.TheVariants as signs"]
+    nodes = [VALUES, BARE, ENDS, MEANING + "values.BuiltinNames.{class_names}", "use Rattle.std.specs.Str.{chars}", MEANING + "values.Numbers.{power}"]
+    operators = ["use Rattle.kishu_language.specs.declared.tree.Operator.TheVariants as operators", "use Rattle.kishu_language.specs.declared.tree.Sign.TheVariants as signs"]
     maker = "call_rows.py"
     told = "with the steps that are left"
-    rows_file("OperatorExamples", f"What operators answer on values of each kind, as CPython tells, {told}", operators + nodes + [SPECS + "Operators.{truth, operate, signed_value}"], operator_rows(), "operator", "class_names power", maker=maker)
-    rows_file("CompareExamples", f"What comparisons answer on values of each kind, as CPython tells, {told}", ["use Rattle.kishu_model.specs.declared.tree.Comparison.TheVariants as comparisons"] + nodes + [SPECS + "Comparing.{compare}"], compare_rows(), "comparison", "class_names", maker=maker)
-    rows_file("ItemExamples", f"Items and attributes that are read, stored and deleted, as CPython tells, {told}", nodes + [SPECS + "Subscripts.{item, attribute, store_item, store_attribute, delete_item, delete_attribute}"], item_rows(), "item", "class_names chars", maker=maker)
-    rows_file("WalkExamples", f"What is walked, and its items, {told}", nodes + ["use Rattle.std.specs.Fmt.{digits}", SPECS + "Walks.{keys, values, items, along_list, along_dict, along_tuple, along_text, along_range, unpacked, walk_of, item_for}"], walk_rows(), "walk", "class_names digits", maker=maker)
+    rows_file("OperatorExamples", f"What operators answer on values of each kind, as CPython tells, {told}", operators + nodes + [MEANING + "calls.Operators.{truth, operate, signed_value}"], operator_rows(), "operator", "class_names power", maker=maker)
+    rows_file("CompareExamples", f"What comparisons answer on values of each kind, as CPython tells, {told}", ["use Rattle.kishu_language.specs.declared.tree.Comparison.TheVariants as comparisons"] + nodes + [MEANING + "comparing.Comparing.{compare}"], compare_rows(), "comparison", "class_names", maker=maker)
+    rows_file("ItemExamples", f"Items and attributes that are read, stored and deleted, as CPython tells, {told}", nodes + [MEANING + "items.Subscripts.{item, attribute, store_item, store_attribute, delete_item, delete_attribute}"], item_rows(), "item", "class_names chars", maker=maker)
+    rows_file("WalkExamples", f"What is walked, and its items, {told}", nodes + ["use Rattle.std.specs.Fmt.{digits}", MEANING + "items.Walks.{keys, values, items, along_list, along_dict, along_tuple, along_text, along_range, unpacked, walk_of, item_for}"], walk_rows(), "walk", "class_names digits", maker=maker)
     thrown = ENDS.replace("fresh", "fresh, thrown_object, ◌>>◌, give, throw, tick")
-    rows_file("WayExamples", "Where a statement leads: exceptions that are raised and caught, and the last block", [VALUES, BARE, thrown, SPECS + "Ways.{onward, broke, continued, returned, go_on, turn_on, is_caught, throw_value, throw_again, object_of, attempt, finally}"], way_rows(), "way", maker=maker)
+    rows_file("WayExamples", "Where a statement leads: exceptions that are raised and caught, and the last block", [VALUES, BARE, thrown, MEANING + "cells.Ways.{onward, broke, continued, returned, go_on, turn_on, is_caught, throw_value, throw_again, object_of, attempt, finally}"], way_rows(), "way", maker=maker)
     heads = (IMPORTS % ("◌≡◌, ◌∷◌, [], refl", "ℕ, pos, List, codes, Option, Some, None, Result, option_map, option_and_then", "", "")).splitlines()
-    from nodes import write
     write("LocalExamples", "Which names are local to a function, and what a call binds to its parameters, as CPython tells: computed on the definition.",
-          heads + [SPECS + "Tree.{Text, Statement}", SPECS + "Values.{Value, integer, Names}", SPECS + "Functions.{own_names, bound_values, function_in}"] + FUNCTION, local_rows(), "local", OPENED, maker=maker)
+          heads + [LANGUAGE + "trees.Tree.{Text, Statement}", MEANING + "values.Values.{Value, integer, Names}", MEANING + "calls.Functions.{own_names, bound_values, function_in}"] + FUNCTION, local_rows(), "local", OPENED, maker=maker)
 
 
 if __name__ == "__main__":

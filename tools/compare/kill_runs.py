@@ -1,7 +1,7 @@
 #!/usr/bin/env python3
 """Kills runs of Kishu at random moments, and looks whether an acknowledged commit is lost.
 
-Usage: tools/kill_runs.py [RUNS]      (200 where no number is given)
+Usage: tools/compare/kill_runs.py [RUNS]      (200 where no number is given)
 
 Each run commits one cell to a store on a real file and is killed (SIGKILL) after a random delay.
 A run acknowledges its commit by its answer line. After each run the store is opened by a run that
@@ -10,13 +10,14 @@ below what was acknowledged, nor above it by more than the one cell that was und
 """
 import json
 import os
+import pathlib
 import random
 import subprocess
 import sys
 import tempfile
 import time
 
-TOP = os.path.dirname(os.path.dirname(os.path.abspath(__file__)))
+TOP = pathlib.Path(__file__).resolve().parents[2]
 KISHU = os.path.join(TOP, "kishu")
 PROGRAM = os.path.join(TOP, "crates", "kishu_cli", "out", "kishu_cli")
 

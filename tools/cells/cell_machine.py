@@ -1,7 +1,6 @@
-#!/usr/bin/env python3
 """Runs cells of the plain forms over CPython's trees, and counts the steps; node_machine.py adds the forms over nodes.
 
-The rules are written here a second time, so that the definitions of `kishu_model` have something
+The rules are written here a second time, so that the definitions of `kishu_meaning` have something
 to be compared with. No cell here nests deeply, so the depth isn't counted.
 """
 import ast

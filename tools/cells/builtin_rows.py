@@ -1,7 +1,7 @@
 #!/usr/bin/env python3
 """Prints the table that kishu_builtins' tests hold, of the calls in CALLS and OWN.
 
-    python3 tools/builtin_rows.py > crates/kishu_value_tests/src/builtins/table.rt
+    python3 tools/cells/builtin_rows.py > crates/kishu_value_tests/src/builtins/table.rt
 
 `str`, `print` and `repr` show values, so they are no calls of kishu_builtins.
 A call is a name, its arguments and, behind a colon, the budget. In each heap stand three nodes: the list [3, True, 2], the tuple
@@ -9,10 +9,15 @@ A call is a name, its arguments and, behind a colon, the budget. In each heap st
 builtin_machine.py, which are written a second time there; CPython is asked for the answer of each of CALLS, and
 must refuse what is refused there. The answers of OWN are this language's alone.
 """
+import pathlib
+import sys
+
 from builtin_machine import BUILTINS, TYPES, Whole
 from cell_machine import LISTED, Raised, Spent
 from function_machine import CLASSES
 from node_machine import CLASS, Builtin, Class, Thing
+
+sys.path.append(str(pathlib.Path(__file__).resolve().parents[1] / "rows"))
 from rust_text import escaped
 
 LEAST, GREATEST = -(2**127), 2**127 - 1
@@ -153,7 +158,7 @@ def row(call, own):
 
 def main():
     lines = [row(call, False) for call in CALLS] + [row(call, True) for call in OWN]
-    print("// Printed by tools/builtin_rows.py, from what CPython answers.")
+    print("// Printed by tools/cells/builtin_rows.py, from what CPython answers.")
     print()
     print("/// A builtin function or a class, its arguments and the budget; and what the call gives, with the")
     print("/// number of a node, and the steps that it takes.")

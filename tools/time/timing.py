@@ -10,18 +10,19 @@ with status 1.
 import dataclasses
 import math
 import os
+import pathlib
 import shutil
 import subprocess
 import sys
 import tempfile
 
-TOP = os.path.dirname(os.path.dirname(os.path.abspath(__file__)))
+TOP = pathlib.Path(__file__).resolve().parents[2]
 PROGRAM = r'''//! Reads the text on standard input with `@CALL@`, as often as makes 16 MiB, and prints how many parts
 //! it has.
 #![tactic(auto)]
 
 use @CRATE@::@CALL@;
-use kishu_model::Profile;
+use kishu_language::Profile;
 use std::alloc::Global;
 use std::io;
 
@@ -53,31 +54,45 @@ SMALL, LARGE, TOTAL = 262_144, 1_048_576, 16_777_216
 WORST = 5
 
 
+def copy_crates(folder, names):
+    """Copies crates and all that they stand on, and lists them."""
+    with open(os.path.join(TOP, "crates.txt")) as listed:
+        lines = {line.split(":")[0]: line for line in listed if line[0] != "#"}
+    copied = list(names)
+    for name in copied:
+        copied += [below for below in lines[name].split(":")[1].split() if below in lines and below not in copied]
+        shutil.copytree(os.path.join(TOP, "crates", name), os.path.join(folder, "crates", name), ignore=shutil.ignore_patterns("out"))
+    with open(os.path.join(folder, "crates.txt"), "w") as listed:
+        listed.writelines(line for name, line in lines.items() if name in copied)
+
+
+def built(folder, name, below, text):
+    """A program that is a crate of its own, over crates that were copied; `rt` proves and builds it."""
+    crate = os.path.join(folder, "crates", name)
+    os.makedirs(os.path.join(crate, "src"))
+    with open(os.path.join(crate, "src", "main.rt"), "w") as source:
+        source.write(text)
+    with open(os.path.join(folder, "crates.txt"), "a") as listed:
+        listed.write(f"{name}: {' '.join(below)}\n")
+    subprocess.run(["rt", "run"], cwd=crate, check=True, stdin=subprocess.DEVNULL, stdout=subprocess.DEVNULL)
+    return os.path.join(crate, "out", name)
+
+
 @dataclasses.dataclass
 class Reading:
-    """A call of a crate that reads a text, and the crates that it stands on, itself among them."""
+    """A call of a crate that reads a text."""
 
     crate: str
     call: str
     # what of the value `found` that it answers is a list
     parts: str
-    below: tuple
 
     def build(self, folder):
         """The program that reads a text with it."""
         name = "time_" + self.call
-        for below in self.below:
-            shutil.copytree(os.path.join(TOP, "crates", below), os.path.join(folder, "crates", below), ignore=shutil.ignore_patterns("out"))
-        with open(os.path.join(TOP, "crates.txt")) as listed:
-            kept = [line for line in listed if line.split(":")[0] in self.below]
-        with open(os.path.join(folder, "crates.txt"), "w") as listed:
-            listed.writelines(kept + [f"{name}: {self.crate} kishu_model\n"])
-        crate = os.path.join(folder, "crates", name)
-        os.makedirs(os.path.join(crate, "src"))
-        with open(os.path.join(crate, "src", "main.rt"), "w") as source:
-            source.write(PROGRAM.replace("@CRATE@", self.crate).replace("@CALL@", self.call).replace("@PARTS@", self.parts))
-        subprocess.run(["rt", "run"], cwd=crate, check=True, stdin=subprocess.DEVNULL, stdout=subprocess.DEVNULL)
-        return os.path.join(crate, "out", name)
+        below = (self.crate, "kishu_language")
+        copy_crates(folder, below)
+        return built(folder, name, below, PROGRAM.replace("@CRATE@", self.crate).replace("@CALL@", self.call).replace("@PARTS@", self.parts))
 
 
 def repeated(piece, before="", after=""):

@@ -1,7 +1,7 @@
 #!/usr/bin/env python3
 """Prints the tables that kishu_text's tests hold, from what CPython answers.
 
-    python3 tools/texts.py > crates/kishu_text/src/tables.rt
+    python3 tools/rows/texts.py > crates/kishu_value_tests/src/texts/tables.rt
 
 and `rt fmt` in that crate lays them out.
 
@@ -77,7 +77,7 @@ def taken(text, part):
 
 def main():
     full = [(text, part) for text, part in PARTS if part]
-    print("// Printed by tools/texts.py, from what CPython answers.")
+    print("// Printed by tools/rows/texts.py, from what CPython answers.")
     table("A text and its length.", "COUNTS", "&str, usize", [(rust(t), rust(len(t))) for t in TEXTS])
     at = [(t, i, t[i] if i < len(t) else None) for t in TEXTS for i in range(len(t) + 1)]
     table("A text, a place and the character there.", "PLACES", "&str, usize, Option<char>", [(rust(t), rust(i), some(c, "'")) for t, i, c in at])

@@ -1,7 +1,7 @@
 """Runs cells over nodes as cell_machine.py runs those of plain values, and counts the steps.
 
 A list, a tuple, a dict and an object are things with a number each, in the order of making. The rules are written
-here a second time, so that the definitions of `kishu_model` have something to be compared with.
+here a second time, so that the definitions of `kishu_meaning` have something to be compared with.
 """
 import ast
 

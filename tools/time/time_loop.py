@@ -1,18 +1,19 @@
 #!/usr/bin/env python3
 """Times a cell that takes all of its 4,000,000 steps, beside CPython for the same number of turns.
 
-Usage: tools/time_loop.py
+Usage: tools/time/time_loop.py
 
 The program is the proved one, which the script `kishu` builds where it has to. Each run is a
 process of its own on a store of its own, and the least user time of five runs counts. The script
 ends with status 1 where a run takes more than 2 seconds or 200 MiB of memory.
 """
 import os
+import pathlib
 import subprocess
 import sys
 import tempfile
 
-TOP = os.path.dirname(os.path.dirname(os.path.abspath(__file__)))
+TOP = pathlib.Path(__file__).resolve().parents[2]
 PROGRAM = os.path.join(TOP, "kishu")
 # Three steps come before the first turn, and each turn takes six.
 CELL = "n = 0\nwhile True: n += 1\n"
