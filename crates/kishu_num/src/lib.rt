@@ -21,8 +21,6 @@ mod powers;
 mod quotients;
 mod remainders;
 mod sums;
-#[cfg(test)]
-mod tests;
 mod text;
 
 pub use fault::NumFault;

@@ -50,12 +50,3 @@ moved cs ds y z a b m e f g h =
 pub same_picked : (cs ds : List ℕ) (y z a b : ℤ) (m : ℕ) → cs ≡ ds → y ≡ z → a ≡ b → picked cs (places y a m) ≡ picked ds (places z b m)
 same_picked cs ds y z a b m e f g =
     ap (λ (l : List ℕ). picked l (places y a m)) e ∙ (ap (λ (i : ℤ). picked ds (places i a m)) f ∙ ap (λ (i : ℤ). picked ds (places z i m)) g)
-
-behind_within : (size : ℕ) (start next step : ℤ) (n : ℕ) → (0 < n → next ≡ start +ℤ step) → LieWithin size (places next step n) → LieWithin size (places (start +ℤ step) step n)
-behind_within size start next step zero on h = tt
-behind_within size start next step (suc k) on h = subst (λ (z : ℤ). LieWithin size (places z step (suc k))) (on (omega arith)) h
-
-pub grown_within : (size : ℕ) (start next step : ℤ) (m n : ℕ) → m ≡ suc n → pos 0 ≤ℤ start → start <ℤ pos size → (0 < n → next ≡ start +ℤ step) → LieWithin size (places next step n) → LieWithin size (places start step m)
-grown_within size start next step m n e low high on rest =
-    let behind : LieWithin size (places (start +ℤ step) step n) = behind_within size start next step n on rest in
-    subst (λ (i : ℕ). LieWithin size (places start step i)) (sym e) ((low, high), behind)

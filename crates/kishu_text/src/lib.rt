@@ -15,8 +15,3 @@ pub use ordering::order;
 pub use repr::quote;
 pub use search::{find, occurrences, replace, split};
 pub use space::{split_space, strip};
-
-#[cfg(test)]
-mod tables;
-#[cfg(test)]
-mod tests;

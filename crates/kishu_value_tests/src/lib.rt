@@ -1,5 +1,5 @@
 //! Tests over the public calls that work on values over a heap: heaps after some calls, comparisons,
-//! and tables of texts, of methods and of builtin functions, whose expected values come from
+//! and tables of numbers, of texts, of methods and of builtin functions, whose expected values come from
 //! outside. They stand in a crate of their own, since a crate with tests is proved twice, and beside
 //! the other crates of tests, so that all are proved at once. There is nothing else here.
 #![tactic(auto)]
@@ -11,4 +11,8 @@ mod heap;
 #[cfg(test)]
 mod methods;
 #[cfg(test)]
+mod numbers;
+#[cfg(test)]
 mod show;
+#[cfg(test)]
+mod texts;

@@ -1,10 +1,12 @@
 ghost use Rattle.std.specs.Prelude.{◌≡◌, true};
 ghost use Rattle.kishu_meaning.specs.values.Texts.{places, LieWithin};
 
-use crate::tables::{
+mod tables;
+
+use self::tables::{
     COUNTS, FINDS, OCCURRENCES, PLACES, QUOTES, REPLACES, SLICES, SPLITS, STRIPS, WORDS,
 };
-use crate::{at, count, find, occurrences, quote, replace, slice, split, split_space, strip};
+use kishu_text::{at, count, find, occurrences, quote, replace, slice, split, split_space, strip};
 use std::alloc::{AllocError, Global};
 use std::test::Fail;
 

@@ -1,6 +1,6 @@
 // Tables of worked numbers, as tools/rows/numbers.py prints them.
-use crate::NumFault::{NegativePower, Overflow, ZeroDivisor};
-use crate::{NumFault, add, floor_div, modulo, mul, power, read_int, sub, write_int};
+use kishu_num::NumFault::{NegativePower, Overflow, ZeroDivisor};
+use kishu_num::{NumFault, add, floor_div, modulo, mul, power, read_int, sub, write_int};
 use std::test::Fail;
 
 #[derive(Clone, Copy)]

@@ -2,8 +2,8 @@ use Rattle.std.proofs.Common.{◌≡◌, ◌∙◌, subst, ◌-◌, sym, arith, 
 use mir.Syntax.{w128}
 use mir.Val.{SFits}
 use Rattle.std.proofs.lemmas.Int.{ints, to_z-of_z}
-use Rattle.kishu_text.proofs.Places.{grown_within}
-use Rattle.kishu_text.proofs.tests.fits.Goals as goal
+use Rattle.kishu_value_tests.proofs.Slices.{grown_within}
+use Rattle.kishu_value_tests.proofs.texts.fits.Goals as goal
 
 pub loop-left-preserved-in-Some : goal.loop-left-preserved-in-Some
 loop-left-preserved-in-Some c = λ rest.
