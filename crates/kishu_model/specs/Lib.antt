@@ -1,4 +1,3 @@
-pub mod Replay
 pub mod Answers
 pub mod Request
 pub mod requests

@@ -1,6 +1,6 @@
-//! What Kishu promises, on top of the language, the meaning of cells and the store: the machine that
-//! replays each commit's whole path of cells from empty, requests, answers, one request's step and a
-//! whole run, all of it in `specs/`. The types of the crates below are named here again.
+//! What Kishu promises, on top of the language, the meaning of cells, the store and the replay of its
+//! commits: requests, answers, one request's step and a whole run, all of it in `specs/`. The types of
+//! the crates below are named here again.
 #![tactic(auto)]
 
 pub use kishu_language::{

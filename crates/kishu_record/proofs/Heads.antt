@@ -2,10 +2,11 @@
 use Rattle.std.proofs.Common.{◌≡◌, ◌<◌, ◌^◌, ℕ, List, ◌∷◌, ◌++◌, length, Result, Option, Ok, Err, Some, None, IfOk, IfSome, arith, sym, ◌∙◌, ap}
 use Rattle.std.specs.declared.alloc.AllocError.{AllocError}
 use Rattle.kishu_language.specs.declared.profile.Profile.{Profile}
-use Rattle.kishu_store.specs.Record.{Entry, commit, four, profile_number, texts_bytes, head_of, body_of, AreCells}
+use Rattle.kishu_bytes.specs.Numbers.{four, profile_number}
+use Rattle.kishu_store.specs.Record.{Entry, commit, texts_bytes, head_of, body_of, AreCells}
 use Rattle.kishu_record.specs.declared.entry.Entry as rust
 use Rattle.kishu_record.specs.Entries.{entry_of, AreTexts, KeepsRules, BeginsCommit}
-use Rattle.kishu_store_laws.specs.Laws.{four-unique}
+use Rattle.kishu_bytes_laws.specs.NumberLaws.{four-unique}
 use Rattle.kishu_record.specs.Laws.{texts-cut, head-cut, fit_from_head, texts_from_cells}
 
 -- a head whose parts were read

@@ -3,7 +3,8 @@ use Rattle.std.specs.Prelude.{◌≡◌, ℕ, List, [], ◌∷◌, ◌++◌, ◌
 use Rattle.kishu_language.specs.declared.profile.Profile.{Profile}
 use Rattle.std.specs.Str.{IsUtf8}
 use Rattle.std.specs.Rc.{rc_str_bytes}
-use Rattle.kishu_store.specs.Record.{Entry, commit, profile_number, four, longest_cell}
+use Rattle.kishu_bytes.specs.Numbers.{profile_number, four}
+use Rattle.kishu_store.specs.Record.{Entry, commit, longest_cell}
 use Rattle.kishu_record.specs.declared.entry.Entry as rust
 use Rattle.kishu_record.specs.declared.entry.Entry.TheVariants as rust_entry
 

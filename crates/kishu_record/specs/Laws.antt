@@ -3,8 +3,9 @@ use Rattle.std.proofs.Common.{◌≡◌, ◌≤◌, ◌<◌, ◌+◌, ◌^◌, �
 use Rattle.std.proofs.lemmas.Str.{IsUtf8-from_is_utf8}
 use Rattle.kishu_language.specs.declared.profile.Profile.{Profile}
 use Rattle.kishu_language.specs.declared.profile.Profile.TheVariants.{One}
-use Rattle.kishu_store.specs.Record.{Entry, commit, four, texts_bytes, head_of, body_of, AreCells}
-use Rattle.kishu_store_laws.specs.Laws.{four-unique, append-unique}
+use Rattle.kishu_bytes.specs.Numbers.{four}
+use Rattle.kishu_store.specs.Record.{Entry, commit, texts_bytes, head_of, body_of, AreCells}
+use Rattle.kishu_bytes_laws.specs.NumberLaws.{four-unique, append-unique}
 use Rattle.kishu_record.specs.Entries.{IsText, AreTexts, KeepsRules, BeginsText}
 
 -- the length of the head of a commit of one cell

@@ -1,6 +1,7 @@
 ghost use Rattle.std.specs.Prelude.{◌≡◌, ◌<◌, ◌≤◌, ◌++◌, ◌∷◌, [], List, ℕ, length, map, Ok, None, IfOk, IfSome};
 ghost use Rattle.std.specs.Rc.{rc_str_bytes};
-ghost use Rattle.kishu_store.specs.Record.{four, texts_bytes};
+ghost use Rattle.kishu_bytes.specs.Numbers.{four};
+ghost use Rattle.kishu_store.specs.Record.{texts_bytes};
 ghost use Rattle.kishu_record.specs.Entries.{IsText, AreTexts, BeginsText};
 
 use std::alloc::{AllocError, Global};

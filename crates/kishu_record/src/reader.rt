@@ -1,7 +1,8 @@
 ghost use Rattle.std.specs.Prelude.{◌≡◌, ◌<◌, ◌≤◌, ◌^◌, ◌++◌, ◌∷◌, true, false, List, ℕ, length, Ok, None, IfOk, IfSome};
 ghost use Rattle.kishu_language.specs.declared.profile.Profile.{Profile};
 ghost use Rattle.kishu_store.specs.Record as model;
-ghost use Rattle.kishu_store.specs.Record.{commit, profile_number, four, head_of, body_of, AreCells};
+ghost use Rattle.kishu_bytes.specs.Numbers.{profile_number, four};
+ghost use Rattle.kishu_store.specs.Record.{commit, head_of, body_of, AreCells};
 ghost use Rattle.kishu_record.specs.Entries.{entry_of, KeepsRules, BeginsCommit};
 
 use crate::COMMIT;

@@ -1,6 +1,7 @@
 ghost use Rattle.std.specs.Prelude.{◌≡◌, ◌<◌, ◌^◌, ◌++◌, ◌∷◌, [], length, map, IfOk, OnOk};
 ghost use Rattle.std.specs.Rc.{rc_str_bytes};
-ghost use Rattle.kishu_store.specs.Record.{four, profile_number, texts_bytes, head_of, body_of, commit};
+ghost use Rattle.kishu_bytes.specs.Numbers.{four, profile_number};
+ghost use Rattle.kishu_store.specs.Record.{texts_bytes, head_of, body_of, commit};
 ghost use Rattle.kishu_record.specs.Entries.{entry_of};
 
 use crate::COMMIT;

@@ -1,7 +1,8 @@
 -- How long the record of one cell is.
 use Rattle.std.proofs.Common.{◌≡◌, ◌+◌, ℕ, List, [], ◌∷◌, ◌++◌, length, arith, length-append}
 use Rattle.kishu_language.specs.declared.profile.Profile.{Profile}
-use Rattle.kishu_store.specs.Record.{commit, head_of, body_of, texts_bytes, four, profile_number}
+use Rattle.kishu_bytes.specs.Numbers.{four, profile_number}
+use Rattle.kishu_store.specs.Record.{commit, head_of, body_of, texts_bytes}
 
 pub length-head_of : (parent : ℕ) (profile : Profile) (text : List ℕ) → length (head_of (commit parent profile (text ∷ []))) ≡ 22 + length text
 unfolding head_of

@@ -12,7 +12,7 @@ use Rattle.kishu_model.specs.Answers.{Refusal, answer_line, ran_cell}
 use Rattle.kishu_model.specs.Request.{Request, Stepped, cell, refused_with}
 use Rattle.kishu_model.specs.requests.Cell.{committed}
 use Rattle.kishu_model.specs.Step.{step, charge_of}
-use Rattle.kishu_model.specs.Replay.{replay, IsFull}
+use Rattle.kishu_replay.specs.Replay.{replay, IsFull}
 use Rattle.kishu_store.specs.Record.{Entry, commit, changed, longest_cell, IsCell, Fits, body_of}
 use Rattle.kishu_store.specs.Holds.{Holds, end_of, graph_of}
 use Rattle.kishu_model.specs.Serve.{after, answer_of}

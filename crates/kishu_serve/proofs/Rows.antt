@@ -15,7 +15,8 @@ use Rattle.kishu_model.specs.Serve.{after_all, charges}
 use Rattle.kishu_model.specs.Task.{task, one_cell}
 use Rattle.kishu_store.specs.Record.{Entry, commit, head_of, body_of, IsCell, AreCells, Fits, AreRecords, longest_body}
 use Rattle.kishu_store.specs.Holds.{header, framed, front, end_of, graph_of, open_gate, Ends, Holds, BeginsRecord, IsBroken, IsForeign}
-use Rattle.kishu_store_laws.specs.Laws.{length-framed, framed-unique, append-unique, parents-unique, cells-unique}
+use Rattle.kishu_bytes_laws.specs.NumberLaws.{append-unique}
+use Rattle.kishu_store_laws.specs.Laws.{length-framed, framed-unique, parents-unique, cells-unique}
 use Rattle.kishu_journal.specs.Bytes.{fresh, appended}
 use Rattle.kishu_serve.specs.declared.status.Status.TheVariants.{Done, Usage, NotAJournal, Damaged, DiskFault, InputFault, OutputFault, NoMemory, InputTooLong, HeapFull}
 use Rattle.kishu_serve.specs.Statuses.{code_of, text_of}

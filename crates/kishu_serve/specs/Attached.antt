@@ -2,7 +2,7 @@
 use Rattle.std.specs.Prelude.{◌≡◌, List}
 use Rattle.kishu_host.specs.Host as host
 use Rattle.kishu_store.specs.Graph.{Graph, count_of, newest}
-use Rattle.kishu_model.specs.Replay.{replay}
+use Rattle.kishu_replay.specs.Replay.{replay}
 use Rattle.kishu_store.specs.Record.{Entry}
 use Rattle.kishu_store.specs.Holds.{graph_of}
 use Rattle.kishu_journal.specs.Stands.{Stands}

@@ -5,7 +5,7 @@ use Rattle.std.proofs.lemmas.Bool.Decides.{nat_tests}
 use Rattle.kishu_language.specs.declared.profile.Profile.{Profile}
 use Rattle.kishu_meaning.specs.values.Values.{State, empty}
 use Rattle.kishu_store.specs.Graph.{Commit, Graph, newest, with_commit, path, path_in, cell_count, count_of}
-use Rattle.kishu_model.specs.Replay.{after_cells, after_commits, replay, charge_in, charge_on, replay_charge, FillsIn, FillsOn}
+use Rattle.kishu_replay.specs.Replay.{after_cells, after_commits, replay, charge_in, charge_on, replay_charge, FillsIn, FillsOn}
 use Rattle.kishu_model.specs.Answers.{store_full}
 use Rattle.kishu_store.specs.Limits.{most_records}
 use Rattle.kishu_model.specs.Request.{cell, refused_with}

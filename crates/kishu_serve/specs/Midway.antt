@@ -5,8 +5,9 @@ use Rattle.kishu_language.specs.declared.profile.Profile.{Profile}
 use Rattle.kishu_language.specs.declared.profile.Profile.TheVariants.{One}
 use Rattle.kishu_meaning.specs.values.Values.{State, empty}
 use Rattle.kishu_store.specs.Graph.{Graph, new_graph, newest, count_of}
-use Rattle.kishu_model.specs.Replay.{replay, after_cells, charge_in, replay_charge, FillsIn}
-use Rattle.kishu_store.specs.Record.{Entry, commit, cells_of, profile_of, changed, changed_by, AreRecords, AreCells, head_of, body_of, texts_bytes, four, profile_number}
+use Rattle.kishu_replay.specs.Replay.{replay, after_cells, charge_in, replay_charge, FillsIn}
+use Rattle.kishu_bytes.specs.Numbers.{four, profile_number}
+use Rattle.kishu_store.specs.Record.{Entry, commit, cells_of, profile_of, changed, changed_by, AreRecords, AreCells, head_of, body_of, texts_bytes}
 use Rattle.kishu_store.specs.Holds.{graph_of}
 use Rattle.kishu_store_laws.specs.Laws.{graph-linear}
 use Rattle.kishu_serve.specs.Growth.{replay-with_commit, count-with_commit, charge-with_commit, FillsBefore, fills-cells, fills-by}

@@ -5,7 +5,7 @@ ghost use Rattle.kishu_interp.specs.Running.{state_in};
 ghost use Rattle.kishu_meaning.specs.moments.Accesses.{with_accesses};
 ghost use Rattle.kishu_meaning.specs.cells.Meaning.{run};
 ghost use Rattle.kishu_store.specs.Record.{longest_cell};
-ghost use Rattle.kishu_model.specs.Replay.{IsFull};
+ghost use Rattle.kishu_replay.specs.Replay.{IsFull};
 ghost use Rattle.kishu_meaning.specs.values.Sound.{are_sound_names};
 ghost use Rattle.kishu_meaning.specs.values.Values.{empty, report_of};
 ghost use Rattle.kishu_serve.specs.declared.live.Unrun.TheVariants.{HeapFull};

@@ -2,7 +2,7 @@ ghost use Rattle.std.specs.Prelude.{◌≡◌, ◌≤◌, ◌<◌, ◌⊎◌, �
 ghost use Rattle.kishu_host.specs.Host.{State, Told, Now, Keeps, Elapses, Rises, DuringPut};
 ghost use Rattle.kishu_store.specs.Graph.{Graph};
 ghost use Rattle.kishu_store.specs.Record.{longest_cell};
-ghost use Rattle.kishu_model.specs.Replay.{replay, replay_charge, Fills, IsFull};
+ghost use Rattle.kishu_replay.specs.Replay.{replay, replay_charge, Fills, IsFull};
 ghost use Rattle.kishu_model.specs.Request as spec;
 ghost use Rattle.kishu_model.specs.Request.{cell, refused_with};
 ghost use Rattle.kishu_model.specs.Step.{step, charge_of};

@@ -4,7 +4,7 @@ ghost use Rattle.kishu_meaning.specs.moments.Accesses.{with_accesses};
 ghost use Rattle.kishu_meaning.specs.cells.Meaning.{run};
 ghost use Rattle.kishu_store.specs.Graph.{new_graph, count_of};
 ghost use Rattle.kishu_serve.specs.Growth.{FillsBefore};
-ghost use Rattle.kishu_model.specs.Replay.{replay, after_cells, charge_in, FillsIn, IsFull};
+ghost use Rattle.kishu_replay.specs.Replay.{replay, after_cells, charge_in, FillsIn, IsFull};
 ghost use Rattle.kishu_model.specs.Answers.{answer_line, ran_cell};
 ghost use Rattle.kishu_store.specs.Record.{commit, body_of, cells_of, longest_cell, AreCells, AreRecords};
 ghost use Rattle.kishu_store.specs.Holds.{graph_of};

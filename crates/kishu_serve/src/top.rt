@@ -3,7 +3,7 @@ ghost use Rattle.kishu_host.specs.Host.{State, Told, Now, Keeps, Elapses, Rises}
 ghost use Rattle.kishu_host.specs.Source.{SourceState};
 ghost use Rattle.kishu_store.specs.Graph.{Graph};
 ghost use Rattle.kishu_store.specs.Record.{longest_cell};
-ghost use Rattle.kishu_model.specs.Replay.{replay_charge, Fills};
+ghost use Rattle.kishu_replay.specs.Replay.{replay_charge, Fills};
 ghost use Rattle.kishu_model.specs.Serve.{charges};
 ghost use Rattle.kishu_model.specs.Task.{task, one_cell};
 ghost use Rattle.kishu_store.specs.Holds.{Holds, IsForeign, IsBroken};

@@ -1,22 +1,14 @@
 -- Records, and their bytes. Numbers are big-endian.
 use Rattle.std.specs.Prelude.{◌≡◌, ◌<◌, ◌≤◌, ◌^◌, ℕ, true, List, [], ◌∷◌, ◌++◌, length}
-use Rattle.std.specs.Int.{w32, to_be_bytes}
 use Rattle.std.specs.Str.{is_utf8}
 use Rattle.kishu_language.specs.declared.profile.Profile.{Profile}
-use Rattle.kishu_language.specs.declared.profile.Profile.TheVariants.{One}
+use Rattle.kishu_bytes.specs.Numbers.{four, profile_number}
 use Rattle.kishu_store.specs.Graph.{Graph, with_commit}
 use Rattle.kishu_store.specs.Limits.{most_records, newest_profile}
 
 pub data Entry : Type 0 where
   -- one more commit: its parent's number, its profile, and its cells
   commit : (parent : ℕ) → (profile : Profile) → (cells : List (List ℕ)) → Entry
-
-abbrev pub profile_number : Profile → ℕ
-profile_number One = 1
-
--- a number in four bytes
-abbrev pub four : ℕ → List ℕ
-four n = to_be_bytes w32 n
 
 -- texts, each behind its length
 abbrev pub texts_bytes : List (List ℕ) → List ℕ

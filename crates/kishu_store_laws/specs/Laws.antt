@@ -1,15 +1,16 @@
 -- What follows from the definitions of records and of the store file: a file holds at most one graph, and none where it is broken or foreign.
-use Rattle.std.specs.Prelude.{◌≡◌, ◌≢◌, ◌<◌, ◌≤◌, ℕ, suc, ◌+◌, ◌^◌, List, [], ◌∷◌, ◌++◌, length, take, drop, refl}
-use Rattle.std.specs.Int.{w32, w64, to_be_bytes, from_be_bytes}
+use Rattle.std.specs.Prelude.{◌≡◌, ◌≢◌, ◌<◌, ◌≤◌, ℕ, suc, ◌+◌, ◌^◌, List, [], ◌∷◌, ◌++◌, length, refl}
+use Rattle.std.specs.Int.{w64, to_be_bytes, from_be_bytes}
 use Rattle.std.proofs.lemmas.Bool.{cases_lt}
 use Rattle.std.proofs.Common.{inl, inr, ⊎_elim, sym, ◌∙◌, ap, subst, arith, length-append, append_assoc}
-use Rattle.std.proofs.lemmas.List.{take_at, drop_at, append_cancel_left}
-use Rattle.std.proofs.lemmas.Nat.{from_be_bytes-to_be_bytes_4, from_be_bytes-to_be_bytes_8}
+use Rattle.std.proofs.lemmas.List.{append_cancel_left}
+use Rattle.std.proofs.lemmas.Nat.{from_be_bytes-to_be_bytes_8}
 use Rattle.kishu_language.specs.declared.profile.Profile.{Profile}
-use Rattle.kishu_language.specs.declared.profile.Profile.TheVariants.{One}
+use Rattle.kishu_bytes.specs.Numbers.{four, profile_number}
+use Rattle.kishu_bytes_laws.specs.NumberLaws.{append-unique, four-unique, profiles-one}
 use Rattle.kishu_store.specs.Graph.{Graph, new_graph}
 use Rattle.kishu_store.specs.Limits.{most_records}
-use Rattle.kishu_store.specs.Record.{Entry, commit, profile_number, four, texts_bytes, head_of, body_of, longest_body, Fits, changed, changed_by, AreRecords}
+use Rattle.kishu_store.specs.Record.{Entry, commit, texts_bytes, head_of, body_of, longest_body, Fits, changed, changed_by, AreRecords}
 use Rattle.kishu_store.specs.Holds.{header, open_gate, fresh_length, framed, records, front, end_of, Ends, Holds, graph_of, IsGood, BeginsRecord, IsBroken, IsForeign}
 
 -- ---- lengths
@@ -23,19 +24,6 @@ unfolding framed
 length-framed body = length-append (to_be_bytes w64 (length body)) body
 
 -- ---- bytes that two equal lists begin with
-
-pub append-unique : (a b x y : List ℕ) → length a ≡ length b → a ++ x ≡ b ++ y → (a ≡ b) × (x ≡ y)
-append-unique a b x y size e = (
-  sym (take_at a x (length a) refl) ∙ ap (λ (l : List ℕ). take (length a) l) e ∙ take_at b y (length a) (sym size),
-  sym (drop_at a x (length a) refl) ∙ ap (λ (l : List ℕ). drop (length a) l) e ∙ drop_at b y (length a) (sym size),
-)
-
-pub four-unique : (m n : ℕ) (x y : List ℕ) → m < 2 ^ 32 → n < 2 ^ 32 → four m ++ x ≡ four n ++ y → (m ≡ n) × (x ≡ y)
-four-unique m n x y hm hn e =
-    let both = append-unique (four m) (four n) x y refl e in (
-      sym (from_be_bytes-to_be_bytes_4 m hm) ∙ ap (λ (l : List ℕ). from_be_bytes w32 l) both.0 ∙ from_be_bytes-to_be_bytes_4 n hn,
-      both.1,
-    )
 
 -- two framed bodies that begin alike are one
 pub framed-unique : (a b x y : List ℕ) → length a ≤ longest_body → length b ≤ longest_body → framed a ++ x ≡ framed b ++ y → (a ≡ b) × (x ≡ y)
@@ -71,9 +59,6 @@ texts-long (text ∷ texts) = omega (arith, length-append (four (length text)) (
 -- what a commit's head says behind its parent and its profile
 unfoldable cells_part : List (List ℕ) → List ℕ
 cells_part cells = four (length cells) ++ (texts_bytes cells ++ (four 0 ++ four 0))
-
-pub profiles-one : (p q : Profile) → p ≡ q
-profiles-one One One = refl
 
 pub length-body : (e : Entry) → length (body_of e) ≡ 4 + length (head_of e)
 unfolding body_of

@@ -3,7 +3,7 @@ use Rattle.std.specs.Prelude.{ℕ, suc, nat_le, if◌then◌else◌, List, [], �
 use Rattle.kishu_meaning.specs.cells.Meaning.{run}
 use Rattle.kishu_store.specs.Limits.{most_records, newest_profile}
 use Rattle.kishu_store.specs.Graph.{Graph, newest, with_commit, count_of}
-use Rattle.kishu_model.specs.Replay.{replay}
+use Rattle.kishu_replay.specs.Replay.{replay}
 use Rattle.kishu_model.specs.Answers.{ran_cell, store_full}
 use Rattle.kishu_model.specs.Request.{Stepped, refused_with}
 

@@ -1,7 +1,8 @@
 use Rattle.std.proofs.Common.{◌≡◌, ◌++◌, length, map, Ok, ap, arith, ◌∙◌, refl}
 use Rattle.std.proofs.lemmas.List.{length-map}
 use Rattle.std.specs.Rc.{rc_str_bytes}
-use Rattle.kishu_store.specs.Record.{four, texts_bytes}
+use Rattle.kishu_bytes.specs.Numbers.{four}
+use Rattle.kishu_store.specs.Record.{texts_bytes}
 use Rattle.kishu_record.specs.Entries.{AreTexts}
 use Rattle.kishu_record.proofs.Heads.{is_read, begins_from_head, behind_from_head, head_from_read, groups_from_head}
 use Rattle.kishu_record.proofs.reader.commit_of.Goals as goal

@@ -4,7 +4,7 @@ use Rattle.std.specs.Rc.{rc_str_bytes}
 use Rattle.kishu_language.specs.declared.profile.Profile.TheVariants.{One}
 use Rattle.kishu_meaning.specs.values.Values.{State}
 use Rattle.kishu_meaning.specs.cells.Meaning.{run}
-use Rattle.kishu_model.specs.Replay.{after_cells, charge_in, FillsIn}
+use Rattle.kishu_replay.specs.Replay.{after_cells, charge_in, FillsIn}
 use Rattle.kishu_store.specs.Record.{AreCells}
 use Rattle.kishu_serve.specs.Lives.{state_of}
 use Rattle.kishu_serve.specs.Texts.{texts_of}

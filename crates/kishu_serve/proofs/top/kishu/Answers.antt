@@ -3,7 +3,7 @@ use Rattle.kishu_host.specs.Host.{Now, Elapses}
 use Rattle.kishu_model.specs.Request.{Request}
 use Rattle.kishu_serve.specs.Words.{texts, form_of}
 use Rattle.kishu_serve.specs.Headline.{IsPart, IsWhole}
-use Rattle.kishu_model.specs.Replay.{replay_charge}
+use Rattle.kishu_replay.specs.Replay.{replay_charge}
 use Rattle.kishu_model.specs.Serve.{charges}
 use Rattle.kishu_serve.proofs.Runs.{asked}
 use Rattle.kishu_serve.proofs.top.kishu.Goals as goal

@@ -1,7 +1,8 @@
 use Rattle.std.proofs.Common.{◌≡◌, ◌++◌, ◌∷◌, [], List, ℕ, length, map, Ok, sym, ap, ◌∙◌, arith, length-append}
 use Rattle.std.proofs.lemmas.List.{map_push, length-map}
 use Rattle.std.specs.Rc.{rc_str_bytes}
-use Rattle.kishu_store.specs.Record.{four, texts_bytes}
+use Rattle.kishu_bytes.specs.Numbers.{four}
+use Rattle.kishu_store.specs.Record.{texts_bytes}
 use Rattle.kishu_record.specs.Entries.{IsText}
 use Rattle.kishu_record.specs.Laws.{texts-follow, texts-push, AreTexts-push}
 use Rattle.kishu_record.proofs.cursor.Cursor.texts.Goals as goal
