@@ -1,0 +1,16 @@
+pub mod Lists
+pub mod Shape
+pub mod Same
+pub mod Picture
+pub mod Sound
+pub mod Reading
+pub mod Loading
+pub mod Groups
+pub mod Components
+pub mod Bytes
+pub mod Fits
+pub mod Pairings
+pub mod States
+pub mod Locality
+pub mod AlikeRuns
+pub mod State

@@ -1,0 +1,17 @@
+pub mod ListLaws
+pub mod NameLaws
+pub mod ShapeLaws
+pub mod OrderLaws
+pub mod SoundLaws
+pub mod PairingLaws
+pub mod PictureLaws
+pub mod SameLaws
+pub mod WholeLaws
+pub mod OwnPictureLaws
+pub mod ReadingLaws
+pub mod LoadingLaws
+pub mod WalkLaws
+pub mod GroupLaws
+pub mod PartLaws
+pub mod ComponentLaws
+pub mod BytesLaws
