@@ -1,0 +1,10 @@
+pub mod World
+pub mod moments
+pub mod values
+pub mod comparing
+pub mod calls
+pub mod items
+pub mod Itself
+pub mod cells
+pub mod growing
+pub mod runs

@@ -1,0 +1,8 @@
+pub mod Raising
+pub mod Ways
+pub mod Parts
+pub mod Expressions
+pub mod Places
+pub mod Statements
+pub mod Cells
+pub mod Runs

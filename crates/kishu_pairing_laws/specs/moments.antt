@@ -1,0 +1,6 @@
+pub mod Steps
+pub mod Heap
+pub mod Counting
+pub mod Accesses
+pub mod NamesInOrder
+pub mod Names
