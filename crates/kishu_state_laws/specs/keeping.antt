@@ -1,0 +1,17 @@
+pub mod Logic
+pub mod Lists
+pub mod Texts
+pub mod Numbers
+pub mod Counting
+pub mod Leaves
+pub mod Subscripts
+pub mod Operating
+pub mod Methods
+pub mod Calling
+pub mod Callees
+pub mod Names
+pub mod Flows
+pub mod Parts
+pub mod Expressions
+pub mod Acts
+pub mod Running

@@ -1,0 +1,68 @@
+// What holds of every state, and that runs keep it.
+
+ghost use Rattle.kishu_language.specs.declared.profile.Profile.{Profile};
+ghost use Rattle.kishu_language.specs.reading.ReadText.{read_chars, ReadsDef};
+ghost use Rattle.kishu_language.specs.trees.Tree.{Definition, Expression, Statement, Statements, Text, statements};
+ghost use Rattle.kishu_meaning.specs.cells.Meaning.{acts, all_calls, cell, expr, run};
+ghost use Rattle.kishu_meaning.specs.moments.Moment.{Moment};
+ghost use Rattle.kishu_meaning.specs.values.Sound.{default_count};
+ghost use Rattle.kishu_meaning.specs.values.Values.{State, empty};
+ghost use Rattle.kishu_replay.specs.Replay.{after_cells, replay};
+ghost use Rattle.kishu_objects.specs.Same.{Same};
+ghost use Rattle.kishu_objects.specs.States.{IsSoundState};
+ghost use Rattle.kishu_pairing_laws.specs.World.{end_of};
+ghost use Rattle.kishu_state_laws.specs.Moments.{Holds, Leads};
+ghost use Rattle.kishu_objects.specs.State.{Grown, IsCell, IsCode, IsState};
+ghost use Rattle.kishu_state_laws.specs.trees.Sound.{ExpressionSound, StatementsSound};
+ghost use Rattle.kishu_store.specs.Graph.{Commit, Graph, path};
+ghost use Rattle.std.specs.List.{AllByRecursion};
+ghost use Rattle.std.specs.Prelude.{List, Ok, length, ℕ, ◌≡◌, ◌≤◌};
+ghost use Rattle.std.specs.Str.{IsUtf8, chars};
+
+/// The empty state is a state, and a run leads from a state to a state.
+pub fn runs_keep_states()
+    ensures empty { IsState empty }
+    ensures run { (profile : Profile) (text : List ℕ) (s : State) → IsCell text → IsState s → IsState (run profile text s).state }
+{}
+
+/// In a run old nodes keep their numbers, and new ones stand behind them.
+pub fn runs_keep_nodes()
+    ensures grown { (profile : Profile) (text : List ℕ) (s : State) → IsCell text → IsState s → Grown s.nodes (run profile text s).state.nodes }
+    ensures many { (profile : Profile) (text : List ℕ) (s : State) → IsCell text → IsState s → length s.nodes ≤ length (run profile text s).state.nodes }
+{}
+
+/// Each part of a run leads from a moment to a later one: what holds of every moment is kept, no step is
+/// given back, and old nodes keep their numbers.
+pub fn no_step_is_given_back()
+    ensures expressions { (e : Expression) (s : Moment) → ExpressionSound e → Holds s → Leads s (end_of (expr all_calls e s)) }
+    ensures statements { (ss : Statements) (s : Moment) → StatementsSound ss → Holds s → Leads s (end_of (acts all_calls ss s)) }
+    ensures cells { (tree : List Statement) (s : Moment) → StatementsSound (statements tree) → Holds s → Leads s (end_of (cell tree s)) }
+{}
+
+/// Cells one after another keep states, old nodes keep their numbers through them, and a replay gives a
+/// state.
+pub fn cells_keep_states()
+    ensures states { (profile : Profile) (cells : List (List ℕ)) (s : State) → AllByRecursion IsCell cells → IsState s → IsState (after_cells profile cells s) }
+    ensures nodes { (profile : Profile) (cells : List (List ℕ)) (s : State) → AllByRecursion IsCell cells → IsState s → Grown s.nodes (after_cells profile cells s).nodes }
+    ensures replays { (g : Graph) (c : ℕ) → AllByRecursion (λ (k : Commit). AllByRecursion IsCell k.cells) (path g c) → IsState (replay g c) }
+{}
+
+/// The tree of a cell's text is sound: its names, its numbers, its texts and the codes of its functions.
+pub fn trees_are_sound()
+    ensures { (profile : Profile) (text : List ℕ) (tree : List Statement) → IsCell text → read_chars profile (chars text) ≡ Ok tree → StatementsSound (statements tree) }
+{}
+
+/// A text that reads as a function, however that is known, is the code of one with as many defaults.
+pub fn what_reads_is_code()
+    ensures { (profile : Profile) (code : Text) (d : Definition) (n : ℕ) → IsUtf8 code → length code ≤ 1048576 → ∥ ReadsDef profile code d ∥₁ → n ≡ default_count d → IsCode profile code n }
+{}
+
+/// A state's names rise, and its names and nodes lead to nodes that are there.
+pub fn states_are_real()
+    ensures { (s : State) → IsState s → IsSoundState s }
+{}
+
+/// Cells one after another can't tell states apart that are the same.
+pub fn cells_cannot_tell_states()
+    ensures { (profile : Profile) (cells : List (List ℕ)) (s t : State) → AllByRecursion IsCell cells → IsState s → IsState t → Same s t → Same (after_cells profile cells s) (after_cells profile cells t) }
+{}
