@@ -1,0 +1,4 @@
+mod HistoryExamples
+mod PathExamples
+mod LocalityExamples
+mod AllNamesExamples

@@ -1,0 +1,14 @@
+pub mod Alike
+pub mod Changed
+pub mod Versions
+pub mod Tables
+pub mod Paths
+pub mod Accessed
+pub mod Touched
+pub mod Cut
+pub mod Checkout
+pub mod Live
+pub mod Stored
+pub mod Sizes
+pub mod AllNames
+pub mod Good

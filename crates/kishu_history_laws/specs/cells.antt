@@ -1,0 +1,7 @@
+pub mod TouchLaws
+pub mod InsideLaws
+pub mod LeavesLaws
+pub mod JoinedLaws
+pub mod GroupsAfter
+pub mod LiveLaws
+pub mod SizeLaws

@@ -1,0 +1,4 @@
+pub mod CheckoutLaws
+pub mod PlanLaws
+pub mod PlaceLaws
+pub mod AnewLaws

@@ -1,0 +1,5 @@
+pub mod AlikeLaws
+pub mod StateLaws
+pub mod NameLaws
+pub mod LoadLaws
+pub mod SameLaws

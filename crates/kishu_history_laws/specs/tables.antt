@@ -1,0 +1,4 @@
+pub mod TableLaws
+pub mod RecordLaws
+pub mod SplitLaws
+pub mod AllNamesLaws

@@ -1,0 +1,3 @@
+pub mod VersionLaws
+pub mod EarliestLaws
+pub mod PathLaws

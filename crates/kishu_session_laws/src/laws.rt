@@ -1,0 +1,74 @@
+// What holds of a session over the cells that it runs.
+
+ghost use Rattle.std.specs.Prelude.{◌≡◌, ◌≤◌, ℕ, suc, List, [], Option, ◌↔◌, ◌⊎◌, ◌+◌, false, not, filter};
+ghost use Rattle.std.specs.List.{AllZip};
+ghost use Rattle.kishu_language.specs.declared.profile.Profile.{Profile};
+ghost use Rattle.kishu_meaning.specs.values.Values.{State, empty};
+ghost use Rattle.kishu_store.specs.Graph.{Graph, newest, with_commit};
+ghost use Rattle.kishu_replay.specs.Replay.{after_cells, replay};
+ghost use Rattle.kishu_objects.specs.Picture.{picture};
+ghost use Rattle.kishu_objects.specs.Lists.{In};
+ghost use Rattle.kishu_objects.specs.States.{IsSoundState};
+ghost use Rattle.kishu_history.specs.Versions.{stored, dropped};
+ghost use Rattle.kishu_history.specs.Tables.{Row, Table, groups_in, Change, after, IsTable};
+ghost use Rattle.kishu_history.specs.Paths.{stops, ReplaysAreStates, table_at, with_change, AreRows};
+ghost use Rattle.kishu_history.specs.Accessed.{accessed_by};
+ghost use Rattle.kishu_history.specs.Touched.{dropped_among, stored_among, change_told, holds_any, classes};
+ghost use Rattle.kishu_objects.specs.Locality.{Leaves};
+ghost use Rattle.kishu_history.specs.Checkout.{to_load, to_drop, carried};
+ghost use Rattle.kishu_history.specs.Live.{IsLive, IsPictureOf};
+ghost use Rattle.kishu_history.specs.Stored.{Held, Stored, KeepsRecords, AreNewRows};
+ghost use Rattle.kishu_history.specs.Sizes.{StaySmall, size_among, size};
+ghost use Rattle.kishu_history.specs.Good.{IsGoodStore, IsAttached, IsWholeStore, IsWholeAttached};
+ghost use Rattle.kishu_objects.specs.Groups.{groups_of};
+ghost use Rattle.kishu_history.specs.Changed.{Group, changed};
+ghost use Rattle.kishu_history.specs.AllNames.{all_names};
+
+/// The state that each commit's replay leaves is one, and so is what cells leave of a state.
+pub fn replays_are_states()
+    ensures all { (g : Graph) → ReplaysAreStates g.commits }
+    ensures each { (g : Graph) (c : ℕ) → IsSoundState (replay g c) }
+    ensures cells { (profile : Profile) (cells : List (List ℕ)) (s : State) → IsSoundState s → IsSoundState (after_cells profile cells s) }
+{}
+
+/// Cells one after another leave what the names that they access didn't reach.
+pub fn cells_leave()
+    ensures { (profile : Profile) (cells : List (List ℕ)) (s : State) → IsSoundState s → Leaves (accessed_by profile cells s) s (after_cells profile cells s) }
+{}
+
+/// After cells the groups are those of before that hold no accessed name, and the classes of the touched names; what the state takes is what these take; and what is told among the touched names is what changed.
+pub fn cells_are_told()
+    ensures groups { (profile : Profile) (cells : List (List ℕ)) (s : State) → IsSoundState s → (g : Group) → (In g (groups_of (after_cells profile cells s)) ↔ ((In g (groups_of s) × (holds_any (accessed_by profile cells s) g ≡ false)) ⊎ In g (classes (groups_of s) (accessed_by profile cells s) (after_cells profile cells s)))) }
+    ensures size { (profile : Profile) (cells : List (List ℕ)) (s : State) → IsSoundState s → size (after_cells profile cells s) ≡ size_among (filter (λ g. not (holds_any (accessed_by profile cells s) g)) (groups_of s)) (after_cells profile cells s) + size_among (classes (groups_of s) (accessed_by profile cells s) (after_cells profile cells s)) (after_cells profile cells s) }
+    ensures dropped { (profile : Profile) (cells : List (List ℕ)) (s : State) → IsSoundState s → dropped_among (groups_of s) (picture s) (accessed_by profile cells s) (after_cells profile cells s) ≡ changed s (after_cells profile cells s) }
+    ensures stored { (profile : Profile) (cells : List (List ℕ)) (s : State) → IsSoundState s → stored_among (groups_of s) (picture s) (accessed_by profile cells s) (after_cells profile cells s) ≡ changed (after_cells profile cells s) s }
+{}
+
+/// On every store cells leave the live state that the new table tells, and the new table is one.
+pub fn cells_stay_live()
+    ensures live { (file : Option (List ℕ)) (t : Table) (s : State) (profile : Profile) (cells : List (List ℕ)) (rows : Table) → IsTable t → IsLive (Stored file) t s → groups_in rows ≡ stored_among (groups_in t) (picture s) (accessed_by profile cells s) (after_cells profile cells s) → ((r : Row) → In r rows → Stored file r (picture (after_cells profile cells s) r.group)) → IsLive (Stored file) (after (change_told t s (accessed_by profile cells s) (after_cells profile cells s) rows) t) (after_cells profile cells s) }
+    ensures table { (file : Option (List ℕ)) (t : Table) (s : State) (profile : Profile) (cells : List (List ℕ)) (rows : Table) → IsTable t → IsLive (Stored file) t s → groups_in rows ≡ stored_among (groups_in t) (picture s) (accessed_by profile cells s) (after_cells profile cells s) → ((r : Row) → In r rows → Stored file r (picture (after_cells profile cells s) r.group)) → IsTable (after (change_told t s (accessed_by profile cells s) (after_cells profile cells s) rows) t) }
+{}
+
+/// In a session attached to a good store what is told among the touched names is just what the new commit drops and stores.
+pub fn commits_are_told()
+    ensures dropped { (file : List ℕ) (g : Graph) (of : ℕ → Change) → AreRows of → (s : State) → IsAttached file g of s → (profile : Profile) (cells : List (List ℕ)) → dropped_among (groups_in (table_at g of g.head.commit)) (picture s) (accessed_by profile cells s) (after_cells profile cells s) ≡ dropped (stops (with_commit profile cells g) (suc (newest g))) }
+    ensures stored { (file : List ℕ) (g : Graph) (of : ℕ → Change) → AreRows of → (s : State) → IsAttached file g of s → (profile : Profile) (cells : List (List ℕ)) → stored_among (groups_in (table_at g of g.head.commit)) (picture s) (accessed_by profile cells s) (after_cells profile cells s) ≡ stored (stops (with_commit profile cells g) (suc (newest g))) }
+{}
+
+/// A session on a good store is attached after opening, and stays attached at a record that makes no commit, at a checkout, and at the cells that it runs, where none is too large; the rows of the records then have their commits' numbers and stand in order again.
+pub fn sessions_stay_attached()
+    ensures opened { (file : List ℕ) (g : Graph) (of : ℕ → Change) → AreRows of → IsGoodStore file g.commits of → g.head.commit ≤ newest g → (ps : List State) → AllZip (IsPictureOf (Held file)) (table_at g of g.head.commit) ps → IsAttached file g of (carried [] ps empty) }
+    ensures still { (file grown : List ℕ) (g : Graph) (of : ℕ → Change) → AreRows of → (s : State) → IsAttached file g of s → KeepsRecords file grown (newest g) of → (h : Graph) → h.commits ≡ g.commits → h.head.commit ≡ g.head.commit → IsAttached grown h of s }
+    ensures moved { (file grown : List ℕ) (g : Graph) (of : ℕ → Change) → AreRows of → (s : State) → IsAttached file g of s → KeepsRecords file grown (newest g) of → (h : Graph) → h.commits ≡ g.commits → h.head.commit ≤ newest g → (ps : List State) → AllZip (IsPictureOf (Held file)) (to_load (table_at g of g.head.commit) (table_at g of h.head.commit)) ps → IsAttached grown h of (carried (to_drop (table_at g of g.head.commit) (table_at g of h.head.commit)) ps s) }
+    ensures cells { (file grown : List ℕ) (g : Graph) (of : ℕ → Change) → AreRows of → (s : State) → IsAttached file g of s → KeepsRecords file grown (newest g) of → (profile : Profile) (cells : List (List ℕ)) (rows : Table) → AreNewRows grown (suc (newest g)) (table_at g of g.head.commit) s (accessed_by profile cells s) (after_cells profile cells s) rows → StaySmall profile cells s → IsAttached grown (with_commit profile cells g) (with_change of (suc (newest g)) (change_told (table_at g of g.head.commit) s (accessed_by profile cells s) (after_cells profile cells s) rows)) (after_cells profile cells s) }
+    ensures rows { (file grown : List ℕ) (g : Graph) (of : ℕ → Change) → AreRows of → (s : State) → IsAttached file g of s → KeepsRecords file grown (newest g) of → (profile : Profile) (cells : List (List ℕ)) (rows : Table) → AreNewRows grown (suc (newest g)) (table_at g of g.head.commit) s (accessed_by profile cells s) (after_cells profile cells s) rows → AreRows (with_change of (suc (newest g)) (change_told (table_at g of g.head.commit) s (accessed_by profile cells s) (after_cells profile cells s) rows)) }
+{}
+
+/// The same where commits store one group of all names.
+pub fn sessions_of_all_names()
+    ensures opened { (file : List ℕ) (g : Graph) (of : ℕ → Change) → AreRows of → IsWholeStore file g.commits of → g.head.commit ≤ newest g → (ps : List State) → AllZip (IsPictureOf (Held file)) (table_at g of g.head.commit) ps → IsWholeAttached file g of (carried [] ps empty) }
+    ensures moved { (file grown : List ℕ) (g : Graph) (of : ℕ → Change) → AreRows of → (s : State) → IsWholeAttached file g of s → KeepsRecords file grown (newest g) of → (h : Graph) → h.commits ≡ g.commits → h.head.commit ≤ newest g → (ps : List State) → AllZip (IsPictureOf (Held file)) (table_at g of h.head.commit) ps → IsWholeAttached grown h of (carried [] ps empty) }
+    ensures cells { (file grown : List ℕ) (g : Graph) (of : ℕ → Change) → AreRows of → (s : State) → IsWholeAttached file g of s → KeepsRecords file grown (newest g) of → (profile : Profile) (cells : List (List ℕ)) (rows : Table) → groups_in rows ≡ all_names (after_cells profile cells s) → ((r : Row) → In r rows → r.version ≡ suc (newest g)) → ((r : Row) → In r rows → Held grown r (picture (after_cells profile cells s) r.group)) → StaySmall profile cells s → IsWholeAttached grown (with_commit profile cells g) (with_change of (suc (newest g)) (record { dropped = all_names s; stored = rows })) (after_cells profile cells s) }
+    ensures rows { (file grown : List ℕ) (g : Graph) (of : ℕ → Change) → AreRows of → (s : State) → IsWholeAttached file g of s → KeepsRecords file grown (newest g) of → (profile : Profile) (cells : List (List ℕ)) (rows : Table) → groups_in rows ≡ all_names (after_cells profile cells s) → ((r : Row) → In r rows → r.version ≡ suc (newest g)) → AreRows (with_change of (suc (newest g)) (record { dropped = all_names s; stored = rows })) }
+{}
