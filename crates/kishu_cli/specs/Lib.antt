@@ -2,4 +2,5 @@ pub mod Silent
 pub mod Words
 pub mod Calls
 pub mod Faults
+pub mod Folders
 pub mod Adapters

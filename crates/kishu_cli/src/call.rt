@@ -9,11 +9,24 @@ pub enum Fault {
     Other,
 }
 
+/// What the system answers where it is asked for the lock of the store file.
+#[derive(Clone, Copy)]
+pub enum LockAnswer {
+    /// This opening of the file has the lock now.
+    Taken,
+    /// Another opening of the file has it.
+    Held,
+    /// The file system has no locks.
+    Unsupported,
+}
+
 /// A call of the system with its answer. The bytes that came by it, or that it was given, are told beside it.
 #[derive(Clone, Copy)]
 pub enum Call {
     /// Opens the store file.
     Open(Result<(), Fault>),
+    /// Asks for the file's lock.
+    Lock(Result<LockAnswer, Fault>),
     /// Asks for the file's length.
     Length(Result<u64, Fault>),
     /// Reads from place `at` of the file, up to `room` bytes, and answers how many came.
@@ -29,6 +42,8 @@ pub enum Call {
     },
     /// Syncs the file.
     Sync(Result<(), Fault>),
+    /// Syncs the folder of the file.
+    SyncFolder(Result<(), Fault>),
     /// Writes on standard output, and answers how many bytes were taken.
     Put(Result<usize, Fault>),
     /// Flushes standard output.

@@ -1,19 +1,21 @@
 //! The store file and the standard streams of the operating system. Each method makes one call of the standard library, and then
-//! notes it with its answer. An opening is up to four; where no file is open, none is made, and an error is noted. No clause shows
-//! that the call that was noted was made, so these bodies are to be read.
+//! notes it with its answer. An opening is up to four; the sync of a folder is its opening and its sync; where no file is open,
+//! none is made, and an error is noted. No clause shows that the call that was noted was made, so these bodies are to be read.
 ghost use Rattle.std.specs.Prelude.{◌≡◌, ◌≤◌, [], length, IfOk, None, ◌<ℤ◌, ◌≤ℤ◌, pos, true, false};
 ghost use Rattle.std.specs.Fd.{file_raw_fd};
 ghost use Rattle.kishu_cli.specs.Calls.{came};
-ghost use Rattle.kishu_cli.specs.Faults.{told};
+ghost use Rattle.kishu_cli.specs.Faults.{fault_of, told, lock_told};
+ghost use Rattle.kishu_cli.specs.Folders.{folder_of};
 
-use crate::call::{Call, Fault};
+use crate::call::{Call, Fault, LockAnswer};
 use crate::call_log::CallLog;
 use crate::system::{Input, System};
-use std::fs::{File, OpenOptions};
+use std::fs::{File, OpenOptions, TryLockError};
 use std::io;
 use std::io::{ErrorKind, Read, Write};
 use std::os::fd::AsRawFd;
 use std::os::unix::fs::FileExt;
+use std::path::Path;
 
 /// The last number of a standard stream.
 const LAST_STREAM: i32 = 2;
@@ -96,11 +98,47 @@ fn answer_of<T: Drop>(answer: io::Result<T>) -> Result<T, Fault>
 {
     match answer {
         Ok(x) => Ok(x),
-        Err(error) => match error.kind() {
-            ErrorKind::Interrupted => Err(Fault::Interrupted),
-            _ => Err(Fault::Other),
+        Err(error) => Err(fault_of(error.kind())),
+    }
+}
+
+/// An error of this kind as a fault.
+fn fault_of(kind: ErrorKind) -> Fault
+    ensures { result ≡ fault_of kind }
+{
+    match kind {
+        ErrorKind::Interrupted => Fault::Interrupted,
+        _ => Fault::Other,
+    }
+}
+
+/// The answer to a call for the lock.
+fn lock_answer_of(answer: Result<(), TryLockError>) -> Result<LockAnswer, Fault>
+    ensures { result ≡ lock_told answer }
+{
+    match answer {
+        Ok(()) => Ok(LockAnswer::Taken),
+        Err(TryLockError::WouldBlock) => Ok(LockAnswer::Held),
+        Err(TryLockError::Error(error)) => match error.kind() {
+            ErrorKind::Unsupported => Ok(LockAnswer::Unsupported),
+            kind => Err(fault_of(kind)),
         },
     }
+}
+
+/// The folder in which the name of the file at a path stands.
+fn folder_of(path: &str) -> &str
+    ensures { result.now ≡ folder_of path.now }
+{
+    match Path::new(path).parent() {
+        Some(folder) if !folder.as_os_str().is_empty() => folder.as_os_str(),
+        _ => ".",
+    }
+}
+
+/// Syncs the folder in which the name of the file at a path stands.
+fn sync_folder_of(rt: &HostRuntime, path: &str) -> io::Result<()> {
+    File::open(rt, folder_of(path))?.sync_all()
 }
 
 /// The bytes that came by a call that read into `into`.
@@ -126,6 +164,15 @@ impl System for Os<'_> {
             Err(fault) => Err(fault),
         };
         self.history.note(Call::Open(answer), &[]);
+        answer
+    }
+
+    fn lock(&mut self) -> Result<LockAnswer, Fault> {
+        let answer = match &self.file {
+            Some(store) => lock_answer_of(store.file.try_lock()),
+            None => Err(Fault::Other),
+        };
+        self.history.note(Call::Lock(answer), &[]);
         answer
     }
 
@@ -164,6 +211,12 @@ impl System for Os<'_> {
             None => Err(Fault::Other),
         };
         self.history.note(Call::Sync(answer), &[]);
+        answer
+    }
+
+    fn sync_folder(&mut self) -> Result<(), Fault> {
+        let answer = answer_of(sync_folder_of(self.rt, self.path));
+        self.history.note(Call::SyncFolder(answer), &[]);
         answer
     }
 

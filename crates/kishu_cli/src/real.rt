@@ -1,9 +1,10 @@
 //! The store file and the streams of a system as a host and a source. They tell nothing of content. Their clauses tell which calls
 //! of the system they made, and what they answered by its answers.
-ghost use Rattle.std.specs.Prelude.{◌≡◌};
+ghost use Rattle.std.specs.Prelude.{◌≡◌, true, OnOk, OnErr};
 ghost use Rattle.kishu_host.specs.Host.{HasCause};
-ghost use Rattle.kishu_cli.specs.Adapters.{Opens, passed, counted};
+ghost use Rattle.kishu_cli.specs.Adapters.{is_open, is_free, Opens, Synced, SyncFailed, passed, counted};
 
+use crate::call::{Fault, LockAnswer};
 use crate::system::{Input, System};
 use crate::transfer;
 use crate::transfer::Sink;
@@ -14,16 +15,57 @@ use kishu_host::{Failed, Host, Source};
 pub enum Store {
     /// It wasn't asked for yet.
     Unopened,
-    /// It is open.
+    /// It is open, and had no byte when it was opened. Its folder wasn't synced since.
+    New,
+    /// It is open, and had bytes when it was opened, or its folder was synced since.
     Open,
-    /// It couldn't be opened, and isn't tried again.
+    /// It couldn't be opened, another run has its lock, or it didn't tell its length. It isn't tried again.
     Failed,
+}
+
+impl Store {
+    fn is_open(self) -> bool
+        ensures { result ≡ is_open self }
+    {
+        matches!(self, Store::New | Store::Open)
+    }
+}
+
+/// Opens the file, asks for its lock, and then for its length. It isn't open where another run has the lock; where the file system
+/// has no locks, it is open without.
+fn open_store<S: System>(system: &mut S) -> Store
+    ensures { Opens Store.Unopened (S.history system.old) result (S.history system.new) (is_open result) }
+{
+    match system.open() {
+        Ok(()) => {}
+        Err(_) => return Store::Failed,
+    }
+    let answer = system.lock();
+    if !is_free(answer) {
+        return Store::Failed;
+    }
+    match system.length() {
+        Ok(0) => Store::New,
+        Ok(_) => Store::Open,
+        Err(_) => Store::Failed,
+    }
+}
+
+/// Whether this answer to the call for the lock lets a run go on.
+fn is_free(lock: Result<LockAnswer, Fault>) -> bool
+    ensures { result ≡ is_free lock }
+{
+    matches!(lock, Ok(LockAnswer::Taken | LockAnswer::Unsupported))
 }
 
 /// The store file and standard output of a system.
 ///
-/// The file is opened at the first call that needs it, so a run that needs none makes none. Where it
-/// can't be opened, this call and each later one that needs it fails and is counted.
+/// The file is opened at the first call that needs it, so a run that needs none makes none. As it is opened, its lock is taken, and
+/// kept until the host is dropped: one run at a time is at a store. Where the file can't be opened, or another run has its lock,
+/// this call and each later one that needs the file fails and is counted.
+///
+/// A file that had no byte as it was opened is new: its folder is synced behind the file's first sync that succeeds, and that sync
+/// is Ok only where the folder's was.
 #[derive(Drop)]
 pub struct RealHost<S> {
     system: S,
@@ -48,26 +90,46 @@ impl<S: System> RealHost<S> {
         }
     }
 
+    /// How many calls failed at the file.
+    #[cfg(test)]
+    pub fn disk_faults(&self) -> u64
+        ensures { result ≡ self.now.disk_faults }
+    {
+        self.disk_faults
+    }
+
     /// Opens the file where that wasn't tried yet, and answers whether it is open.
     fn ensure_open(&mut self) -> bool
         ensures opens { Opens self.old.store (S.history self.old.system) self.new.store (S.history self.new.system) result }
+        ensures open { result ≡ is_open self.new.store }
         ensures disk { self.new.disk_faults ≡ self.old.disk_faults }
         ensures out { self.new.out_faults ≡ self.old.out_faults }
     {
         match self.store {
+            Store::New => true,
             Store::Open => true,
             Store::Failed => false,
-            Store::Unopened => match self.system.open() {
-                Ok(()) => {
-                    self.store = Store::Open;
-                    true
-                }
-                Err(_) => {
-                    self.store = Store::Failed;
-                    false
-                }
-            },
+            Store::Unopened => {
+                self.store = open_store(&mut self.system);
+                self.store.is_open()
+            }
         }
+    }
+
+    /// Syncs the open file, and then its folder, where the file is new and that wasn't done yet.
+    fn sync_open(&mut self) -> Result<(), Fault>
+        requires { is_open self.old.store ≡ true }
+        ensures ok { OnOk result (Synced self.old.store (S.history self.old.system) self.new.store (S.history self.new.system)) }
+        ensures err { OnErr result (SyncFailed self.old.store (S.history self.old.system) self.new.store (S.history self.new.system)) }
+        ensures disk { self.new.disk_faults ≡ self.old.disk_faults }
+        ensures out { self.new.out_faults ≡ self.old.out_faults }
+    {
+        self.system.sync()?;
+        if let Store::New = self.store {
+            self.system.sync_folder()?;
+            self.store = Store::Open;
+        }
+        Ok(())
     }
 }
 
@@ -89,11 +151,11 @@ fn counted<T: Drop, E: Drop>(answer: Result<T, E>, count: &mut u64) -> Result<T,
 impl<S: System> Host for RealHost<S> {
     ghost use Rattle.std.specs.Prelude.{◌≡◌, ◌≤◌, ◌⊎◌, [], ◌∷◌, length, take, Ok, Err, IfOk, OnOk, OnErr};
     ghost use Rattle.kishu_host.specs.Host.{HasCause};
-    ghost use Rattle.kishu_cli.specs.declared.call.Call.TheVariants.{Length, Sync, Flush};
+    ghost use Rattle.kishu_cli.specs.declared.call.Call.TheVariants.{Length, Flush};
     ghost use Rattle.kishu_cli.specs.declared.call.Fault.{Fault};
     ghost use Rattle.kishu_cli.specs.Calls.{History, HasRead, ReadFailed, Writing, WriteFailed};
     ghost use Rattle.kishu_cli.specs.declared.transfer.Sink.TheVariants.{File, Output};
-    ghost use Rattle.kishu_cli.specs.Adapters.{OnFile, FailedOnFile, counted};
+    ghost use Rattle.kishu_cli.specs.Adapters.{OnFile, FailedOnFile, SyncedOnFile, FailedSyncOnFile, counted};
     ghost use Rattle.kishu_cli.specs.Silent.{silent_host, not_told};
 
     ghost state = { λ s. silent_host s.disk_faults s.out_faults };
@@ -150,10 +212,10 @@ impl<S: System> Host for RealHost<S> {
         counted(answer, &mut self.disk_faults)
     }
 
-    /// Asks the system once, where the file is open.
+    /// Syncs the file once, where it is open, and then its folder, where the file is new and that wasn't done yet.
     fn sync(&mut self) -> Result<(), Failed>
-        ensures ok { OnOk result (OnFile self.old.store (S.history self.old.system) self.new.store (λ mid. S.history self.new.system ≡ (Sync (Ok tt), []) ∷ mid)) }
-        ensures err { OnErr result (FailedOnFile self.old.store (S.history self.old.system) self.new.store (S.history self.new.system) (λ mid. (e : Fault) × (S.history self.new.system ≡ (Sync (Err e), []) ∷ mid))) }
+        ensures ok { OnOk result (SyncedOnFile self.old.store (S.history self.old.system) self.new.store (S.history self.new.system)) }
+        ensures err { OnErr result (FailedSyncOnFile self.old.store (S.history self.old.system) self.new.store (S.history self.new.system)) }
         ensures disk { HasCause self.old.disk_faults self.new.disk_faults result }
         ensures disk_faults { self.new.disk_faults ≡ counted result self.old.disk_faults }
         ensures out { self.new.out_faults ≡ self.old.out_faults }
@@ -161,7 +223,7 @@ impl<S: System> Host for RealHost<S> {
         if !self.ensure_open() {
             return counted(Err(Failed), &mut self.disk_faults);
         }
-        let answer = self.system.sync();
+        let answer = self.sync_open();
         counted(answer, &mut self.disk_faults)
     }
 

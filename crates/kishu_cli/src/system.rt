@@ -1,9 +1,9 @@
 //! What the program asks of the operating system, one call at a time.
 ghost use Rattle.std.specs.Prelude.{◌≡◌, ◌≤◌, [], ◌∷◌, length, IfOk};
-ghost use Rattle.kishu_cli.specs.declared.call.Call.TheVariants.{Open, Length, Read, Write, Sync, Put, Flush, Take};
+ghost use Rattle.kishu_cli.specs.declared.call.Call.TheVariants.{Open, Lock, Length, Read, Write, Sync, SyncFolder, Put, Flush, Take};
 ghost use Rattle.kishu_cli.specs.Calls.{History, came};
 
-use crate::call::Fault;
+use crate::call::{Fault, LockAnswer};
 
 /// A store file and standard output, with the history of what was asked of them.
 ///
@@ -18,6 +18,10 @@ pub trait System {
     /// Opens the file, and makes it where there is none.
     fn open(&mut self) -> Result<(), Fault>
         ensures { history self.new ≡ (Open result, []) ∷ history self.old };
+
+    /// Asks for the file's advisory lock, and doesn't wait for it. A lock that is taken is kept as long as the file is open here.
+    fn lock(&mut self) -> Result<LockAnswer, Fault>
+        ensures { history self.new ≡ (Lock result, []) ∷ history self.old };
 
     /// The file's length in bytes.
     fn length(&mut self) -> Result<u64, Fault>
@@ -37,6 +41,10 @@ pub trait System {
     /// Syncs the file.
     fn sync(&mut self) -> Result<(), Fault>
         ensures { history self.new ≡ (Sync result, []) ∷ history self.old };
+
+    /// Syncs the folder in which the file's name stands.
+    fn sync_folder(&mut self) -> Result<(), Fault>
+        ensures { history self.new ≡ (SyncFolder result, []) ∷ history self.old };
 
     /// Writes a front of the bytes on standard output, and answers its length.
     fn put(&mut self, bytes: &[u8]) -> Result<usize, Fault>

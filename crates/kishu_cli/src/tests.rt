@@ -32,6 +32,58 @@ fn a_real_file(rt: HostRuntime) -> Result<(), Fail> {
 }
 
 #[test]
+fn a_file_that_another_run_has(rt: HostRuntime) -> Result<(), Fail> {
+    let _ = fs::remove_dir_all(&rt, "kishu_cli_held");
+    fs::create_dir(&rt, "kishu_cli_held")?;
+    let mut first = RealHost::new(Os::new(&rt, "kishu_cli_held/store"));
+    assert_eq!(rt; first.write_at(0, b"abc"), Ok(()));
+    let mut second = RealHost::new(Os::new(&rt, "kishu_cli_held/store"));
+    assert_eq!(rt; second.sync(), Err(Failed));
+    assert_eq!(rt; second.write_at(0, b"xyz"), Err(Failed));
+    assert_eq!(rt; second.disk_faults(), 2);
+    assert_eq!(rt; first.len(), Ok(3));
+    drop(first);
+    // The second isn't tried again, and a third has the file to itself.
+    assert_eq!(rt; second.len(), Err(Failed));
+    assert_eq!(rt; second.disk_faults(), 3);
+    let mut third = RealHost::new(Os::new(&rt, "kishu_cli_held/store"));
+    let mut three = [0; 3];
+    assert_eq!(rt; third.read_at(0, &mut three), Ok(3));
+    assert_eq!(rt; three, *b"abc");
+    assert_eq!(rt; third.disk_faults(), 0);
+    fs::remove_dir_all(&rt, "kishu_cli_held")?;
+    Ok(())
+}
+
+#[test]
+fn the_folder_of_a_new_file(rt: HostRuntime) -> Result<(), Fail> {
+    let _ = fs::remove_dir_all(&rt, "kishu_cli_new");
+    fs::create_dir(&rt, "kishu_cli_new")?;
+    let mut host = RealHost::new(Os::new(&rt, "kishu_cli_new/store"));
+    assert_eq!(rt; host.len(), Ok(0));
+    // There is no folder to be synced.
+    fs::remove_dir_all(&rt, "kishu_cli_new")?;
+    assert_eq!(rt; host.sync(), Err(Failed));
+    assert_eq!(rt; host.disk_faults(), 1);
+    fs::create_dir(&rt, "kishu_cli_new")?;
+    assert_eq!(rt; host.sync(), Ok(()));
+    // It is asked for once.
+    fs::remove_dir_all(&rt, "kishu_cli_new")?;
+    assert_eq!(rt; host.sync(), Ok(()));
+    assert_eq!(rt; host.disk_faults(), 1);
+    Ok(())
+}
+
+#[test]
+fn a_new_file_in_the_working_folder(rt: HostRuntime) -> Result<(), Fail> {
+    let _ = fs::remove_file(&rt, "kishu_cli_alone");
+    let mut host = RealHost::new(Os::new(&rt, "kishu_cli_alone"));
+    assert_eq!(rt; host.sync(), Ok(()));
+    fs::remove_file(&rt, "kishu_cli_alone")?;
+    Ok(())
+}
+
+#[test]
 fn a_file_that_cannot_be_opened(rt: HostRuntime) -> Result<(), Fail> {
     let _ = fs::remove_dir_all(&rt, "kishu_cli_none");
     let mut host = RealHost::new(Os::new(&rt, "kishu_cli_none/store"));
