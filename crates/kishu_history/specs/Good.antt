@@ -10,7 +10,7 @@ use Rattle.kishu_history.specs.Versions.{at_end, Stop}
 use Rattle.kishu_history.specs.Tables.{Row, Change, AreRight}
 use Rattle.kishu_history.specs.Paths.{stops_in, changes_in, table_in}
 use Rattle.kishu_history.specs.Live.{IsLive}
-use Rattle.kishu_history.specs.Stored.{Held}
+use Rattle.kishu_history.specs.Stored.{Held, IsWritten}
 use Rattle.kishu_history.specs.Sizes.{AllStaySmall}
 use Rattle.kishu_history.specs.AllNames.{AreWhole}
 
@@ -23,6 +23,12 @@ pub record IsStoreOf (lists : List Stop → List Change → Type 0) (file : List
 -- Each commit drops and stores just the groups that it has to.
 abbrev pub IsGoodStore : (file : List ℕ) (ks : List Commit) (of : ℕ → Change) → Type 0
 IsGoodStore = IsStoreOf AreRight
+
+-- The same, with nothing asked of the stored pictures but their bytes. Where the cells are texts it is one with a good store: what a replay gives can be written.
+pub record IsWrittenStore (file : List ℕ) (ks : List Commit) (of : ℕ → Change) : Type 0 where
+  pub right : (c : ℕ) → c ≤ length ks → AreRight (stops_in ks c) (changes_in ks of c)
+  pub pictures : (c : ℕ) → c ≤ length ks → (r : Row) → In r (of c).stored → IsWritten file r (picture (at_end (stops_in ks c)) r.group)
+  pub small : (c : ℕ) → c ≤ length ks → AllStaySmall (path_in ks c) empty
 
 -- At the stage before that each drops its parent's group of all names, and stores its own.
 abbrev pub IsWholeStore : (file : List ℕ) (ks : List Commit) (of : ℕ → Change) → Type 0

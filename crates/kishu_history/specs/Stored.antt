@@ -18,6 +18,11 @@ pub record Held (file : List ℕ) (r : Row) (p : State) : Type 0 where
   pub len : length (state_bytes p) ≡ r.len
   pub fits : StateFits p
 
+-- The same, with nothing asked of the picture: the file has its bytes there.
+pub record IsWritten (file : List ℕ) (r : Row) (p : State) : Type 0 where
+  pub bytes : bytes_at file r ≡ state_bytes p
+  pub len : length (state_bytes p) ≡ r.len
+
 -- The picture has the length that the row tells: what is known where the host tells no file.
 pub record HasLength (r : Row) (p : State) : Type 0 where
   pub len : length (state_bytes p) ≡ r.len

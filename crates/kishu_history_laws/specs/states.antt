@@ -3,3 +3,4 @@ pub mod StateLaws
 pub mod NameLaws
 pub mod LoadLaws
 pub mod SameLaws
+pub mod SoundLaws

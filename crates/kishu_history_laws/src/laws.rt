@@ -15,6 +15,7 @@ ghost use Rattle.kishu_objects.specs.Reading.{IsInOrder};
 ghost use Rattle.kishu_objects.specs.Sound.{IsSound};
 ghost use Rattle.kishu_objects.specs.Lists.{In, Rise};
 ghost use Rattle.kishu_objects.specs.Bytes.{state_bytes};
+ghost use Rattle.kishu_objects.specs.Loading.{with_picture};
 ghost use Rattle.kishu_objects.specs.Fits.{StateFits};
 ghost use Rattle.kishu_history.specs.Alike.{is_state};
 ghost use Rattle.kishu_objects.specs.Groups.{groups_of};
@@ -29,7 +30,7 @@ ghost use Rattle.kishu_objects.specs.Locality.{Reached, Leaves};
 ghost use Rattle.kishu_history.specs.Checkout.{to_keep, to_load, to_drop, carried};
 ghost use Rattle.kishu_history.specs.Live.{IsLive, IsPictureOf};
 ghost use Rattle.kishu_history.specs.Stored.{bytes_at, Held, Stored, Keeps, KeepsRecords, joined, AreNewRows};
-ghost use Rattle.kishu_history.specs.Sizes.{size_among, size, StaySmall};
+ghost use Rattle.kishu_history.specs.Sizes.{size_among, size, most_bytes, StaySmall};
 ghost use Rattle.kishu_history.specs.AllNames.{all_names, AreWhole};
 ghost use Rattle.kishu_history.specs.Good.{IsGoodStore, IsAttached, IsWholeStore, IsWholeAttached};
 
@@ -131,13 +132,14 @@ pub fn runs_leave()
     ensures both { (a b : List (List ℕ)) (s t u : State) → IsSoundState s → IsSoundState t → Leaves a s t → Leaves b t u → Leaves (a ++ b) s u }
 {}
 
-/// The groups of a state cut it, and so do those of a table that tells it, and all names as one group. States that the same groups cut, with one picture each, are the same; so is the state that a table tells to one that its groups cut, where the stored pictures are those there.
+/// The groups of a state cut it, and so do those of a table that tells it, and all names as one group. States that the same groups cut, with one picture each, are the same; so is the state that a table tells to one that its groups cut, where the stored pictures are those there. What a file holds for a table gives one state, which takes at most 2^28 bytes where the table's rows do.
 pub fn groups_cut_states()
     ensures own { (s : State) → IsSoundState s → IsCut (groups_of s) s }
     ensures told { (file : Option (List ℕ)) (t : Table) (s : State) → IsTable t → IsLive (Stored file) t s → IsCut (groups_in t) s }
     ensures all { (s : State) → IsCut (all_names s) s }
     ensures glued { (gs : List Group) (s t : State) → IsSoundState s → IsSoundState t → Rise (map first_name gs) → IsCut gs s → IsCut gs t → ((g : Group) → In g gs → picture s g ≡ picture t g) → Same s t }
     ensures same { (file : Option (List ℕ)) (t : Table) (s u : State) → IsTable t → IsLive (Stored file) t s → IsSoundState u → IsCut (groups_in t) u → ((r : Row) (p : State) → In r t → Stored file r p → p ≡ picture u r.group) → Same s u }
+    ensures one { (file : List ℕ) (t : Table) (s u : State) → IsTable t → IsLive (Held file) t s → IsLive (Held file) t u → Same s u × (bytes_in t ≤ most_bytes → size_among (groups_in t) s ≤ most_bytes) }
 {}
 
 /// After a cell the live state is the one that the new table tells, on every store, and the new table is one; each of its rows is new, or its picture is as it was; the groups that are dropped and the rows that are stored stand in the order of their first names.
@@ -148,10 +150,11 @@ pub fn cells_stay_live()
     ensures order { (file : Option (List ℕ)) (t : Table) (s u : State) (accessed : List (List ℕ)) (rows : Table) → IsTable t → IsLive (Stored file) t s → IsSoundState u → Leaves accessed s u → groups_in rows ≡ stored_among (groups_in t) (picture s) accessed u → ((r : Row) → In r rows → Stored file r (picture u r.group)) → Rise (map first_name (dropped_among (groups_in t) (picture s) accessed u)) × Rise (map first_in rows) }
 {}
 
-/// After a checkout the live state is the one that the target's table tells, on every store; old nodes, the names of kept groups and all names that are neither dropped nor loaded are in place. The live state is told also after loading anew from its own pictures, and in a file that has grown.
+/// After a checkout the live state is the one that the target's table tells, on every store; old nodes, of which none is taken out, the names of kept groups and all names that are neither dropped nor loaded are in place. The live state is told also after loading anew from its own pictures, and in a file that has grown.
 pub fn checkouts_stay_live()
     ensures live { (file : Option (List ℕ)) (t u : Table) (s : State) (ps : List State) → IsTable t → IsTable u → AreOfOne t u → IsLive (Stored file) t s → AllZip (IsPictureOf (Stored file)) (to_load t u) ps → IsLive (Stored file) u (carried (to_drop t u) ps s) }
     ensures nodes { (t u : Table) (ps : List State) (s : State) (i : ℕ) → i < length s.nodes → node_at s.nodes i ≡ node_at (carried (to_drop t u) ps s).nodes i }
+    ensures many { (gs : List Group) (ps : List State) (s : State) → length s.nodes ≤ length (carried gs ps s).nodes }
     ensures names { (file : Option (List ℕ)) (t u : Table) (ps : List State) (s : State) → IsTable t → IsTable u → AreOfOne t u → AllZip (IsPictureOf (Stored file)) (to_load t u) ps → (r : Row) (x : List ℕ) → In r (to_keep t u) → In x r.group → find x (carried (to_drop t u) ps s).names ≡ find x s.names }
     ensures others { (file : Option (List ℕ)) (t u : Table) (ps : List State) (s : State) → AllZip (IsPictureOf (Stored file)) (to_load t u) ps → (x : List ℕ) → ((g : Group) → In g (to_drop t u) → In x g → ⊥) → ((r : Row) → In r (to_load t u) → In x r.group → ⊥) → find x (carried (to_drop t u) ps s).names ≡ find x s.names }
     ensures anew { (file : Option (List ℕ)) (t : Table) → IsTable t → (s : State) → IsLive (Stored file) t s → IsLive (Stored file) t (carried [] (map (λ r. picture s r.group) t) empty) }
@@ -159,7 +162,14 @@ pub fn checkouts_stay_live()
     ensures new { (file : Option (List ℕ)) → IsLive (Stored file) [] empty }
 {}
 
-/// A store without commits is good. On a good store each commit's table is right and tells the commit's replay, whose pictures may be loaded for its rows; each live state that it tells is the same as the replay, and opening and a checkout leave such a state.
+/// The picture of names that stand in order is a sound state, and so is what a load and a checkout leave of sound states, where the pictures are sound.
+pub fn loads_keep_states_sound()
+    ensures picture { (s : State) (names : List (List ℕ)) → IsSoundState s → Rise names → IsSoundState (picture s names) }
+    ensures loaded { (s p : State) → IsSoundState s → IsSoundState p → IsSoundState (with_picture s p) }
+    ensures carried { (gs : List Group) (ps : List State) (s : State) → IsSoundState s → ((p : State) → In p ps → IsSoundState p) → IsSoundState (carried gs ps s) }
+{}
+
+/// A store without commits is good. On a good store each commit's table is right and tells the commit's replay, whose pictures may be loaded for its rows; each live state that it tells is the same as the replay, and opening and a checkout leave such a state. Between two commits just the groups that are kept, loaded and left are kept, loaded and dropped.
 pub fn good_stores_replay()
     ensures new { (file : List ℕ) → IsGoodStore file [] (λ c. no_change) }
     ensures right { (file : List ℕ) (ks : List Commit) (of : ℕ → Change) → AreRows of → IsGoodStore file ks of → ReplaysAreStates ks → (c : ℕ) → c ≤ length ks → IsRight (stops_in ks c) (table_in ks of c) }
@@ -168,6 +178,9 @@ pub fn good_stores_replay()
     ensures same { (file : List ℕ) (ks : List Commit) (of : ℕ → Change) → AreRows of → IsGoodStore file ks of → ReplaysAreStates ks → (c : ℕ) → c ≤ length ks → (s : State) → IsLive (Held file) (table_in ks of c) s → Same s (at_end (stops_in ks c)) }
     ensures opened { (file : List ℕ) (ks : List Commit) (of : ℕ → Change) → AreRows of → IsGoodStore file ks of → ReplaysAreStates ks → (c : ℕ) → c ≤ length ks → (ps : List State) → AllZip (IsPictureOf (Held file)) (table_in ks of c) ps → IsLive (Held file) (table_in ks of c) (carried [] ps empty) × Same (carried [] ps empty) (at_end (stops_in ks c)) }
     ensures checked_out { (file : List ℕ) (ks : List Commit) (of : ℕ → Change) → AreRows of → IsGoodStore file ks of → ReplaysAreStates ks → (h c : ℕ) → h ≤ length ks → c ≤ length ks → (s : State) → IsLive (Held file) (table_in ks of h) s → (ps : List State) → AllZip (IsPictureOf (Held file)) (to_load (table_in ks of h) (table_in ks of c)) ps → IsLive (Held file) (table_in ks of c) (carried (to_drop (table_in ks of h) (table_in ks of c)) ps s) × Same (carried (to_drop (table_in ks of h) (table_in ks of c)) ps s) (at_end (stops_in ks c)) }
+    ensures kept { (file : List ℕ) (ks : List Commit) (of : ℕ → Change) → AreRows of → IsGoodStore file ks of → ReplaysAreStates ks → (h c : ℕ) → h ≤ length ks → c ≤ length ks → groups_in (to_keep (table_in ks of h) (table_in ks of c)) ≡ kept (stops_in ks h) (stops_in ks c) }
+    ensures loaded { (file : List ℕ) (ks : List Commit) (of : ℕ → Change) → AreRows of → IsGoodStore file ks of → ReplaysAreStates ks → (h c : ℕ) → h ≤ length ks → c ≤ length ks → groups_in (to_load (table_in ks of h) (table_in ks of c)) ≡ loaded (stops_in ks h) (stops_in ks c) }
+    ensures left { (file : List ℕ) (ks : List Commit) (of : ℕ → Change) → AreRows of → IsGoodStore file ks of → ReplaysAreStates ks → (h c : ℕ) → h ≤ length ks → c ≤ length ks → to_drop (table_in ks of h) (table_in ks of c) ≡ left (stops_in ks h) (stops_in ks c) }
 {}
 
 /// A state takes what its groups without an accessed name take and the classes of the touched names, and so does its table after a cell; a table takes what the pictures of its rows take, and where it has the state's groups what the state takes; and states that are the same take the same.
@@ -188,21 +201,23 @@ pub fn commits_of_all_names()
     ensures same { (file : Option (List ℕ)) (t : Table) (s u : State) → IsLive (Stored file) t s → IsSoundState u → groups_in t ≡ all_names u → ((r : Row) (p : State) → In r t → Stored file r p → p ≡ picture u r.group) → Same s u }
 {}
 
-/// A session on a new store is attached with the empty state, and on a good store a session stays attached: at opening, at a record that makes no commit, at a checkout, and at cells.
+/// A session on a new store is attached with the empty state, and on a good store with each sound state that is the same as the head's replay; and it stays attached: at opening, at a record that makes no commit, at a checkout, and at cells.
 pub fn sessions_stay_attached()
     ensures new { (file : List ℕ) → IsAttached file new_graph (λ c. no_change) empty }
     ensures opened { (file : List ℕ) (g : Graph) (of : ℕ → Change) → AreRows of → ReplaysAreStates g.commits → IsGoodStore file g.commits of → g.head.commit ≤ newest g → (ps : List State) → AllZip (IsPictureOf (Held file)) (table_at g of g.head.commit) ps → IsAttached file g of (carried [] ps empty) }
+    ensures same { (file : List ℕ) (g : Graph) (of : ℕ → Change) → AreRows of → ReplaysAreStates g.commits → IsGoodStore file g.commits of → g.head.commit ≤ newest g → (s : State) → IsSoundState s → Same s (replay g g.head.commit) → IsAttached file g of s }
     ensures still { (file grown : List ℕ) (g : Graph) (of : ℕ → Change) → AreRows of → (s : State) → IsAttached file g of s → KeepsRecords file grown (newest g) of → (h : Graph) → h.commits ≡ g.commits → h.head.commit ≡ g.head.commit → IsAttached grown h of s }
     ensures moved { (file grown : List ℕ) (g : Graph) (of : ℕ → Change) → AreRows of → ReplaysAreStates g.commits → (s : State) → IsAttached file g of s → KeepsRecords file grown (newest g) of → (h : Graph) → h.commits ≡ g.commits → h.head.commit ≤ newest g → (ps : List State) → AllZip (IsPictureOf (Held file)) (to_load (table_at g of g.head.commit) (table_at g of h.head.commit)) ps → IsAttached grown h of (carried (to_drop (table_at g of g.head.commit) (table_at g of h.head.commit)) ps s) }
     ensures cells { (file grown : List ℕ) (g : Graph) (of : ℕ → Change) → AreRows of → ReplaysAreStates g.commits → (s : State) → IsAttached file g of s → KeepsRecords file grown (newest g) of → (profile : Profile) (cells : List (List ℕ)) (u : State) → IsSoundState u → IsSoundState (after_cells profile cells (replay g g.head.commit)) → Same u (after_cells profile cells (replay g g.head.commit)) → (accessed : List (List ℕ)) → Leaves accessed s u → (rows : Table) → AreNewRows grown (suc (newest g)) (table_at g of g.head.commit) s accessed u rows → StaySmall profile cells (replay g g.head.commit) → IsAttached grown (with_commit profile cells g) (with_change of (suc (newest g)) (change_told (table_at g of g.head.commit) s accessed u rows)) u }
 {}
 
-/// Where commits store one group of all names: a store without commits is good, on a good one each commit's table tells its replay and no state that isn't the same, and a session is attached after opening and stays attached at a record that makes no commit, at a checkout, which loads the target's picture into the empty state, and at cells.
+/// Where commits store one group of all names: a store without commits is good, on a good one each commit's table tells its replay and no state that isn't the same, and a session is attached after opening and with each sound state that is the same as the head's replay, and stays attached at a record that makes no commit, at a checkout, which loads the target's picture into the empty state, and at cells.
 pub fn stores_of_all_names()
     ensures new { (file : List ℕ) → IsWholeStore file [] (λ c. no_change) }
     ensures told { (file : List ℕ) (ks : List Commit) (of : ℕ → Change) → AreRows of → IsWholeStore file ks of → ReplaysAreStates ks → (c : ℕ) → c ≤ length ks → IsLive (Held file) (table_in ks of c) (at_end (stops_in ks c)) }
     ensures same { (file : List ℕ) (ks : List Commit) (of : ℕ → Change) → AreRows of → IsWholeStore file ks of → ReplaysAreStates ks → (c : ℕ) → c ≤ length ks → (s : State) → IsLive (Held file) (table_in ks of c) s → Same s (at_end (stops_in ks c)) }
     ensures opened { (file : List ℕ) (g : Graph) (of : ℕ → Change) → AreRows of → ReplaysAreStates g.commits → IsWholeStore file g.commits of → g.head.commit ≤ newest g → (ps : List State) → AllZip (IsPictureOf (Held file)) (table_at g of g.head.commit) ps → IsWholeAttached file g of (carried [] ps empty) }
+    ensures attached { (file : List ℕ) (g : Graph) (of : ℕ → Change) → AreRows of → ReplaysAreStates g.commits → IsWholeStore file g.commits of → g.head.commit ≤ newest g → (s : State) → IsSoundState s → Same s (replay g g.head.commit) → IsWholeAttached file g of s }
     ensures still { (file grown : List ℕ) (g : Graph) (of : ℕ → Change) → AreRows of → (s : State) → IsWholeAttached file g of s → KeepsRecords file grown (newest g) of → (h : Graph) → h.commits ≡ g.commits → h.head.commit ≡ g.head.commit → IsWholeAttached grown h of s }
     ensures moved { (file grown : List ℕ) (g : Graph) (of : ℕ → Change) → AreRows of → ReplaysAreStates g.commits → (s : State) → IsWholeAttached file g of s → KeepsRecords file grown (newest g) of → (h : Graph) → h.commits ≡ g.commits → h.head.commit ≤ newest g → (ps : List State) → AllZip (IsPictureOf (Held file)) (table_at g of h.head.commit) ps → IsWholeAttached grown h of (carried [] ps empty) }
     ensures cells { (file grown : List ℕ) (g : Graph) (of : ℕ → Change) → AreRows of → ReplaysAreStates g.commits → (s : State) → IsWholeAttached file g of s → KeepsRecords file grown (newest g) of → (profile : Profile) (cells : List (List ℕ)) (u : State) → IsSoundState u → IsSoundState (after_cells profile cells (replay g g.head.commit)) → Same u (after_cells profile cells (replay g g.head.commit)) → (rows : Table) → groups_in rows ≡ all_names u → ((r : Row) → In r rows → r.version ≡ suc (newest g)) → ((r : Row) → In r rows → Held grown r (picture u r.group)) → StaySmall profile cells (replay g g.head.commit) → IsWholeAttached grown (with_commit profile cells g) (with_change of (suc (newest g)) (record { dropped = all_names s; stored = rows })) u }

@@ -15,3 +15,4 @@ pub mod GroupLaws
 pub mod PartLaws
 pub mod ComponentLaws
 pub mod BytesLaws
+pub mod ListedLaws

@@ -111,7 +111,7 @@ module _ (s : State) (sound : IsSound s) (xs : List (List ℕ)) where
 
 -- ---- a picture is its own
 
-place_below : (is : List ℕ) (i : ℕ) → In i is → place is i < length is
+pub place_below : (is : List ℕ) (i : ℕ) → In i is → place is i < length is
 place_below [] i h = absurd h
 place_below (k ∷ is) i (inl e) = elim (same_or_not k i) [ inl f ↦ rw f.1 (omega arith) | inr n ↦ absurd (n.0 (sym e)) ]
 place_below (k ∷ is) i (inr h) = (let r = place_below is i h in elim (same_or_not k i) [ inl f ↦ rw f.1 (omega arith) | inr n ↦ rw n.1 (omega arith) ])

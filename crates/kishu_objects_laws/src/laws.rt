@@ -54,10 +54,12 @@ pub fn pictures_stay()
     ensures { (s t : State) (names : List (List ℕ)) → IsSound s → IsSound t → ((x : List ℕ) → Contains names x → find x s.names ≡ find x t.names) → ((x : List ℕ) (i : ℕ) → Contains names x → Reaches s x i → node_at s.nodes i ≡ node_at t.nodes i) → picture s names ≡ picture t names }
 {}
 
-/// A state is the same as its picture, and a picture is its own picture.
+/// A state is the same as its picture, a picture is its own picture, each node number of it is that of a node, and its names stand in order where those of the list do.
 pub fn pictures_are_their_own()
     ensures same { (s : State) (names : List (List ℕ)) → IsSound s → SameOn s (picture s names) names }
     ensures again { (s : State) (names : List (List ℕ)) → IsSound s → picture (picture s names) names ≡ picture s names }
+    ensures sound { (s : State) (names : List (List ℕ)) → IsSound s → IsSound (picture s names) }
+    ensures rise { (s : State) (names : List (List ℕ)) → Rise names → Rise (listed (picture s names)) }
 {}
 
 /// A state reads in order exactly where it is its own picture.
@@ -75,10 +77,11 @@ pub fn pictures_load()
     ensures more { (s p : State) → length (with_picture s p).nodes ≡ length s.nodes + length p.nodes }
 {}
 
-/// The bytes of a picture determine it, so two pictures have equal bytes exactly where the states are the same on the names.
+/// The bytes of a picture determine it, so two pictures have equal bytes exactly where the states are the same on the names; and two states are the same exactly where the pictures of all their own names have equal bytes.
 pub fn bytes_tell()
     ensures pictures { (s t : State) → StateFits s → StateFits t → state_bytes s ≡ state_bytes t → s ≡ t }
     ensures states { (s t : State) (names : List (List ℕ)) → IsSound s → IsSound t → StateFits (picture s names) → StateFits (picture t names) → (SameOn s t names ↔ (picture_bytes s names ≡ picture_bytes t names)) }
+    ensures whole { (s t : State) → IsSound s → IsSound t → Rise (listed s) → Rise (listed t) → StateFits (whole s) → StateFits (whole t) → (Same s t ↔ (state_bytes (whole s) ≡ state_bytes (whole t))) }
 {}
 
 /// Each name is in one group, groups have names of the list alone, two names are in one group exactly where they are linked, and the groups of all names cut the state.

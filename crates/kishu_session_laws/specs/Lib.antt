@@ -1,2 +1,4 @@
 pub mod CellLaws
 pub mod RunLaws
+pub mod WrittenLaws
+pub mod StoredLaws

@@ -4,3 +4,6 @@ pub mod keeping
 pub mod Codes
 pub mod Whole
 pub mod Real
+pub mod Pictures
+pub mod Fitting
+pub mod HeldLaws

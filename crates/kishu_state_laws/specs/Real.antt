@@ -29,7 +29,7 @@ numbers_below : (k : ℕ) (vs : List Value) → AreValues k vs → (a : ℕ) →
 numbers_below k [] h a m = absurd m
 numbers_below k (v ∷ vs) h a m = elim (in_cases a (number v) (numbers vs) m) [ inl l ↦ number_below k v h.0 a l | inr r ↦ numbers_below k vs h.1 a r ]
 
-children_values : (k : ℕ) (n : Node) → IsNode k n → AreValues k (children n)
+pub children_values : (k : ℕ) (n : Node) → IsNode k n → AreValues k (children n)
 children_values k (list vs) h = h
 children_values k (tuple vs) h = h
 children_values k (dict es) h = h.2

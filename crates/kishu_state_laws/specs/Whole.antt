@@ -61,7 +61,7 @@ cells_become profile (cell ∷ cells) s c h =
     let rest = cells_become profile cells (run profile cell s).state c.1 first.state in
     record { state = rest.state; grown = grown_on s.nodes (run profile cell s).state.nodes (after_cells profile cells (run profile cell s).state).nodes first.grown rest.grown }
 
-commits_keep : (ks : List Commit) (s : State) → Each (λ (k : Commit). Each IsCell k.cells) ks → IsState s → IsState (after_commits ks s)
+pub commits_keep : (ks : List Commit) (s : State) → Each (λ (k : Commit). Each IsCell k.cells) ks → IsState s → IsState (after_commits ks s)
 commits_keep [] s c h = h
 commits_keep (k ∷ ks) s c h = commits_keep ks (after_cells k.profile k.cells s) c.1 (cells_become k.profile k.cells s c.0 h).state
 

@@ -10,13 +10,20 @@ ghost use Rattle.kishu_meaning.specs.values.Values.{State, empty};
 ghost use Rattle.kishu_replay.specs.Replay.{after_cells, replay};
 ghost use Rattle.kishu_objects.specs.Same.{Same};
 ghost use Rattle.kishu_objects.specs.States.{IsSoundState};
+ghost use Rattle.kishu_objects.specs.Lists.{Rise};
+ghost use Rattle.kishu_objects.specs.Bytes.{state_bytes, picture_bytes};
+ghost use Rattle.kishu_objects.specs.Fits.{StateFits};
+ghost use Rattle.kishu_objects.specs.Loading.{with_picture};
+ghost use Rattle.kishu_objects.specs.Picture.{picture, whole};
+ghost use Rattle.kishu_meaning.specs.moments.Accesses.{unbind};
 ghost use Rattle.kishu_pairing_laws.specs.World.{end_of};
 ghost use Rattle.kishu_state_laws.specs.Moments.{Holds, Leads};
 ghost use Rattle.kishu_objects.specs.State.{Grown, IsCell, IsCode, IsState};
 ghost use Rattle.kishu_state_laws.specs.trees.Sound.{ExpressionSound, StatementsSound};
 ghost use Rattle.kishu_store.specs.Graph.{Commit, Graph, path};
+ghost use Rattle.kishu_store.specs.Holds.{Holds as HoldsGraph};
 ghost use Rattle.std.specs.List.{AllByRecursion};
-ghost use Rattle.std.specs.Prelude.{List, Ok, length, ℕ, ◌≡◌, ◌≤◌};
+ghost use Rattle.std.specs.Prelude.{List, Ok, length, ℕ, ◌≡◌, ◌↔◌, ◌≤◌, ◌<◌, ◌^◌};
 ghost use Rattle.std.specs.Str.{IsUtf8, chars};
 
 /// The empty state is a state, and a run leads from a state to a state.
@@ -40,11 +47,13 @@ pub fn no_step_is_given_back()
 {}
 
 /// Cells one after another keep states, old nodes keep their numbers through them, and a replay gives a
-/// state.
+/// state; the cells of a graph that a file holds are such cells, so each of its replays does.
 pub fn cells_keep_states()
     ensures states { (profile : Profile) (cells : List (List ℕ)) (s : State) → AllByRecursion IsCell cells → IsState s → IsState (after_cells profile cells s) }
     ensures nodes { (profile : Profile) (cells : List (List ℕ)) (s : State) → AllByRecursion IsCell cells → IsState s → Grown s.nodes (after_cells profile cells s).nodes }
     ensures replays { (g : Graph) (c : ℕ) → AllByRecursion (λ (k : Commit). AllByRecursion IsCell k.cells) (path g c) → IsState (replay g c) }
+    ensures texts { (file : List ℕ) (g : Graph) → HoldsGraph file g → AllByRecursion (λ (k : Commit). AllByRecursion IsCell k.cells) g.commits }
+    ensures held { (file : List ℕ) (g : Graph) → HoldsGraph file g → (c : ℕ) → IsState (replay g c) }
 {}
 
 /// The tree of a cell's text is sound: its names, its numbers, its texts and the codes of its functions.
@@ -65,4 +74,18 @@ pub fn states_are_real()
 /// Cells one after another can't tell states apart that are the same.
 pub fn cells_cannot_tell_states()
     ensures { (profile : Profile) (cells : List (List ℕ)) (s t : State) → AllByRecursion IsCell cells → IsState s → IsState t → Same s t → Same (after_cells profile cells s) (after_cells profile cells t) }
+{}
+
+/// The picture of names that stand in order is a state where it is one of a state, and so is what a load and the unbinding of a name leave.
+pub fn pictures_are_states()
+    ensures picture { (s : State) (names : List (List ℕ)) → IsState s → Rise names → IsState (picture s names) }
+    ensures loaded { (s p : State) → IsState s → IsState p → IsState (with_picture s p) }
+    ensures unbound { (s : State) (x : List ℕ) → IsState s → IsState (record { names = unbind x s.names; nodes = s.nodes }) }
+{}
+
+/// A state that takes fewer than 2^32 bytes can be written: its numbers, texts and lengths fit. So can the picture of a state, and two states are the same exactly where the pictures of all their own names have equal bytes.
+pub fn states_fit()
+    ensures bytes { (p : State) → IsState p → length (state_bytes p) < 2 ^ 32 → StateFits p }
+    ensures picture { (s : State) (names : List (List ℕ)) → IsState s → Rise names → length (picture_bytes s names) < 2 ^ 32 → StateFits (picture s names) }
+    ensures same { (s t : State) → IsState s → IsState t → length (state_bytes (whole s)) < 2 ^ 32 → length (state_bytes (whole t)) < 2 ^ 32 → (Same s t ↔ (state_bytes (whole s) ≡ state_bytes (whole t))) }
 {}

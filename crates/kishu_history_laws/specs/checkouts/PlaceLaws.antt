@@ -1,5 +1,5 @@
 -- A checkout leaves old nodes, and the names of what it keeps, in place; and a table takes what the pictures of its rows take.
-use Rattle.std.specs.Prelude.{◌≡◌, ◌<◌, ◌+◌, ℕ, not, List, [], ◌∷◌, map, length, filter, flat_map, Option, Some, None}
+use Rattle.std.specs.Prelude.{◌≡◌, ◌≤◌, ◌<◌, ◌+◌, ℕ, not, List, [], ◌∷◌, map, length, filter, flat_map, Option, Some, None}
 use Rattle.std.specs.List.{AllZip, sum_by}
 use Rattle.std.proofs.Common.{refl, ap, sym, ◌∙◌, subst, arith, inl, inr, length-append}
 use Rattle.kishu_meaning.specs.values.Values.{State, find}
@@ -9,7 +9,7 @@ use Rattle.kishu_objects.specs.Lists.{In}
 use Rattle.kishu_objects_laws.specs.ListLaws.{flat_in, contains_in, map_in, filter_in}
 use Rattle.kishu_objects.specs.Bytes.{state_bytes, picture_bytes}
 use Rattle.kishu_objects.specs.Loading.{with_picture}
-use Rattle.kishu_objects_laws.specs.LoadingLaws.{loaded_others}
+use Rattle.kishu_objects_laws.specs.LoadingLaws.{loaded_others, nodes_more}
 use Rattle.kishu_objects.specs.Groups.{groups_of}
 use Rattle.kishu_history.specs.Changed.{Group}
 use Rattle.kishu_history.specs.Tables.{Row, Table, group_in, groups_in, IsTable, AreOfOne, bytes_in}
@@ -31,6 +31,11 @@ nodes_in_place (p ∷ ps) s i l =
     let e = length-append s.nodes more in
     sym (node_front s.nodes more i l) ∙ nodes_in_place ps (with_picture s p) i (omega (arith, l, e))
 
+-- No node is taken out.
+pub nodes_grow : (ps : List State) (s : State) → length s.nodes ≤ length (with_pictures ps s).nodes
+nodes_grow [] s = omega arith
+nodes_grow (p ∷ ps) s = (let e = nodes_more s p in let l = nodes_grow ps (with_picture s p) in omega (arith, e, l))
+
 names_in_place : (at : Row → State → Type 0) (rs : Table) (ps : List State) (s : State) (x : List ℕ) → AllZip (IsPictureOf at) rs ps → ((r : Row) → In r rs → In x r.group → ⊥) → find x (with_pictures ps s).names ≡ find x s.names
 names_in_place at [] [] s x zip n = refl
 names_in_place at (r ∷ rs) (p ∷ ps) s x zip n = names_in_place at rs ps (with_picture s p) x zip.1 (λ q m. n q (inr m)) ∙ loaded_others s p zip.0.sound zip.0.rise x (λ c. n r (inl refl) (subst (λ g. In x g) zip.0.names (contains_in (listed p) x c)))
@@ -40,6 +45,9 @@ names_in_place at (r ∷ rs) [] s x zip n = absurd zip
 -- The old nodes are as before under their numbers.
 pub carried_nodes : (t u : Table) (ps : List State) (s : State) (i : ℕ) → i < length s.nodes → node_at s.nodes i ≡ node_at (carried (to_drop t u) ps s).nodes i
 carried_nodes t u ps s i l = nodes_in_place ps (without_names (flat_map (λ g. g) (to_drop t u)) s) i l
+
+pub carried_grow : (gs : List Group) (ps : List State) (s : State) → length s.nodes ≤ length (carried gs ps s).nodes
+carried_grow gs ps s = nodes_grow ps (without_names (flat_map (λ g. g) gs) s)
 
 -- The names of kept groups have their old values.
 pub carried_names : (at : Row → State → Type 0) (t u : Table) (ps : List State) (s : State) → IsTable t → IsTable u → AreOfOne t u → AllZip (IsPictureOf at) (to_load t u) ps

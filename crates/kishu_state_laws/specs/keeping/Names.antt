@@ -67,10 +67,10 @@ unbound_titles x (b ∷ ns) h = unbound_if (bytes_eq x b.0) ns (b ∷ unbind x n
     unbound_if true f g h e = h
     unbound_if false f g h e = e
 
-names_bound : (k : ℕ) (x : List ℕ) (v : Value) (ns : Names) → IsName x → IsValue k v → AreNames k ns → AreNames k (bind x v ns)
+pub names_bound : (k : ℕ) (x : List ℕ) (v : Value) (ns : Names) → IsName x → IsValue k v → AreNames k ns → AreNames k (bind x v ns)
 names_bound k x v ns n p h = record { titles = bound_titles x v ns n h.titles; rise = rise_bind x v ns h.rise; values = bound_values_in k x v ns p h.values }
 
-names_unbound : (k : ℕ) (x : List ℕ) (ns : Names) → AreNames k ns → AreNames k (unbind x ns)
+pub names_unbound : (k : ℕ) (x : List ℕ) (ns : Names) → AreNames k ns → AreNames k (unbind x ns)
 names_unbound k x ns h = record { titles = unbound_titles x ns h.titles; rise = rise_unbind x ns h.rise; values = unbound_values_in k x ns h.values }
 
 with_names : {l : ℕ} {s : Moment} (f : Names) (xs : List (List ℕ)) → AreNames l f → IsMoment l s → IsMoment l (record s { names = f; accessed = xs })

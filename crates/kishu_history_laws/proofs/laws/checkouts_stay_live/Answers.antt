@@ -1,3 +1,4 @@
+use Rattle.kishu_history_laws.specs.checkouts.PlaceLaws.{carried_grow}
 use Rattle.kishu_history.specs.Stored.{Stored}
 use Rattle.kishu_history_laws.specs.checkouts.AnewLaws.{anew}
 use Rattle.kishu_history_laws.specs.checkouts.CheckoutLaws.{carried_live}
@@ -25,3 +26,6 @@ returns-clause-grown c = live_still
 
 pub returns-clause-new : goal.returns-clause-new
 returns-clause-new c = λ file. empty_live (Stored file)
+
+pub returns-clause-many : goal.returns-clause-many
+returns-clause-many c = carried_grow

@@ -1,3 +1,4 @@
+use Rattle.kishu_history_laws.specs.checkouts.PlanLaws.{keeps_kept, loads_loaded, drops_left}
 use Rattle.kishu_history_laws.specs.stores.ReplayLaws.{good_table, live_replay, replay_live}
 use Rattle.kishu_history_laws.specs.stores.StoreLaws.{new_good, opened, checked_out, good_is_table}
 use Rattle.kishu_history_laws.proofs.laws.good_stores_replay.Goals as goal
@@ -26,3 +27,12 @@ returns-clause-opened c = opened
 
 pub returns-clause-checked_out : goal.returns-clause-checked_out
 returns-clause-checked_out c = checked_out
+
+pub returns-clause-kept : goal.returns-clause-kept
+returns-clause-kept c = λ file ks of rows good states h k a b. keeps_kept (stops_in ks h) (stops_in ks k) (table_in ks of h) (table_in ks of k) (good_table file ks of rows good states h a) (good_table file ks of rows good states k b)
+
+pub returns-clause-loaded : goal.returns-clause-loaded
+returns-clause-loaded c = λ file ks of rows good states h k a b. loads_loaded (stops_in ks h) (stops_in ks k) (table_in ks of h) (table_in ks of k) (good_table file ks of rows good states h a) (good_table file ks of rows good states k b)
+
+pub returns-clause-left : goal.returns-clause-left
+returns-clause-left c = λ file ks of rows good states h k a b. drops_left (stops_in ks h) (stops_in ks k) (table_in ks of h) (table_in ks of k) (good_table file ks of rows good states h a) (good_table file ks of rows good states k b)

@@ -1,3 +1,4 @@
+use Rattle.kishu_history_laws.specs.stores.BackLaws.{whole_attached_same}
 use Rattle.kishu_history_laws.specs.stores.WholeStoreLaws.{whole_attached_opened, whole_attached_moved}
 use Rattle.kishu_session_laws.specs.CellLaws.{replays_are_states}
 use Rattle.kishu_session_laws.specs.RunLaws.{whole_by_cells, whole_rows_by_cells}
@@ -14,3 +15,6 @@ returns-clause-cells c = λ file grown g of rows s attached keeps profile cells 
 
 pub returns-clause-rows : goal.returns-clause-rows
 returns-clause-rows c = λ file grown g of rows s attached keeps profile cells new stores versions. whole_rows_by_cells file grown g of rows s attached keeps profile cells new stores versions
+
+pub returns-clause-same : goal.returns-clause-same
+returns-clause-same c = λ file g of rows good head s here same. whole_attached_same file g of rows (replays_are_states g) head s here same good

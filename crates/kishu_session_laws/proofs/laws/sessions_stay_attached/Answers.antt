@@ -1,3 +1,4 @@
+use Rattle.kishu_history_laws.specs.stores.BackLaws.{attached_same}
 use Rattle.kishu_history_laws.specs.stores.AttachedLaws.{attached_opened, attached_still, attached_moved}
 use Rattle.kishu_session_laws.specs.CellLaws.{replays_are_states}
 use Rattle.kishu_session_laws.specs.RunLaws.{attached_by_cells, rows_by_cells}
@@ -17,3 +18,6 @@ returns-clause-cells c = λ file grown g of rows s attached keeps profile cells 
 
 pub returns-clause-rows : goal.returns-clause-rows
 returns-clause-rows c = λ file grown g of rows s attached keeps profile cells new news. rows_by_cells file g of rows s attached profile cells grown keeps new news
+
+pub returns-clause-same : goal.returns-clause-same
+returns-clause-same c = λ file g of rows good head s here same. attached_same file g of rows (replays_are_states g) head s here same good

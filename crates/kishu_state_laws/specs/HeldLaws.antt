@@ -1,0 +1,42 @@
+-- The cells of a graph that a file holds are texts, so each of its replays gives a state.
+use Rattle.std.specs.Prelude.{◌==◌, ℕ, suc, List, [], ◌∷◌, ◌++◌, length}
+use Rattle.std.specs.List.{AllByRecursion as Each}
+use Rattle.std.proofs.Common.{sym, subst, inl, inr}
+use Rattle.std.proofs.lemmas.Bool.{cases_Bool}
+use Rattle.std.proofs.lemmas.Str.{IsUtf8-from_is_utf8}
+use Rattle.kishu_store.specs.Graph.{Commit, Graph, new_graph, path_in}
+use Rattle.kishu_store.specs.Holds.{Holds}
+use Rattle.kishu_store.specs.Record.{Entry, commit, AreCells, AreRecords, changed, changed_by}
+use Rattle.kishu_replay.specs.Replay.{replay}
+use Rattle.kishu_objects.specs.State.{IsCell, IsState}
+use Rattle.kishu_state_laws.specs.Whole.{replay_is_state}
+
+-- The cells of each commit are texts.
+abbrev pub AreTexts : List Commit → Type 0
+AreTexts ks = Each (λ (k : Commit). Each IsCell k.cells) ks
+
+texts_of : (cells : List (List ℕ)) → AreCells cells → Each IsCell cells
+texts_of [] h = tt
+texts_of (cell ∷ cells) h = ((IsUtf8-from_is_utf8 cell h.0.utf8, h.0.short), texts_of cells h.1)
+
+texts_by : (entries : List Entry) (g : Graph) → AreRecords g entries → AreTexts g.commits → AreTexts (changed_by g entries).commits
+texts_by [] g h t = t
+texts_by (commit parent profile cells ∷ entries) g h t = texts_by entries (changed g (commit parent profile cells)) h.2 (texts_of cells h.1.4, t)
+
+pub held_texts : (file : List ℕ) (g : Graph) → Holds file g → AreTexts g.commits
+held_texts file g (inl h) = subst (λ z. AreTexts z.commits) (sym h.1) tt
+held_texts file g (inr h) = subst (λ z. AreTexts z.commits) (sym h.3) (texts_by h.1 new_graph h.2.fit tt)
+
+texts_behind : (ks : List Commit) (k : Commit) → AreTexts ks → Each IsCell k.cells → AreTexts (ks ++ k ∷ [])
+texts_behind [] k h c = (c, tt)
+texts_behind (j ∷ ks) k h c = (h.0, texts_behind ks k h.1 c)
+
+pub path_texts : (ks : List Commit) (c : ℕ) → AreTexts ks → AreTexts (path_in ks c)
+path_texts [] c h = tt
+path_texts (k ∷ ks) c h = elim (cases_Bool (c == suc (length ks))) [
+  | inl e ↦ rw e (texts_behind (path_in ks k.parent) k (path_texts ks k.parent h.1) h.0)
+  | inr e ↦ rw e (path_texts ks c h.1)
+]
+
+pub held_state : (file : List ℕ) (g : Graph) → Holds file g → (c : ℕ) → IsState (replay g c)
+held_state file g h c = replay_is_state g c (path_texts g.commits c (held_texts file g h))
