@@ -389,7 +389,7 @@ def build():
             os.remove(it)
     os.makedirs(LOGS, exist_ok=True)
     made = Build(rt, locks)
-    say("from nothing this takes some 70 processor minutes, later only what changed")
+    say("from nothing every crate below the program is proved, later only what changed")
     say(f"it uses {made.processors} processors and up to {made.memory / GB:.0f} GB of memory; the logs are in {LOGS}")
     heed(made.ask_to_stop)
     try:
