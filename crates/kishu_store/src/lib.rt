@@ -1,3 +1,7 @@
 //! The store: commits, branches and the head, records and the bytes of the file, and what a store holds
 //! at most. The definitions stand in `specs/`, and know of the language the profile alone.
 #![tactic(auto)]
+
+mod limits;
+
+pub use limits::MOST_RECORDS;
