@@ -8,6 +8,7 @@ use Rattle.kishu_language.specs.declared.profile.Profile.TheVariants.{One}
 use Rattle.kishu_meaning.specs.values.Values as values
 use Rattle.kishu_meaning.specs.cells.Meaning.{run}
 use Rattle.kishu_store.specs.Graph.{Graph, newest, with_commit, count_of}
+use Rattle.kishu_store.specs.Limits.{most_records}
 use Rattle.kishu_model.specs.Answers.{Refusal, answer_line, ran_cell}
 use Rattle.kishu_model.specs.Request.{Request, Stepped, cell, refused_with}
 use Rattle.kishu_model.specs.requests.Cell.{committed}
@@ -35,7 +36,7 @@ cell-is text short utf8 = record { short = short; utf8 = is_utf8-from_IsUtf8 tex
 abbrev pub entry_for : Session → List ℕ → Entry
 entry_for session text = commit session.commits One (text ∷ [])
 
-module _ (session : Session) (s : State) (g : Graph) (text : List ℕ) (a : IsAttached session s g) (room : session.commits < 1000000) where
+module _ (session : Session) (s : State) (g : Graph) (text : List ℕ) (a : IsAttached session s g) (room : session.commits < most_records) where
   stepped : step g (cell text) ≡ committed text g
   stepped = step-cell g text (omega (arith, a.records, a.commits))
 

@@ -15,7 +15,7 @@ use Rattle.kishu_store_laws.specs.Laws.{ends-holds, one_graph}
 use Rattle.kishu_journal.specs.Bytes.{fresh}
 use Rattle.kishu_serve.specs.declared.session.Session.{Session}
 use Rattle.kishu_serve.specs.Attached.{IsAttached}
-use Rattle.kishu_serve.specs.Headline.{IsPart, IsWhole, IsRecorded, IsWritten, begun}
+use Rattle.kishu_serve.specs.Headline.{IsPart, IsWhole, IsRecorded, IsWritten, HoldsNone, Stays, begun}
 use Rattle.kishu_serve.proofs.Parts.{part-none}
 
 -- what a stop of the whole run may leave
@@ -27,8 +27,12 @@ abbrev pub OpenStop : State → Graph → List ℕ → List ℕ → Type 0
 OpenStop s g c o = Now s c o ⊎ (Holds c g × (o ≡ s.out))
 
 -- a file that holds nothing is a long one
-pub long-bad : (file : List ℕ) → ((g : Graph) → Holds file g → ⊥) → 17 < length file
+long-bad : (file : List ℕ) → HoldsNone file → 17 < length file
 long-bad file bad = ⊎_elim (λ (l : 17 < length file). l) (λ (l : length file ≤ 17). absurd (bad new_graph (inl (l, refl)))) (cases_lt 17 (length file))
+
+-- what opening leaves of such a file
+pub untouched : (old new : State) → (17 < length old.file → new.file ≡ old.file) → new.out ≡ old.out → HoldsNone old.file → Stays old new
+untouched old new kept same bad = record { file = kept (long-bad old.file bad); out = same }
 
 -- what opening keeps of a graph that a file holds
 pub kept-holds : (old new : List ℕ) → (17 < length old → new ≡ old) → (length old ≤ 17 → length new ≤ 17) → (g : Graph) → Holds old g → Holds new g

@@ -17,6 +17,15 @@ pub record IsPart (s : State) (g : Graph) (requests : List Request) (file out : 
   pub out_is : out ≡ s.out ++ printed
   pub reached : Reached g requests now printed
 
+-- The file holds no graph.
+abbrev pub HoldsNone : List ℕ → Type 0
+HoldsNone file = (g : Graph) → Holds file g → ⊥
+
+-- File and output are as they were.
+pub record Stays (old new : State) : Type 0 where
+  pub file : new.file ≡ old.file
+  pub out : new.out ≡ old.out
+
 -- All requests are answered, and each stop leaves so.
 pub record IsWhole (old new : State) (g : Graph) (requests : List Request) : Type 0 where
   pub holds : Holds new.file (after_all g requests)

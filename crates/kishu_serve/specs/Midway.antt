@@ -5,6 +5,7 @@ use Rattle.kishu_language.specs.declared.profile.Profile.{Profile}
 use Rattle.kishu_language.specs.declared.profile.Profile.TheVariants.{One}
 use Rattle.kishu_meaning.specs.values.Values.{State, empty}
 use Rattle.kishu_store.specs.Graph.{Graph, new_graph, newest, count_of}
+use Rattle.kishu_store.specs.Limits.{most_records}
 use Rattle.kishu_replay.specs.Replay.{replay, after_cells, charge_in, replay_charge, FillsIn}
 use Rattle.kishu_bytes.specs.Numbers.{four, profile_number}
 use Rattle.kishu_store.specs.Record.{Entry, commit, cells_of, profile_of, changed, changed_by, AreRecords, AreCells, head_of, body_of, texts_bytes}
@@ -22,10 +23,10 @@ pub record Midway (total : Graph) (rest : List Entry) (state : State) (cells sta
   pub live : state ≡ replay graph graph.head.commit
   pub count : cells ≡ count_of graph graph.head.commit
   pub small : cells ≤ newest graph * 2 ^ 30
-  pub few : newest graph + length rest ≤ 1000000
+  pub few : newest graph + length rest ≤ most_records
   pub charged : start + replay_charge graph graph.head.commit ≤ steps
 
-pub midway-start : (es : List Entry) (start : ℕ) → AreRecords new_graph es → length es ≤ 1000000 → Midway (changed_by new_graph es) es empty 0 start start
+pub midway-start : (es : List Entry) (start : ℕ) → AreRecords new_graph es → length es ≤ most_records → Midway (changed_by new_graph es) es empty 0 start start
 midway-start es start fit few = record { graph = new_graph; fit = fit; to_come = refl; head = refl; records = refl; live = refl; count = refl; small = omega arith; few = omega arith; charged = omega arith }
 
 length-texts_bytes : (ts : List (List ℕ)) → length ts ≤ length (texts_bytes ts)

@@ -1,8 +1,10 @@
 ghost use Rattle.std.specs.Prelude.{◌≡◌, ◌≤◌, ◌<◌, ◌+◌, ◌-◌, ◌++◌, [], length, take, drop, true, IfOk, IsErrOf};
 ghost use Rattle.kishu_host.specs.Host.{Rises};
+ghost use Rattle.kishu_store.specs.Record.{longest_cell};
 ghost use Rattle.kishu_serve.specs.declared.input.InputStop.TheVariants.{Fault, TooLong};
 
 use kishu_host::Source;
+use kishu_language::LONGEST_TEXT;
 use std::alloc::Global;
 
 /// Why an input isn't read whole.
@@ -13,21 +15,18 @@ pub(crate) enum InputStop {
     NoMemory,
 }
 
-/// The longest input that is one cell, in bytes.
-pub(crate) const LONGEST: usize = 1_048_576;
-
 /// All that a source has left. Reading stops once more than the longest input was taken.
 pub(crate) fn read_input<S: Source>(alloc: Global, source: &mut S) -> Result<Vec<u8>, InputStop>
     ensures whole { IfOk result (λ v. (S.source source.old).tells ≡ true → (v.items ≡ (S.source source.old).left) × ((S.source source.new).left ≡ [])) }
-    ensures short { IfOk result (λ v. length v.items ≤ LONGEST) }
-    ensures too_long { IsErrOf result TooLong → (S.source source.old).tells ≡ true → LONGEST + length (S.source source.new).left < length (S.source source.old).left }
-    ensures taken { (S.source source.old).tells ≡ true → length (S.source source.old).left ≤ LONGEST + 4096 + length (S.source source.new).left }
+    ensures short { IfOk result (λ v. length v.items ≤ longest_cell) }
+    ensures too_long { IsErrOf result TooLong → (S.source source.old).tells ≡ true → longest_cell + length (S.source source.new).left < length (S.source source.old).left }
+    ensures taken { (S.source source.old).tells ≡ true → length (S.source source.old).left ≤ longest_cell + 4096 + length (S.source source.new).left }
     ensures fault { IsErrOf result Fault → Rises (S.source source.old).in_faults (S.source source.new).in_faults }
     ensures faults { (S.source source.old).in_faults ≤ (S.source source.new).in_faults }
 {
     let mut bytes = Vec::new(alloc);
     let mut buffer = [0; 4096];
-    while bytes.len() <= LONGEST {
+    while bytes.len() <= LONGEST_TEXT {
         let Ok(n) = source.take(&mut buffer) else {
             return Err(InputStop::Fault);
         };

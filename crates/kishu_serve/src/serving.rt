@@ -1,6 +1,7 @@
 ghost use Rattle.std.specs.Prelude.{◌≡◌, ◌≤◌, ◌<◌, ◌⊎◌, ◌+◌, ◌^◌, ◌++◌, ◌∷◌, [], ℕ, List, length, false, None, IfOk, OnOk, IsErrOf};
 ghost use Rattle.kishu_host.specs.Host.{State, Told, Now, Keeps, Elapses, Rises, DuringPut};
 ghost use Rattle.kishu_store.specs.Graph.{Graph};
+ghost use Rattle.kishu_store.specs.Limits.{most_records};
 ghost use Rattle.kishu_store.specs.Record.{longest_cell};
 ghost use Rattle.kishu_replay.specs.Replay.{replay, replay_charge, Fills, IsFull};
 ghost use Rattle.kishu_model.specs.Request as spec;
@@ -9,7 +10,7 @@ ghost use Rattle.kishu_model.specs.Step.{step, charge_of};
 ghost use Rattle.kishu_store.specs.Holds.{Holds, IsForeign, IsBroken};
 ghost use Rattle.kishu_model.specs.Serve.{after, answer_of};
 ghost use Rattle.kishu_lines.specs.Lines.{refusal_of};
-ghost use Rattle.kishu_serve.specs.Headline.{IsPart, IsRecorded, begun};
+ghost use Rattle.kishu_serve.specs.Headline.{IsPart, IsRecorded, HoldsNone, Stays, begun};
 ghost use Rattle.kishu_serve.specs.Requests.{request_of, IsShort};
 ghost use Rattle.kishu_serve.specs.Attached.{IsAttached};
 ghost use Rattle.kishu_journal.specs.declared.journal.JournalFault.TheVariants.{NotAJournal, Damaged};
@@ -24,11 +25,9 @@ use kishu_host::Host;
 use kishu_journal::{Journal, JournalFault};
 use kishu_lines::{Answer, Refusal, write_answer};
 use kishu_model::Steps;
+use kishu_store::MOST_RECORDS;
 use std::alloc::Global;
 use std::sync::ledger::Ledger;
-
-/// The most records that a store holds.
-const MOST_RECORDS: u32 = 1_000_000;
 
 /// Why a store isn't opened.
 #[derive(Clone, Copy, Debug, PartialEq, Eq)]
@@ -49,7 +48,7 @@ impl Session {
         ensures stands { IfOk result (λ s. Told (H.state host.old) ((g : Graph) × IsAttached s (H.state host.new) g)) }
         ensures opened { IfOk result (λ s. s.journal.closed ≡ false) }
         ensures held { Told (H.state host.old) ((g : Graph) → Holds (H.state host.old).file g → Holds (H.state host.new).file g) }
-        ensures bad { Told (H.state host.old) (((g : Graph) → Holds (H.state host.old).file g → ⊥) → (H.state host.new).file ≡ (H.state host.old).file) }
+        ensures bad { Told (H.state host.old) (HoldsNone (H.state host.old).file → Stays (H.state host.old) (H.state host.new)) }
         ensures good { OnOk result (Told (H.state host.old) ((g : Graph) × Holds (H.state host.old).file g)) }
         ensures begun { OnOk result (Told (H.state host.old) ((H.state host.new).file ≡ begun (H.state host.old).file)) }
         ensures settled { Told (H.state host.old) ((g : Graph) → Holds (H.state host.old).file g
@@ -116,7 +115,7 @@ impl Session {
         steps: &mut Steps<L>,
     ) -> Result<(), Halt>
         requires opened { self.old.journal.closed ≡ false }
-        requires room { self.old.commits < 1000000 }
+        requires room { self.old.commits < most_records }
         requires short { length text.now ≤ longest_cell }
         requires stands { Told (H.state host.old) ((g : Graph) × IsAttached self.old (H.state host.old) g) }
 

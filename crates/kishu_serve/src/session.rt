@@ -3,6 +3,7 @@ ghost use Rattle.kishu_language.specs.declared.profile.Profile.TheVariants.{One}
 ghost use Rattle.kishu_meaning.specs.moments.Accesses.{with_accesses};
 ghost use Rattle.kishu_meaning.specs.cells.Meaning.{run};
 ghost use Rattle.kishu_store.specs.Graph.{new_graph, count_of};
+ghost use Rattle.kishu_store.specs.Limits.{most_records};
 ghost use Rattle.kishu_serve.specs.Growth.{FillsBefore};
 ghost use Rattle.kishu_replay.specs.Replay.{replay, after_cells, charge_in, FillsIn, IsFull};
 ghost use Rattle.kishu_model.specs.Answers.{answer_line, ran_cell};
@@ -79,7 +80,7 @@ pub(crate) fn replay_stored<L: Ledger>(
     stored: &[(u64, Entry)],
     steps: &mut Steps<L>,
 ) -> Result<(Live, u64), Unrun>
-    requires few { length stored.now ≤ 1000000 }
+    requires few { length stored.now ≤ most_records }
     requires fit { AreRecords new_graph (entries_of stored.now) }
     ensures replayed { IfOk result (λ r. Replayed (graph_of (entries_of stored.now)) (state_of r.0) r.1 steps.old steps.new) }
     ensures small { IfOk result (λ r. r.1 ≤ length stored.now * 2 ^ 30) }
@@ -122,7 +123,7 @@ impl Session {
         steps: &mut Steps<L>,
     ) -> Result<Prepared, Unrun>
         requires short { length text.now ≤ longest_cell }
-        requires room { self.old.commits < 1000000 }
+        requires room { self.old.commits < most_records }
         ensures body { IfOk result (λ p. p.body.items ≡ body_of (commit self.old.commits One (text.now ∷ []))) }
         ensures line { IfOk result (λ p. p.line.items ≡ answer_line (ran_cell (self.old.commits + 1) (self.old.cells + 1) (run One text.now (state_of self.old.live)).report)) }
         ensures state { OnOk result (state_of self.new.live ≡ (run One text.now (state_of self.old.live)).state) }

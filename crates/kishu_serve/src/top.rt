@@ -7,7 +7,7 @@ ghost use Rattle.kishu_replay.specs.Replay.{replay_charge, Fills};
 ghost use Rattle.kishu_model.specs.Serve.{charges};
 ghost use Rattle.kishu_model.specs.Task.{task, one_cell};
 ghost use Rattle.kishu_store.specs.Holds.{Holds, IsForeign, IsBroken};
-ghost use Rattle.kishu_serve.specs.Headline.{IsPart, IsWhole, IsGiven, IsWritten};
+ghost use Rattle.kishu_serve.specs.Headline.{IsPart, IsWhole, IsGiven, IsWritten, HoldsNone, Stays};
 ghost use Rattle.kishu_serve.specs.Requests.{request_of, IsShort};
 ghost use Rattle.kishu_serve.specs.Words.{texts, form_of};
 ghost use Rattle.kishu_serve.specs.declared.status.Status.TheVariants.{Done, Usage, NotAJournal, Damaged, DiskFault, InputFault, OutputFault, NoMemory, InputTooLong, HeapFull};
@@ -83,7 +83,7 @@ fn run_request<H: Host, L: Ledger>(
         ⊎ ((c : List ℕ) → (H.state host.new).may_leave c → IsPart (H.state host.old) g (request_of request.entry ∷ []) c (H.state host.new).out)) }
     ensures bytes { result ≡ Done → Told (H.state host.old) (IsWritten (H.state host.old).file (H.state host.new).file) }
     ensures good { result ≡ Done → Told (H.state host.old) ((g : Graph) × Holds (H.state host.old).file g) }
-    ensures bad { Told (H.state host.old) (((g : Graph) → Holds (H.state host.old).file g → ⊥) → (H.state host.new).file ≡ (H.state host.old).file) }
+    ensures bad { Told (H.state host.old) (HoldsNone (H.state host.old).file → Stays (H.state host.old) (H.state host.new)) }
 
     ensures these { (result ≡ Usage → ⊥) × (result ≡ InputFault → ⊥) × (result ≡ InputTooLong → ⊥) }
     ensures foreign { result ≡ NotAJournal → Told (H.state host.old) (IsForeign (H.state host.old).file) }
@@ -170,9 +170,9 @@ pub fn kishu<H: Host, S: Source, L: Ledger>(
         → (Rises (S.source source.old).in_faults (S.source source.new).in_faults → ⊥)
         → (result ≡ Done) ⊎ (result ≡ NoMemory) ⊎ (result ≡ InputTooLong) ⊎ (result ≡ HeapFull) }
 
-    // Over a file that holds no graph it isn't done, and the file stays.
+    // Over a file that holds no graph it isn't done, the file stays, and nothing is put out.
     ensures good { result ≡ Done → Told (H.state host.old) ((g : Graph) × Holds (H.state host.old).file g) }
-    ensures bad { Told (H.state host.old) (((g : Graph) → Holds (H.state host.old).file g → ⊥) → (H.state host.new).file ≡ (H.state host.old).file) }
+    ensures bad { Told (H.state host.old) (HoldsNone (H.state host.old).file → Stays (H.state host.old) (H.state host.new)) }
 
     // Done: each step of the cells that were run is counted. Where the words, a fault of the input or its length end
     // the run, none is.

@@ -12,7 +12,7 @@ use Rattle.kishu_journal.specs.Found.{entries_of}
 use Rattle.kishu_serve.specs.declared.live.Unrun.{Unrun}
 use Rattle.kishu_serve.specs.Lives.{state_of}
 use Rattle.kishu_serve.specs.Midway.{Replayed}
-use Rattle.kishu_serve.proofs.Runs.{long-bad, kept-holds, begun-is, opening-settled}
+use Rattle.kishu_serve.proofs.Runs.{untouched, kept-holds, begun-is, opening-settled}
 use Rattle.kishu_serve.proofs.session.Session.open.Goals as goal
 
 pub returns-clause-attached : goal.returns-clause-attached
@@ -47,16 +47,16 @@ returns-in-Err-clause-damaged g c at err told =
     c.attach.ensures.damaged at (let e : c.in-Err.fault ≡ Damaged at = cc err in c.in-Err.is ∙ ap (λ (f : JournalFault). Err f) e) told
 
 pub returns-in-Err-clause-bad : goal.returns-in-Err-clause-bad
-returns-in-Err-clause-bad g c told bad = c.attach.ensures.kept told (long-bad (g.H.Host.state c.args.host.now).file bad)
+returns-in-Err-clause-bad g c told bad = untouched (g.H.Host.state c.args.host.now) _ (c.attach.ensures.kept told) c.attach.ensures.out bad
 
 pub returns-in-Err-HeapFull-clause-bad : goal.returns-in-Err-HeapFull-clause-bad
-returns-in-Err-HeapFull-clause-bad g c told bad = c.attach.ensures.kept told (long-bad (g.H.Host.state c.args.host.now).file bad)
+returns-in-Err-HeapFull-clause-bad g c told bad = untouched (g.H.Host.state c.args.host.now) _ (c.attach.ensures.kept told) c.attach.ensures.out bad
 
 pub returns-in-Err-NoMemory-clause-bad : goal.returns-in-Err-NoMemory-clause-bad
-returns-in-Err-NoMemory-clause-bad g c told bad = c.attach.ensures.kept told (long-bad (g.H.Host.state c.args.host.now).file bad)
+returns-in-Err-NoMemory-clause-bad g c told bad = untouched (g.H.Host.state c.args.host.now) _ (c.attach.ensures.kept told) c.attach.ensures.out bad
 
 pub returns-clause-bad : goal.returns-clause-bad
-returns-clause-bad g c told bad = c.attach.ensures.kept told (long-bad (g.H.Host.state c.args.host.now).file bad)
+returns-clause-bad g c told bad = untouched (g.H.Host.state c.args.host.now) _ (c.attach.ensures.kept told) c.attach.ensures.out bad
 
 pub returns-clause-held : goal.returns-clause-held
 returns-clause-held g c told = kept-holds _ _ (c.attach.ensures.kept told) (c.attach.ensures.short told)
