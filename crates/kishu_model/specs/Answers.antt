@@ -1,6 +1,6 @@
 -- Answers, and the line that tells one: the compact text of a JSON value, its keys in byte order, and a line feed (serde_json; nbformat 4.5, "Code cell outputs").
-use Rattle.std.specs.Prelude.{ℕ, List, [], ◌∷◌, ◌++◌, codes}
-use Rattle.serde_json.specs.Data.{Data, number, string, array, object, Items, no_items, item, no_members, member, unsigned}
+use Rattle.std.specs.Prelude.{ℕ, List, [], ◌∷◌, ◌++◌, codes, Option, Some, None}
+use Rattle.serde_json.specs.Data.{Data, null, number, string, array, object, Items, no_items, item, no_members, member, unsigned}
 use Rattle.serde_json.specs.Written.{compact_text}
 use Rattle.kishu_meaning.specs.declared.result.Outcome.{Outcome}
 use Rattle.kishu_meaning.specs.declared.result.Outcome.TheVariants.{Done, Raised, Stopped}
@@ -10,20 +10,54 @@ use Rattle.kishu_meaning.specs.values.Values.{Output, stream, shown, fault, Repo
 -- why a request is refused
 pub data Refusal : Type 0 where
   bad_request : Refusal
+  no_such_ref : Refusal
+  bad_name : Refusal
+  name_taken : Refusal
   store_full : Refusal
+  cell_too_long : Refusal
+
+-- a commit in the log: how many cells it has, its number, the line by which it is told, and its parent's number
+pub record PathRow : Type 0 where
+  pub cells : ℕ
+  pub commit : ℕ
+  pub line : List ℕ
+  pub parent : ℕ
+
+-- what the status tells: the head's branch and commit, how many commits there are, the names that are bound, and how many records
+pub record Standing : Type 0 where
+  pub branch : Option (List ℕ)
+  pub commit : ℕ
+  pub commits : ℕ
+  pub names : List (List ℕ)
+  pub records : ℕ
 
 pub data Answer : Type 0 where
   -- the commit's number, the number of its cell on its path, and what the cell's run shows
   ran_cell : (commit count : ℕ) → Report → Answer
+  -- the commit and the branch on which the head stands then
+  checked_out : (commit : ℕ) → (branch : Option (List ℕ)) → Answer
+  -- the new branch's commit and its name
+  branched : (commit : ℕ) → (name : List ℕ) → Answer
+  -- the branches with their commits, and the path from the head's commit back
+  logged : (branches : List (List ℕ × ℕ)) → (path : List PathRow) → Answer
+  told_status : Standing → Answer
   refused : Refusal → Answer
 
 abbrev pub refusal_number : Refusal → ℕ
 refusal_number bad_request = 1
+refusal_number no_such_ref = 2
+refusal_number bad_name = 3
+refusal_number name_taken = 4
 refusal_number store_full = 5
+refusal_number cell_too_long = 6
 
 abbrev pub refusal_name : Refusal → List ℕ
 refusal_name bad_request = codes "BadRequest"
+refusal_name no_such_ref = codes "NoSuchRef"
+refusal_name bad_name = codes "BadName"
+refusal_name name_taken = codes "NameTaken"
 refusal_name store_full = codes "StoreFull"
+refusal_name cell_too_long = codes "CellTooLong"
 
 abbrev pub outcome_word : Outcome → List ℕ
 outcome_word Done = codes "ok"
@@ -49,6 +83,31 @@ abbrev pub outputs_data : ℕ → List Output → Items
 outputs_data count [] = no_items
 outputs_data count (o ∷ os) = item (output_data count o) (outputs_data count os)
 
+-- the name of a branch, or null
+abbrev pub branch_data : Option (List ℕ) → Data
+branch_data None = null
+branch_data (Some name) = string name
+
+abbrev pub branches_data : List (List ℕ × ℕ) → Items
+branches_data [] = no_items
+branches_data (b ∷ bs) = item (object (member (codes "commit") (number (unsigned b.1)) (member (codes "name") (string b.0) no_members))) (branches_data bs)
+
+abbrev pub row_data : PathRow → Data
+row_data row =
+    object (
+    member (codes "cells") (number (unsigned row.cells))
+    (member (codes "commit") (number (unsigned row.commit))
+    (member (codes "line") (string row.line) (member (codes "parent") (number (unsigned row.parent)) no_members)))
+    )
+
+abbrev pub rows_data : List PathRow → Items
+rows_data [] = no_items
+rows_data (row ∷ rows) = item (row_data row) (rows_data rows)
+
+abbrev pub texts_data : List (List ℕ) → Items
+texts_data [] = no_items
+texts_data (text ∷ texts) = item (string text) (texts_data texts)
+
 abbrev pub answer_data : Answer → Data
 answer_data (ran_cell commit count report) =
     object (
@@ -56,6 +115,20 @@ answer_data (ran_cell commit count report) =
     (member (codes "commit") (number (unsigned commit))
     (member (codes "count") (number (unsigned count))
     (member (codes "outcome") (string (outcome_word report.outcome)) (member (codes "outputs") (array (outputs_data count report.outputs)) no_members))))
+    )
+answer_data (checked_out commit branch) =
+    object (member (codes "answer") (string (codes "checkout")) (member (codes "commit") (number (unsigned commit)) (member (codes "head") (branch_data branch) no_members)))
+answer_data (branched commit name) =
+    object (member (codes "answer") (string (codes "branch")) (member (codes "commit") (number (unsigned commit)) (member (codes "name") (string name) no_members)))
+answer_data (logged branches path) =
+    object (member (codes "answer") (string (codes "log")) (member (codes "branches") (array (branches_data branches)) (member (codes "path") (array (rows_data path)) no_members)))
+answer_data (told_status s) =
+    object (
+    member (codes "answer") (string (codes "status"))
+    (member (codes "branch") (branch_data s.branch)
+    (member (codes "commit") (number (unsigned s.commit))
+    (member (codes "commits") (number (unsigned s.commits))
+    (member (codes "names") (array (texts_data s.names)) (member (codes "records") (number (unsigned s.records)) no_members)))))
     )
 answer_data (refused r) =
     object (member (codes "answer") (string (codes "refused")) (member (codes "number") (number (unsigned (refusal_number r))) (member (codes "reason") (string (refusal_name r)) no_members)))

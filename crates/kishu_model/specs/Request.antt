@@ -1,10 +1,14 @@
 -- What is asked of a session, and what one request gives.
-use Rattle.std.specs.Prelude.{ℕ, List}
+use Rattle.std.specs.Prelude.{ℕ, List, Option}
 use Rattle.kishu_store.specs.Graph.{Graph}
 use Rattle.kishu_model.specs.Answers.{Refusal, Answer, refused}
 
 pub data Request : Type 0 where
   cell : (text : List ℕ) → Request
+  checkout : (to : List ℕ) → Request
+  branch : (name : List ℕ) → (at : Option (List ℕ)) → Request
+  log : Request
+  status : Request
   -- what has no reading as a request
   unreadable : Request
 

@@ -2,14 +2,26 @@
 use Rattle.std.specs.Prelude.{ℕ}
 use Rattle.kishu_store.specs.Graph.{Graph}
 use Rattle.kishu_model.specs.Answers.{bad_request}
-use Rattle.kishu_model.specs.Request.{Request, cell, unreadable, Stepped, refused_with}
+use Rattle.kishu_model.specs.Request.{Request, cell, checkout, branch, log, status, unreadable, Stepped, refused_with}
 use Rattle.kishu_model.specs.requests.Cell.{step_cell, charge_of_cell}
+use Rattle.kishu_model.specs.requests.Checkout.{step_checkout}
+use Rattle.kishu_model.specs.requests.Branch.{step_branch}
+use Rattle.kishu_model.specs.requests.Log.{step_log}
+use Rattle.kishu_model.specs.requests.Status.{step_status}
 
 abbrev pub step : Graph → Request → Stepped
 step g unreadable = refused_with bad_request g
 step g (cell text) = step_cell text g
+step g (checkout to) = step_checkout to g
+step g (branch name at) = step_branch name at g
+step g log = step_log g
+step g status = step_status g
 
--- A refused request takes no step.
+-- the steps that a request takes by its own cells; a refused one takes none
 abbrev pub charge_of : Graph → Request → ℕ
 charge_of g unreadable = 0
 charge_of g (cell text) = charge_of_cell text g
+charge_of g (checkout to) = 0
+charge_of g (branch name at) = 0
+charge_of g log = 0
+charge_of g status = 0

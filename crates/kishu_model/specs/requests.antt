@@ -1,1 +1,5 @@
 pub mod Cell
+pub mod Checkout
+pub mod Branch
+pub mod Log
+pub mod Status

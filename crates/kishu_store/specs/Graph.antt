@@ -1,7 +1,7 @@
 -- The graph of commits, its branches and its head (Kishu, "checkpoint graph").
 use Rattle.std.specs.Prelude.{ℕ, suc, ◌+◌, ◌==◌, if◌then◌else◌, List, [], ◌∷◌, ◌++◌, length, codes, Option, Some, None}
-use Rattle.std.specs.Str.{bytes_eq}
 use Rattle.kishu_language.specs.declared.profile.Profile.{Profile}
+use Rattle.kishu_store.specs.Branches.{Branches, with_branch_at}
 
 -- what a commit adds to its parent
 pub record Commit : Type 0 where
@@ -17,7 +17,7 @@ pub record Target : Type 0 where
 pub record Graph : Type 0 where
   -- the newest first, without the root: the oldest has the number 1
   pub commits : List Commit
-  pub branches : List (List ℕ × ℕ)
+  pub branches : Branches
   pub head : Target
   pub records : ℕ
 
@@ -28,14 +28,10 @@ main_branch = codes "main"
 abbrev pub new_graph : Graph
 new_graph = record { commits = []; branches = (main_branch, 0) ∷ []; head = record { commit = 0; branch = Some main_branch }; records = 0 }
 
--- the branches, with this one at that commit
-abbrev pub moved : List ℕ → ℕ → List (List ℕ × ℕ) → List (List ℕ × ℕ)
-moved name commit [] = []
-moved name commit (b ∷ bs) = if bytes_eq name b.0 then (name, commit) ∷ bs else b ∷ moved name commit bs
-
-abbrev pub moved_with : Option (List ℕ) → ℕ → List (List ℕ × ℕ) → List (List ℕ × ℕ)
+-- the branches after the head went to a commit: the branch on which it stands goes along
+abbrev pub moved_with : Option (List ℕ) → ℕ → Branches → Branches
 moved_with None commit bs = bs
-moved_with (Some name) commit bs = moved name commit bs
+moved_with (Some name) commit bs = with_branch_at name commit bs
 
 -- the number of the newest commit
 abbrev pub newest : Graph → ℕ
@@ -49,6 +45,14 @@ with_commit profile cells g = record {
   head = record { commit = suc (newest g); branch = g.head.branch };
   records = suc g.records;
 }
+
+-- the graph whose head stands there, after one record more
+abbrev pub with_head : Target → Graph → Graph
+with_head target g = record { commits = g.commits; branches = g.branches; head = target; records = suc g.records }
+
+-- the graph with a branch more; its head stays
+abbrev pub with_branch : List ℕ → ℕ → Graph → Graph
+with_branch name commit g = record { commits = g.commits; branches = with_branch_at name commit g.branches; head = g.head; records = suc g.records }
 
 -- the commits from the root to this one, the root left out, by way of the parents
 abbrev pub path_in : List Commit → ℕ → List Commit
@@ -65,3 +69,16 @@ cell_count (k ∷ ks) = length k.cells + cell_count ks
 -- the number of cells on the path to a commit
 abbrev pub count_of : Graph → ℕ → ℕ
 count_of g c = cell_count (path g c)
+
+-- a commit with its number
+pub record Numbered : Type 0 where
+  pub number : ℕ
+  pub commit : Commit
+
+-- the commits from this one back to the root, which is left out, with their numbers
+abbrev pub back_in : List Commit → ℕ → List Numbered
+back_in [] c = []
+back_in (k ∷ ks) c = if c == suc (length ks) then record { number = c; commit = k } ∷ back_in ks k.parent else back_in ks c
+
+abbrev pub back : Graph → ℕ → List Numbered
+back g c = back_in g.commits c
