@@ -1,16 +1,46 @@
 -- No answer has a float.
-use Rattle.std.proofs.Common.{◌≡◌, ℕ, List, [], ◌∷◌, false, refl}
+use Rattle.std.proofs.Common.{◌≡◌, ℕ, List, [], ◌∷◌, map, Option, Some, None, false, refl}
+use Rattle.serde_json.specs.Data.{string}
+use Rattle.serde_json.specs.View.{items_of}
 use Rattle.serde_json.specs.Written.{has_float, items_have_float}
-use Rattle.kishu_model.specs.Answers.{Answer, ran_cell, refused, bad_request, store_full, answer_data, outputs_data}
+use Rattle.kishu_model.specs.Answers.{Refusal, bad_request, no_such_ref, bad_name, name_taken, store_full, cell_too_long, state_too_large, PathRow, Answer, ran_cell, checked_out, branched, logged, told_status, refused, answer_data, branch_data, entry_data, row_data, output_data}
 use Rattle.kishu_meaning.specs.values.Values.{Output, stream, shown, fault}
 
-outputs_no_float : (count : ℕ) (outputs : List Output) → items_have_float (outputs_data count outputs) ≡ false
+outputs_no_float : (count : ℕ) (outputs : List Output) → items_have_float (items_of (map (output_data count) outputs)) ≡ false
 outputs_no_float count [] = refl
 outputs_no_float count (stream text ∷ os) = outputs_no_float count os
 outputs_no_float count (shown text ∷ os) = outputs_no_float count os
 outputs_no_float count (fault ename evalue ∷ os) = outputs_no_float count os
 
+branch_no_float : (branch : Option (List ℕ)) → has_float (branch_data branch) ≡ false
+branch_no_float None = refl
+branch_no_float (Some name) = refl
+
+entries_no_float : (branches : List (List ℕ × ℕ)) → items_have_float (items_of (map entry_data branches)) ≡ false
+entries_no_float [] = refl
+entries_no_float (b ∷ bs) = entries_no_float bs
+
+rows_no_float : (path : List PathRow) → items_have_float (items_of (map row_data path)) ≡ false
+rows_no_float [] = refl
+rows_no_float (row ∷ rows) = rows_no_float rows
+
+texts_no_float : (texts : List (List ℕ)) → items_have_float (items_of (map string texts)) ≡ false
+texts_no_float [] = refl
+texts_no_float (text ∷ texts) = texts_no_float texts
+
+refusal_no_float : (r : Refusal) → has_float (answer_data (refused r)) ≡ false
+refusal_no_float bad_request = refl
+refusal_no_float no_such_ref = refl
+refusal_no_float bad_name = refl
+refusal_no_float name_taken = refl
+refusal_no_float store_full = refl
+refusal_no_float cell_too_long = refl
+refusal_no_float (state_too_large bytes) = refl
+
 pub no_float : (a : Answer) → has_float (answer_data a) ≡ false
 no_float (ran_cell commit count report) = rw (outputs_no_float count report.outputs) refl
-no_float (refused bad_request) = refl
-no_float (refused store_full) = refl
+no_float (checked_out commit branch) = rw (branch_no_float branch) refl
+no_float (branched commit name) = refl
+no_float (logged branches path) = rw (entries_no_float branches, rows_no_float path) refl
+no_float (told_status s) = rw (branch_no_float s.branch, texts_no_float s.names) refl
+no_float (refused r) = refusal_no_float r

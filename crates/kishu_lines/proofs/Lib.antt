@@ -1,3 +1,6 @@
-pub mod Arrays
+pub mod Lists
 pub mod Floats
+pub mod Readings
+pub mod Members
+pub mod Tellings
 mod Rows

@@ -1,11 +1,11 @@
 -- Worked lines of answers, computed on the definitions.
-use Rattle.std.proofs.Common.{◌≡◌, [], ◌∷◌, ◌++◌, codes, refl}
+use Rattle.std.proofs.Common.{◌≡◌, [], ◌∷◌, ◌++◌, codes, Some, None, refl}
 use Rattle.std.specs.Fmt.{digits}
 use Rattle.serde_json.proofs.OnLiterals.{serde_json_on_literals}
 use Rattle.kishu_meaning.specs.declared.result.Outcome.TheVariants.{Done, Raised, Stopped}
 use Rattle.kishu_meaning.specs.values.Values.{stream, shown, fault}
 use Rattle.kishu_store.specs.Graph.{new_graph}
-use Rattle.kishu_model.specs.Answers.{answer_line, ran_cell, refused, store_full}
+use Rattle.kishu_model.specs.Answers.{answer_line, ran_cell, checked_out, branched, logged, told_status, refused, store_full, no_such_ref, bad_name, name_taken, cell_too_long, state_too_large}
 use Rattle.kishu_model.specs.Request.{unreadable}
 use Rattle.kishu_model.specs.Serve.{answers}
 
@@ -43,3 +43,50 @@ answer-refused = refl
 refused-lines : answers new_graph (unreadable ∷ unreadable ∷ []) ≡ codes "{\"answer\":\"refused\",\"number\":1,\"reason\":\"BadRequest\"}\n{\"answer\":\"refused\",\"number\":1,\"reason\":\"BadRequest\"}\n"
 unfolding digits serde_json_on_literals
 refused-lines = refl
+
+answer-checkout : answer_line (checked_out 1 None) ≡ codes "{\"answer\":\"checkout\",\"commit\":1,\"head\":null}\n"
+unfolding digits serde_json_on_literals
+answer-checkout = refl
+
+answer-checkout-branch : answer_line (checked_out 12 (Some (codes "main"))) ≡ codes "{\"answer\":\"checkout\",\"commit\":12,\"head\":\"main\"}\n"
+unfolding digits serde_json_on_literals
+answer-checkout-branch = refl
+
+answer-branch : answer_line (branched 0 (codes "try")) ≡ codes "{\"answer\":\"branch\",\"commit\":0,\"name\":\"try\"}\n"
+unfolding digits serde_json_on_literals
+answer-branch = refl
+
+answer-log : answer_line (logged ((codes "main", 2) ∷ []) (record { cells = 1; commit = 3; line = codes "print(a, a is b)"; parent = 1 } ∷ record { cells = 1; commit = 1; line = codes "a = [1]; b = a"; parent = 0 } ∷ []))
+    ≡ codes "{\"answer\":\"log\",\"branches\":[{\"commit\":2,\"name\":\"main\"}],\"path\":[{\"cells\":1,\"commit\":3,\"line\":\"print(a, a is b)\",\"parent\":1},{\"cells\":1,\"commit\":1,\"line\":\"a = [1]; b = a\",\"parent\":0}]}\n"
+unfolding digits serde_json_on_literals
+answer-log = refl
+
+answer-status : answer_line (told_status (record { branch = Some (codes "main"); commit = 0; commits = 1; names = []; records = 0 }))
+    ≡ codes "{\"answer\":\"status\",\"branch\":\"main\",\"commit\":0,\"commits\":1,\"names\":[],\"records\":0}\n"
+unfolding digits serde_json_on_literals
+answer-status = refl
+
+answer-status-names : answer_line (told_status (record { branch = None; commit = 3; commits = 5; names = codes "a" ∷ codes "b" ∷ []; records = 7 }))
+    ≡ codes "{\"answer\":\"status\",\"branch\":null,\"commit\":3,\"commits\":5,\"names\":[\"a\",\"b\"],\"records\":7}\n"
+unfolding digits serde_json_on_literals
+answer-status-names = refl
+
+refused-no-such-ref : answer_line (refused no_such_ref) ≡ codes "{\"answer\":\"refused\",\"number\":2,\"reason\":\"NoSuchRef\"}\n"
+unfolding digits serde_json_on_literals
+refused-no-such-ref = refl
+
+refused-bad-name : answer_line (refused bad_name) ≡ codes "{\"answer\":\"refused\",\"number\":3,\"reason\":\"BadName\"}\n"
+unfolding digits serde_json_on_literals
+refused-bad-name = refl
+
+refused-name-taken : answer_line (refused name_taken) ≡ codes "{\"answer\":\"refused\",\"number\":4,\"reason\":\"NameTaken\"}\n"
+unfolding digits serde_json_on_literals
+refused-name-taken = refl
+
+refused-cell-too-long : answer_line (refused cell_too_long) ≡ codes "{\"answer\":\"refused\",\"number\":6,\"reason\":\"CellTooLong\"}\n"
+unfolding digits serde_json_on_literals
+refused-cell-too-long = refl
+
+refused-state-too-large : answer_line (refused (state_too_large 301001535)) ≡ codes "{\"answer\":\"refused\",\"bytes\":301001535,\"number\":7,\"reason\":\"StateTooLarge\"}\n"
+unfolding digits serde_json_on_literals
+refused-state-too-large = refl

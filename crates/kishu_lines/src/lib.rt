@@ -1,15 +1,14 @@
-//! Answers as lines of JSON: the compact text of a value, its keys in byte order, and a line feed.
+//! Requests and answers as lines of JSON.
 //!
-//! `write_answer` gives an answer's line, and `outputs_json` the outputs of a cell as a notebook
-//! shows them.
+//! `read_request` finds the request that a line is, if it is one, and `write_answer` gives an answer's
+//! line: the compact text of a value, its keys in byte order, and a line feed.
 #![tactic(auto)]
 
-mod answer;
+mod answers;
 mod line;
-mod outputs;
+mod reading;
 #[cfg(test)]
 mod tests;
 
-pub use answer::{Answer, Refusal};
 pub use line::write_answer;
-pub use outputs::outputs_json;
+pub use reading::read_request;

@@ -1,20 +1,23 @@
-ghost use Rattle.std.specs.Prelude.{◌≡◌, IfOk};
+ghost use Rattle.std.specs.Prelude.{◌≡◌, IsSome, IfOk, IfSome};
 ghost use Rattle.serde_json.specs.View.{view};
-ghost use Rattle.kishu_model.specs.Answers as spec;
-ghost use Rattle.kishu_model.specs.Answers.{answer_data, answer_line, ran_cell, refused};
-ghost use Rattle.kishu_meaning.specs.values.Values.{report_of};
-ghost use Rattle.kishu_lines.specs.Lines.{answer_of, refusal_of};
+ghost use Rattle.kishu_model.specs.Answers.{answer_data, answer_line};
+ghost use Rattle.kishu_model.specs.Values.{answer_of};
 
-use crate::answer::{Answer, Refusal};
-use crate::outputs::outputs_json;
-use kishu_model::{CellResult, Outcome};
-use serde_json::{Value, json};
+use crate::answers::{branch_json, cell_json, checkout_json, log_json, refused_json, status_json};
+use kishu_model::Answer;
+use serde_json::Value;
 use std::alloc::{AllocError, Global};
 
-/// The line that tells an answer: the compact text of its value, and a line feed. The error is want
-/// of memory.
+/// The line that tells an answer: the compact text of its value, its keys in byte order, and a line
+/// feed.
+///
+/// - `answer`: a refusal's number is that of one, and it has bytes where it is the one of a state that
+///   is too large, and nowhere else.
+///
+/// The error is want of memory.
 pub fn write_answer(alloc: Global, answer: &Answer) -> Result<Vec<u8>, AllocError>
-    ensures { IfOk result (λ v. v.items ≡ answer_line (answer_of answer.now)) }
+    requires { IsSome (answer_of answer.now) }
+    ensures { IfOk result (λ v. IfSome (answer_of answer.now) (λ a. v.items ≡ answer_line a)) }
 {
     let value = answer_json(alloc, answer)?;
     let mut line = value.to_vec(alloc)?;
@@ -22,8 +25,10 @@ pub fn write_answer(alloc: Global, answer: &Answer) -> Result<Vec<u8>, AllocErro
     Ok(line)
 }
 
+/// The value that tells an answer.
 fn answer_json(alloc: Global, answer: &Answer) -> Result<Value, AllocError>
-    ensures { IfOk result (λ v. view v ≡ answer_data (answer_of answer.now)) }
+    requires { IsSome (answer_of answer.now) }
+    ensures { IfOk result (λ v. IfSome (answer_of answer.now) (λ a. view v ≡ answer_data a)) }
 {
     match answer {
         Answer::Cell {
@@ -31,36 +36,16 @@ fn answer_json(alloc: Global, answer: &Answer) -> Result<Value, AllocError>
             count,
             result: ran,
         } => cell_json(alloc, *commit, *count, ran),
-        Answer::Refused(refusal) => refused_json(alloc, *refusal),
-    }
-}
-
-fn cell_json(alloc: Global, commit: u32, count: u64, ran: &CellResult) -> Result<Value, AllocError>
-    ensures { IfOk result (λ v. view v ≡ answer_data (ran_cell commit count (report_of ran.now))) }
-{
-    let outputs = outputs_json(alloc, ran, count)?;
-    json!(in alloc; {
-        "answer": "cell",
-        "commit": commit,
-        "count": count,
-        "outcome": outcome_word(ran.outcome),
-        "outputs": outputs
-    })
-}
-
-fn refused_json(alloc: Global, refusal: Refusal) -> Result<Value, AllocError>
-    ensures { IfOk result (λ v. view v ≡ answer_data (refused (refusal_of refusal))) }
-{
-    json!(in alloc; {"answer": "refused", "number": refusal.number(), "reason": refusal.name()})
-}
-
-/// The word for how a run ended.
-fn outcome_word(outcome: Outcome) -> &'static str
-    ensures { result.now ≡ spec.outcome_word outcome }
-{
-    match outcome {
-        Outcome::Done => "ok",
-        Outcome::Raised => "error",
-        Outcome::Stopped => "stopped",
+        Answer::Checkout { commit, head } => checkout_json(alloc, *commit, head),
+        Answer::Branch { commit, name } => branch_json(alloc, *commit, name),
+        Answer::Log { branches, path } => log_json(alloc, branches, path),
+        Answer::Status {
+            branch,
+            commit,
+            commits,
+            names,
+            records,
+        } => status_json(alloc, branch, *commit, *commits, names, *records),
+        Answer::Refused { number, bytes } => refused_json(alloc, *number, *bytes),
     }
 }

@@ -1,11 +1,34 @@
-use crate::{Answer, Refusal, outputs_json, write_answer};
-use kishu_model::{CellResult, Outcome, Output};
+use crate::{read_request, write_answer};
+use kishu_model::{Answer, CellResult, Outcome, Output, PathRow, Refusal, Request};
 use std::alloc::Global;
 use std::rc::RcStr;
 use std::test::Fail;
 
+fn text_of(alloc: Global, text: &str) -> Result<RcStr, Fail> {
+    Ok(RcStr::from_str(alloc, text)?)
+}
+
+/// A request in words.
+fn told(alloc: Global, request: &Option<Request>) -> Result<String, Fail> {
+    Ok(match request {
+        None => String::from_str(alloc, "none")?,
+        Some(Request::Cell { text }) => format!(in alloc; "cell {}", text.as_str())?,
+        Some(Request::Checkout { to }) => format!(in alloc; "checkout {}", to.as_str())?,
+        Some(Request::Branch { name, at: None }) => format!(in alloc; "branch {}", name.as_str())?,
+        Some(Request::Branch { name, at: Some(at) }) => {
+            format!(in alloc; "branch {} at {}", name.as_str(), at.as_str())?
+        }
+        Some(Request::Log) => String::from_str(alloc, "log")?,
+        Some(Request::Status) => String::from_str(alloc, "status")?,
+    })
+}
+
+fn line_of(alloc: Global, answer: &Answer) -> Result<String, Fail> {
+    Ok(String::from_utf8(write_answer(alloc, answer)?)?)
+}
+
 /// The line of an answer whose cell has one output.
-fn line_of(
+fn cell_line(
     alloc: Global,
     commit: u32,
     count: u64,
@@ -19,18 +42,175 @@ fn line_of(
         count,
         result: ran,
     };
-    Ok(String::from_utf8(write_answer(alloc, &answer)?)?)
+    line_of(alloc, &answer)
 }
 
-fn text_of(alloc: Global, text: &str) -> Result<RcStr, Fail> {
-    Ok(RcStr::from_str(alloc, text)?)
+/// Lines that are requests. The first six are the examples of docs/LINES.md.
+const REQUESTS: [(&str, &str); 21] = [
+    (
+        "{\"op\":\"cell\",\"text\":\"a = [1]; b = a\"}",
+        "cell a = [1]; b = a",
+    ),
+    ("{\"op\":\"checkout\",\"to\":\"1\"}", "checkout 1"),
+    ("{\"op\":\"branch\",\"name\":\"try\"}", "branch try"),
+    (
+        "{\"op\":\"branch\",\"name\":\"back\",\"at\":\"main\"}",
+        "branch back at main",
+    ),
+    ("{\"op\":\"log\"}", "log"),
+    ("{\"op\":\"status\"}", "status"),
+    // in another order, with white space around and between
+    ("{\"text\":\"x\",\"op\":\"cell\"}", "cell x"),
+    (" \t\r{ \"op\" :\t\"log\"\r} ", "log"),
+    // texts of any kind, which are looked at only when the request is done
+    ("{\"op\":\"cell\",\"text\":\"\"}", "cell "),
+    (
+        "{\"op\":\"branch\",\"name\":\"\",\"at\":\"\"}",
+        "branch  at ",
+    ),
+    (
+        "{\"op\":\"checkout\",\"to\":\"no such\"}",
+        "checkout no such",
+    ),
+    // escapes, in keys too, and characters of one to four bytes
+    (
+        "{\"op\":\"cell\",\"text\":\"\\u0061\\n\\t\\\"\\\\\\/\\u00e9\"}",
+        "cell a\n\t\"\\/\u{e9}",
+    ),
+    (
+        "{\"op\":\"cell\",\"text\":\"\\ud83d\\ude00\"}",
+        "cell \u{1f600}",
+    ),
+    (
+        "{\"op\":\"cell\",\"text\":\"a\u{e9}\u{20ac}\u{1f600}\"}",
+        "cell a\u{e9}\u{20ac}\u{1f600}",
+    ),
+    ("{\"\\u006fp\":\"l\\u006fg\"}", "log"),
+    ("{\"op\":\"cell\",\"text\":\"\\u0000\"}", "cell \u{0}"),
+    // Of a repeated key the last value counts.
+    ("{\"op\":\"log\",\"op\":\"status\"}", "status"),
+    ("{\"op\":\"cell\",\"text\":\"a\",\"text\":\"b\"}", "cell b"),
+    ("{\"op\":\"cell\",\"text\":1,\"text\":\"b\"}", "cell b"),
+    (
+        "{\"op\":\"cell\",\"text\":[{}, [1, -2.5e3], true, null],\"text\":\"b\"}",
+        "cell b",
+    ),
+    ("{\"op\":\"log\",\"\\u006fp\":\"status\"}", "status"),
+];
+
+#[test]
+fn reads_requests(rt: HostRuntime) -> Result<(), Fail> {
+    let alloc = rt.alloc();
+    for (line, want) in &REQUESTS {
+        let request = read_request(alloc, line.as_bytes())?;
+        assert_eq!(rt; told(alloc, &request)?.as_str(), *want);
+    }
+    Ok(())
+}
+
+/// Lines that are no request.
+const NO_REQUESTS: [&str; 40] = [
+    // no JSON, or none that is one value
+    "",
+    " \t\r",
+    "log",
+    "{\"op\":\"log\"",
+    "{\"op\":\"log\"}}",
+    "{\"op\":\"log\"} {\"op\":\"log\"}",
+    "{\"op\":\"log\"},",
+    "{\"op\":\"log\",}",
+    "{'op':'log'}",
+    "{op:\"log\"}",
+    "\u{feff}{\"op\":\"log\"}",
+    "{\"op\":\"cell\",\"text\":\"a\tb\"}",
+    "{\"op\":\"cell\",\"text\":\"\\x41\"}",
+    "{\"op\":\"cell\",\"text\":NaN,\"text\":\"a\"}",
+    "{\"op\":\"cell\",\"text\":01,\"text\":\"a\"}",
+    // a lone surrogate, and a number that is too large
+    "{\"op\":\"cell\",\"text\":\"\\ud83d\"}",
+    "{\"op\":\"cell\",\"text\":\"\\ude00\\ud83d\"}",
+    "{\"op\":\"cell\",\"text\":1e999,\"text\":\"a\"}",
+    // no object
+    "null",
+    "\"log\"",
+    "7",
+    "[]",
+    "[\"op\",\"log\"]",
+    "[{\"op\":\"log\"}]",
+    // another request
+    "{}",
+    "{\"op\":\"fly\"}",
+    "{\"op\":\"Log\"}",
+    "{\"Op\":\"log\"}",
+    "{\"op\":\"\"}",
+    // a key that is missing, and one too many
+    "{\"op\":\"cell\"}",
+    "{\"text\":\"x\"}",
+    "{\"op\":\"branch\",\"at\":\"main\"}",
+    "{\"op\":\"log\",\"text\":\"x\"}",
+    "{\"op\":\"cell\",\"text\":\"x\",\"at\":\"main\"}",
+    "{\"op\":\"branch\",\"name\":\"try\",\"to\":\"main\"}",
+    // another kind of value
+    "{\"op\":\"checkout\",\"to\":1}",
+    "{\"op\":\"cell\",\"text\":null}",
+    "{\"op\":\"cell\",\"text\":\"b\",\"text\":[\"b\"]}",
+    "{\"op\":\"branch\",\"name\":\"try\",\"at\":null}",
+    "{\"op\":[\"log\"]}",
+];
+
+#[test]
+fn reads_no_requests(rt: HostRuntime) -> Result<(), Fail> {
+    let alloc = rt.alloc();
+    for line in &NO_REQUESTS {
+        let request = read_request(alloc, line.as_bytes())?;
+        assert_eq!(rt; told(alloc, &request)?.as_str(), "none");
+    }
+    Ok(())
+}
+
+#[test]
+fn reads_utf8_alone(rt: HostRuntime) -> Result<(), Fail> {
+    let alloc = rt.alloc();
+    // a byte that is in no text, a character cut short, one spelled too long, and a surrogate
+    let texts: [&[u8]; 5] = [b"\xff", b"\xc3", b"\xe2\x82", b"\xc0\x80", b"\xed\xa0\x80"];
+    for text in &texts {
+        let mut line = Vec::from_slice(alloc, b"{\"op\":\"cell\",\"text\":\"")?;
+        line.extend_from_slice(*text)?;
+        line.extend_from_slice(b"\"}")?;
+        assert!(rt; read_request(alloc, line.as_slice())?.is_none());
+        assert!(rt; read_request(alloc, *text)?.is_none());
+    }
+    Ok(())
+}
+
+/// A cell whose first `text`, which its second one replaces, nests this deep inside the object.
+fn nested(alloc: Global, depth: usize) -> Result<Vec<u8>, Fail> {
+    let mut line = Vec::from_slice(alloc, b"{\"op\":\"cell\",\"text\":")?;
+    for _ in 0..depth {
+        line.push(b'[')?;
+    }
+    for _ in 0..depth {
+        line.push(b']')?;
+    }
+    line.extend_from_slice(b",\"text\":\"a\"}")?;
+    Ok(line)
+}
+
+#[test]
+fn reads_what_nests_127_deep(rt: HostRuntime) -> Result<(), Fail> {
+    let alloc = rt.alloc();
+    let deepest = read_request(alloc, nested(alloc, 126)?.as_slice())?;
+    assert_eq!(rt; told(alloc, &deepest)?.as_str(), "cell a");
+    let deeper = read_request(alloc, nested(alloc, 127)?.as_slice())?;
+    assert_eq!(rt; told(alloc, &deeper)?.as_str(), "none");
+    Ok(())
 }
 
 #[test]
 fn writes_what_a_cell_printed(rt: HostRuntime) -> Result<(), Fail> {
     let alloc = rt.alloc();
     let text = text_of(alloc, "3\n")?;
-    let line = line_of(alloc, 1, 1, Outcome::Done, Output::Stream { text })?;
+    let line = cell_line(alloc, 1, 1, Outcome::Done, Output::Stream { text })?;
     assert_eq!(rt;
         line.as_str(),
         "{\"answer\":\"cell\",\"commit\":1,\"count\":1,\"outcome\":\"ok\",\"outputs\":[{\"name\":\"stdout\",\"output_type\":\"stream\",\"text\":\"3\\n\"}]}\n"
@@ -43,13 +223,8 @@ fn writes_a_fault(rt: HostRuntime) -> Result<(), Fail> {
     let alloc = rt.alloc();
     let ename = text_of(alloc, "NameError")?;
     let evalue = text_of(alloc, "name 'z' is not defined")?;
-    let line = line_of(
-        alloc,
-        2,
-        1,
-        Outcome::Raised,
-        Output::Fault { ename, evalue },
-    )?;
+    let fault = Output::Fault { ename, evalue };
+    let line = cell_line(alloc, 2, 1, Outcome::Raised, fault)?;
     assert_eq!(rt;
         line.as_str(),
         "{\"answer\":\"cell\",\"commit\":2,\"count\":1,\"outcome\":\"error\",\"outputs\":[{\"ename\":\"NameError\",\"evalue\":\"name 'z' is not defined\",\"output_type\":\"error\",\"traceback\":[\"NameError: name 'z' is not defined\"]}]}\n"
@@ -62,13 +237,8 @@ fn writes_a_spent_budget(rt: HostRuntime) -> Result<(), Fail> {
     let alloc = rt.alloc();
     let ename = text_of(alloc, "Stopped")?;
     let evalue = text_of(alloc, "step budget spent")?;
-    let line = line_of(
-        alloc,
-        7,
-        9,
-        Outcome::Stopped,
-        Output::Fault { ename, evalue },
-    )?;
+    let fault = Output::Fault { ename, evalue };
+    let line = cell_line(alloc, 7, 9, Outcome::Stopped, fault)?;
     assert_eq!(rt;
         line.as_str(),
         "{\"answer\":\"cell\",\"commit\":7,\"count\":9,\"outcome\":\"stopped\",\"outputs\":[{\"ename\":\"Stopped\",\"evalue\":\"step budget spent\",\"output_type\":\"error\",\"traceback\":[\"Stopped: step budget spent\"]}]}\n"
@@ -80,7 +250,7 @@ fn writes_a_spent_budget(rt: HostRuntime) -> Result<(), Fail> {
 fn writes_what_a_cell_shows(rt: HostRuntime) -> Result<(), Fail> {
     let alloc = rt.alloc();
     let text = text_of(alloc, "'a\"\\\u{1}\t\u{e9}'")?;
-    let line = line_of(alloc, 4294967295, 12, Outcome::Done, Output::Shown { text })?;
+    let line = cell_line(alloc, 4294967295, 12, Outcome::Done, Output::Shown { text })?;
     assert_eq!(rt;
         line.as_str(),
         "{\"answer\":\"cell\",\"commit\":4294967295,\"count\":12,\"outcome\":\"ok\",\"outputs\":[{\"data\":{\"text/plain\":\"'a\\\"\\\\\\u0001\\t\u{e9}'\"},\"execution_count\":12,\"metadata\":{},\"output_type\":\"execute_result\"}]}\n"
@@ -89,33 +259,127 @@ fn writes_what_a_cell_shows(rt: HostRuntime) -> Result<(), Fail> {
 }
 
 #[test]
-fn writes_no_outputs(rt: HostRuntime) -> Result<(), Fail> {
+fn writes_checkouts_and_branches(rt: HostRuntime) -> Result<(), Fail> {
     let alloc = rt.alloc();
-    let ran = CellResult {
-        outcome: Outcome::Done,
-        outputs: Vec::new(alloc),
+    let to_commit = Answer::Checkout {
+        commit: 1,
+        head: None,
     };
-    let outputs = outputs_json(alloc, &ran, 1)?.to_string(alloc)?;
-    assert_eq!(rt; outputs.as_str(), "[]");
+    assert_eq!(rt;
+        line_of(alloc, &to_commit)?.as_str(),
+        "{\"answer\":\"checkout\",\"commit\":1,\"head\":null}\n"
+    );
+    let to_branch = Answer::Checkout {
+        commit: 2,
+        head: Some(text_of(alloc, "main")?),
+    };
+    assert_eq!(rt;
+        line_of(alloc, &to_branch)?.as_str(),
+        "{\"answer\":\"checkout\",\"commit\":2,\"head\":\"main\"}\n"
+    );
+    let branch = Answer::Branch {
+        commit: 0,
+        name: text_of(alloc, "try")?,
+    };
+    assert_eq!(rt;
+        line_of(alloc, &branch)?.as_str(),
+        "{\"answer\":\"branch\",\"commit\":0,\"name\":\"try\"}\n"
+    );
     Ok(())
 }
 
 #[test]
+fn writes_a_log(rt: HostRuntime) -> Result<(), Fail> {
+    let alloc = rt.alloc();
+    let branches = vec![in alloc;
+        (text_of(alloc, "main")?, 2u32),
+        (text_of(alloc, "try")?, 0u32),
+    ]?;
+    let newest = PathRow {
+        cells: 1,
+        commit: 3,
+        line: text_of(alloc, "print(a, a is b)")?,
+        parent: 1,
+    };
+    let oldest = PathRow {
+        cells: 2,
+        commit: 1,
+        line: text_of(alloc, "a = [1]; b = a")?,
+        parent: 0,
+    };
+    let path = vec![in alloc; newest, oldest]?;
+    assert_eq!(rt;
+        line_of(alloc, &Answer::Log { branches, path })?.as_str(),
+        "{\"answer\":\"log\",\"branches\":[{\"commit\":2,\"name\":\"main\"},{\"commit\":0,\"name\":\"try\"}],\"path\":[{\"cells\":1,\"commit\":3,\"line\":\"print(a, a is b)\",\"parent\":1},{\"cells\":2,\"commit\":1,\"line\":\"a = [1]; b = a\",\"parent\":0}]}\n"
+    );
+    Ok(())
+}
+
+#[test]
+fn writes_statuses(rt: HostRuntime) -> Result<(), Fail> {
+    let alloc = rt.alloc();
+    let fresh = Answer::Status {
+        branch: Some(text_of(alloc, "main")?),
+        commit: 0,
+        commits: 1,
+        names: Vec::new(alloc),
+        records: 0,
+    };
+    assert_eq!(rt;
+        line_of(alloc, &fresh)?.as_str(),
+        "{\"answer\":\"status\",\"branch\":\"main\",\"commit\":0,\"commits\":1,\"names\":[],\"records\":0}\n"
+    );
+    let later = Answer::Status {
+        branch: None,
+        commit: 3,
+        commits: 4,
+        names: vec![in alloc; text_of(alloc, "a")?, text_of(alloc, "b")?]?,
+        records: 5,
+    };
+    assert_eq!(rt;
+        line_of(alloc, &later)?.as_str(),
+        "{\"answer\":\"status\",\"branch\":null,\"commit\":3,\"commits\":4,\"names\":[\"a\",\"b\"],\"records\":5}\n"
+    );
+    Ok(())
+}
+
+/// Each refusal with its line.
+const REFUSALS: [(Refusal, &str); 7] = [
+    (
+        Refusal::BadRequest,
+        "{\"answer\":\"refused\",\"number\":1,\"reason\":\"BadRequest\"}\n",
+    ),
+    (
+        Refusal::NoSuchRef,
+        "{\"answer\":\"refused\",\"number\":2,\"reason\":\"NoSuchRef\"}\n",
+    ),
+    (
+        Refusal::BadName,
+        "{\"answer\":\"refused\",\"number\":3,\"reason\":\"BadName\"}\n",
+    ),
+    (
+        Refusal::NameTaken,
+        "{\"answer\":\"refused\",\"number\":4,\"reason\":\"NameTaken\"}\n",
+    ),
+    (
+        Refusal::StoreFull,
+        "{\"answer\":\"refused\",\"number\":5,\"reason\":\"StoreFull\"}\n",
+    ),
+    (
+        Refusal::CellTooLong,
+        "{\"answer\":\"refused\",\"number\":6,\"reason\":\"CellTooLong\"}\n",
+    ),
+    (
+        Refusal::StateTooLarge { bytes: 301001535 },
+        "{\"answer\":\"refused\",\"bytes\":301001535,\"number\":7,\"reason\":\"StateTooLarge\"}\n",
+    ),
+];
+
+#[test]
 fn writes_refusals(rt: HostRuntime) -> Result<(), Fail> {
     let alloc = rt.alloc();
-    let rows: [(Refusal, &str); 2] = [
-        (
-            Refusal::BadRequest,
-            "{\"answer\":\"refused\",\"number\":1,\"reason\":\"BadRequest\"}\n",
-        ),
-        (
-            Refusal::StoreFull,
-            "{\"answer\":\"refused\",\"number\":5,\"reason\":\"StoreFull\"}\n",
-        ),
-    ];
-    for (refusal, want) in &rows {
-        let line = String::from_utf8(write_answer(alloc, &Answer::Refused(*refusal))?)?;
-        assert_eq!(rt; line.as_str(), *want);
+    for (refusal, want) in &REFUSALS {
+        assert_eq!(rt; line_of(alloc, &refusal.answer())?.as_str(), *want);
     }
     Ok(())
 }

@@ -1,6 +1,7 @@
 -- Answers, and the line that tells one: the compact text of a JSON value, its keys in byte order, and a line feed (serde_json; nbformat 4.5, "Code cell outputs").
-use Rattle.std.specs.Prelude.{ℕ, List, [], ◌∷◌, ◌++◌, codes, Option, Some, None}
-use Rattle.serde_json.specs.Data.{Data, null, number, string, array, object, Items, no_items, item, no_members, member, unsigned}
+use Rattle.std.specs.Prelude.{ℕ, List, [], ◌∷◌, ◌++◌, map, codes, Option, Some, None}
+use Rattle.serde_json.specs.Data.{Data, null, number, string, array, object, no_items, item, Members, no_members, member, unsigned}
+use Rattle.serde_json.specs.View.{items_of}
 use Rattle.serde_json.specs.Written.{compact_text}
 use Rattle.kishu_meaning.specs.declared.result.Outcome.{Outcome}
 use Rattle.kishu_meaning.specs.declared.result.Outcome.TheVariants.{Done, Raised, Stopped}
@@ -15,6 +16,8 @@ pub data Refusal : Type 0 where
   name_taken : Refusal
   store_full : Refusal
   cell_too_long : Refusal
+  -- so many bytes have the pictures of the state that a cell would leave
+  state_too_large : (bytes : ℕ) → Refusal
 
 -- a commit in the log: how many cells it has, its number, the line by which it is told, and its parent's number
 pub record PathRow : Type 0 where
@@ -50,6 +53,7 @@ refusal_number bad_name = 3
 refusal_number name_taken = 4
 refusal_number store_full = 5
 refusal_number cell_too_long = 6
+refusal_number (state_too_large bytes) = 7
 
 abbrev pub refusal_name : Refusal → List ℕ
 refusal_name bad_request = codes "BadRequest"
@@ -58,6 +62,7 @@ refusal_name bad_name = codes "BadName"
 refusal_name name_taken = codes "NameTaken"
 refusal_name store_full = codes "StoreFull"
 refusal_name cell_too_long = codes "CellTooLong"
+refusal_name (state_too_large bytes) = codes "StateTooLarge"
 
 abbrev pub outcome_word : Outcome → List ℕ
 outcome_word Done = codes "ok"
@@ -79,18 +84,14 @@ output_data count (fault ename evalue) =
     (member (codes "output_type") (string (codes "error")) (member (codes "traceback") (array (item (string (ename ++ codes ": " ++ evalue)) no_items)) no_members)))
     )
 
-abbrev pub outputs_data : ℕ → List Output → Items
-outputs_data count [] = no_items
-outputs_data count (o ∷ os) = item (output_data count o) (outputs_data count os)
-
 -- the name of a branch, or null
 abbrev pub branch_data : Option (List ℕ) → Data
 branch_data None = null
 branch_data (Some name) = string name
 
-abbrev pub branches_data : List (List ℕ × ℕ) → Items
-branches_data [] = no_items
-branches_data (b ∷ bs) = item (object (member (codes "commit") (number (unsigned b.1)) (member (codes "name") (string b.0) no_members))) (branches_data bs)
+-- a branch with its commit
+abbrev pub entry_data : List ℕ × ℕ → Data
+entry_data b = object (member (codes "commit") (number (unsigned b.1)) (member (codes "name") (string b.0) no_members))
 
 abbrev pub row_data : PathRow → Data
 row_data row =
@@ -100,13 +101,19 @@ row_data row =
     (member (codes "line") (string row.line) (member (codes "parent") (number (unsigned row.parent)) no_members)))
     )
 
-abbrev pub rows_data : List PathRow → Items
-rows_data [] = no_items
-rows_data (row ∷ rows) = item (row_data row) (rows_data rows)
+-- a state that is too large is told with its bytes
+abbrev pub refusal_bytes : Refusal → Option ℕ
+refusal_bytes bad_request = None
+refusal_bytes no_such_ref = None
+refusal_bytes bad_name = None
+refusal_bytes name_taken = None
+refusal_bytes store_full = None
+refusal_bytes cell_too_long = None
+refusal_bytes (state_too_large bytes) = Some bytes
 
-abbrev pub texts_data : List (List ℕ) → Items
-texts_data [] = no_items
-texts_data (text ∷ texts) = item (string text) (texts_data texts)
+abbrev pub with_bytes : Option ℕ → Members → Members
+with_bytes None ms = ms
+with_bytes (Some bytes) ms = member (codes "bytes") (number (unsigned bytes)) ms
 
 abbrev pub answer_data : Answer → Data
 answer_data (ran_cell commit count report) =
@@ -114,24 +121,27 @@ answer_data (ran_cell commit count report) =
     member (codes "answer") (string (codes "cell"))
     (member (codes "commit") (number (unsigned commit))
     (member (codes "count") (number (unsigned count))
-    (member (codes "outcome") (string (outcome_word report.outcome)) (member (codes "outputs") (array (outputs_data count report.outputs)) no_members))))
+    (member (codes "outcome") (string (outcome_word report.outcome)) (member (codes "outputs") (array (items_of (map (output_data count) report.outputs))) no_members))))
     )
 answer_data (checked_out commit branch) =
     object (member (codes "answer") (string (codes "checkout")) (member (codes "commit") (number (unsigned commit)) (member (codes "head") (branch_data branch) no_members)))
 answer_data (branched commit name) =
     object (member (codes "answer") (string (codes "branch")) (member (codes "commit") (number (unsigned commit)) (member (codes "name") (string name) no_members)))
 answer_data (logged branches path) =
-    object (member (codes "answer") (string (codes "log")) (member (codes "branches") (array (branches_data branches)) (member (codes "path") (array (rows_data path)) no_members)))
+    object (member (codes "answer") (string (codes "log")) (member (codes "branches") (array (items_of (map entry_data branches))) (member (codes "path") (array (items_of (map row_data path))) no_members)))
 answer_data (told_status s) =
     object (
     member (codes "answer") (string (codes "status"))
     (member (codes "branch") (branch_data s.branch)
     (member (codes "commit") (number (unsigned s.commit))
     (member (codes "commits") (number (unsigned s.commits))
-    (member (codes "names") (array (texts_data s.names)) (member (codes "records") (number (unsigned s.records)) no_members)))))
+    (member (codes "names") (array (items_of (map string s.names))) (member (codes "records") (number (unsigned s.records)) no_members)))))
     )
 answer_data (refused r) =
-    object (member (codes "answer") (string (codes "refused")) (member (codes "number") (number (unsigned (refusal_number r))) (member (codes "reason") (string (refusal_name r)) no_members)))
+    object (
+    member (codes "answer") (string (codes "refused"))
+    (with_bytes (refusal_bytes r) (member (codes "number") (number (unsigned (refusal_number r))) (member (codes "reason") (string (refusal_name r)) no_members)))
+    )
 
 abbrev pub answer_line : Answer → List ℕ
 answer_line a = compact_text (answer_data a) ++ line_feed ∷ []

@@ -7,18 +7,7 @@ use Rattle.std.specs.Fmt.{digits}
 use Rattle.std.specs.Str.{chars, is_utf8}
 use Rattle.kishu_language.specs.declared.profile.Profile.TheVariants.{One}
 use Rattle.kishu_language.specs.tokens.Names.{reserved_words}
-use Rattle.kishu_meaning.specs.values.BuiltinNames.{builtin_names, class_names}
-use Rattle.kishu_meaning.specs.values.Numbers.{power}
-use Rattle.kishu_language.specs.tokens.Marks.{reserved_marks, delimiter, operator}
-use Rattle.kishu_language.specs.tokens.Numerals.{numeral}
-use Rattle.kishu_language.specs.tokens.Quoted as Q
-use Rattle.kishu_language.specs.tokens.Lexemes.{token_piece, lexeme}
-use Rattle.kishu_language.specs.tokens.Layout as L
-use Rattle.kishu_language.specs.trees.Code.{code_of}
-use Rattle.kishu_language.specs.reading.ReadExpressions as E
-use Rattle.kishu_language.specs.reading.ReadStatements as S
-use Rattle.kishu_language.specs.reading.ReadText as R
-use Rattle.kishu_meaning.specs.cells.Meaning.{run}
+use Rattle.kishu_rows.proofs.OnLiterals.{cells_on_literals}
 use Rattle.kishu_store.specs.Graph.{Graph, new_graph}
 use Rattle.kishu_model.specs.Answers.{answer_line}
 use Rattle.kishu_model.specs.Request.{cell, unreadable}
@@ -43,34 +32,34 @@ first_length = refl
 
 first_answer : answer_line (step new_graph (cell (codes "print(1 + 2)"))).answer
     ≡ codes "{\"answer\":\"cell\",\"commit\":1,\"count\":1,\"outcome\":\"ok\",\"outputs\":[{\"name\":\"stdout\",\"output_type\":\"stream\",\"text\":\"3\\n\"}]}\n"
-unfolding reserved_marks delimiter operator numeral Q.escape Q.item Q.closes Q.body Q.quoted token_piece lexeme L.cut L.indented L.begin L.bracket L.step L.layout encode_utf8 code_of E.keyword_begins E.another E.argument E.attribute E.call E.slice_after E.item_or_slice E.trailer E.parenthesised E.list E.pair E.dict E.atom E.primary_parts E.primary E.power E.unary_level E.term E.sum E.compared E.negated_level E.conjunction E.disjunction E.expr_level E.exprs_level E.phrase S.primary_at S.another_simple S.raise S.return S.assertion S.delete S.global S.import S.update_of S.assignment_of S.update_or_assignment S.simple S.simples S.line S.block S.block_after S.arm S.choice S.while S.for S.caught S.handler S.handled S.finished S.try S.parameter S.definition S.define S.compound S.chunk S.program R.piece R.read_chars chars digits power builtin_names class_names run serde_json_on_literals
+unfolding cells_on_literals
 first_answer = refl
 
 shown_answer : answer_line (step new_graph (cell (codes "'a'"))).answer
     ≡ codes "{\"answer\":\"cell\",\"commit\":1,\"count\":1,\"outcome\":\"ok\",\"outputs\":[{\"data\":{\"text/plain\":\"'a'\"},\"execution_count\":1,\"metadata\":{},\"output_type\":\"execute_result\"}]}\n"
-unfolding reserved_marks delimiter operator numeral Q.escape Q.item Q.closes Q.body Q.quoted token_piece lexeme L.cut L.indented L.begin L.bracket L.step L.layout encode_utf8 code_of E.keyword_begins E.another E.argument E.attribute E.call E.slice_after E.item_or_slice E.trailer E.parenthesised E.list E.pair E.dict E.atom E.primary_parts E.primary E.power E.unary_level E.term E.sum E.compared E.negated_level E.conjunction E.disjunction E.expr_level E.exprs_level E.phrase S.primary_at S.another_simple S.raise S.return S.assertion S.delete S.global S.import S.update_of S.assignment_of S.update_or_assignment S.simple S.simples S.line S.block S.block_after S.arm S.choice S.while S.for S.caught S.handler S.handled S.finished S.try S.parameter S.definition S.define S.compound S.chunk S.program R.piece R.read_chars chars digits power builtin_names class_names run serde_json_on_literals
+unfolding cells_on_literals
 shown_answer = refl
 
 error_answer : answer_line (step new_graph (cell (codes "print(z)"))).answer
     ≡ codes "{\"answer\":\"cell\",\"commit\":1,\"count\":1,\"outcome\":\"error\",\"outputs\":[{\"ename\":\"NameError\",\"evalue\":\"name 'z' is not defined\",\"output_type\":\"error\",\"traceback\":[\"NameError: name 'z' is not defined\"]}]}\n"
-unfolding reserved_marks delimiter operator numeral Q.escape Q.item Q.closes Q.body Q.quoted token_piece lexeme L.cut L.indented L.begin L.bracket L.step L.layout encode_utf8 code_of E.keyword_begins E.another E.argument E.attribute E.call E.slice_after E.item_or_slice E.trailer E.parenthesised E.list E.pair E.dict E.atom E.primary_parts E.primary E.power E.unary_level E.term E.sum E.compared E.negated_level E.conjunction E.disjunction E.expr_level E.exprs_level E.phrase S.primary_at S.another_simple S.raise S.return S.assertion S.delete S.global S.import S.update_of S.assignment_of S.update_or_assignment S.simple S.simples S.line S.block S.block_after S.arm S.choice S.while S.for S.caught S.handler S.handled S.finished S.try S.parameter S.definition S.define S.compound S.chunk S.program R.piece R.read_chars chars digits power builtin_names class_names run serde_json_on_literals
+unfolding cells_on_literals
 error_answer = refl
 
 fault_answer : answer_line (step new_graph (cell (codes "x = 1\nif x:\n    y = "))).answer
     ≡ codes "{\"answer\":\"cell\",\"commit\":1,\"count\":1,\"outcome\":\"error\",\"outputs\":[{\"ename\":\"SyntaxError\",\"evalue\":\"invalid syntax, line 2\",\"output_type\":\"error\",\"traceback\":[\"SyntaxError: invalid syntax, line 2\"]}]}\n"
-unfolding reserved_marks delimiter operator numeral Q.escape Q.item Q.closes Q.body Q.quoted token_piece lexeme L.cut L.indented L.begin L.bracket L.step L.layout encode_utf8 code_of E.keyword_begins E.another E.argument E.attribute E.call E.slice_after E.item_or_slice E.trailer E.parenthesised E.list E.pair E.dict E.atom E.primary_parts E.primary E.power E.unary_level E.term E.sum E.compared E.negated_level E.conjunction E.disjunction E.expr_level E.exprs_level E.phrase S.primary_at S.another_simple S.raise S.return S.assertion S.delete S.global S.import S.update_of S.assignment_of S.update_or_assignment S.simple S.simples S.line S.block S.block_after S.arm S.choice S.while S.for S.caught S.handler S.handled S.finished S.try S.parameter S.definition S.define S.compound S.chunk S.program R.piece R.read_chars chars digits power builtin_names class_names run serde_json_on_literals
+unfolding cells_on_literals
 fault_answer = refl
 
 -- Names are kept from cell to cell, also by one that raised, and the cells on a path are counted.
 second_answer : answer_line (step (step new_graph (cell (codes "n = 1; m = 1 // 0; n = 2"))).graph (cell (codes "n"))).answer
     ≡ codes "{\"answer\":\"cell\",\"commit\":2,\"count\":2,\"outcome\":\"ok\",\"outputs\":[{\"data\":{\"text/plain\":\"1\"},\"execution_count\":2,\"metadata\":{},\"output_type\":\"execute_result\"}]}\n"
-unfolding reserved_marks delimiter operator numeral Q.escape Q.item Q.closes Q.body Q.quoted token_piece lexeme L.cut L.indented L.begin L.bracket L.step L.layout encode_utf8 code_of E.keyword_begins E.another E.argument E.attribute E.call E.slice_after E.item_or_slice E.trailer E.parenthesised E.list E.pair E.dict E.atom E.primary_parts E.primary E.power E.unary_level E.term E.sum E.compared E.negated_level E.conjunction E.disjunction E.expr_level E.exprs_level E.phrase S.primary_at S.another_simple S.raise S.return S.assertion S.delete S.global S.import S.update_of S.assignment_of S.update_or_assignment S.simple S.simples S.line S.block S.block_after S.arm S.choice S.while S.for S.caught S.handler S.handled S.finished S.try S.parameter S.definition S.define S.compound S.chunk S.program R.piece R.read_chars chars digits power builtin_names class_names run serde_json_on_literals
+unfolding cells_on_literals
 second_answer = refl
 
 -- So are nodes, with what they share.
 shared_answer : answer_line (step (step new_graph (cell (codes "a = [1]; b = a"))).graph (cell (codes "b.append(2); a"))).answer
     ≡ codes "{\"answer\":\"cell\",\"commit\":2,\"count\":2,\"outcome\":\"ok\",\"outputs\":[{\"data\":{\"text/plain\":\"[1, 2]\"},\"execution_count\":2,\"metadata\":{},\"output_type\":\"execute_result\"}]}\n"
-unfolding reserved_marks delimiter operator numeral Q.escape Q.item Q.closes Q.body Q.quoted token_piece lexeme L.cut L.indented L.begin L.bracket L.step L.layout encode_utf8 code_of E.keyword_begins E.another E.argument E.attribute E.call E.slice_after E.item_or_slice E.trailer E.parenthesised E.list E.pair E.dict E.atom E.primary_parts E.primary E.power E.unary_level E.term E.sum E.compared E.negated_level E.conjunction E.disjunction E.expr_level E.exprs_level E.phrase S.primary_at S.another_simple S.raise S.return S.assertion S.delete S.global S.import S.update_of S.assignment_of S.update_or_assignment S.simple S.simples S.line S.block S.block_after S.arm S.choice S.while S.for S.caught S.handler S.handled S.finished S.try S.parameter S.definition S.define S.compound S.chunk S.program R.piece R.read_chars chars digits power builtin_names class_names run serde_json_on_literals
+unfolding cells_on_literals
 shared_answer = refl
 
 full_answer : answer_line (step (let g : Graph = record { commits = []; branches = []; head = record { commit = 0; branch = None }; records = 1000000 } in g) (cell (codes "x = 1"))).answer

@@ -1,1 +1,4 @@
+pub mod OnLiterals
 mod FirstCell
+mod Sessions
+mod Inputs

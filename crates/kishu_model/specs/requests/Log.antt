@@ -1,5 +1,5 @@
 -- The log: the branches, and the commits from the head's back to the first. Nothing changes.
-use Rattle.std.specs.Prelude.{ℕ, List, length, map}
+use Rattle.std.specs.Prelude.{length, map}
 use Rattle.kishu_store.specs.CommitLines.{line_of}
 use Rattle.kishu_store.specs.Graph.{Graph, Numbered, back}
 use Rattle.kishu_model.specs.Answers.{PathRow, logged}

@@ -1,17 +1,23 @@
-ghost use Rattle.std.specs.Prelude.{◌≡◌, ◌++◌, ℕ, IfOk, string_bytes, codes};
+ghost use Rattle.std.specs.Prelude.{◌≡◌, ◌++◌, ℕ, map, IfOk, string_bytes, codes};
 ghost use Rattle.serde_json.specs.Data.{array};
-ghost use Rattle.serde_json.specs.View.{view};
-ghost use Rattle.kishu_model.specs.Answers.{output_data, outputs_data};
+ghost use Rattle.serde_json.specs.View.{items_of, view};
+ghost use Rattle.kishu_model.specs.Answers.{output_data};
 ghost use Rattle.kishu_meaning.specs.values.Values.{output_of, report_of, stream, shown, fault};
 
 use kishu_model::{CellResult, Output};
 use serde_json::{Value, json};
 use std::alloc::{AllocError, Global};
 
-/// The outputs of a cell as a notebook shows them (nbformat 4.5, "Code cell outputs"), the cell
-/// being the `count`-th on its path. The error is want of memory.
+/// The outputs of a cell as a notebook shows them (nbformat 4.5, "Code cell outputs"): a JSON array
+/// of objects, in the order of the run.
+///
+/// - `ran`: what the cell's run gave.
+/// - `count`: the number of the cell on its commit's path, from 1.
+///
+/// The error is want of memory.
 pub fn outputs_json(alloc: Global, ran: &CellResult, count: u64) -> Result<Value, AllocError>
-    ensures { IfOk result (λ v. view v ≡ array (outputs_data count (report_of ran.now).outputs)) }
+    ensures { IfOk result
+        (λ v. view v ≡ array (items_of (map (output_data count) (report_of ran.now).outputs))) }
 {
     let mut items = Vec::new(alloc);
     for output in &ran.outputs {

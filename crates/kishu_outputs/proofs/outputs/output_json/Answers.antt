@@ -3,7 +3,7 @@ use Rattle.std.proofs.lemmas.Result.{IfOk-weaker}
 use Rattle.std.specs.Rc.{rc_str_bytes}
 use Rattle.kishu_model.specs.Answers.{output_data}
 use Rattle.kishu_meaning.specs.values.Values.{stream, fault}
-use Rattle.kishu_lines.proofs.outputs.output_json.Goals as goal
+use Rattle.kishu_outputs.proofs.outputs.output_json.Goals as goal
 
 pub returns-in-Stream : goal.returns-in-Stream
 returns-in-Stream c =

@@ -1,0 +1,157 @@
+-- A line's reading is what its value tells, and nothing else.
+use Rattle.std.proofs.Common.{◌≡◌, ℕ, Bool, true, false, cond, List, Option, Some, None, option_map, option_and_then, codes, refl, sym, ap, ◌∙◌, subst, rules}
+use Rattle.std.proofs.lemmas.Bool.{eqb-true}
+use Rattle.std.proofs.lemmas.Option.{none-some, same_Some, option_and_then_some}
+use Rattle.std.proofs.lemmas.Slice.Eq.{bytes_eq-Decides}
+use Rattle.std.specs.Str.{bytes_eq, is_utf8}
+use Rattle.serde_json.specs.Data.{Data, null, boolean, number, string, array, object, Members, no_members, member}
+use Rattle.serde_json.specs.Events.{members_len}
+use Rattle.serde_json.specs.Find.{get, get_member, as_str}
+use Rattle.serde_json.specs.Read.{read}
+use Rattle.kishu_model.specs.Reading.{Tells, tells_cell, tells_checkout, tells_branch, tells_branch_at, tells_log, tells_status, Reads, has_members, text_at, cell_in, checkout_in, branch_at_in, branch_named_in, branch_in, alone_in, asked_in, request_in, reading}
+use Rattle.kishu_model.specs.Request.{Request, cell, checkout, branch, log, status}
+use Rattle.kishu_lines.proofs.Members.{Ascends, AscendsIn, ascends_read, one_member, two_members, three_members}
+
+pub told_is_read : (d : Data) (q : Request) → Tells d q → request_in d ≡ Some q
+unfolding request_in
+told_is_read _ _ (tells_cell text) = refl
+told_is_read _ _ (tells_checkout to) = refl
+told_is_read _ _ (tells_branch name) = refl
+told_is_read _ _ (tells_branch_at name at) = refl
+told_is_read _ _ tells_log = refl
+told_is_read _ _ tells_status = refl
+
+-- ---- the other way
+
+as_string : (d : Data) (t : List ℕ) → as_str d ≡ Some t → d ≡ string t
+as_string null t is = absurd (none-some t is)
+as_string (boolean b) t is = absurd (none-some t is)
+as_string (number n) t is = absurd (none-some t is)
+as_string (string s) t is = ap string (same_Some s t is)
+as_string (array ds) t is = absurd (none-some t is)
+as_string (object ms) t is = absurd (none-some t is)
+
+-- a text that was found
+found_text : (key : List ℕ) (ms : Members) (t : List ℕ) → text_at key (object ms) ≡ Some t → get_member key ms ≡ Some (string t)
+found_text key ms t is = option_and_then_some as_str (get_member key ms) t is (λ d found text. found ∙ ap Some (as_string d t text))
+
+tested : {A : Type 0} (b : Bool) (o : Option A) (y : A) → cond b o None ≡ Some y → (b ≡ true) × (o ≡ Some y)
+tested true o y is = (refl, is)
+tested false o y is = absurd (none-some y is)
+
+sized : (n : ℕ) (ms : Members) → has_members n (object ms) ≡ true → members_len ms ≡ n
+sized n ms is = eqb-true (members_len ms) n is
+
+mapped : {A B P : Type 0} (f : A → B) (o : Option A) (y : B) → option_map f o ≡ Some y → ((x : A) → o ≡ Some x → f x ≡ y → P) → P
+mapped f None y is uses = absurd (none-some y is)
+mapped f (Some x) y is uses = uses x refl (same_Some (f x) y is)
+
+-- two equations make one telling another
+moved : (d e : Data) (q r : Request) → e ≡ d → q ≡ r → Tells d q → Tells e r
+moved d e q r same asked tells = subst (λ (x : Data). Tells x r) (sym same) (subst (λ (y : Request). Tells d y) asked tells)
+
+read_cell : (ms : Members) (q : Request) → Ascends ms → get_member (codes "op") ms ≡ Some (string (codes "cell")) → cell_in (object ms) ≡ Some q → Tells (object ms) q
+read_cell ms q ascends op is =
+    let parts = tested (has_members 2 (object ms)) _ q is in
+    mapped cell _ q parts.1 (λ t text asked.
+    moved _ (object ms) (cell t) q (ap object (two_members (codes "op") (codes "text") _ _ ms ascends (sized 2 ms parts.0) refl op (found_text (codes "text") ms t text))) asked (tells_cell t))
+
+read_checkout : (ms : Members) (q : Request) → Ascends ms → get_member (codes "op") ms ≡ Some (string (codes "checkout")) → checkout_in (object ms) ≡ Some q → Tells (object ms) q
+read_checkout ms q ascends op is =
+    let parts = tested (has_members 2 (object ms)) _ q is in
+    mapped checkout _ q parts.1 (λ t text asked.
+    moved _ (object ms) (checkout t) q (ap object (two_members (codes "op") (codes "to") _ _ ms ascends (sized 2 ms parts.0) refl op (found_text (codes "to") ms t text))) asked (tells_checkout t))
+
+read_branch_at : (ms : Members) (name : List ℕ) (q : Request) → Ascends ms → get_member (codes "op") ms ≡ Some (string (codes "branch")) → get_member (codes "name") ms ≡ Some (string name)
+    → branch_at_in name (object ms) ≡ Some q → Tells (object ms) q
+read_branch_at ms name q ascends op named is =
+    let parts = tested (has_members 3 (object ms)) _ q is in
+    mapped (λ at. branch name (Some at)) _ q parts.1 (λ t text asked.
+    moved _ (object ms) (branch name (Some t)) q
+    (ap object (three_members (codes "at") (codes "name") (codes "op") _ _ _ ms ascends (sized 3 ms parts.0) refl refl (found_text (codes "at") ms t text) named op)) asked (tells_branch_at name t))
+
+read_branch_named : (b : Bool) (ms : Members) (name : List ℕ) (q : Request) → has_members 2 (object ms) ≡ b → Ascends ms → get_member (codes "op") ms ≡ Some (string (codes "branch"))
+    → get_member (codes "name") ms ≡ Some (string name) → cond b (Some (branch name None)) (branch_at_in name (object ms)) ≡ Some q → Tells (object ms) q
+read_branch_named true ms name q size ascends op named is =
+    moved _ (object ms) (branch name None) q (ap object (two_members (codes "name") (codes "op") _ _ ms ascends (sized 2 ms size) refl named op)) (same_Some _ q is) (tells_branch name)
+read_branch_named false ms name q size ascends op named is = read_branch_at ms name q ascends op named is
+
+read_branch : (ms : Members) (q : Request) → Ascends ms → get_member (codes "op") ms ≡ Some (string (codes "branch")) → branch_in (object ms) ≡ Some q → Tells (object ms) q
+read_branch ms q ascends op is =
+    option_and_then_some (λ name. branch_named_in name (object ms)) (text_at (codes "name") (object ms)) q is
+    (λ name text rest. read_branch_named (has_members 2 (object ms)) ms name q refl ascends op (found_text (codes "name") ms name text) rest)
+
+read_alone : (ms : Members) (op : List ℕ) (asked q : Request) → Tells (object (member (codes "op") (string op) no_members)) asked → get_member (codes "op") ms ≡ Some (string op)
+    → alone_in asked (object ms) ≡ Some q → Tells (object ms) q
+read_alone ms op asked q tells found is =
+    let parts = tested (has_members 1 (object ms)) _ q is in
+    moved _ (object ms) asked q (ap object (one_member (codes "op") _ ms (sized 1 ms parts.0) found)) (same_Some asked q parts.1) tells
+
+same_op : (op word : List ℕ) (ms : Members) → bytes_eq op word ≡ true → get_member (codes "op") ms ≡ Some (string op) → get_member (codes "op") ms ≡ Some (string word)
+same_op op word ms is found = found ∙ ap (λ (w : List ℕ). Some (string w)) ((bytes_eq-Decides op word).0 is)
+
+read_status : (b : Bool) (ms : Members) (op : List ℕ) (q : Request) → bytes_eq op (codes "status") ≡ b → get_member (codes "op") ms ≡ Some (string op)
+    → cond b (alone_in status (object ms)) None ≡ Some q → Tells (object ms) q
+read_status true ms op q word found is = read_alone ms (codes "status") status q tells_status (same_op op (codes "status") ms word found) is
+read_status false ms op q word found is = absurd (none-some q is)
+
+abbrev last_in : List ℕ → Data → Option Request
+last_in op d = cond (bytes_eq op (codes "status")) (alone_in status d) None
+
+read_log : (b : Bool) (ms : Members) (op : List ℕ) (q : Request) → bytes_eq op (codes "log") ≡ b → get_member (codes "op") ms ≡ Some (string op)
+    → cond b (alone_in log (object ms)) (last_in op (object ms)) ≡ Some q → Tells (object ms) q
+read_log true ms op q word found is = read_alone ms (codes "log") log q tells_log (same_op op (codes "log") ms word found) is
+read_log false ms op q word found is = read_status (bytes_eq op (codes "status")) ms op q refl found is
+
+abbrev alone_at : List ℕ → Data → Option Request
+alone_at op d = cond (bytes_eq op (codes "log")) (alone_in log d) (last_in op d)
+
+read_third : (b : Bool) (ms : Members) (op : List ℕ) (q : Request) → bytes_eq op (codes "branch") ≡ b → Ascends ms → get_member (codes "op") ms ≡ Some (string op)
+    → cond b (branch_in (object ms)) (alone_at op (object ms)) ≡ Some q → Tells (object ms) q
+read_third true ms op q word ascends found is = read_branch ms q ascends (same_op op (codes "branch") ms word found) is
+read_third false ms op q word ascends found is = read_log (bytes_eq op (codes "log")) ms op q refl found is
+
+abbrev third_in : List ℕ → Data → Option Request
+third_in op d = cond (bytes_eq op (codes "branch")) (branch_in d) (alone_at op d)
+
+read_second : (b : Bool) (ms : Members) (op : List ℕ) (q : Request) → bytes_eq op (codes "checkout") ≡ b → Ascends ms → get_member (codes "op") ms ≡ Some (string op)
+    → cond b (checkout_in (object ms)) (third_in op (object ms)) ≡ Some q → Tells (object ms) q
+read_second true ms op q word ascends found is = read_checkout ms q ascends (same_op op (codes "checkout") ms word found) is
+read_second false ms op q word ascends found is = read_third (bytes_eq op (codes "branch")) ms op q refl ascends found is
+
+abbrev second_in : List ℕ → Data → Option Request
+second_in op d = cond (bytes_eq op (codes "checkout")) (checkout_in d) (third_in op d)
+
+read_first : (b : Bool) (ms : Members) (op : List ℕ) (q : Request) → bytes_eq op (codes "cell") ≡ b → Ascends ms → get_member (codes "op") ms ≡ Some (string op)
+    → cond b (cell_in (object ms)) (second_in op (object ms)) ≡ Some q → Tells (object ms) q
+read_first true ms op q word ascends found is = read_cell ms q ascends (same_op op (codes "cell") ms word found) is
+read_first false ms op q word ascends found is = read_second (bytes_eq op (codes "checkout")) ms op q refl ascends found is
+
+read_object : (ms : Members) (q : Request) → Ascends ms → request_in (object ms) ≡ Some q → Tells (object ms) q
+unfolding request_in
+read_object ms q ascends is =
+    option_and_then_some (λ op. asked_in op (object ms)) (text_at (codes "op") (object ms)) q is
+    (λ op text rest. read_first (bytes_eq op (codes "cell")) ms op q refl ascends (found_text (codes "op") ms op text) rest)
+
+-- no other value tells anything
+read_is_told : (d : Data) (q : Request) → AscendsIn d → request_in d ≡ Some q → Tells d q
+unfolding request_in
+read_is_told null q ascends is = absurd (none-some q is)
+read_is_told (boolean b) q ascends is = absurd (none-some q is)
+read_is_told (number n) q ascends is = absurd (none-some q is)
+read_is_told (string s) q ascends is = absurd (none-some q is)
+read_is_told (array ds) q ascends is = absurd (none-some q is)
+read_is_told (object ms) q ascends is = read_object ms q ascends is
+
+pub Reads-from_reading : (line : List ℕ) (q : Request) → reading line ≡ Some q → Reads line q
+unfolding reading
+Reads-from_reading line q is =
+    let parts = tested (is_utf8 line) _ q is in
+    option_and_then_some request_in (read line) q parts.1 (λ d found told. record { utf8 = parts.0; data_read = d; is_read = found; tells = read_is_told d q (ascends_read line d found) told })
+
+read_as : (b : Bool) (o : Option Data) (d : Data) (q : Request) → b ≡ true → o ≡ Some d → request_in d ≡ Some q → cond b (option_and_then request_in o) None ≡ Some q
+read_as b o d q text value told = rw (text, value) told
+
+pub reading-from_Reads : (line : List ℕ) (q : Request) → Reads line q → reading line ≡ Some q
+unfolding reading
+reading-from_Reads line q reads = read_as (is_utf8 line) (read line) reads.data_read q reads.utf8 reads.is_read (told_is_read reads.data_read q reads.tells)

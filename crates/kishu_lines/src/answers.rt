@@ -1,0 +1,216 @@
+ghost use Rattle.std.specs.Prelude.{◌≡◌, ℕ, map, option_map, IsSome, IfOk, IfSome};
+ghost use Rattle.std.specs.Rc.{rc_str_bytes};
+ghost use Rattle.serde_json.specs.Data.{array, string};
+ghost use Rattle.serde_json.specs.View.{items_of, view};
+ghost use Rattle.kishu_model.specs.Answers as spec;
+ghost use Rattle.kishu_model.specs.Answers.{answer_data, branch_data, entry_data, row_data, ran_cell, checked_out, branched, logged, told_status, refused};
+ghost use Rattle.kishu_meaning.specs.values.Values.{report_of};
+ghost use Rattle.kishu_model.specs.Values.{entry_of, numbered, refusal_of, row_of};
+
+use kishu_model::{CellResult, Outcome, PathRow, Refusal};
+use kishu_outputs::outputs_json;
+use serde_json::{Value, json};
+use std::alloc::{AllocError, Global};
+use std::rc::RcStr;
+
+/// A cell was run and committed.
+pub(crate) fn cell_json(
+    alloc: Global,
+    commit: u32,
+    count: u64,
+    ran: &CellResult,
+) -> Result<Value, AllocError>
+    ensures { IfOk result (λ v. view v ≡ answer_data (ran_cell commit count (report_of ran.now))) }
+{
+    let outputs = outputs_json(alloc, ran, count)?;
+    json!(in alloc; {
+        "answer": "cell",
+        "commit": commit,
+        "count": count,
+        "outcome": outcome_word(ran.outcome),
+        "outputs": outputs
+    })
+}
+
+/// The word for how a run ended.
+fn outcome_word(outcome: Outcome) -> &'static str
+    ensures { result.now ≡ spec.outcome_word outcome }
+{
+    match outcome {
+        Outcome::Done => "ok",
+        Outcome::Raised => "error",
+        Outcome::Stopped => "stopped",
+    }
+}
+
+/// The head went to a commit, or to a branch.
+pub(crate) fn checkout_json(
+    alloc: Global,
+    commit: u32,
+    head: &Option<RcStr>,
+) -> Result<Value, AllocError>
+    ensures { IfOk result
+        (λ v. view v ≡ answer_data (checked_out commit (option_map rc_str_bytes head.now))) }
+{
+    let head = name_or_null(alloc, head)?;
+    json!(in alloc; {"answer": "checkout", "commit": commit, "head": head})
+}
+
+/// The name of a branch, or null.
+fn name_or_null(alloc: Global, name: &Option<RcStr>) -> Result<Value, AllocError>
+    ensures { IfOk result (λ v. view v ≡ branch_data (option_map rc_str_bytes name.now)) }
+{
+    match name {
+        None => Ok(Value::Null),
+        Some(name) => text_json(alloc, name),
+    }
+}
+
+/// A text.
+fn text_json(alloc: Global, text: &RcStr) -> Result<Value, AllocError>
+    ensures { IfOk result (λ v. view v ≡ string (rc_str_bytes text.now)) }
+{
+    Ok(Value::String(String::from_str(alloc, text.as_str())?))
+}
+
+/// A branch was made.
+pub(crate) fn branch_json(alloc: Global, commit: u32, name: &RcStr) -> Result<Value, AllocError>
+    ensures { IfOk result (λ v. view v ≡ answer_data (branched commit (rc_str_bytes name.now))) }
+{
+    let name = text_json(alloc, name)?;
+    json!(in alloc; {"answer": "branch", "commit": commit, "name": name})
+}
+
+/// The branches, and the path back from the head's commit.
+pub(crate) fn log_json(
+    alloc: Global,
+    branches: &[(RcStr, u32)],
+    path: &[PathRow],
+) -> Result<Value, AllocError>
+    ensures { IfOk result
+        (λ v. view v ≡ answer_data (logged (map entry_of branches.now) (map row_of path.now))) }
+{
+    let branches = branches_json(alloc, branches)?;
+    let path = path_json(alloc, path)?;
+    json!(in alloc; {"answer": "log", "branches": branches, "path": path})
+}
+
+/// Branches, each with its commit.
+fn branches_json(alloc: Global, branches: &[(RcStr, u32)]) -> Result<Value, AllocError>
+    ensures { IfOk result
+        (λ v. view v ≡ array (items_of (map entry_data (map entry_of branches.now)))) }
+{
+    let mut items = Vec::new(alloc);
+    for branch in branches {
+        let item = entry_json(alloc, &branch.0, branch.1)?;
+        items.push(item)?;
+    }
+    Ok(Value::Array(items))
+}
+
+/// A branch with its commit.
+fn entry_json(alloc: Global, name: &RcStr, commit: u32) -> Result<Value, AllocError>
+    ensures { IfOk result (λ v. view v ≡ entry_data (rc_str_bytes name.now, commit)) }
+{
+    let name = text_json(alloc, name)?;
+    json!(in alloc; {"commit": commit, "name": name})
+}
+
+/// Commits, each with its parent.
+fn path_json(alloc: Global, path: &[PathRow]) -> Result<Value, AllocError>
+    ensures { IfOk result (λ v. view v ≡ array (items_of (map row_data (map row_of path.now)))) }
+{
+    let mut items = Vec::new(alloc);
+    for row in path {
+        let item = row_json(alloc, row)?;
+        items.push(item)?;
+    }
+    Ok(Value::Array(items))
+}
+
+/// A commit with its parent.
+fn row_json(alloc: Global, row: &PathRow) -> Result<Value, AllocError>
+    ensures { IfOk result (λ v. view v ≡ row_data (row_of row.now)) }
+{
+    let line = text_json(alloc, &row.line)?;
+    json!(in alloc; {
+        "cells": row.cells,
+        "commit": row.commit,
+        "line": line,
+        "parent": row.parent
+    })
+}
+
+/// Where the head stands, what is bound there, and how large the store is.
+pub(crate) fn status_json(
+    alloc: Global,
+    branch: &Option<RcStr>,
+    commit: u32,
+    commits: u32,
+    names: &[RcStr],
+    records: u32,
+) -> Result<Value, AllocError>
+    ensures { IfOk result (λ v. view v ≡ answer_data (told_status (record {
+      branch = option_map rc_str_bytes branch.now;
+      commit = commit;
+      commits = commits;
+      names = map rc_str_bytes names.now;
+      records = records;
+    }))) }
+{
+    let branch = name_or_null(alloc, branch)?;
+    let names = texts_json(alloc, names)?;
+    json!(in alloc; {
+        "answer": "status",
+        "branch": branch,
+        "commit": commit,
+        "commits": commits,
+        "names": names,
+        "records": records
+    })
+}
+
+/// Texts.
+fn texts_json(alloc: Global, texts: &[RcStr]) -> Result<Value, AllocError>
+    ensures { IfOk result
+        (λ v. view v ≡ array (items_of (map string (map rc_str_bytes texts.now)))) }
+{
+    let mut items = Vec::new(alloc);
+    for text in texts {
+        let item = text_json(alloc, text)?;
+        items.push(item)?;
+    }
+    Ok(Value::Array(items))
+}
+
+/// The request was refused.
+pub(crate) fn refused_json(
+    alloc: Global,
+    number: u8,
+    bytes: Option<u64>,
+) -> Result<Value, AllocError>
+    requires { IsSome (numbered number bytes) }
+    ensures { IfOk result
+        (λ v. IfSome (numbered number bytes) (λ r. view v ≡ answer_data (refused r))) }
+{
+    match Refusal::numbered(number, bytes) {
+        Some(refusal) => refusal_json(alloc, refusal),
+        None => unreachable!(),
+    }
+}
+
+/// A refusal, with its bytes where it has them.
+fn refusal_json(alloc: Global, refusal: Refusal) -> Result<Value, AllocError>
+    ensures { IfOk result (λ v. view v ≡ answer_data (refused (refusal_of refusal))) }
+{
+    let (number, reason) = (refusal.number(), refusal.reason());
+    match refusal.bytes() {
+        None => json!(in alloc; {"answer": "refused", "number": number, "reason": reason}),
+        Some(bytes) => json!(in alloc; {
+            "answer": "refused",
+            "bytes": bytes,
+            "number": number,
+            "reason": reason
+        }),
+    }
+}

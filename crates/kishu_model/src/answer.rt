@@ -1,0 +1,55 @@
+use kishu_meaning::CellResult;
+use std::rc::RcStr;
+
+/// A commit in the log.
+#[derive(Drop)]
+pub struct PathRow {
+    /// How many cells it has.
+    pub cells: u32,
+    pub commit: u32,
+    /// The line by which it is told: the first one of its first cell.
+    pub line: RcStr,
+    pub parent: u32,
+}
+
+/// The answer to a request.
+#[derive(Drop)]
+pub enum Answer {
+    /// A cell was run and committed: the commit's number, the number of the cell on the commit's
+    /// path, from 1, and what the run shows.
+    Cell {
+        commit: u32,
+        count: u64,
+        result: CellResult,
+    },
+    /// The head stands on this commit and, where it does, on this branch.
+    Checkout {
+        commit: u32,
+        head: Option<RcStr>,
+    },
+    /// The branch of this name begins at this commit.
+    Branch {
+        commit: u32,
+        name: RcStr,
+    },
+    /// The branches in byte order of their names, each with its commit, and the path from the head's
+    /// commit back to the first one.
+    Log {
+        branches: Vec<(RcStr, u32)>,
+        path: Vec<PathRow>,
+    },
+    /// Where the head stands, how many commits there are, the root among them, the names that are
+    /// bound, in byte order, and how many records the store has.
+    Status {
+        branch: Option<RcStr>,
+        commit: u32,
+        commits: u32,
+        names: Vec<RcStr>,
+        records: u32,
+    },
+    /// The request was refused: the number of the refusal, and where the state is too large its bytes.
+    Refused {
+        number: u8,
+        bytes: Option<u64>,
+    },
+}

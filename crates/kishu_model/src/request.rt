@@ -1,0 +1,17 @@
+use std::rc::RcStr;
+
+/// What a session is asked.
+#[derive(Drop)]
+pub enum Request {
+    /// To run this cell and to commit it.
+    Cell { text: RcStr },
+    /// To put the head on the commit or the branch that this reference names.
+    Checkout { to: RcStr },
+    /// To make a branch of this name at what the reference names, or without one at the head's
+    /// commit.
+    Branch { name: RcStr, at: Option<RcStr> },
+    /// To tell the branches, and the commits from the head's back to the first.
+    Log,
+    /// To tell where the head stands, which names are bound there, and how large the store is.
+    Status,
+}
