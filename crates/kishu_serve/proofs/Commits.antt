@@ -36,9 +36,9 @@ cell-is text short utf8 = record { short = short; utf8 = is_utf8-from_IsUtf8 tex
 abbrev pub entry_for : Session → List ℕ → Entry
 entry_for session text = commit session.commits One (text ∷ [])
 
-module _ (session : Session) (s : State) (g : Graph) (text : List ℕ) (a : IsAttached session s g) (room : session.commits < most_records) where
+module _ (session : Session) (s : State) (g : Graph) (text : List ℕ) (a : IsAttached session s g) (room : session.commits < most_records) (short : length text ≤ longest_cell) where
   stepped : step g (cell text) ≡ committed text g
-  stepped = step-cell g text (omega (arith, a.records, a.commits))
+  stepped = step-cell g text short (omega (arith, a.records, a.commits))
 
   pub after-is : after g (cell text) ≡ with_commit One (text ∷ []) g
   after-is = ap (λ (x : Stepped). x.graph) stepped
@@ -73,7 +73,7 @@ module _ (session : Session) (s : State) (g : Graph) (text : List ℕ) (a : IsAt
   )
 
   pub charge-is : (m n : ℕ) → m + (run One text (state_of session.live)).charge ≤ n → m + charge_of g (cell text) ≤ n
-  charge-is m n more = omega (arith, more, ap (λ (t : values.State). (run One text t).charge) a.live, charge-cell g text (omega (arith, a.records, a.commits)))
+  charge-is m n more = omega (arith, more, ap (λ (t : values.State). (run One text t).charge) a.live, charge-cell g text short (omega (arith, a.records, a.commits)))
 
   pub full-is : IsFull (state_of session.live) → IsFull (replay g g.head.commit)
   full-is full = subst IsFull a.live full

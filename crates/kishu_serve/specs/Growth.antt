@@ -1,17 +1,17 @@
 -- How a graph and its replay grow by a commit.
-use Rattle.std.specs.Prelude.{◌≡◌, ◌<◌, ◌≤◌, ℕ, suc, ◌+◌, Bool, true, false, nat_le, ◌==◌, if◌then◌else◌, List, [], ◌∷◌, ◌++◌, length, refl}
+use Rattle.std.specs.Prelude.{◌≡◌, ◌<◌, ◌≤◌, ℕ, suc, ◌+◌, Bool, true, false, nat_le, nat_lt, ◌||◌, ◌==◌, if◌then◌else◌, List, [], ◌∷◌, ◌++◌, length, refl}
 use Rattle.std.proofs.Common.{inl, inr, ⊎_elim, sym, ◌∙◌, ap, subst, arith}
 use Rattle.std.proofs.lemmas.Bool.Decides.{nat_tests}
 use Rattle.kishu_language.specs.declared.profile.Profile.{Profile}
 use Rattle.kishu_meaning.specs.values.Values.{State, empty}
 use Rattle.kishu_store.specs.Graph.{Commit, Graph, newest, with_commit, path, path_in, cell_count, count_of}
 use Rattle.kishu_replay.specs.Replay.{after_cells, after_commits, replay, charge_in, charge_on, replay_charge, FillsIn, FillsOn}
-use Rattle.kishu_model.specs.Answers.{store_full}
+use Rattle.kishu_model.specs.Answers.{cell_too_long, store_full}
 use Rattle.kishu_store.specs.Limits.{most_records}
-use Rattle.kishu_model.specs.Request.{cell, refused_with}
+use Rattle.kishu_model.specs.Request.{cell, refused_with, Stepped}
 use Rattle.kishu_model.specs.requests.Cell.{committed, charge_for}
 use Rattle.kishu_model.specs.Step.{step, charge_of}
-use Rattle.kishu_store.specs.Record.{Entry, commit, changed_by}
+use Rattle.kishu_store.specs.Record.{Entry, commit, changed_by, longest_cell}
 
 is_itself : (n : ℕ) → (n == n) ≡ true
 is_itself n = grind (arith, nat_tests)
@@ -39,25 +39,33 @@ cell_count-append (j ∷ ks) k = omega (arith, cell_count-append ks k)
 pub count-with_commit : (profile : Profile) (cells : List (List ℕ)) (g : Graph) → count_of (with_commit profile cells g) (suc (newest g)) ≡ count_of g g.head.commit + length cells
 count-with_commit profile cells g = ap cell_count (path-with_commit profile cells g) ∙ cell_count-append (path g g.head.commit) (commit_on profile cells g)
 
-pub step-cell : (g : Graph) (text : List ℕ) → g.records < most_records → step g (cell text) ≡ committed text g
-step-cell g text below =
+-- what is taken where the text is short enough
+short-is : (text : List ℕ) → length text ≤ longest_cell → nat_lt longest_cell (length text) ≡ false
+short-is text short = grind (arith, nat_tests)
+
+-- what becomes of a cell, by whether its text is too long and whether the store is full
+by_tests : List ℕ → Graph → Bool → Bool → Stepped
+by_tests text g long full = if long then refused_with cell_too_long g else if full then refused_with store_full g else committed text g
+
+pub step-cell : (g : Graph) (text : List ℕ) → length text ≤ longest_cell → g.records < most_records → step g (cell text) ≡ committed text g
+step-cell g text short below =
     let no : nat_le most_records g.records ≡ false = grind (arith, nat_tests) in
-    ap (λ (b : Bool). if b then refused_with store_full g else committed text g) no
+    ap (λ (b : Bool). by_tests text g b (nat_le most_records g.records)) (short-is text short) ∙ ap (λ (b : Bool). by_tests text g false b) no
 
-pub step-full : (g : Graph) (text : List ℕ) → most_records ≤ g.records → step g (cell text) ≡ refused_with store_full g
-step-full g text full =
+pub step-full : (g : Graph) (text : List ℕ) → length text ≤ longest_cell → most_records ≤ g.records → step g (cell text) ≡ refused_with store_full g
+step-full g text short full =
     let yes : nat_le most_records g.records ≡ true = grind (arith, nat_tests) in
-    ap (λ (b : Bool). if b then refused_with store_full g else committed text g) yes
+    ap (λ (b : Bool). by_tests text g b (nat_le most_records g.records)) (short-is text short) ∙ ap (λ (b : Bool). by_tests text g false b) yes
 
-pub charge-cell : (g : Graph) (text : List ℕ) → g.records < most_records → charge_of g (cell text) ≡ charge_for text g
-charge-cell g text below =
+pub charge-cell : (g : Graph) (text : List ℕ) → length text ≤ longest_cell → g.records < most_records → charge_of g (cell text) ≡ charge_for text g
+charge-cell g text short below =
     let no : nat_le most_records g.records ≡ false = grind (arith, nat_tests) in
-    ap (λ (b : Bool). if b then 0 else charge_for text g) no
+    ap (λ (b : Bool). if b || nat_le most_records g.records then 0 else charge_for text g) (short-is text short) ∙ ap (λ (b : Bool). if b then 0 else charge_for text g) no
 
-pub charge-full : (g : Graph) (text : List ℕ) → most_records ≤ g.records → charge_of g (cell text) ≡ 0
-charge-full g text full =
+pub charge-full : (g : Graph) (text : List ℕ) → length text ≤ longest_cell → most_records ≤ g.records → charge_of g (cell text) ≡ 0
+charge-full g text short full =
     let yes : nat_le most_records g.records ≡ true = grind (arith, nat_tests) in
-    ap (λ (b : Bool). if b then 0 else charge_for text g) yes
+    ap (λ (b : Bool). if b || nat_le most_records g.records then 0 else charge_for text g) (short-is text short) ∙ ap (λ (b : Bool). if b then 0 else charge_for text g) yes
 
 charge_on-append : (ks : List Commit) (k : Commit) (s : State) → charge_on (ks ++ k ∷ []) s ≡ charge_on ks s + charge_in k.profile k.cells (after_commits ks s)
 charge_on-append [] k s = omega arith

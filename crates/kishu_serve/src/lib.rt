@@ -5,6 +5,7 @@
 //! promises of a run.
 #![tactic(auto)]
 
+mod answering;
 mod input;
 mod live;
 mod request;

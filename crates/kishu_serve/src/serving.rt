@@ -9,7 +9,7 @@ ghost use Rattle.kishu_model.specs.Request.{cell, refused_with};
 ghost use Rattle.kishu_model.specs.Step.{step, charge_of};
 ghost use Rattle.kishu_store.specs.Holds.{Holds, IsForeign, IsBroken};
 ghost use Rattle.kishu_model.specs.Serve.{after, answer_of};
-ghost use Rattle.kishu_lines.specs.Lines.{refusal_of};
+ghost use Rattle.kishu_model.specs.Values.{refusal_of};
 ghost use Rattle.kishu_serve.specs.Headline.{IsPart, IsRecorded, HoldsNone, Stays, begun};
 ghost use Rattle.kishu_serve.specs.Requests.{request_of, IsShort};
 ghost use Rattle.kishu_serve.specs.Attached.{IsAttached};
@@ -18,13 +18,13 @@ ghost use Rattle.kishu_journal.specs.declared.journal.JournalFault.TheVariants.{
 ghost use Rattle.kishu_serve.specs.declared.serving.OpenFault.TheVariants.{Unread, HeapFull as Full};
 ghost use Rattle.kishu_serve.specs.declared.session.Halt.TheVariants.{HeapFull, DiskFault, OutputFault};
 
+use crate::answering::refusal_line;
 use crate::live::Unrun;
 use crate::request::Request;
 use crate::session::{Halt, Session, replay_stored};
 use kishu_host::Host;
 use kishu_journal::{Journal, JournalFault};
-use kishu_lines::{Answer, Refusal, write_answer};
-use kishu_model::Steps;
+use kishu_model::{Refusal, Steps};
 use kishu_store::MOST_RECORDS;
 use std::alloc::Global;
 use std::sync::ledger::Ledger;
@@ -96,7 +96,7 @@ fn refuse<H: Host>(alloc: Global, host: &mut H, refusal: Refusal) -> Result<(), 
     ensures disk { (H.state host.old).disk_faults ≤ (H.state host.new).disk_faults }
     ensures outs { (H.state host.old).out_faults ≤ (H.state host.new).out_faults }
 {
-    let Ok(line) = write_answer(alloc, &Answer::Refused(refusal)) else {
+    let Ok(line) = refusal_line(alloc, refusal) else {
         return Err(Halt::NoMemory);
     };
     let Ok(()) = host.put(&line) else {

@@ -16,9 +16,9 @@ ghost use Rattle.kishu_serve.specs.Texts.{texts_of};
 ghost use Rattle.kishu_serve.specs.Midway.{Replayed};
 ghost use Rattle.kishu_serve.specs.declared.live.Unrun.TheVariants.{HeapFull};
 
+use crate::answering::cell_line;
 use crate::live::{Live, Unrun};
 use kishu_journal::{Journal, JournalFault};
-use kishu_lines::{Answer, write_answer};
 use kishu_model::{Profile, Steps};
 use kishu_record::{Entry, encode};
 use std::alloc::{AllocError, Global};
@@ -134,12 +134,7 @@ impl Session {
     {
         self.live.clear_record();
         let result = self.live.run(alloc, text, steps)?;
-        let answer = Answer::Cell {
-            commit: self.commits + 1,
-            count: self.cells + 1,
-            result,
-        };
-        let line = write_answer(alloc, &answer)?;
+        let line = cell_line(alloc, self.commits + 1, self.cells + 1, result)?;
         let entry = one_cell(alloc, self.commits, text)?;
         let body = encode(alloc, &entry)?;
         Ok(Prepared { body, line })

@@ -7,7 +7,7 @@ use Rattle.kishu_model.specs.Request.{refused_with}
 use Rattle.kishu_model.specs.Step.{step}
 use Rattle.kishu_model.specs.Serve.{after}
 use Rattle.kishu_serve.specs.Attached.{IsAttached}
-use Rattle.kishu_serve.specs.Requests.{request_of}
+use Rattle.kishu_serve.specs.Requests.{request_of, IsShort}
 use Rattle.kishu_serve.proofs.Commits.{refused-stop}
 use Rattle.kishu_serve.proofs.session.Session.serve.Goals as goal
 
@@ -23,7 +23,7 @@ returns-then-self-ge-MOST_RECORDS-clause-stop g c told g' a =
     let st = g.H.Host.state in
     let q = request_of c.args.request in
     let refused : step g' q ≡ refused_with store_full g' =
-    ap (λ r. step g' (request_of r)) c.in-Cell.is ∙ step-full g' c.in-Cell.text.now (omega (arith, a.records, a.commits, c.if-self-ge-MOST_RECORDS.true)) in
+    ap (λ r. step g' (request_of r)) c.in-Cell.is ∙ step-full g' c.in-Cell.text.now (subst (λ r. IsShort (request_of r)) c.in-Cell.is c.requires.short) (omega (arith, a.records, a.commits, c.if-self-ge-MOST_RECORDS.true)) in
     refused-stop c.args.self.now (st c.args.host.now) g' q store_full a refused (st c.refuse-then-self-ge-MOST_RECORDS.new.host) (c.refuse-then-self-ge-MOST_RECORDS.ensures.stop g' q refused)
 
 pub returns-clause-attached : goal.returns-clause-attached
