@@ -1,5 +1,5 @@
 -- The members of a value that was read: their keys ascend. So what is found at as many keys as there are members is all of the object.
-use Rattle.std.proofs.Common.{◌≡◌, ◌⊎◌, inl, inr, ℕ, suc, List, Option, Some, None, option_map, Ordering, Less, Equal, Greater, is_eq, nat_cmp, subst, refl, sym, ap, ◌∙◌, arith}
+use Rattle.std.proofs.Common.{◌≡◌, ◌⊎◌, inl, inr, ℕ, List, Option, Some, None, option_map, option_and_then, Ordering, Less, Equal, Greater, is_eq, nat_cmp, subst, refl, sym, ap, ◌∙◌, arith}
 use Rattle.std.proofs.lemmas.Cmp.{nat_list_cmp_total, tied_itself}
 use Rattle.std.proofs.lemmas.Map.Text.{is_eq-slice_cmp}
 use Rattle.std.proofs.lemmas.Option.{none-some, same_Some, option_and_then_some}
@@ -7,10 +7,11 @@ use Rattle.std.proofs.lemmas.Slice.Eq.{bytes_eq-Decides}
 use Rattle.std.specs.Cmp.Lexicographic.{slice_cmp}
 use Rattle.std.specs.Ordering.{match_ordering, ordering_reverse}
 use Rattle.json.specs.Json as json
+use Rattle.json.specs.Lex.{tokens}
 use Rattle.serde_json.specs.Data.{Data, null, boolean, number, string, array, object, Members, no_members, member, put}
 use Rattle.serde_json.specs.Events.{members_len}
 use Rattle.serde_json.specs.Find.{get_member}
-use Rattle.serde_json.specs.Read.{read, of_json, of_items, of_members, number_of}
+use Rattle.serde_json.specs.Read.{max_depth, read, of_json, of_items, of_members, number_of}
 
 -- the key stands before the first one
 abbrev pub Below : List ℕ → Members → Type 0
@@ -72,7 +73,8 @@ ascends_json (json.array js) d is = mapped array (of_items js) d (λ _ _. tt) is
 ascends_json (json.object ms) d is = mapped object (of_members ms no_members) d (λ whole found. ascends_members ms no_members whole tt found) is
 
 pub ascends_read : (line : List ℕ) (d : Data) → read line ≡ Some d → AscendsIn d
-ascends_read line d is = option_and_then_some of_json _ d is (λ j _ found. ascends_json j d found)
+ascends_read line d is =
+    option_and_then_some of_json (option_and_then (λ p. json.if_last p.0 p.1) (json.value max_depth (tokens line))) d is (λ j _ found. ascends_json j d found)
 
 -- ---- what is found is all
 

@@ -1,25 +1,25 @@
 -- A line's reading is what its value tells, and nothing else.
-use Rattle.std.proofs.Common.{◌≡◌, ℕ, Bool, true, false, cond, List, Option, Some, None, option_map, option_and_then, codes, refl, sym, ap, ◌∙◌, subst, rules}
+use Rattle.std.proofs.Common.{◌≡◌, ℕ, Bool, true, false, cond, List, Option, Some, None, option_map, option_and_then, codes, refl, sym, ap, ◌∙◌, subst}
 use Rattle.std.proofs.lemmas.Bool.{eqb-true}
 use Rattle.std.proofs.lemmas.Option.{none-some, same_Some, option_and_then_some}
 use Rattle.std.proofs.lemmas.Slice.Eq.{bytes_eq-Decides}
 use Rattle.std.specs.Str.{bytes_eq, is_utf8}
 use Rattle.serde_json.specs.Data.{Data, null, boolean, number, string, array, object, Members, no_members, member}
 use Rattle.serde_json.specs.Events.{members_len}
-use Rattle.serde_json.specs.Find.{get, get_member, as_str}
+use Rattle.serde_json.specs.Find.{get_member, as_str}
 use Rattle.serde_json.specs.Read.{read}
 use Rattle.kishu_model.specs.Reading.{Tells, tells_cell, tells_checkout, tells_branch, tells_branch_at, tells_log, tells_status, Reads, has_members, text_at, cell_in, checkout_in, branch_at_in, branch_named_in, branch_in, alone_in, asked_in, request_in, reading}
 use Rattle.kishu_model.specs.Request.{Request, cell, checkout, branch, log, status}
 use Rattle.kishu_lines.proofs.Members.{Ascends, AscendsIn, ascends_read, one_member, two_members, three_members}
 
-pub told_is_read : (d : Data) (q : Request) → Tells d q → request_in d ≡ Some q
+pub told_is_read : {d : Data} {q : Request} → Tells d q → request_in d ≡ Some q
 unfolding request_in
-told_is_read _ _ (tells_cell text) = refl
-told_is_read _ _ (tells_checkout to) = refl
-told_is_read _ _ (tells_branch name) = refl
-told_is_read _ _ (tells_branch_at name at) = refl
-told_is_read _ _ tells_log = refl
-told_is_read _ _ tells_status = refl
+told_is_read (tells_cell text) = refl
+told_is_read (tells_checkout to) = refl
+told_is_read (tells_branch name) = refl
+told_is_read (tells_branch_at name at) = refl
+told_is_read tells_log = refl
+told_is_read tells_status = refl
 
 -- ---- the other way
 
@@ -154,4 +154,4 @@ read_as b o d q text value told = rw (text, value) told
 
 pub reading-from_Reads : (line : List ℕ) (q : Request) → Reads line q → reading line ≡ Some q
 unfolding reading
-reading-from_Reads line q reads = read_as (is_utf8 line) (read line) reads.data_read q reads.utf8 reads.is_read (told_is_read reads.data_read q reads.tells)
+reading-from_Reads line q reads = read_as (is_utf8 line) (read line) reads.data_read q reads.utf8 reads.is_read (told_is_read reads.tells)

@@ -44,7 +44,7 @@ short-is : (text : List ℕ) → length text ≤ longest_cell → nat_lt longest
 short-is text short = grind (arith, nat_tests)
 
 -- what becomes of a cell, by whether its text is too long and whether the store is full
-by_tests : List ℕ → Graph → Bool → Bool → Stepped
+abbrev by_tests : List ℕ → Graph → Bool → Bool → Stepped
 by_tests text g long full = if long then refused_with cell_too_long g else if full then refused_with store_full g else committed text g
 
 pub step-cell : (g : Graph) (text : List ℕ) → length text ≤ longest_cell → g.records < most_records → step g (cell text) ≡ committed text g

@@ -1,4 +1,4 @@
-use Rattle.std.proofs.Common.{◌≡◌, Option, Some, option_map, unwrap_or, false, eqb, ap, sym, ◌∙◌}
+use Rattle.std.proofs.Common.{Option, option_map, unwrap_or, false, eqb, ap, sym, ◌∙◌}
 use Rattle.serde_json.proofs.Views.{members_len-members_view}
 use Rattle.serde_json.specs.Data.{Members}
 use Rattle.serde_json.specs.Events.{members_len}
