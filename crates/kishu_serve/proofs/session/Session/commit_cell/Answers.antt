@@ -1,6 +1,8 @@
-use Rattle.std.proofs.Common.{◌+◌, length, refl, ◌∙◌, ap, arith}
+use Rattle.std.proofs.Common.{◌+◌, ◌++◌, ℕ, List, length, refl, ◌∙◌, ap, arith}
 use Rattle.kishu_journal.specs.Stands.{JournalState}
 use Rattle.kishu_language.specs.declared.profile.Profile.TheVariants.{One}
+use Rattle.kishu_model.specs.Request.{cell}
+use Rattle.kishu_model.specs.Serve.{answer_of}
 use Rattle.kishu_serve.proofs.Bodies.{length-body_of}
 use Rattle.kishu_serve.proofs.Commits.{entry_for, cell-is, next-is, append-stop, put-stop, line-is, recorded-is, charge-is, attached-after}
 use Rattle.kishu_serve.proofs.session.Session.commit_cell.Goals as goal
@@ -86,3 +88,12 @@ returns-clause-bytes g c told g' a =
     let place = ap (λ (j : JournalState). j.place) c.prepared.ensures.rest.0 in
     let body = c.deref.ensures.value ∙ c.in-Ok.ensures.body in
     recorded-is c.args.self.now (g.H.Host.state c.args.host.now) g' c.args.text.now a c.requires.room c.requires.short _ _ _ place body (c.put.ensures.kept ∙ c.in-Ok-append.ensures.bytes told)
+
+pub returns-clause-answered : goal.returns-clause-answered
+returns-clause-answered g c told g' a =
+    let st = g.H.Host.state in
+    let text = c.args.text.now in
+    let line = line-is c.args.self.now (st c.args.host.now) g' text a c.requires.room c.requires.short _ (c.deref-2.ensures.value ∙ c.in-Ok.ensures.line) in
+    c.in-Ok-put.ensures.ok (c.append.ensures.tells ∙ told)
+    ∙ ap (λ (l : List ℕ). (st c.append.new.host).out ++ l) line
+    ∙ ap (λ (out : List ℕ). out ++ answer_of g' (cell text)) c.append.ensures.out
