@@ -2,7 +2,8 @@
 use Rattle.std.proofs.Common.{◌≡◌, ◌⊎◌, ◌≤◌, ◌<◌, inl, inr, ⊎_elim, ℕ, List, [], ◌∷◌, ◌++◌, length, refl, sym, ◌∙◌, ap, subst, arith, Result, Ok, Err, IsOk, OnOk, Option, Some, None, is_some, true}
 use Rattle.std.proofs.lemmas.Bool.{cases_lt}
 use Rattle.std.proofs.lemmas.Bool.Decides.{nat_tests}
-use Rattle.std.specs.Prelude.{Bool, false, if◌then◌else◌, nat_le}
+use Rattle.std.specs.Prelude.{Bool, false, if◌then◌else◌, nat_le, ◌&&◌, codes}
+use Rattle.std.specs.Str.{bytes_eq}
 use Rattle.std.proofs.lemmas.List.{append-nil}
 use Rattle.kishu_host.specs.Host.{State, Now, Only, Keeps, Elapses}
 use Rattle.kishu_host.specs.Going.{weaker, goes_on}
@@ -16,6 +17,7 @@ use Rattle.kishu_journal.specs.Bytes.{fresh}
 use Rattle.kishu_serve.specs.declared.session.Session.{Session}
 use Rattle.kishu_serve.specs.Attached.{IsAttached}
 use Rattle.kishu_serve.specs.Headline.{IsPart, IsWhole, IsRecorded, IsWritten, HoldsNone, Stays, begun}
+use Rattle.kishu_serve.specs.Words.{form_of, is_plain_word}
 use Rattle.kishu_serve.proofs.Parts.{part-none}
 
 -- what a stop of the whole run may leave
@@ -84,7 +86,17 @@ pub succeeded : {T E P : Type 0} (r : Result T E) → IsOk r → OnOk r P → P
 succeeded (Ok x) ok p = p
 succeeded (Err e) ok p = absurd (cc ok)
 
--- what words of a form ask for
-pub asked : (form : Option Form) (q : Request) (input left : List ℕ) → is_some form ≡ true → q ≡ cell_request input → input ≡ left → q ∷ [] ≡ task form left
-asked (Some one_cell) q input left some is same = ap (λ (r : Request). r ∷ []) (is ∙ ap cell_request same)
-asked None q input left some is same = absurd (cc some)
+-- the one form that words may have
+one_form : (b : Bool) → is_some (if b then Some one_cell else None) ≡ true → (if b then Some one_cell else None) ≡ Some one_cell
+one_form true some = refl
+one_form false some = absurd (cc some)
+
+the_form : (words : List (List ℕ)) → is_some (form_of words) ≡ true → form_of words ≡ Some one_cell
+the_form [] some = absurd (cc some)
+the_form (store ∷ []) some = absurd (cc some)
+the_form (store ∷ command ∷ []) some = one_form (is_plain_word store && bytes_eq command (codes "cell")) some
+the_form (store ∷ command ∷ more ∷ words) some = absurd (cc some)
+
+-- what words of that form ask for
+pub asked : (words : List (List ℕ)) (q : Request) (input left : List ℕ) → is_some (form_of words) ≡ true → q ≡ cell_request input → input ≡ left → q ∷ [] ≡ task (form_of words) left
+asked words q input left some is same = ap (λ (r : Request). r ∷ []) (is ∙ ap cell_request same) ∙ ap (λ (form : Option Form). task form left) (sym (the_form words some))
