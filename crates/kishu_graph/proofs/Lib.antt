@@ -1,0 +1,9 @@
+pub mod Named
+pub mod Ordered
+pub mod Digits
+pub mod LineCuts
+pub mod Outlines
+pub mod Changing
+pub mod Soundness
+pub mod Targets
+pub mod Answered

@@ -1,0 +1,35 @@
+use Rattle.std.proofs.Common.{◌≡◌, ◌<◌, ◌∙◌, ap, sym, subst, true, Some, None, List, ℕ, length, map}
+use Rattle.std.specs.Prelude.{IfSome}
+use Rattle.kishu_store.specs.Branches.{commit_of}
+use Rattle.kishu_store.specs.References.{is_decimal, number_from}
+use Rattle.kishu_graph.specs.Kept.{Kept, outline, branches_of}
+use Rattle.kishu_graph.specs.Refusals.{at_commit}
+use Rattle.kishu_graph.proofs.Changing.{there-is, resolves-number}
+use Rattle.kishu_graph.proofs.Soundness.{finds_below}
+use Rattle.kishu_graph.proofs.Targets.{number-below, target-below, ok-below}
+use Rattle.kishu_graph.proofs.graph.Graph.resolve.Goals as goal
+
+pub returns-then-is_decimal-clause-value : goal.returns-then-is_decimal-clause-value
+returns-then-is_decimal-clause-value c g s =
+    let to = c.args.to.now in
+    let digits = c.as_bytes-digits.result.now in
+    let same : digits ≡ to = c.as_bytes-digits.ensures.value in
+    let decimal : is_decimal to ≡ true = sym (ap is_decimal same) ∙ sym c.is_decimal.ensures ∙ c.if-is_decimal.true in
+    c.at_number.ensures
+    ∙ there-is c.args.self.now g s (number_from 0 digits) c.numbered.result c.numbered.ensures
+    ∙ ap (λ (l : List ℕ). at_commit (number_from 0 l) g) same
+    ∙ resolves-number g to decimal
+
+pub returns-then-is_decimal-clause-there : goal.returns-then-is_decimal-clause-there
+returns-then-is_decimal-clause-there c =
+    let most = length c.args.self.now.commits in
+    let number = number_from 0 c.as_bytes-digits.result.now in
+    target-below most None c.at_number.result c.numbered.result c.at_number.ensures (number-below number most c.numbered.result c.numbered.ensures)
+
+pub returns-clause-there : goal.returns-clause-there
+returns-clause-there c =
+    let to = c.args.to.now in
+    let branches = branches_of c.self.inside.branches.entries in
+    let found = finds_below (length (map outline c.self.inside.commits.items)) to branches c.self.invariant.branches in
+    let there = subst (λ (k : Kept). IfSome (commit_of to branches) (λ x. x < length k.commits)) c.self.view_is found in
+    ok-below (length c.args.self.now.commits) (Some to) c.target_of.result (commit_of to branches) c.target_of.ensures there

@@ -1,0 +1,4 @@
+pub mod Kept
+pub mod Refusals
+pub mod Laws
+pub mod PathLaws

@@ -1,0 +1,58 @@
+// What is kept of commits, in the order of their numbers, and the way back by their parents.
+ghost use Rattle.std.specs.Prelude.{◌≡◌, ◌<◌, ◌++◌, ◌∷◌, [], List, length, map, IfOk};
+ghost use Rattle.std.specs.Vec.{vec_len, vec_capacity};
+ghost use Rattle.kishu_store.specs.Graph as model;
+ghost use Rattle.kishu_store.specs.Graph.{back_in};
+ghost use Rattle.kishu_graph.specs.Kept.{outline, outlines, HaveParents, path_numbers};
+
+use kishu_language::Profile;
+use std::alloc::{AllocError, Global};
+use std::rc::RcStr;
+
+/// What is kept of a commit: its cells' texts are in the store's file alone.
+#[derive(Drop)]
+pub(crate) struct Commit {
+    pub(crate) parent: u32,
+    pub(crate) cells: u32,
+    pub(crate) profile: Profile,
+    pub(crate) line: RcStr,
+}
+
+/// Adds a commit where there is room for one.
+pub(crate) fn push_in_room(commits: &mut Vec<Commit>, commit: Commit)
+    requires room { vec_len commits.old < vec_capacity commits.old }
+    ensures { commits.new.items ≡ commits.old.items ++ (commit ∷ []) }
+{
+    commits.push(commit).unwrap();
+}
+
+/// The numbers of a commit and of those before it, back to the root, which is left out.
+fn numbers_back(alloc: Global, commits: &[Commit], commit: u32) -> Result<Vec<u32>, AllocError>
+    requires there { commit < length commits.now }
+    requires parents { HaveParents (map outline commits.now) }
+    ensures { IfOk result (λ v. (ks : List model.Commit) → map outline commits.now ≡ outlines ks → v.items ≡ map (λ k. k.number) (back_in ks commit)) }
+{
+    let mut numbers = Vec::new(alloc);
+    let mut at = commit;
+    while at != 0 {
+        numbers.push(at)?;
+        at = commits[at as usize].parent;
+    }
+    Ok(numbers)
+}
+
+/// The numbers of the commits from the root to this one.
+pub(crate) fn path_to(
+    alloc: Global,
+    commits: &[Commit],
+    commit: u32,
+) -> Result<Vec<u32>, AllocError>
+    requires there { commit < length commits.now }
+    requires parents { HaveParents (map outline commits.now) }
+    ensures { IfOk result (λ v. (ks : List model.Commit) → map outline commits.now ≡ outlines ks → v.items ≡ path_numbers ks commit) }
+{
+    let mut numbers = numbers_back(alloc, commits, commit)?;
+    numbers.push(0)?;
+    numbers.reverse();
+    Ok(numbers)
+}

@@ -1,0 +1,233 @@
+// A graph, and what is read of it.
+ghost use Rattle.std.specs.Prelude.{◌≡◌, ◌<◌, ◌≤◌, suc, nat_lt, if◌then◌else◌, IsTrue, IfOk, IfSome, MatchOption, Some, None, length, map, option_map};
+ghost use Rattle.std.specs.List.{list_all};
+ghost use Rattle.std.specs.Rc.{rc_str_bytes};
+ghost use Rattle.kishu_store.specs.Graph as model;
+ghost use Rattle.kishu_store.specs.Graph.{new_graph, newest};
+ghost use Rattle.kishu_store.specs.Limits.{most_records};
+ghost use Rattle.kishu_language.specs.tokens.Names.{is_digit};
+ghost use Rattle.kishu_store.specs.References.{resolve, number_from};
+ghost use Rattle.kishu_store.specs.Targets.{target_of};
+ghost use Rattle.kishu_graph.specs.Kept.{StandsFor, IsSound, outline_in, path_numbers, branches_of, Rises};
+ghost use Rattle.kishu_graph.specs.Refusals.{start_of};
+
+use crate::branches;
+use crate::commits::{Commit, path_to};
+use crate::references::{is_decimal, number_of};
+use kishu_language::Profile;
+use kishu_store::Target;
+use std::alloc::{AllocError, Global};
+use std::collections::BTreeMap;
+use std::marker::Model;
+use std::rc::RcStr;
+
+/// Commits, branches, a head and a number of records.
+#[derive(Drop)]
+pub struct Graph {
+    pub(crate) alloc: Global,
+    /// By their numbers, the root first.
+    pub(crate) commits: Vec<Commit>,
+    pub(crate) branches: BTreeMap<RcStr, u32>,
+    pub(crate) head: Target,
+    pub(crate) records: u32,
+}
+
+impl Model for Graph {
+    ghost use Rattle.std.specs.Prelude.{map};
+    ghost use Rattle.kishu_store.specs.Targets.{target_of};
+    ghost use Rattle.kishu_graph.specs.Kept.{Kept, IsSound, outline, branches_of};
+
+    ghost Value = { Kept };
+
+    ghost view = { λ g. record { commits = map outline g.commits.items; branches = branches_of g.branches.entries; head = target_of g.head; records = g.records } };
+
+    ghost invariant = { λ g. IsSound (record { commits = map outline g.commits.items; branches = branches_of g.branches.entries; head = target_of g.head; records = g.records }) };
+}
+
+impl Graph {
+    /// The graph of a new store: the root, the branch `main` there, and the head on it.
+    pub fn new(alloc: Global) -> Result<Graph, AllocError>
+        ensures { IfOk result (λ graph. StandsFor graph new_graph) }
+    {
+        let mut commits = Vec::new(alloc);
+        commits.push(Commit {
+            parent: 0,
+            cells: 0,
+            profile: Profile::One,
+            line: RcStr::from_str(alloc, "")?,
+        })?;
+        let main = RcStr::from_str(alloc, "main")?;
+        let mut branches = BTreeMap::new(alloc);
+        branches::put(&mut branches, main.clone()?, 0)?;
+        Ok(Graph {
+            alloc,
+            commits,
+            branches,
+            head: Target {
+                commit: 0,
+                branch: Some(main),
+            },
+            records: 0,
+        })
+    }
+
+    /// How many commits there are, the root counted.
+    pub fn commits(&self) -> u32
+        ensures value { result ≡ length self.now.commits }
+        ensures newest { (g : model.Graph) → StandsFor self.now g → result ≡ suc (newest g) }
+        ensures sound { IsSound self.now }
+    {
+        self.commits.len() as u32
+    }
+
+    /// How many records there are.
+    pub fn records(&self) -> u32
+        ensures value { result ≡ self.now.records }
+        ensures most { result ≤ most_records }
+    {
+        self.records
+    }
+
+    /// The number of a commit's parent. The commit is there, and isn't the root.
+    pub fn parent(&self, commit: u32) -> u32
+        requires there { commit < length self.now.commits }
+        requires not_root { 0 < commit }
+        ensures value { (g : model.Graph) → StandsFor self.now g → result ≡ (outline_in g.commits commit).parent }
+        ensures older { result < commit }
+    {
+        self.commits[commit as usize].parent
+    }
+
+    /// The profile under which a commit's cells run. The commit is there.
+    pub fn profile(&self, commit: u32) -> Profile
+        requires { commit < length self.now.commits }
+        ensures { (g : model.Graph) → StandsFor self.now g → result ≡ (outline_in g.commits commit).profile }
+    {
+        self.commits[commit as usize].profile
+    }
+
+    /// How many cells a commit has. The commit is there.
+    pub fn cells(&self, commit: u32) -> u32
+        requires { commit < length self.now.commits }
+        ensures { (g : model.Graph) → StandsFor self.now g → result ≡ (outline_in g.commits commit).cells }
+    {
+        self.commits[commit as usize].cells
+    }
+
+    /// The line by which a commit is told. The commit is there.
+    pub fn line(&self, commit: u32) -> &RcStr
+        requires { commit < length self.now.commits }
+        ensures { (g : model.Graph) → StandsFor self.now g → rc_str_bytes result.now ≡ (outline_in g.commits commit).line }
+    {
+        &self.commits[commit as usize].line
+    }
+
+    /// Where the head stands.
+    pub fn head(&self) -> &Target
+        ensures value { target_of result.now ≡ self.now.head }
+        ensures there { result.now.commit < length self.now.commits }
+    {
+        &self.head
+    }
+
+    /// The branches with the numbers of their commits, in byte order of the names. An error says that
+    /// no memory is left.
+    pub fn branches(&self) -> Result<Vec<(RcStr, u32)>, AllocError>
+        ensures branches { IfOk result (λ all. branches_of all.items ≡ self.now.branches) }
+        ensures order { Rises (map (λ b. b.0) self.now.branches) }
+    {
+        branches::all(self.alloc, &self.branches)
+    }
+
+    /// What a text names: decimal digits without leading zeros the commit of that number, any other
+    /// text the branch of that name; or none. An error says that no memory is left.
+    pub fn resolve(&self, to: &str) -> Result<Option<Target>, AllocError>
+        ensures value { IfOk result (λ o. (g : model.Graph) → StandsFor self.now g → option_map target_of o ≡ resolve g to.now) }
+        ensures there { IfOk result (λ o. IfSome o (λ t. t.commit < length self.now.commits)) }
+    {
+        let digits = to.as_bytes();
+        if is_decimal(digits) {
+            return Ok(at_number(self.numbered(digits)));
+        }
+        branches::target_of(&self.branches, to)
+    }
+
+    /// The numbers of the commits from the root, which has the number 0, to this one, which is there.
+    /// An error says that no memory is left.
+    pub fn path(&self, commit: u32) -> Result<Vec<u32>, AllocError>
+        requires { commit < length self.now.commits }
+        ensures { IfOk result (λ v. (g : model.Graph) → StandsFor self.now g → v.items ≡ path_numbers g.commits commit) }
+    {
+        path_to(self.alloc, &self.commits, commit)
+    }
+
+    /// The commit of a number, where the graph has one.
+    pub(crate) fn there(&self, commit: u32) -> Option<u32>
+        ensures { result ≡ (if nat_lt commit (length self.now.commits) then Some commit else None) }
+    {
+        below(commit, self.commits())
+    }
+
+    /// The commit of the number that these digits spell.
+    fn numbered(&self, digits: &[u8]) -> Option<u32>
+        requires { IsTrue (list_all is_digit digits.now) }
+        ensures { result ≡ (if nat_lt (number_from 0 digits.now) (length self.now.commits) then Some (number_from 0 digits.now) else None) }
+    {
+        let commits = self.commits();
+        counted(number_of(digits), commits)
+    }
+
+    /// The commit of what a text names.
+    pub(crate) fn find(&self, to: &str) -> Option<u32>
+        ensures value { (g : model.Graph) → StandsFor self.now g → result ≡ option_map (λ t. t.commit) (resolve g to.now) }
+        ensures there { IfSome result (λ c. c < length self.now.commits) }
+    {
+        let digits = to.as_bytes();
+        if is_decimal(digits) {
+            self.numbered(digits)
+        } else {
+            branches::commit_of(&self.branches, to)
+        }
+    }
+
+    /// Where a branch begins: at the commit of what a text names, or else at the head's.
+    pub(crate) fn start(&self, at: Option<&str>) -> Option<u32>
+        ensures value { (g : model.Graph) → StandsFor self.now g → result ≡ start_of (option_map (λ to. to.now) at.entry) g }
+        ensures there { IfSome result (λ c. c < length self.now.commits) }
+    {
+        match at {
+            Some(to) => self.find(to),
+            None => Some(self.head.commit),
+        }
+    }
+}
+
+/// Where a head stands that goes to the commit of a number.
+pub(crate) fn at_number(commit: Option<u32>) -> Option<Target>
+    ensures { option_map target_of result ≡ option_map (λ c. record { commit = c; branch = None }) commit }
+{
+    match commit {
+        Some(commit) => Some(Target {
+            commit,
+            branch: None,
+        }),
+        None => None,
+    }
+}
+
+/// A number of a commit, where there are so many commits.
+fn below(number: u32, commits: u32) -> Option<u32>
+    ensures { result ≡ (if nat_lt number commits then Some number else None) }
+{
+    if number < commits { Some(number) } else { None }
+}
+
+/// The same of a number that may be missing.
+fn counted(number: Option<u32>, commits: u32) -> Option<u32>
+    ensures { MatchOption number (result ≡ None) (λ n. result ≡ (if nat_lt n commits then Some n else None)) }
+{
+    match number {
+        Some(number) => below(number, commits),
+        None => None,
+    }
+}

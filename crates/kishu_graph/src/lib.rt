@@ -1,0 +1,21 @@
+//! The graph of commits, its branches and its head, as a session keeps it: of each commit its parent,
+//! its profile, the number of its cells and its line. Their texts stay in the store's file.
+//!
+//! What the calls promise is said of each graph of the definition that a `Graph` stands for
+//! (`StandsFor`): they answer what it says, and stand for the changed one then.
+#![tactic(auto)]
+
+mod branches;
+mod changes;
+mod commits;
+mod fault;
+mod graph;
+mod lines;
+mod references;
+#[cfg(test)]
+mod tests;
+
+pub use fault::GraphFault;
+pub use graph::Graph;
+pub use kishu_store::Target;
+pub use lines::line_of;
