@@ -16,11 +16,8 @@ use crate::graph::at_number;
 use crate::references::is_branch_name;
 use crate::{Graph, GraphFault, branches};
 use kishu_language::Profile;
-use kishu_store::Target;
+use kishu_store::{MOST_RECORDS, Target};
 use std::rc::RcStr;
-
-/// The most records that a store holds.
-const MOST_RECORDS: u32 = 1_000_000;
 
 impl Graph {
     /// Adds a commit to the head's, and answers its number: its profile, how many cells it has, and its
