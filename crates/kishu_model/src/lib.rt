@@ -18,5 +18,6 @@ pub use kishu_meaning::{
     Budget, Builtin, CellResult, ClassId, Key, KeyPart, NodeId, Outcome, Output, Steps, Value,
     builtin_name, builtin_named, class_name, class_named,
 };
+pub use kishu_store::Target;
 pub use refusal::Refusal;
 pub use request::Request;
