@@ -1,3 +1,6 @@
+ghost use Rattle.std.specs.Prelude.{IsSome};
+ghost use Rattle.kishu_model.specs.Values.{answer_of};
+
 use crate::{read_request, write_answer};
 use kishu_model::{Answer, CellResult, Outcome, Output, PathRow, Refusal, Request};
 use std::alloc::Global;
@@ -23,7 +26,9 @@ fn told(alloc: Global, request: &Option<Request>) -> Result<String, Fail> {
     })
 }
 
-fn line_of(alloc: Global, answer: &Answer) -> Result<String, Fail> {
+fn line_of(alloc: Global, answer: &Answer) -> Result<String, Fail>
+    requires { IsSome (answer_of answer.now) }
+{
     Ok(String::from_utf8(write_answer(alloc, answer)?)?)
 }
 
