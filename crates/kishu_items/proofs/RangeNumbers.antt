@@ -1,10 +1,15 @@
--- The numbers of a range lie between its start and its stop.
-use Rattle.std.proofs.Common.{◌≡◌, refl, arith, ℕ, zero, suc, ◌+◌, ◌-◌, ◌*◌, ◌/◌, ◌<◌, ◌≤◌, ◌^◌, Bool, true, false}
+-- The numbers of a range: they lie between its start and its stop, and follow one another.
+use Rattle.std.proofs.Common.{◌≡◌, ◌∙◌, ap, sym, refl, arith, ℕ, zero, suc, ◌+◌, ◌-◌, ◌*◌, ◌/◌, ◌<◌, ◌≤◌, ◌^◌, Bool, true, false, List, [], ◌∷◌, ◌++◌, map, add-one}
 use lib.Signed.{mag}
-use Rattle.std.specs.Prelude.{ℤ, pos, negsuc, ◌+ℤ◌, ◌-ℤ◌, ◌<ℤ◌, ◌≤ℤ◌, int_lt, unsigned_abs, if◌then◌else◌}
+use Rattle.std.specs.Prelude.{ℤ, pos, negsuc, ◌+ℤ◌, ◌*ℤ◌, ◌-ℤ◌, ◌<ℤ◌, ◌≤ℤ◌, int_lt, unsigned_abs, if◌then◌else◌}
 use Rattle.std.proofs.lemmas.Int.{ints}
+use Rattle.std.proofs.lemmas.List.{map-append}
+use Rattle.std.proofs.Math.IntN.{suc_ℤ-*ℤ, zero-*ℤ, +ℤ_idr}
 use Rattle.std.proofs.Math.Nat.{mul-le-mul_left}
+use Rattle.kishu_meaning.specs.declared.value.Value as rust
 use Rattle.kishu_meaning.specs.comparing.Equal.{steps_between, range_length}
+use Rattle.kishu_meaning.specs.values.Texts.{places}
+use Rattle.kishu_meaning.specs.values.Values.{value_of, integer}
 
 -- As many whole steps as there are don't pass the way.
 within_way : (k d n : ℕ) → k < (d - 1) / suc n + 1 → 0 < d → k * suc n < d
@@ -72,3 +77,21 @@ is_up z h = grind (arith, ints)
 
 pub is_down : (z : ℤ) → int_lt (pos 0) z ≡ false → z ≤ℤ pos 0
 is_down z h = grind (arith, ints)
+
+-- ---- the numbers in order
+
+further : (a step : ℤ) (m : ℕ) → (a +ℤ step) +ℤ (pos m *ℤ step) ≡ a +ℤ (pos (suc m) *ℤ step)
+further a step m = let more : pos (suc m) *ℤ step ≡ pos m *ℤ step +ℤ step = suc_ℤ-*ℤ (pos m) step in omega (arith, ints, more)
+
+-- one more place stands behind the others
+pub places_end : (a step : ℤ) (m : ℕ) → places a step (suc m) ≡ places a step m ++ (a +ℤ (pos m *ℤ step)) ∷ []
+places_end a step zero = ap (λ z. z ∷ []) (sym (ap (λ z. a +ℤ z) (zero-*ℤ step) ∙ +ℤ_idr a))
+places_end a step (suc m) = ap (λ zs. a ∷ zs) (places_end (a +ℤ step) step m) ∙ ap (λ z. a ∷ (places (a +ℤ step) step m ++ z ∷ [])) (further a step m)
+
+pub number_on : (items new : List rust.Value) (v : rust.Value) (start step : ℤ) (k : ℕ) → value_of v ≡ integer (start +ℤ (pos k *ℤ step)) → new ≡ items ++ v ∷ []
+    → map value_of items ≡ map integer (places start step k) → map value_of new ≡ map integer (places start step (k + 1))
+number_on items new v start step k is made told = rw add-one (
+    ap (map value_of) made ∙ map-append value_of items (v ∷ [])
+    ∙ ap (λ vs. vs ++ value_of v ∷ []) told ∙ ap (λ w. map integer (places start step k) ++ w ∷ []) is
+    ∙ sym (map-append integer (places start step k) ((start +ℤ (pos k *ℤ step)) ∷ []))
+    ∙ ap (map integer) (sym (places_end start step k)))

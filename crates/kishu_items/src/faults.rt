@@ -11,6 +11,7 @@ ghost use Rattle.kishu_meaning.specs.values.Sound.{is_sound};
 ghost use Rattle.kishu_meaning.specs.values.Values.{value_of};
 ghost use Rattle.kishu_heap.specs.Compared as compared;
 ghost use Rattle.kishu_heap.specs.declared.fault.CallFault.TheVariants as faults;
+ghost use Rattle.kishu_heap.specs.Costs.{Reads};
 ghost use Rattle.kishu_items.specs.Called.{Gives};
 
 use crate::kinds::kind_name;
@@ -104,8 +105,7 @@ pub fn not_iterable_text<L: Ledger>(
 ) -> Result<RcStr, AllocError>
     requires sound { IsTrue (is_sound (length heap.now) (value_of value.now)) }
     ensures text { IfOk result (λ t. chars (rc_str_bytes t) ≡ quoted_kind heap.now (value_of value.now) ++ codes " object is not iterable") }
-    ensures counted { steps.old ≤ steps.new }
-    ensures reads { steps.new ≤ steps.old + 1 }
+    ensures reads { Reads 1 steps.old steps.new }
 {
     let kind = kind_name(value, heap, steps);
     RcStr::from_string(quoted(alloc, "", kind, " object is not iterable")?)
@@ -131,8 +131,7 @@ pub fn bad_operands_text<L: Ledger>(
     requires left { IsTrue (is_sound (length heap.now) (value_of left.now)) }
     requires right { IsTrue (is_sound (length heap.now) (value_of right.now)) }
     ensures text { IfOk result (λ t. chars (rc_str_bytes t) ≡ codes "bad operand types for " ++ sign.now ++ codes ": " ++ quoted_kind heap.now (value_of left.now) ++ codes " and " ++ quoted_kind heap.now (value_of right.now)) }
-    ensures counted { steps.old ≤ steps.new }
-    ensures reads { steps.new ≤ steps.old + 2 }
+    ensures reads { Reads 2 steps.old steps.new }
 {
     let left = kind_name(left, heap, steps);
     let right = kind_name(right, heap, steps);
@@ -148,8 +147,7 @@ pub fn bad_index_text<L: Ledger>(
 ) -> Result<RcStr, AllocError>
     requires sound { IsTrue (is_sound (length heap.now) (value_of value.now)) }
     ensures text { IfOk result (λ t. chars (rc_str_bytes t) ≡ codes "bad index type: " ++ quoted_kind heap.now (value_of value.now)) }
-    ensures counted { steps.old ≤ steps.new }
-    ensures reads { steps.new ≤ steps.old + 1 }
+    ensures reads { Reads 1 steps.old steps.new }
 {
     let kind = kind_name(value, heap, steps);
     RcStr::from_string(quoted(alloc, "bad index type: ", kind, "")?)
@@ -164,8 +162,7 @@ pub fn unhashable_text<L: Ledger>(
 ) -> Result<RcStr, AllocError>
     requires sound { IsTrue (is_sound (length heap.now) (value_of value.now)) }
     ensures text { IfOk result (λ t. chars (rc_str_bytes t) ≡ codes "unhashable key: " ++ quoted_kind heap.now (value_of value.now)) }
-    ensures counted { steps.old ≤ steps.new }
-    ensures reads { steps.new ≤ steps.old + 1 }
+    ensures reads { Reads 1 steps.old steps.new }
 {
     let kind = kind_name(value, heap, steps);
     RcStr::from_string(quoted(alloc, "unhashable key: ", kind, "")?)

@@ -6,6 +6,7 @@ ghost use Rattle.kishu_meaning.specs.moments.Moment.{Moment};
 ghost use Rattle.kishu_meaning.specs.values.Sound.{is_sound};
 ghost use Rattle.kishu_meaning.specs.values.Values.{Node, value_of};
 ghost use Rattle.kishu_meaning.specs.declared.budget.Budget.{Budget};
+ghost use Rattle.kishu_heap.specs.Costs.{Reads};
 ghost use Rattle.kishu_items.specs.Called.{moment_of, Gives};
 
 use crate::faults::{INDEX_ERROR, TYPE_ERROR, bad_index_text, plain_text, raise};
@@ -39,8 +40,7 @@ pub fn index_of<L: Ledger>(
 ) -> Result<i128, CallFault>
     requires sound { IsTrue (is_sound (length heap.now) (value_of value.now)) }
     ensures gives { (b : Budget) → Gives (λ z. z) result (moment_of heap.now b) (index_of (value_of value.now) (moment_of heap.now b)) }
-    ensures counted { steps.old ≤ steps.new }
-    ensures reads { steps.new ≤ steps.old + 1 }
+    ensures reads { Reads 1 steps.old steps.new }
 {
     match number_in(value) {
         Some(number) => Ok(number),

@@ -8,6 +8,8 @@ mod faults;
 mod indexes;
 mod keys;
 mod kinds;
+mod lists;
+mod ranges;
 mod sequences;
 mod sorting;
 mod spending;
@@ -21,6 +23,8 @@ pub use faults::{
 pub use indexes::{bound_in, index_of, number_in, place_in, place_of};
 pub use keys::{copied_key, copied_keys, copied_map, key_of, value_of_key, values_of_keys};
 pub use kinds::kind_name;
+pub use lists::push_all;
+pub use ranges::number_at;
 pub use sequences::{
     character_text, copied_all, count_in, items_of, not_iterable, not_iterable_value, walked,
 };
