@@ -21,27 +21,6 @@ use std::alloc::{AllocError, Global};
 use std::rc::RcStr;
 use std::sync::ledger::Ledger;
 
-/// The class `OverflowError`.
-pub const OVERFLOW_ERROR: ClassId = ClassId(10);
-
-/// The class `ZeroDivisionError`.
-pub const ZERO_DIVISION_ERROR: ClassId = ClassId(11);
-
-/// The class `IndexError`.
-pub const INDEX_ERROR: ClassId = ClassId(15);
-
-/// The class `KeyError`.
-pub const KEY_ERROR: ClassId = ClassId(16);
-
-/// The class `RecursionError`.
-pub const RECURSION_ERROR: ClassId = ClassId(21);
-
-/// The class `TypeError`.
-pub const TYPE_ERROR: ClassId = ClassId(23);
-
-/// The class `ValueError`.
-pub const VALUE_ERROR: ClassId = ClassId(24);
-
 /// An exception of this class with this text.
 pub fn raise<T>(class: ClassId, text: RcStr) -> Result<T, CallFault>
     ensures { result ≡ Err (faults.Raise class text) }
@@ -85,7 +64,7 @@ pub fn bad_arguments(alloc: Global, name: &str) -> Result<Value, CallFault>
     requires { IsTrue (list_all (λ c. nat_lt c 128) name.now) }
     ensures { (s : Moment) → Gives value_of result s (bad_arguments name.now s) }
 {
-    raise(TYPE_ERROR, bad_arguments_text(alloc, name)?)
+    raise(ClassId::TYPE_ERROR, bad_arguments_text(alloc, name)?)
 }
 
 fn quoted(alloc: Global, front: &str, name: &str, back: &str) -> Result<String, AllocError>
@@ -176,7 +155,7 @@ pub fn compared<T>(alloc: Global, answer: Result<T, CompareFault>) -> Result<T, 
     match answer {
         Ok(value) => Ok(value),
         Err(CompareFault::Depth) => raise(
-            RECURSION_ERROR,
+            ClassId::RECURSION_ERROR,
             plain_text(alloc, "depth limit reached")?,
         ),
         Err(CompareFault::Spent | CompareFault::Unordered) => Err(CallFault::Spent),

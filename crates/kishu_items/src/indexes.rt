@@ -9,9 +9,9 @@ ghost use Rattle.kishu_meaning.specs.declared.budget.Budget.{Budget};
 ghost use Rattle.kishu_heap.specs.Costs.{Reads};
 ghost use Rattle.kishu_items.specs.Called.{moment_of, Gives};
 
-use crate::faults::{INDEX_ERROR, TYPE_ERROR, bad_index_text, plain_text, raise};
+use crate::faults::{bad_index_text, plain_text, raise};
 use kishu_heap::{CallFault, Heap};
-use kishu_meaning::{Budget, Steps, Value};
+use kishu_meaning::{Budget, ClassId, Steps, Value};
 use std::alloc::Global;
 use std::sync::ledger::Ledger;
 
@@ -44,7 +44,10 @@ pub fn index_of<L: Ledger>(
 {
     match number_in(value) {
         Some(number) => Ok(number),
-        None => raise(TYPE_ERROR, bad_index_text(alloc, value, heap, steps)?),
+        None => raise(
+            ClassId::TYPE_ERROR,
+            bad_index_text(alloc, value, heap, steps)?,
+        ),
     }
 }
 
@@ -73,7 +76,10 @@ pub fn place_of(alloc: Global, len: usize, index: i128) -> Result<usize, CallFau
 {
     match place_in(len, index) {
         Some(place) => Ok(place),
-        None => raise(INDEX_ERROR, plain_text(alloc, "index out of range")?),
+        None => raise(
+            ClassId::INDEX_ERROR,
+            plain_text(alloc, "index out of range")?,
+        ),
     }
 }
 

@@ -15,11 +15,11 @@ ghost use Rattle.kishu_heap.specs.Costs.{Reads, Spends};
 ghost use Rattle.kishu_items.specs.Called.{moment_of, Gives};
 ghost use Rattle.kishu_items.specs.Contents.{IsGrown};
 
-use crate::faults::{TYPE_ERROR, raise, unhashable_text};
+use crate::faults::{raise, unhashable_text};
 use crate::spending::spend;
 use indexmap::IndexMap;
 use kishu_heap::{CallFault, Heap, Node};
-use kishu_meaning::{Budget, Key, KeyPart, NodeId, Steps, Value};
+use kishu_meaning::{Budget, ClassId, Key, KeyPart, NodeId, Steps, Value};
 use std::alloc::{AllocError, Global};
 use std::sync::ledger::Ledger;
 
@@ -50,7 +50,10 @@ fn part_of<L: Ledger>(
 {
     match part_in(value)? {
         Some(part) => Ok(part),
-        None => raise(TYPE_ERROR, unhashable_text(alloc, value, heap, steps)?),
+        None => raise(
+            ClassId::TYPE_ERROR,
+            unhashable_text(alloc, value, heap, steps)?,
+        ),
     }
 }
 
@@ -98,7 +101,10 @@ fn unhashable<L: Ledger>(
     ensures gives { (b : Budget) → Gives key_of result (moment_of heap.now b) (unhashable (value_of value.now) (moment_of heap.now b)) }
     ensures reads { Reads 1 steps.old steps.new }
 {
-    raise(TYPE_ERROR, unhashable_text(alloc, value, heap, steps)?)
+    raise(
+        ClassId::TYPE_ERROR,
+        unhashable_text(alloc, value, heap, steps)?,
+    )
 }
 
 // The key that a node is: it must be a tuple.

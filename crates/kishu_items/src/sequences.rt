@@ -14,12 +14,12 @@ ghost use Rattle.kishu_heap.specs.Costs.{Reads, Spends};
 ghost use Rattle.kishu_items.specs.Called.{moment_of, Gives};
 ghost use Rattle.kishu_items.specs.Contents.{IsGrown};
 
-use crate::faults::{TYPE_ERROR, not_iterable_text, raise};
+use crate::faults::{not_iterable_text, raise};
 use crate::keys::{copied_keys, values_of_keys};
 use crate::ranges::range_items;
 use crate::spending::spend;
 use kishu_heap::{CallFault, Heap, Node, range_length};
-use kishu_meaning::{Budget, NodeId, Steps, Value};
+use kishu_meaning::{Budget, ClassId, NodeId, Steps, Value};
 use kishu_text::count;
 use std::alloc::{AllocError, Global};
 use std::rc::RcStr;
@@ -142,7 +142,10 @@ pub fn not_iterable<L: Ledger>(
     ensures sound { IfOk result (λ v. IsTrue (are_sound (length heap.now) (map value_of v.items))) }
     ensures reads { Reads 1 steps.old steps.new }
 {
-    raise(TYPE_ERROR, not_iterable_text(alloc, value, heap, steps)?)
+    raise(
+        ClassId::TYPE_ERROR,
+        not_iterable_text(alloc, value, heap, steps)?,
+    )
 }
 
 /// The items of a sequence, or a TypeError: a dict has its keys, of which those that are tuples are
@@ -208,5 +211,8 @@ pub fn not_iterable_value<L: Ledger>(
     ensures gives { (b : Budget) → Gives value_of result (moment_of heap.now b) (not_iterable (value_of value.now) (moment_of heap.now b)) }
     ensures reads { Reads 1 steps.old steps.new }
 {
-    raise(TYPE_ERROR, not_iterable_text(alloc, value, heap, steps)?)
+    raise(
+        ClassId::TYPE_ERROR,
+        not_iterable_text(alloc, value, heap, steps)?,
+    )
 }
