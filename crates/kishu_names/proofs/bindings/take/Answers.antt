@@ -3,7 +3,7 @@ use Rattle.std.specs.Prelude.{option_map}
 use Rattle.kishu_meaning.specs.values.Values.{value_of}
 use Rattle.kishu_names.specs.Namespace.{names_of}
 use Rattle.kishu_names.proofs.Bound.{finds, unbinds}
-use Rattle.kishu_names.proofs.names.take.Goals as goal
+use Rattle.kishu_names.proofs.bindings.take.Goals as goal
 
 pub returns-clause-value : goal.returns-clause-value
 returns-clause-value c = ap (option_map value_of) c.remove.ensures.value ∙ finds c.args.name.now c.args.bound.now.entries
