@@ -18,9 +18,6 @@ use kishu_meaning::{Budget, ClassId, NodeId, Steps, Value};
 use std::alloc::{AllocError, Global};
 use std::sync::ledger::Ledger;
 
-// The class whose text is its argument's repr.
-const KEY_ERROR: u8 = 16;
-
 // The text of a value that has no node: a text is itself. A node's is empty here.
 fn shown_text(alloc: Global, value: &Value) -> Result<String, AllocError>
     ensures { IfOk result (λ s. chars (string_bytes s) ≡ plain_shown (value_of value.now)) }
@@ -133,7 +130,7 @@ fn push_argument<L: Ledger>(
     ensures gives { Makes result draft.new (onto draft.old (argument_text (repr_nodes heap.now room []) (show_nodes heap.now room) class.0 (value_of argument.now))) }
     ensures takes { Takes 2 draft.old.left steps.old draft.new.left steps.new }
 {
-    if class.0 == KEY_ERROR {
+    if class == ClassId::KEY_ERROR {
         return push_value(heap, argument, room, &Around::Nothing, draft, steps);
     }
     push_shown(heap, argument, room, draft, steps)
