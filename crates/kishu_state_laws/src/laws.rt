@@ -4,7 +4,8 @@ ghost use Rattle.kishu_language.specs.declared.profile.Profile.{Profile};
 ghost use Rattle.kishu_language.specs.reading.ReadText.{read_chars, ReadsDef};
 ghost use Rattle.kishu_language.specs.trees.Tree.{Definition, Expression, Statement, Statements, Text, statements};
 ghost use Rattle.kishu_meaning.specs.cells.Meaning.{acts, all_calls, cell, expr, run};
-ghost use Rattle.kishu_meaning.specs.moments.Moment.{Moment};
+ghost use Rattle.kishu_meaning.specs.declared.result.Outcome.TheVariants.{Stopped};
+ghost use Rattle.kishu_meaning.specs.moments.Moment.{Moment, most_steps};
 ghost use Rattle.kishu_meaning.specs.values.Sound.{default_count};
 ghost use Rattle.kishu_meaning.specs.values.Values.{State, empty};
 ghost use Rattle.kishu_replay.specs.Replay.{after_cells, replay};
@@ -17,13 +18,14 @@ ghost use Rattle.kishu_objects.specs.Loading.{with_picture};
 ghost use Rattle.kishu_objects.specs.Picture.{picture, whole};
 ghost use Rattle.kishu_meaning.specs.moments.Accesses.{unbind};
 ghost use Rattle.kishu_pairing_laws.specs.World.{end_of};
-ghost use Rattle.kishu_state_laws.specs.Moments.{Holds, Leads};
+ghost use Rattle.kishu_state_laws.specs.Budgets.{run_within};
+ghost use Rattle.kishu_state_laws.specs.Moments.{Holds, Leads, widest_budget};
 ghost use Rattle.kishu_objects.specs.State.{Grown, IsCell, IsCode, IsState};
 ghost use Rattle.kishu_state_laws.specs.trees.Sound.{ExpressionSound, StatementsSound};
 ghost use Rattle.kishu_store.specs.Graph.{Commit, Graph, path};
 ghost use Rattle.kishu_store.specs.Holds.{Holds as HoldsGraph};
 ghost use Rattle.std.specs.List.{AllByRecursion};
-ghost use Rattle.std.specs.Prelude.{List, Ok, length, ℕ, ◌≡◌, ◌↔◌, ◌≤◌, ◌<◌, ◌^◌};
+ghost use Rattle.std.specs.Prelude.{List, Ok, length, ℕ, ◌+◌, ◌≡◌, ◌↔◌, ◌≤◌, ◌<◌, ◌^◌};
 ghost use Rattle.std.specs.Str.{IsUtf8, chars};
 
 /// The empty state is a state, and a run leads from a state to a state.
@@ -88,4 +90,16 @@ pub fn states_fit()
     ensures bytes { (p : State) → IsState p → length (state_bytes p) < 2 ^ 32 → StateFits p }
     ensures picture { (s : State) (names : List (List ℕ)) → IsState s → Rise names → length (picture_bytes s names) < 2 ^ 32 → StateFits (picture s names) }
     ensures same { (s t : State) → IsState s → IsState t → length (state_bytes (whole s)) < 2 ^ 32 → length (state_bytes (whole t)) < 2 ^ 32 → (Same s t ↔ (state_bytes (whole s) ≡ state_bytes (whole t))) }
+{}
+
+/// A run is stopped exactly where it asks for a step past its budget: then its whole budget is
+/// charged, and with one step more it would take that one too. Else each larger budget gives the same run.
+/// `run_within` is the run with a budget of any size, and `run` the one with that of a cell.
+pub fn budgets_stop_runs()
+    ensures budget { (profile : Profile) (text : List ℕ) (s : State) → run_within most_steps profile text s ≡ run profile text s }
+    ensures most { (n : ℕ) (profile : Profile) (text : List ℕ) (s : State) → (run_within n profile text s).charge ≤ n }
+    ensures whole { (n : ℕ) (profile : Profile) (text : List ℕ) (s : State) → n < widest_budget → IsCell text → IsState s → (run_within n profile text s).report.outcome ≡ Stopped → (run_within n profile text s).charge ≡ n }
+    ensures further { (n : ℕ) (profile : Profile) (text : List ℕ) (s : State) → n < widest_budget → IsCell text → IsState s → ((run_within n profile text s).report.outcome ≡ Stopped ↔ (run_within (n + 1) profile text s).charge ≡ n + 1) }
+    ensures larger { (n m : ℕ) (profile : Profile) (text : List ℕ) (s : State) → n ≤ m → m ≤ widest_budget → IsCell text → IsState s → ((run_within n profile text s).report.outcome ≡ Stopped → ⊥) → run_within m profile text s ≡ run_within n profile text s }
+    ensures cells { (profile : Profile) (text : List ℕ) (s : State) → IsCell text → IsState s → (run profile text s).report.outcome ≡ Stopped → (run profile text s).charge ≡ most_steps }
 {}

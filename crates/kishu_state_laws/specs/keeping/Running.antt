@@ -79,7 +79,7 @@ enter_s calls cs k d None n b h = bad_arguments_s d.title (text_title d.title n)
 
 call_s : (n : ℕ) → CallsSafe (call n)
 unfolding call
-call_s zero k profile code vs g c h e = raise_s 21 (codes "depth limit reached") refl refl
+call_s zero k profile code vs g c h e = raise_s _ (codes "depth limit reached") refl refl
 call_s (suc n) k profile code vs g c h e =
     let d = c.function in
     let tree = tree_sound profile code c.utf8 c.short (t.define d.title d.parameters d.body code ∷ []) c.reads in
