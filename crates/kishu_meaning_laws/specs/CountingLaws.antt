@@ -4,7 +4,7 @@ use Rattle.std.specs.Str.{bytes_eq}
 use Rattle.kishu_meaning.specs.values.Keys.{is_one}
 use Rattle.kishu_meaning.specs.values.Values.{Value, Node}
 use Rattle.kishu_meaning.specs.values.Nodes.{value_at, list_in, tuple_in, dict_in, object_in}
-use Rattle.kishu_meaning.specs.moments.Counting.{Count, ◌>>=◌, ◌>>◌, give, spend}
+use Rattle.kishu_meaning.specs.moments.Counting.{Count, ◌>>◌, give, spend}
 use Rattle.kishu_meaning.specs.comparing.Equal as e
 use Rattle.kishu_meaning.specs.comparing.Equal.{by_both, node_in, is_same, is_equal, pair_steps, less_plain, equal_by, pair_equal, equal_nodes, less_by, less_nodes, room_at, equal_in, less_in}
 use Rattle.kishu_meaning.specs.items.Finding.{is_found, place_from, count_from}

@@ -1,7 +1,7 @@
 -- Runs with a budget of any size: a run is stopped exactly where it takes a further step with a step more to spend, and else each larger budget gives the same run.
 use Rattle.std.specs.Prelude.{◌≡◌, ℕ, zero, suc, ◌+◌, ◌-◌, ◌<◌, ◌≤◌, ◌↔◌, List, Option, Ok, Err, Result, length}
-use Rattle.std.specs.Str.{IsUtf8, chars}
-use Rattle.std.proofs.Common.{refl, ap, sym, subst, ◌∙◌, arith}
+use Rattle.std.specs.Str.{chars}
+use Rattle.std.proofs.Common.{refl, ap, subst, arith}
 use Rattle.kishu_language.specs.declared.profile.Profile.{Profile}
 use Rattle.kishu_language.specs.trees.Tree.{Statement, statements}
 use Rattle.kishu_language.specs.reading.ReadText.{read_chars}
@@ -9,13 +9,13 @@ use Rattle.kishu_meaning.specs.declared.result.Outcome.TheVariants.{Done, Raised
 use Rattle.kishu_meaning.specs.values.Values.{Node, State, Ran}
 use Rattle.kishu_meaning.specs.moments.Moment.{Moment, Thrown, Ends, fine, raised, stopped, most_steps}
 use Rattle.kishu_meaning.specs.comparing.Show.{show_thrown}
-use Rattle.kishu_meaning.specs.cells.Meaning.{cell, begun, ended, shown_output, fault_output, uncaught, finished, unread, run_tree, run}
+use Rattle.kishu_meaning.specs.cells.Meaning.{cell, begun, ended, shown_output, uncaught, finished, unread, run_tree, run}
 use Rattle.kishu_objects.specs.State.{IsCell, IsState}
 use Rattle.kishu_pairing_laws.specs.World.{end_of}
 use Rattle.kishu_state_laws.specs.Moments.{IsMoment, widest_budget}
 use Rattle.kishu_state_laws.specs.trees.Sound.{StatementsSound}
 use Rattle.kishu_state_laws.specs.trees.Read.{tree_sound}
-use Rattle.kishu_state_laws.specs.keeping.Logic.{Any, IsText, SafeEnds, fines, raiseds, stoppeds, more, more_good, WiderEnds, both_fine, both_raised, one_stopped, falls_in}
+use Rattle.kishu_state_laws.specs.keeping.Logic.{Any, SafeEnds, fines, raiseds, stoppeds, more_good, WiderEnds, both_fine, both_raised, one_stopped, falls_in}
 use Rattle.kishu_state_laws.specs.keeping.Counting.{show_thrown_s}
 use Rattle.kishu_state_laws.specs.keeping.Running.{cell_s}
 
@@ -40,6 +40,24 @@ tree_within n profile (Err line) state = unread line state
 unfoldable pub run_within : ℕ → Profile → List ℕ → State → Ran
 run_within n profile source state = tree_within n profile (read_chars profile (chars source)) state
 
+-- a cell that is to run from a state
+pub record Start : Type 0 where
+  pub profile : Profile
+  pub text : List ℕ
+  pub state : State
+  pub is_cell : IsCell text
+  pub is_state : IsState state
+
+-- its run, and that with a budget of n steps
+abbrev pub run_of : Start → Ran
+run_of c = run c.profile c.text c.state
+
+abbrev pub run_by : ℕ → Start → Ran
+run_by n c = run_within n c.profile c.text c.state
+
+abbrev pub IsStopped : Ran → Type 0
+IsStopped r = r.report.outcome ≡ Stopped
+
 -- ---- a run has the budget of a cell
 
 thrown_is : (x : Thrown) (f : Ends (List ℕ)) → record (uncaught x f) { charge = most_steps - (end_of f).left } ≡ uncaught x f
@@ -56,7 +74,7 @@ tree_is : (profile : Profile) (o : Result (List Statement) ℕ) (s : State) → 
 tree_is profile (Ok tree) s = ran_is (cell tree (begun profile s))
 tree_is profile (Err line) s = refl
 
-pub run_is : (profile : Profile) (source : List ℕ) (s : State) → run_within most_steps profile source s ≡ run profile source s
+run_is : (profile : Profile) (source : List ℕ) (s : State) → run_within most_steps profile source s ≡ run profile source s
 unfolding run_within run
 run_is profile source s = tree_is profile (read_chars profile (chars source)) s
 
@@ -66,24 +84,21 @@ tree_most : (n : ℕ) (profile : Profile) (o : Result (List Statement) ℕ) (s :
 tree_most n profile (Ok tree) s = omega arith
 tree_most n profile (Err line) s = omega arith
 
-pub run_most : (n : ℕ) (profile : Profile) (source : List ℕ) (s : State) → (run_within n profile source s).charge ≤ n
+run_most : (n : ℕ) (profile : Profile) (source : List ℕ) (s : State) → (run_within n profile source s).charge ≤ n
 unfolding run_within
 run_most n profile source s = tree_most n profile (read_chars profile (chars source)) s
 
 -- ---- with d more steps: the same run, or one that was stopped, where the other takes more steps than there were
 
 data Widened (n : ℕ) (r r' : Ran) : Type 0 where
-  same_run : r' ≡ r → (r.report.outcome ≡ Stopped → ⊥) → Widened n r r'
-  stopped_run : r.report.outcome ≡ Stopped → r.charge ≡ n → n < r'.charge → Widened n r r'
+  same_run : r' ≡ r → (IsStopped r → ⊥) → Widened n r r'
+  stopped_run : IsStopped r → r.charge ≡ n → n < r'.charge → Widened n r r'
 
 with_charge : (r : Ran) (n d left : ℕ) → record r { charge = n + d - (left + d) } ≡ record r { charge = n - left }
 with_charge r n d left = (let e : n + d - (left + d) ≡ n - left = omega arith in ap (λ (c : ℕ). record r { charge = c }) e)
 
 abbrev ran_thrown : ℕ → Thrown → Ends (List ℕ) → Ran
 ran_thrown n x f = record (uncaught x f) { charge = n - (end_of f).left }
-
-thrown_charge : (n : ℕ) (x : Thrown) (f : Ends (List ℕ)) → (ran_thrown n x f).charge ≡ n - (end_of f).left
-thrown_charge n x f = refl
 
 thrown_widened : (n d : ℕ) (x : Thrown) {f f' : Ends (List ℕ)} → 0 < d → WiderEnds d f f' → Widened n (ran_thrown n x f) (ran_thrown (n + d) x f')
 thrown_widened n d x pos (both_fine {a = cs} {s = s}) = same_run (with_charge (ended Raised _ s) n d s.left) (λ e. absurd (cc))
@@ -117,32 +132,40 @@ run_widened n d profile source s c h pos fits = tree_widened n d profile (read_c
 
 -- ---- the laws
 
-whole_spent : {n : ℕ} {r r' : Ran} → Widened n r r' → r.report.outcome ≡ Stopped → r.charge ≡ n
+whole_spent : {n : ℕ} {r r' : Ran} → Widened n r r' → IsStopped r → r.charge ≡ n
 whole_spent (same_run e other) h = absurd (other h)
 whole_spent (stopped_run e all further) h = all
 
-pub stopped_spends_all : (n : ℕ) (profile : Profile) (source : List ℕ) (s : State) → n < widest_budget → IsCell source → IsState s → (run_within n profile source s).report.outcome ≡ Stopped → (run_within n profile source s).charge ≡ n
-stopped_spends_all n profile source s small c h = whole_spent (run_widened n 1 profile source s c h (omega arith) (omega (arith, small)))
+pub stopped_spends_all : (c : Start) (n : ℕ) → n < widest_budget → IsStopped (run_by n c) → (run_by n c).charge ≡ n
+stopped_spends_all c n small = whole_spent (run_widened n 1 c.profile c.text c.state c.is_cell c.is_state (omega arith) (omega (arith, small)))
 
-asks : {n : ℕ} {r r' : Ran} → Widened n r r' → r.charge ≤ n → r'.charge ≤ n + 1 → (r.report.outcome ≡ Stopped ↔ r'.charge ≡ n + 1)
+asks : {n : ℕ} {r r' : Ran} → Widened n r r' → r.charge ≤ n → r'.charge ≤ n + 1 → (IsStopped r ↔ r'.charge ≡ n + 1)
 asks {n = n} (same_run e other) most most' = ((λ h. absurd (other h)), (λ h. absurd (let f = ap (λ (r : Ran). r.charge) e in omega (arith, f, h, most))))
 asks (stopped_run e all further) most most' = ((λ h. omega (arith, further, most')), (λ h. e))
 
-pub stopped_asks_further : (n : ℕ) (profile : Profile) (source : List ℕ) (s : State) → n < widest_budget → IsCell source → IsState s → ((run_within n profile source s).report.outcome ≡ Stopped ↔ (run_within (n + 1) profile source s).charge ≡ n + 1)
-stopped_asks_further n profile source s small c h = asks (run_widened n 1 profile source s c h (omega arith) (omega (arith, small))) (run_most n profile source s) (run_most (n + 1) profile source s)
+pub stopped_asks_further : (c : Start) (n : ℕ) → n < widest_budget → (IsStopped (run_by n c) ↔ (run_by (n + 1) c).charge ≡ n + 1)
+stopped_asks_further c n small =
+    asks (run_widened n 1 c.profile c.text c.state c.is_cell c.is_state (omega arith) (omega (arith, small)))
+    (run_most n c.profile c.text c.state) (run_most (n + 1) c.profile c.text c.state)
 
-goes_same : {n : ℕ} {r r' : Ran} → Widened n r r' → (r.report.outcome ≡ Stopped → ⊥) → r' ≡ r
+goes_same : {n : ℕ} {r r' : Ran} → Widened n r r' → (IsStopped r → ⊥) → r' ≡ r
 goes_same (same_run e other) h = e
 goes_same (stopped_run e all further) h = absurd (h e)
 
-with_more : (n d : ℕ) (profile : Profile) (source : List ℕ) (s : State) → n + d ≤ widest_budget → IsCell source → IsState s → ((run_within n profile source s).report.outcome ≡ Stopped → ⊥) → run_within (n + d) profile source s ≡ run_within n profile source s
-with_more n zero profile source s fits c h other = (let e : n + 0 ≡ n = omega arith in ap (λ (j : ℕ). run_within j profile source s) e)
-with_more n (suc d) profile source s fits c h other = goes_same (run_widened n (suc d) profile source s c h (omega arith) fits) other
+with_more : (c : Start) (n d : ℕ) → n + d ≤ widest_budget → (IsStopped (run_by n c) → ⊥) → run_by (n + d) c ≡ run_by n c
+with_more c n zero fits other = (let e : n + 0 ≡ n = omega arith in ap (λ (j : ℕ). run_by j c) e)
+with_more c n (suc d) fits other = goes_same (run_widened n (suc d) c.profile c.text c.state c.is_cell c.is_state (omega arith) fits) other
 
-pub larger_budgets_agree : (n m : ℕ) (profile : Profile) (source : List ℕ) (s : State) → n ≤ m → m ≤ widest_budget → IsCell source → IsState s → ((run_within n profile source s).report.outcome ≡ Stopped → ⊥) → run_within m profile source s ≡ run_within n profile source s
-larger_budgets_agree n m profile source s le fits c h other =
+pub larger_budgets_agree : (c : Start) (n m : ℕ) → n ≤ m → m ≤ widest_budget → (IsStopped (run_by n c) → ⊥) → run_by m c ≡ run_by n c
+larger_budgets_agree c n m le fits other =
     let e : n + (m - n) ≡ m = omega (arith, le) in
-    subst (λ (j : ℕ). run_within j profile source s ≡ run_within n profile source s) e (with_more n (m - n) profile source s (omega (arith, le, fits)) c h other)
+    subst (λ (j : ℕ). run_by j c ≡ run_by n c) e (with_more c n (m - n) (omega (arith, le, fits)) other)
 
-pub cell_spends_all : (profile : Profile) (source : List ℕ) (s : State) → IsCell source → IsState s → (run profile source s).report.outcome ≡ Stopped → (run profile source s).charge ≡ most_steps
-cell_spends_all profile source s c h = subst (λ (r : Ran). r.report.outcome ≡ Stopped → r.charge ≡ most_steps) (run_is profile source s) (stopped_spends_all most_steps profile source s (omega arith) c h)
+pub run_has_budget : (c : Start) → run_by most_steps c ≡ run_of c
+run_has_budget c = run_is c.profile c.text c.state
+
+pub takes_no_more : (c : Start) (n : ℕ) → (run_by n c).charge ≤ n
+takes_no_more c n = run_most n c.profile c.text c.state
+
+pub cell_spends_all : (c : Start) → IsStopped (run_of c) → (run_of c).charge ≡ most_steps
+cell_spends_all c = subst (λ (r : Ran). IsStopped r → r.charge ≡ most_steps) (run_has_budget c) (stopped_spends_all c most_steps (omega arith))

@@ -1,10 +1,10 @@
 // What holds of every state, and that runs keep it.
 
+ghost use Rattle.kishu_language.specs.Limits.{longest_text};
 ghost use Rattle.kishu_language.specs.declared.profile.Profile.{Profile};
 ghost use Rattle.kishu_language.specs.reading.ReadText.{read_chars, ReadsDef};
 ghost use Rattle.kishu_language.specs.trees.Tree.{Definition, Expression, Statement, Statements, Text, statements};
 ghost use Rattle.kishu_meaning.specs.cells.Meaning.{acts, all_calls, cell, expr, run};
-ghost use Rattle.kishu_meaning.specs.declared.result.Outcome.TheVariants.{Stopped};
 ghost use Rattle.kishu_meaning.specs.moments.Moment.{Moment, most_steps};
 ghost use Rattle.kishu_meaning.specs.values.Sound.{default_count};
 ghost use Rattle.kishu_meaning.specs.values.Values.{State, empty};
@@ -18,7 +18,7 @@ ghost use Rattle.kishu_objects.specs.Loading.{with_picture};
 ghost use Rattle.kishu_objects.specs.Picture.{picture, whole};
 ghost use Rattle.kishu_meaning.specs.moments.Accesses.{unbind};
 ghost use Rattle.kishu_pairing_laws.specs.World.{end_of};
-ghost use Rattle.kishu_state_laws.specs.Budgets.{run_within};
+ghost use Rattle.kishu_state_laws.specs.Budgets.{IsStopped, Start, run_by, run_of};
 ghost use Rattle.kishu_state_laws.specs.Moments.{Holds, Leads, widest_budget};
 ghost use Rattle.kishu_objects.specs.State.{Grown, IsCell, IsCode, IsState};
 ghost use Rattle.kishu_state_laws.specs.trees.Sound.{ExpressionSound, StatementsSound};
@@ -65,7 +65,7 @@ pub fn trees_are_sound()
 
 /// A text that reads as a function, however that is known, is the code of one with as many defaults.
 pub fn what_reads_is_code()
-    ensures { (profile : Profile) (code : Text) (d : Definition) (n : ℕ) → IsUtf8 code → length code ≤ 1048576 → ∥ ReadsDef profile code d ∥₁ → n ≡ default_count d → IsCode profile code n }
+    ensures { (profile : Profile) (code : Text) (d : Definition) (n : ℕ) → IsUtf8 code → length code ≤ longest_text → ∥ ReadsDef profile code d ∥₁ → n ≡ default_count d → IsCode profile code n }
 {}
 
 /// A state's names rise, and its names and nodes lead to nodes that are there.
@@ -93,13 +93,13 @@ pub fn states_fit()
 {}
 
 /// A run is stopped exactly where it asks for a step past its budget: then its whole budget is
-/// charged, and with one step more it would take that one too. Else each larger budget gives the same run.
-/// `run_within` is the run with a budget of any size, and `run` the one with that of a cell.
+/// charged, and with one step more it would take that one too. Else each larger budget gives the same
+/// run. `run_of` is the run of a cell from a state, and `run_by` the same with a budget of any size.
 pub fn budgets_stop_runs()
-    ensures budget { (profile : Profile) (text : List ℕ) (s : State) → run_within most_steps profile text s ≡ run profile text s }
-    ensures most { (n : ℕ) (profile : Profile) (text : List ℕ) (s : State) → (run_within n profile text s).charge ≤ n }
-    ensures whole { (n : ℕ) (profile : Profile) (text : List ℕ) (s : State) → n < widest_budget → IsCell text → IsState s → (run_within n profile text s).report.outcome ≡ Stopped → (run_within n profile text s).charge ≡ n }
-    ensures further { (n : ℕ) (profile : Profile) (text : List ℕ) (s : State) → n < widest_budget → IsCell text → IsState s → ((run_within n profile text s).report.outcome ≡ Stopped ↔ (run_within (n + 1) profile text s).charge ≡ n + 1) }
-    ensures larger { (n m : ℕ) (profile : Profile) (text : List ℕ) (s : State) → n ≤ m → m ≤ widest_budget → IsCell text → IsState s → ((run_within n profile text s).report.outcome ≡ Stopped → ⊥) → run_within m profile text s ≡ run_within n profile text s }
-    ensures cells { (profile : Profile) (text : List ℕ) (s : State) → IsCell text → IsState s → (run profile text s).report.outcome ≡ Stopped → (run profile text s).charge ≡ most_steps }
+    ensures budget { (c : Start) → run_by most_steps c ≡ run_of c }
+    ensures most { (c : Start) (n : ℕ) → (run_by n c).charge ≤ n }
+    ensures cells { (c : Start) → IsStopped (run_of c) → (run_of c).charge ≡ most_steps }
+    ensures whole { (c : Start) (n : ℕ) → n < widest_budget → IsStopped (run_by n c) → (run_by n c).charge ≡ n }
+    ensures further { (c : Start) (n : ℕ) → n < widest_budget → (IsStopped (run_by n c) ↔ (run_by (n + 1) c).charge ≡ n + 1) }
+    ensures larger { (c : Start) (n m : ℕ) → n ≤ m → m ≤ widest_budget → (IsStopped (run_by n c) → ⊥) → run_by m c ≡ run_by n c }
 {}

@@ -23,7 +23,7 @@ use Rattle.kishu_meaning.specs.values.PlainClasses as plains
 use Rattle.kishu_meaning.specs.values.PlainClasses.{PlainClass, plain_classes}
 use Rattle.kishu_meaning.specs.calls.Builtins.{Call, of_one, of_two, by_number, of_number, and_next, decided, decide, folded, fold, better, or_empty_argument, best_of, best, added, is_character, character, code_point, divided_by, node_length, length_of, is_of_one, is_of_tuple, is_instance, is_of_class, class_in, sorted, builtin_call, builtin_calls, of_none_or_one, copied_dict, or_no_number, number_from, tuple_of, all_items, range_from, class_call, class_calls}
 use Rattle.kishu_objects.specs.State.{IsValue, AreValues, IsNode}
-use Rattle.kishu_state_laws.specs.keeping.Logic.{each_map, Maybe, IsText, Safe, safe_later, bind_s, with_s, plain_s, then_s, give_s, value_s, raise_s, if_s, when_s, or_else_s, node_now_s, spend_s, tick_s, make_s, value_later, values_later, optional_later}
+use Rattle.kishu_state_laws.specs.keeping.Logic.{each_map, Maybe, IsText, Safe, bind_s, with_s, plain_s, then_s, give_s, value_s, raise_s, if_s, when_s, or_else_s, node_now_s, spend_s, make_s, value_later, values_later, optional_later}
 use Rattle.kishu_state_laws.specs.keeping.Texts.{one_text, each_scalar}
 use Rattle.kishu_state_laws.specs.keeping.Numbers.{IsWhole, whole_number, whole_read, whole_scalar}
 use Rattle.kishu_state_laws.specs.keeping.Counting.{repr_s, show_s}

@@ -7,7 +7,7 @@ use Rattle.std.proofs.lemmas.Bool.{leb-false}
 use Rattle.kishu_meaning.specs.values.Sound.{is_exception_class}
 use Rattle.kishu_meaning.specs.values.Values.{Value, none, bool, integer, text, range, builtin, class, node, Node, list, tuple, dict, object, function, exception}
 use Rattle.kishu_meaning.specs.values.Nodes.{changed}
-use Rattle.kishu_meaning.specs.moments.Moment.{Locals, Moment, Thrown, fresh, thrown_object, Ends, fine, raised, stopped, M, and_then, ◌>>=◌, ◌>>◌, give, throw, raise, or_else, exhausted, spend, tick, most_depth, back_at, recursion_error, deeper, look, make, change, node_at, node_now, put_out}
+use Rattle.kishu_meaning.specs.moments.Moment.{Locals, Moment, Thrown, fresh, thrown_object, Ends, fine, raised, stopped, M, and_then, ◌>>=◌, ◌>>◌, give, throw, raise, or_else, spend, tick, most_depth, back_at, recursion_error, deeper, look, make, change, node_at, node_now, put_out}
 use Rattle.kishu_meaning.specs.moments.Counting.{Counted, answer, too_deep, spent, Count, ended_in, counted}
 use Rattle.kishu_meaning_laws.specs.CountLaws.{Falls, left_of, Wider, both_answer, both_deep, one_spent}
 pub use Rattle.kishu_state_laws.specs.Moments.{Maybe, IsMoment, widest_budget}
@@ -226,9 +226,6 @@ throw_s {k = k} x h = record { go = λ l le s g. raiseds l (omega arith) (stay s
 
 pub raise_s : {A : Type 0} {k : ℕ} {Q : ℕ → A → Type 0} (kind : ℕ) (message : List ℕ) → IsTrue (is_exception_class kind) → IsText message → Safe k Q (raise kind message)
 raise_s kind message c t = record { go = λ l le s g. raiseds l (omega arith) (stay s) (c, (t, tt)) g; wide = λ l le s g d pos fits. both_raised }
-
-pub exhausted_s : {A : Type 0} {k : ℕ} {Q : ℕ → A → Type 0} → Safe k Q exhausted
-exhausted_s = record { go = λ l le s g. stoppeds l (omega arith) (omega arith, grown_self s.nodes) (at_left 0 (omega arith) g); wide = λ l le s g d pos fits. one_stopped refl pos }
 
 pub if_s : {A : Type 0} {k : ℕ} {Q : ℕ → A → Type 0} (b : Bool) {m n : M A} → Safe k Q m → Safe k Q n → Safe k Q (if b then m else n)
 if_s true h g = h

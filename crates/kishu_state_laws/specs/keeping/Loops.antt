@@ -1,6 +1,6 @@
 -- Loops keep what holds of every state. Each turn takes a step, so a loop that may take more turns than there are steps left ends by itself, and goes the same way where it may take still more.
 use Rattle.std.specs.Prelude.{◌≡◌, ℕ, zero, suc, ◌+◌, ◌-◌, ◌<◌, ◌≤◌, nat_le, Bool, true, false, if◌then◌else◌, List}
-use Rattle.std.proofs.Common.{refl, sym, subst, arith, leb-true}
+use Rattle.std.proofs.Common.{refl, subst, arith, leb-true}
 use Rattle.std.proofs.lemmas.Bool.{leb-false}
 use Rattle.kishu_meaning.specs.values.Values.{Node}
 use Rattle.kishu_meaning.specs.moments.Moment.{Moment, Ends, fine, raised, stopped, M, and_then, ◌>>=◌, ◌>>◌, tick}
