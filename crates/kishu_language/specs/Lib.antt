@@ -1,3 +1,4 @@
+pub mod Limits
 pub mod tokens
 pub mod rules
 pub mod trees

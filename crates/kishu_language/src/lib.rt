@@ -4,11 +4,13 @@
 //! it; `grammar` relates tokens and trees; `reading` reads the tree as a cell's run does.
 #![tactic(auto)]
 
+mod limits;
 mod names;
 mod profile;
 mod token;
 mod tree;
 
+pub use limits::LONGEST_TEXT;
 pub use names::is_reserved;
 pub use profile::Profile;
 pub use token::{Mark, Token, TokenKind};
