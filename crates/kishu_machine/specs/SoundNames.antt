@@ -10,7 +10,7 @@ use Rattle.kishu_meaning.specs.values.Values.{Value, class, builtin, find, bind,
 use Rattle.kishu_language.specs.tokens.Names.{is_name, is_among, place_among}
 use Rattle.kishu_meaning.specs.values.BuiltinNames.{builtin_names, class_names}
 use Rattle.kishu_meaning.specs.moments.Accesses.{unbind}
-use Rattle.kishu_meaning.specs.values.Sound.{is_sound, are_sound_names}
+use Rattle.kishu_meaning.specs.values.Sound.{builtins, classes, is_sound, are_sound_names}
 use Rattle.kishu_items.specs.Holding.{both, first, second}
 use Rattle.kishu_names.specs.Namespace.{Namespace}
 use Rattle.kishu_meaning.specs.moments.Moment.{Locals}
@@ -66,16 +66,16 @@ pub place_within : (word : List ℕ) (words : List (List ℕ)) (n : ℕ) → pla
 place_within word [] n e = absurd cc
 place_within word (w ∷ words) n e = (let s = place_either (bytes_eq word w) (place_among word words) n (length words) (place_within word words) e in omega arith)
 
-less_test : (i n : ℕ) → i < n → IsTrue (nat_lt i n)
+pub less_test : (i n : ℕ) → i < n → IsTrue (nat_lt i n)
 less_test i n h = grind (arith, nat_tests)
 
 pub builtin_sound : (k : ℕ) (word : List ℕ) (n : ℕ) → place_among word builtin_names ≡ Some n → IsTrue (is_sound k (builtin n))
 unfolding builtin_names
-builtin_sound k word n e = both (nat_lt n 14) true (less_test n 14 (place_within word builtin_names n e)) refl
+builtin_sound k word n e = both (nat_lt n builtins) true (less_test n builtins (place_within word builtin_names n e)) refl
 
 pub class_sound : (k : ℕ) (word : List ℕ) (n : ℕ) → place_among word class_names ≡ Some n → IsTrue (is_sound k (class n))
 unfolding class_names
-class_sound k word n e = both (nat_lt n 25) true (less_test n 25 (place_within word class_names n e)) refl
+class_sound k word n e = both (nat_lt n classes) true (less_test n classes (place_within word class_names n e)) refl
 
 -- ---- words among others
 
