@@ -10,15 +10,11 @@ use Rattle.kishu_meaning.specs.calls.Operators.{list_from}
 use Rattle.kishu_meaning.specs.items.Subscripts.{without_place}
 use Rattle.kishu_meaning.specs.values.Values.{Value, value_of, Names, Node, list, tuple, dict, object, function, exception}
 use Rattle.kishu_meaning.specs.items.Walks.{or_none_there}
+use Rattle.kishu_heap.specs.Changing.{changed_at, changed_like, changed_twice, length_changed, unmoved}
 use Rattle.kishu_items.specs.Gathering.{dropped}
 use Rattle.kishu_items.specs.Holding.{both, first, second}
 use Rattle.kishu_machine.specs.Frames.{is_sound_run}
 use Rattle.kishu_machine.specs.SoundMore.{sound_more_run}
-
-pub length_changed : (f : Node → Node) (i : ℕ) (ns : List Node) → length (changed f i ns) ≡ length ns
-length_changed f i [] = refl
-length_changed f zero (n ∷ ns) = refl
-length_changed f (suc i) (n ∷ ns) = ap suc (length_changed f i ns)
 
 -- A run stays sound over a heap with as many nodes.
 pub as_long : (old new : List Node) (names : Names) (locals : Option Locals) (handled : Option Value) → length new ≡ length old
@@ -36,13 +32,6 @@ long_kept f i old new (Err e) h k = ap length k
 pub run_kept : {T E : Type 0} (f : Node → Node) (i : ℕ) (old new : List Node) (names : Names) (locals : Option Locals) (handled : Option Value) (r : Result T E) → OnOk r (new ≡ changed f i old) → OnErr r (new ≡ old)
     → IsTrue (is_sound_run old names locals handled) → IsTrue (is_sound_run new names locals handled)
 run_kept f i old new names locals handled r h k w = as_long old new names locals handled (long_kept f i old new r h k) w
-
--- Two changes that make the same of the node there are one.
-changed_at : (f g : Node → Node) (i : ℕ) (ns : List Node) (n : Node) → slice_get ns i ≡ Some n → f n ≡ g n → changed f i ns ≡ changed g i ns
-changed_at f g i [] n h e = refl
-changed_at f g zero (x ∷ xs) n h e =
-    (let p : x ≡ n = ap (λ o. unwrap_or o x) h in ap (λ y. y ∷ xs) (ap f p ∙ e ∙ sym (ap g p)))
-changed_at f g (suc i) (x ∷ xs) n h e = ap (λ ys. x ∷ ys) (changed_at f g i xs n h e)
 
 none_there : (f g : Node → Node) (i : ℕ) (ns : List Node) → slice_get ns i ≡ None → changed f i ns ≡ changed g i ns
 none_there f g i [] h = refl
@@ -90,53 +79,8 @@ module _ {X : Type 0} (p : X → Bool) where
 
 -- ---- values that are put behind a list's items, one after the other
 
-stays : (i : ℕ) (ns : List Node) → changed (λ n. n) i ns ≡ ns
-stays i [] = refl
-stays zero (n ∷ ns) = refl
-stays (suc i) (n ∷ ns) = ap (λ ys. n ∷ ys) (stays i ns)
-
-changed_twice : (f g : Node → Node) (i : ℕ) (ns : List Node) → changed f i (changed g i ns) ≡ changed (λ n. f (g n)) i ns
-changed_twice f g i [] = refl
-changed_twice f g zero (n ∷ ns) = refl
-changed_twice f g (suc i) (n ∷ ns) = ap (λ ys. n ∷ ys) (changed_twice f g i ns)
-
-changed_like : (f g : Node → Node) → ((n : Node) → f n ≡ g n) → (i : ℕ) (ns : List Node) → changed f i ns ≡ changed g i ns
-changed_like f g h i [] = refl
-changed_like f g h zero (n ∷ ns) = ap (λ m. m ∷ ns) (h n)
-changed_like f g h (suc i) (n ∷ ns) = ap (λ ys. n ∷ ys) (changed_like f g h i ns)
-
-pushed_more : (v : Value) (rest : List Value) (n : Node) → on_list (λ items. items ++ v ∷ rest) n ≡ on_list (λ items. items ++ rest) (push v n)
-pushed_more v rest (list vs) = ap list (sym (append_assoc vs (v ∷ []) rest))
-pushed_more v rest (tuple vs) = refl
-pushed_more v rest (dict es) = refl
-pushed_more v rest (object as') = refl
-pushed_more v rest (function profile code vs) = refl
-pushed_more v rest (exception kind vs) = refl
-
-pushes_on : (v : Value) (rest : List Value) (i : ℕ) (ns : List Node) → changed (on_list (λ items. items ++ v ∷ rest)) i ns ≡ changed (on_list (λ items. items ++ rest)) i (changed (push v) i ns)
-pushes_on v rest i ns = changed_like _ _ (pushed_more v rest) i ns ∙ sym (changed_twice (on_list (λ items. items ++ rest)) (push v) i ns)
-
-pushed_none : (n : Node) → on_list (λ items. items ++ []) n ≡ n
-pushed_none (list vs) = ap list (append-nil vs)
-pushed_none (tuple vs) = refl
-pushed_none (dict es) = refl
-pushed_none (object as') = refl
-pushed_none (function profile code vs) = refl
-pushed_none (exception kind vs) = refl
-
-pushes_none : (i : ℕ) (ns : List Node) → changed (on_list (λ items. items ++ [])) i ns ≡ ns
-pushes_none i ns = changed_like _ (λ n. n) pushed_none i ns ∙ stays i ns
-
-pub push_step : (xs : List rust.Value) (i : ℕ) (x y : rust.Value) (id : ℕ) (before after : List Node) → i < length xs → x ≡ get_or xs i x → value_of y ≡ value_of x → after ≡ changed (push (value_of y)) id before
-    → changed (on_list (λ items. items ++ map value_of (drop i xs))) id before ≡ changed (on_list (λ items. items ++ map value_of (drop (i + 1) xs))) id after
-push_step xs i x y id before after within is same e =
-    rw (dropped xs i x within is, e, same) (pushes_on (value_of x) (map value_of (drop (i + 1) xs)) id before)
-
 none_left : {A : Type 0} (xs : List A) (i : ℕ) → length xs ≤ i → drop i xs ≡ []
 none_left [] zero h = refl
 none_left [] (suc i) h = refl
 none_left (x ∷ xs) zero h = absurd (omega arith)
 none_left (x ∷ xs) (suc i) h = none_left xs i (omega arith)
-
-pub push_end : (xs : List rust.Value) (i id : ℕ) (ns : List Node) → length xs ≤ i → changed (on_list (λ items. items ++ map value_of (drop i xs))) id ns ≡ ns
-push_end xs i id ns h = rw (none_left xs i h) (pushes_none id ns)

@@ -6,6 +6,7 @@ use Rattle.kishu_meaning.specs.values.Kinds.{in_quotes, kind_in, not_iterable, n
 use Rattle.kishu_meaning.specs.items.Subscripts.{not_subscriptable}
 use Rattle.kishu_meaning.specs.values.Values.{Value, text}
 use Rattle.kishu_meaning.specs.moments.Moment.{Moment, M, Ends, raised, Thrown, fresh}
+use Rattle.kishu_meaning.specs.values.Classes.{attribute_error_class, type_error_class}
 use Rattle.kishu_heap.specs.declared.fault.CallFault.{CallFault}
 use Rattle.kishu_heap.specs.declared.fault.CallFault.TheVariants as calls
 use Rattle.kishu_items.specs.Called as called
@@ -37,16 +38,6 @@ module _ {X A : Type 0} (view : X → A) where
   passed_gives (Err calls.Spent) t e h = h
   passed_gives (Err calls.NoMemory) t e h = tt
 
-  ended_by : (n : ℕ) (e : Ends A) (x : Thrown) (t : Moment) → IsTrue (is_sound_end n e) → e ≡ raised x t → IsTrue (is_sound_thrown n x)
-  ended_by n e x t h q = subst (λ (y : Ends A). IsTrue (is_sound_end n y)) q h
-
-  -- A call that gives what the definition says raises what is sound where the definition does.
-  pub gives_sound : (n : ℕ) (holds : X → Bool) (m : M A) (s t : Moment) (r : Result X Fault) → RaisesSound n m → IfOk r (λ x. IsTrue (holds x)) → Gives view r t (m s) → IsSound holds n r
-  gives_sound n holds m s t (Ok x) b h e = h
-  gives_sound n holds m s t (Err (faults.Raised x)) b h e = ended_by n (m s) (thrown_of x) t (b.raises s) e
-  gives_sound n holds m s t (Err faults.Stopped) b h e = tt
-  gives_sound n holds m s t (Err faults.NoMemory) b h e = tt
-
 -- a fault that is passed on
 pub passed_on : {X Y : Type 0} (p : X → Bool) (q : Y → Bool) (n : ℕ) (f : Fault) → IsSound {X = X} p n (Err f) → IsSound {X = Y} q n (Err f)
 passed_on p q n (faults.Raised x) h = h
@@ -67,21 +58,16 @@ module _ {X : Type 0} where
   sound_raised holds n x s (Err faults.Stopped) h w = absurd cc
   sound_raised holds n x s (Err faults.NoMemory) h w = tt
 
-  -- where nothing that leads to nodes is returned, only what is raised counts
-  pub raised_alone : {A : Type 0} (view : X → A) (n : ℕ) (m : M A) (s t : Moment) (r : Result X Fault) → RaisesSound n m → Gives view r t (m s) → IsSound (λ _. true) n r
-  raised_alone view n m s t (Ok x) b e = refl
-  raised_alone view n m s t (Err f) b e = gives_sound view n (λ _. true) m s t (Err f) b tt e
-
 -- ---- what only raises: a value without items, one that isn't a sequence, and one without an attribute
 
 abbrev without_items : Moment → Value → Thrown
-without_items s v = fresh 23 (text (in_quotes (kind_in s.nodes v) ++ codes " object is not subscriptable") ∷ [])
+without_items s v = fresh type_error_class (text (in_quotes (kind_in s.nodes v) ++ codes " object is not subscriptable") ∷ [])
 
 abbrev without_order : Moment → Value → Thrown
-without_order s v = fresh 23 (text (in_quotes (kind_in s.nodes v) ++ codes " object is not iterable") ∷ [])
+without_order s v = fresh type_error_class (text (in_quotes (kind_in s.nodes v) ++ codes " object is not iterable") ∷ [])
 
 abbrev without_attribute : Moment → Value → List ℕ → Thrown
-without_attribute s v x = fresh 13 (text (in_quotes (kind_in s.nodes v) ++ codes " object has no attribute '" ++ chars x ++ codes "'") ∷ [])
+without_attribute s v x = fresh attribute_error_class (text (in_quotes (kind_in s.nodes v) ++ codes " object has no attribute '" ++ chars x ++ codes "'") ∷ [])
 
 module _ {X : Type 0} (s : Moment) (r : Result X Fault) (v : Value) where
   pub refused : {A : Type 0} (view : X → A) → Gives {X = X} {A = X} (λ y. y) r s (not_subscriptable v s) → Gives view r s (not_subscriptable v s)

@@ -29,13 +29,3 @@ module _ (n : ℕ) where
   attributes_are_sound (dict gs) es e h = absurd cc
   attributes_are_sound (function profile code vs) es e h = absurd cc
   attributes_are_sound (exception kind vs) es e h = absurd cc
-
-  pub arguments_are_sound : (x : Node) (vs : List Value) → Some vs ≡ arguments_in x → IsTrue (is_sound_node n x) → IsTrue (are_sound n vs)
-  arguments_are_sound (exception kind ws) vs e h =
-      let same : vs ≡ ws = cc in
-      rw same (second (is_exception_class kind) _ h)
-  arguments_are_sound (list ws) vs e h = absurd cc
-  arguments_are_sound (tuple ws) vs e h = absurd cc
-  arguments_are_sound (dict gs) vs e h = absurd cc
-  arguments_are_sound (object as') vs e h = absurd cc
-  arguments_are_sound (function profile code ws) vs e h = absurd cc

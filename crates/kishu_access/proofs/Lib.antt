@@ -1,6 +1,5 @@
 pub mod Ends
 pub mod Raises
-pub mod Ranges
 pub mod Taking
 pub mod Changing
 pub mod Attributing

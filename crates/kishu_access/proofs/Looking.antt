@@ -2,8 +2,6 @@
 use Rattle.std.proofs.Common.{◌≡◌, ◌∙◌, refl, ap, ℕ, Bool, true, false, cond, ◌&&◌, IsTrue, List, [], ◌∷◌, map, Option, Some, None, Result, Ok, Err, IfOk}
 use Rattle.std.specs.Prelude.{option_map, option_and_then, is_some, IfSome}
 use Rattle.std.specs.List.{list_all}
-use denote.Bor.{Bor}
-use Rattle.std.specs.Option.{option_copied}
 use Rattle.std.specs.Map.{lookup}
 use Rattle.std.specs.Str.{bytes_eq}
 use Rattle.kishu_meaning.specs.declared.value.Value as rust
@@ -22,10 +20,6 @@ module _ {K J : Type 0} (key_of : K → J) (is_key : J → J → Bool) where
   pub finds : (k : J) (es : List (K × rust.Value)) → option_map value_of (lookup (λ y. is_key k (key_of y)) es) ≡ value_at is_key k (map (λ e. (key_of e.0, value_of e.1)) es)
   finds k [] = refl
   finds k (e ∷ es) = found_at e.1 _ _ (is_key k (key_of e.0)) (finds k es)
-
-pub copied_value : (o : Option (Bor rust.Value)) → option_map (λ v. value_of v.now) o ≡ option_map value_of (option_copied o)
-copied_value None = refl
-copied_value (Some v) = refl
 
 -- ---- what is found is sound
 

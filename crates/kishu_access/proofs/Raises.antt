@@ -20,6 +20,3 @@ module _ (n : ℕ) where
 
   pub place_raises : (size : ℕ) (z : ℤ) → RaisesSound n (place_of size z)
   place_raises size z = or_else_raises n out_of_range (place_in size z) out_of_range_raises
-
-  pub position_raises : (size : ℕ) (v : Value) → RaisesSound n (position size v)
-  position_raises size v = then_raises n (index_of v) (place_of size) (index_raises v) (place_raises size)

@@ -277,11 +277,6 @@ module _ (v start stop step : Value) (s t : Moment) where
   there (raised x u) ws h = absurd cc
   there (stopped u) ws h = absurd cc
 
-  not_there : (e : Ends (List Value)) → some_there e ≡ fine None t → ⊥
-  not_there (fine us u) h = absurd cc
-  not_there (raised x u) h = absurd cc
-  not_there (stopped u) h = absurd cc
-
   fails_there : (e : Ends (List Value)) (f : Fault) → Fails f t (some_there e) → Fails f t e
   fails_there (fine us u) (faults.Raised x) h = absurd cc
   fails_there (raised x u) (faults.Raised y) h =
@@ -316,15 +311,6 @@ module _ (v start stop step : Value) (s t : Moment) where
   tuple_sliced (Some (function profile code vs)) ws h k = absurd cc
   tuple_sliced (Some (exception kind vs)) ws h k = absurd cc
   tuple_sliced None ws h k = absurd cc
-
-  pub not_sliced : (o : Option Node) → maybe_there o ≡ fine None t → node_slice v start stop step o s ≡ not_subscriptable v t
-  not_sliced (Some (list vs)) h = absurd (not_there (picked vs start stop step s) h)
-  not_sliced (Some (tuple vs)) h = absurd (not_there (picked vs start stop step s) h)
-  not_sliced (Some (dict es)) h = ap (λ (x : Moment). not_subscriptable v x) (let now : s ≡ t = cc in now)
-  not_sliced (Some (object as')) h = ap (λ (x : Moment). not_subscriptable v x) (let now : s ≡ t = cc in now)
-  not_sliced (Some (function profile code vs)) h = ap (λ (x : Moment). not_subscriptable v x) (let now : s ≡ t = cc in now)
-  not_sliced (Some (exception kind vs)) h = ap (λ (x : Moment). not_subscriptable v x) (let now : s ≡ t = cc in now)
-  not_sliced None h = ap (λ (x : Moment). not_subscriptable v x) (let now : s ≡ t = cc in now)
 
   none_fails : {A : Type 0} (e : Ends A) (f : Fault) → Fails {A = Option (List Value)} f t (fine None s) → Fails f t e
   none_fails e (faults.Raised x) h = absurd cc

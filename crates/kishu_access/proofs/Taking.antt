@@ -33,10 +33,6 @@ sound_there n (u ∷ us) zero v e h =
     rw same (first (is_sound n u) (are_sound n us) h)
 sound_there n (u ∷ us) (suc i) v e h = sound_there n us i v e (second (is_sound n u) (are_sound n us) h)
 
-pub sound_maybe : (n : ℕ) (o : Option rust.Value) (vs : List Value) (i : ℕ) → option_map value_of o ≡ slice_get vs i → IsTrue (are_sound n vs) → IfSome o (λ v. IsTrue (is_sound n (value_of v)))
-sound_maybe n (Some v) vs i e h = sound_there n vs i (value_of v) (sym e) h
-sound_maybe n None vs i e h = tt
-
 -- ---- `s[i]`
 
 module _ {A : Type 0} (as' : List A) (i : Value) (s t : Moment) (n : ℕ) (long : n ≡ length as') where
@@ -77,19 +73,6 @@ character_sound m v cs k p = text_is_sound m v (slice_get cs k) p
 module _ (a b c : ℤ) (i : Value) (s t : Moment) where
   abbrev number : ℕ → M Value
   number k = give (integer (a +ℤ pos k *ℤ c))
-
-  pub range_at : (z : ℤ) (k : ℕ) → index_of i s ≡ fine z t → place_in (range_length a b c) z ≡ Some k → item (range a b c) i s ≡ fine (integer (a +ℤ pos k *ℤ c)) t
-  range_at z k h e =
-      ap (λ (x : Ends ℤ). and_then (and_then x (place_of (range_length a b c))) number) h
-      ∙ ap (λ (o : Option ℕ). and_then (or_else out_of_range o t) number) e
-
-  pub range_outside : (z : ℤ) → index_of i s ≡ fine z t → place_in (range_length a b c) z ≡ None → item (range a b c) i s ≡ out_of_range t
-  range_outside z h e =
-      ap (λ (x : Ends ℤ). and_then (and_then x (place_of (range_length a b c))) number) h
-      ∙ ap (λ (o : Option ℕ). and_then (or_else out_of_range o t) number) e
-
-  pub range_fails : (f : Fault) → Fails f t (index_of i s) → Fails f t (item (range a b c) i s)
-  range_fails f h = fails_on number f t (position (range_length a b c) i s) (fails_on (place_of (range_length a b c)) f t (index_of i s) h)
 
 -- ---- of a node
 

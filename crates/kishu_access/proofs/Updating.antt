@@ -50,11 +50,3 @@ module _ (w : Value) (s : Moment) where
   updated_otherwise (range a b c) h = refl
   updated_otherwise (builtin k) h = refl
   updated_otherwise (class k) h = refl
-
-  pub updated_by : (operator : Operator) (v : Value) → (operator ≡ operators.Add → ⊥) → updated operator v w s ≡ operate operator v w s
-  updated_by operators.Add v h = absurd (h refl)
-  updated_by operators.Subtract v h = refl
-  updated_by operators.Multiply v h = refl
-  updated_by operators.FloorDivide v h = refl
-  updated_by operators.Modulo v h = refl
-  updated_by operators.Power v h = refl

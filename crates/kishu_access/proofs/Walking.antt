@@ -83,17 +83,6 @@ module _ (n : ℕ) (s : Moment) where
   walks_tuple (Some (exception kind vs)) w h = absurd cc
   walks_tuple None w h = absurd cc
 
-  pub walks_dict : (o : Option Node) (size : ℕ) → Some size ≡ option_map (λ es. length es) (option_and_then dict_in o) → node_walk n o s ≡ fine (along_dict n size keys) s
-  walks_dict (Some (dict es)) size h =
-      let same : length es ≡ size = cc in
-      ap (λ (x : ℕ). fine (along_dict n x keys) s) same
-  walks_dict (Some (list vs)) size h = absurd cc
-  walks_dict (Some (tuple vs)) size h = absurd cc
-  walks_dict (Some (object as')) size h = absurd cc
-  walks_dict (Some (function profile code vs)) size h = absurd cc
-  walks_dict (Some (exception kind vs)) size h = absurd cc
-  walks_dict None size h = absurd cc
-
   pub not_walked : (o : Option Node) → is_some (list_from o) ≡ false → None ≡ option_map along_tuple (tuple_from o) → None ≡ option_map (λ es. length es) (option_and_then dict_in o) → node_walk n o s ≡ not_iterable (node n) s
   not_walked (Some (list vs)) h k l = absurd cc
   not_walked (Some (tuple vs)) h k l = absurd cc
@@ -106,14 +95,6 @@ module _ (n : ℕ) (s : Moment) where
 -- ---- the item for a turn
 
 module _ (n start : ℕ) (view : View) (k : ℕ) (s : Moment) (es : List (Key × Value)) (now : es ≡ or_none_there (option_and_then dict_in (slice_get s.nodes n))) where
-  by_size : item_for (along_dict n start view) k s ≡ (if length es == start then entry_seen view (slice_get es k) else size_changed) s
-  by_size = ap (λ (gs : List (Key × Value)). (if length gs == start then entry_seen view (slice_get gs k) else size_changed) s) (sym now)
-
-  pub dict_changed : (length es == start) ≡ false → item_for (along_dict n start view) k s ≡ size_changed s
-  dict_changed h = by_size ∙ ap (λ (b : Bool). (if b then entry_seen view (slice_get es k) else size_changed) s) h
-
-  pub entry_for : (o : Option (Key × Value)) → (length es == start) ≡ true → o ≡ slice_get es k → item_for (along_dict n start view) k s ≡ entry_seen view o s
-  entry_for o h e = by_size ∙ (ap (λ (b : Bool). (if b then entry_seen view (slice_get es k) else size_changed) s) h ∙ ap (λ (p : Option (Key × Value)). entry_seen view p s) (sym e))
 
 pair_sound : (n : ℕ) (es : List (Key × Value)) (i : ℕ) (e : Key × Value) → slice_get es i ≡ Some e → IsTrue (list_all (λ e. is_sound n e.1) es) → IsTrue (is_sound n e.1)
 pair_sound n [] i e h w = absurd cc

@@ -1,5 +1,6 @@
 -- What the code's views, walks, places and containers stand for, and when they are sound.
-use Rattle.std.specs.Prelude.{ℕ, ℤ, Bool, true, ◌&&◌, List, map, length, Option, Some, None}
+use Rattle.std.specs.Prelude.{ℕ, ℤ, Bool, true, ◌&&◌, List, map, length, Option, Some, None, Result}
+use Rattle.std.specs.Borrow.{Bor}
 use Rattle.std.specs.Rc.{rc_str_bytes}
 use Rattle.std.specs.declared.alloc.Global.{Global}
 use Rattle.std.specs.declared.vec.Vec.{Vec}
@@ -15,6 +16,9 @@ use Rattle.kishu_access.specs.declared.places.Place.TheVariants as rust_places
 use Rattle.kishu_access.specs.declared.slices.Places.{Places}
 use Rattle.kishu_access.specs.declared.stores.Container.{Container}
 use Rattle.kishu_access.specs.declared.stores.Container.TheVariants as containers
+use Rattle.kishu_machine.specs.declared.fault.Fault.{Fault}
+use Rattle.kishu_machine.specs.Clauses.{IsSoundIn}
+use Rattle.kishu_machine.specs.Machine.{IsSound}
 use Rattle.kishu_access.specs.declared.walks.View as rust_view
 use Rattle.kishu_access.specs.declared.walks.View.TheVariants as views
 use Rattle.kishu_access.specs.declared.walks.Walk as rust_walk
@@ -78,3 +82,14 @@ is_sound_maybe n (Some v) = is_sound n (value_of v)
 -- The places of a slice lie among n.
 abbrev pub AreWithin : ℕ → Places → Type 0
 AreWithin n p = LieWithin n (places_of p)
+
+-- ---- what clauses say of these, over the nodes of a heap
+
+abbrev pub AreSoundBounds : List Node → Bor rust.Value → Bor rust.Value → Bor rust.Value → Type 0
+AreSoundBounds nodes start stop step = IsSoundIn nodes start.now × IsSoundIn nodes stop.now × IsSoundIn nodes step.now
+
+abbrev pub SoundWalk : List Node → Result rust_walk.Walk Fault → Type 0
+SoundWalk nodes r = IsSound (λ w. is_sound_walk (length nodes) (walk_of w)) (length nodes) r
+
+abbrev pub SoundPlace : List Node → Result rust_place.Place Fault → Type 0
+SoundPlace nodes r = IsSound (λ p. is_sound_place (length nodes) (place_of p)) (length nodes) r

@@ -1,17 +1,18 @@
 // Attributes: read, stored and deleted (Python Language Reference 3, "Attribute references").
-ghost use Rattle.std.specs.Prelude.{IfOk, IfSome, IsTrue, None, is_some, length, map, option_and_then, option_map, true, ◌+◌, ◌<◌, ◌≡◌, ◌≤◌};
+ghost use Rattle.std.specs.Prelude.{IfOk, IfSome, IsTrue, None, is_some, length, map, option_and_then, option_map, ◌<◌, ◌≡◌};
 ghost use Rattle.std.specs.Rc.{rc_str_bytes};
 ghost use Rattle.std.specs.Str.{bytes_eq};
 ghost use Rattle.kishu_meaning.specs.moments.Moment.{node_at, node_now, ◌>>=◌ as ◌⊳◌};
 ghost use Rattle.kishu_language.specs.tokens.Names.{is_name};
 ghost use Rattle.kishu_meaning.specs.values.Nodes.{value_at};
-ghost use Rattle.kishu_meaning.specs.values.Sound.{are_sound, is_sound};
 ghost use Rattle.kishu_meaning.specs.items.Subscripts.{attribute, delete_attribute, delete_on_node, store_attribute, store_on_node};
 ghost use Rattle.kishu_meaning.specs.values.Values.{node, value_of};
 ghost use Rattle.kishu_access.specs.Forms.{arguments_at, arguments_in, is_object};
 ghost use Rattle.kishu_heap.specs.Cells.{attributes_of, node_of};
 ghost use Rattle.kishu_machine.specs.Lists.{items_in};
-ghost use Rattle.kishu_machine.specs.Machine.{Gives, GrownBy, HasRoomBy, IsSound, ReadsBy, moment_of};
+ghost use Rattle.kishu_machine.specs.Machine.{Gives, HasRoomBy, moment_of, Costs};
+ghost use Rattle.kishu_machine.specs.Clauses.{AreSoundIn, IsSoundIn, SoundEnd, SoundValue};
+ghost use Rattle.kishu_heap.specs.Costs.{Reads};
 ghost use Rattle.kishu_meaning.specs.values.Nodes as nodes;
 
 use indexmap::IndexMap;
@@ -48,9 +49,8 @@ fn object_attribute<L: Ledger>(
     steps: &mut Steps<L>,
 ) -> Result<Option<Value>, AllocError>
     ensures found { IfOk result (λ o. option_map value_of o ≡ option_and_then (nodes.attribute name.now) (node_at heap.now (value_of value.now))) }
-    ensures sound { IfOk result (λ o. IfSome o (λ v. IsTrue (is_sound (length heap.now) (value_of v)))) }
-    ensures counted { steps.old ≤ steps.new }
-    ensures reads { steps.new ≤ steps.old + 1 }
+    ensures sound { IfOk result (λ o. IfSome o (λ v. IsSoundIn heap.now v)) }
+    ensures reads { Reads 1 steps.old steps.new }
 {
     let Some(node) = node_at(heap, value, steps) else {
         return Ok(None);
@@ -81,9 +81,8 @@ fn exception_arguments<L: Ledger>(
     steps: &mut Steps<L>,
 ) -> Result<Option<Vec<Value>>, AllocError>
     ensures found { IfOk result (λ o. items_in o ≡ arguments_at name.now (node_at heap.now (value_of value.now))) }
-    ensures sound { IfOk result (λ o. IfSome o (λ v. IsTrue (are_sound (length heap.now) (map value_of v.items)))) }
-    ensures counted { steps.old ≤ steps.new }
-    ensures reads { steps.new ≤ steps.old + 1 }
+    ensures sound { IfOk result (λ o. IfSome o (λ v. AreSoundIn heap.now v.items)) }
+    ensures reads { Reads 1 steps.old steps.new }
 {
     if !is_same_text(name, "args") {
         return Ok(None);
@@ -105,12 +104,11 @@ fn other_attribute<L: Ledger>(
     steps: &mut Steps<L>,
 ) -> Result<Value, Fault>
     requires room { HasRoomBy 1 machine.old }
-    requires sound_value { IsTrue (is_sound (length machine.old.heap) (value_of value.now)) }
+    requires sound_value { IsSoundIn machine.old.heap value.now }
     requires none { None ≡ option_and_then (nodes.attribute name.now) (node_at machine.old.heap (value_of value.now)) }
     ensures gives { Gives value_of result (moment_of machine.new) (attribute (value_of value.now) name.now (moment_of machine.old)) }
-    ensures sound { IsSound (λ v. is_sound (length machine.new.heap) (value_of v)) (length machine.new.heap) result }
-    ensures kept { GrownBy 1 machine.old steps.old machine.new steps.new }
-    ensures reads { ReadsBy 3 machine.old steps.old machine.new steps.new }
+    ensures sound { SoundValue machine.new.heap result }
+    ensures costs { Costs 1 3 machine.old steps.old machine.new steps.new }
 {
     let items = exception_arguments(machine.alloc, &machine.heap, value, name, steps)?;
     match items {
@@ -127,11 +125,10 @@ pub fn attribute<L: Ledger>(
     steps: &mut Steps<L>,
 ) -> Result<Value, Fault>
     requires room { HasRoomBy 1 machine.old }
-    requires sound_value { IsTrue (is_sound (length machine.old.heap) (value_of value.now)) }
+    requires sound_value { IsSoundIn machine.old.heap value.now }
     ensures gives { Gives value_of result (moment_of machine.new) (attribute (value_of value.now) name.now (moment_of machine.old)) }
-    ensures sound { IsSound (λ v. is_sound (length machine.new.heap) (value_of v)) (length machine.new.heap) result }
-    ensures kept { GrownBy 1 machine.old steps.old machine.new steps.new }
-    ensures reads { ReadsBy 8 machine.old steps.old machine.new steps.new }
+    ensures sound { SoundValue machine.new.heap result }
+    ensures costs { Costs 1 8 machine.old steps.old machine.new steps.new }
 {
     let found = object_attribute(&machine.heap, value, name, steps)?;
     match found {
@@ -143,8 +140,7 @@ pub fn attribute<L: Ledger>(
 /// Whether a value is an object.
 pub fn is_object<L: Ledger>(heap: &Heap, value: &Value, steps: &mut Steps<L>) -> bool
     ensures is { result ≡ is_object (node_at heap.now (value_of value.now)) }
-    ensures counted { steps.old ≤ steps.new }
-    ensures reads { steps.new ≤ steps.old + 2 }
+    ensures reads { Reads 2 steps.old steps.new }
 {
     match node_at(heap, value, steps) {
         Some(Node::Object(_)) => true,
@@ -166,11 +162,10 @@ fn store_on_node<L: Ledger>(
 ) -> Result<(), Fault>
     requires id { id.0 < length machine.old.heap }
     requires name { IsTrue (is_name (rc_str_bytes name.now)) }
-    requires sound_value { IsTrue (is_sound (length machine.old.heap) (value_of value)) }
+    requires sound_value { IsSoundIn machine.old.heap value }
     ensures gives { Gives (λ u. u) result (moment_of machine.new) ((node_now (node id.0) ⊳ store_on_node id.0 (rc_str_bytes name.now) (value_of value)) (moment_of machine.old)) }
-    ensures sound { IsSound (λ _. true) (length machine.new.heap) result }
-    ensures kept { GrownBy 0 machine.old steps.old machine.new steps.new }
-    ensures reads { ReadsBy 4 machine.old steps.old machine.new steps.new }
+    ensures sound { SoundEnd machine.new.heap result }
+    ensures costs { Costs 0 4 machine.old steps.old machine.new steps.new }
 {
     let object = Value::Node(id);
     if is_object(&machine.heap, &object, steps) {
@@ -188,13 +183,12 @@ pub(crate) fn store_attribute<L: Ledger>(
     value: Value,
     steps: &mut Steps<L>,
 ) -> Result<(), Fault>
-    requires sound_object { IsTrue (is_sound (length machine.old.heap) (value_of object.now)) }
+    requires sound_object { IsSoundIn machine.old.heap object.now }
     requires name { IsTrue (is_name (rc_str_bytes name.now)) }
-    requires sound_value { IsTrue (is_sound (length machine.old.heap) (value_of value)) }
+    requires sound_value { IsSoundIn machine.old.heap value }
     ensures gives { Gives (λ u. u) result (moment_of machine.new) (store_attribute (value_of object.now) (rc_str_bytes name.now) (value_of value) (moment_of machine.old)) }
-    ensures sound { IsSound (λ _. true) (length machine.new.heap) result }
-    ensures kept { GrownBy 0 machine.old steps.old machine.new steps.new }
-    ensures reads { ReadsBy 4 machine.old steps.old machine.new steps.new }
+    ensures sound { SoundEnd machine.new.heap result }
+    ensures costs { Costs 0 4 machine.old steps.old machine.new steps.new }
 {
     if let Value::Node(id) = object {
         return store_on_node(machine, *id, name, value, steps);
@@ -204,8 +198,7 @@ pub(crate) fn store_attribute<L: Ledger>(
 
 fn has_attribute<L: Ledger>(heap: &Heap, value: &Value, name: &str, steps: &mut Steps<L>) -> bool
     ensures is { result ≡ is_some (option_and_then (nodes.attribute name.now) (node_at heap.now (value_of value.now))) }
-    ensures counted { steps.old ≤ steps.new }
-    ensures reads { steps.new ≤ steps.old + 1 }
+    ensures reads { Reads 1 steps.old steps.new }
 {
     let Some(node) = node_at(heap, value, steps) else {
         return false;
@@ -224,9 +217,8 @@ fn delete_on_node<L: Ledger>(
 ) -> Result<(), Fault>
     requires id { id.0 < length machine.old.heap }
     ensures gives { Gives (λ u. u) result (moment_of machine.new) ((node_now (node id.0) ⊳ delete_on_node id.0 name.now) (moment_of machine.old)) }
-    ensures sound { IsSound (λ _. true) (length machine.new.heap) result }
-    ensures kept { GrownBy 0 machine.old steps.old machine.new steps.new }
-    ensures reads { ReadsBy 3 machine.old steps.old machine.new steps.new }
+    ensures sound { SoundEnd machine.new.heap result }
+    ensures costs { Costs 0 3 machine.old steps.old machine.new steps.new }
 {
     let object = Value::Node(id);
     if has_attribute(&machine.heap, &object, name, steps) {
@@ -243,11 +235,10 @@ pub(crate) fn delete_attribute<L: Ledger>(
     name: &str,
     steps: &mut Steps<L>,
 ) -> Result<(), Fault>
-    requires sound_object { IsTrue (is_sound (length machine.old.heap) (value_of object.now)) }
+    requires sound_object { IsSoundIn machine.old.heap object.now }
     ensures gives { Gives (λ u. u) result (moment_of machine.new) (delete_attribute (value_of object.now) name.now (moment_of machine.old)) }
-    ensures sound { IsSound (λ _. true) (length machine.new.heap) result }
-    ensures kept { GrownBy 0 machine.old steps.old machine.new steps.new }
-    ensures reads { ReadsBy 3 machine.old steps.old machine.new steps.new }
+    ensures sound { SoundEnd machine.new.heap result }
+    ensures costs { Costs 0 3 machine.old steps.old machine.new steps.new }
 {
     if let Value::Node(id) = object {
         return delete_on_node(machine, *id, name, steps);

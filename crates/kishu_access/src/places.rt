@@ -1,10 +1,10 @@
 // Places: a name, an attribute, or an item (Python Language Reference 3, "Assignment statements").
-ghost use Rattle.std.specs.Prelude.{IsTrue, length, true};
+ghost use Rattle.std.specs.Prelude.{IsTrue, length};
 ghost use Rattle.kishu_meaning.specs.cells.Meaning.{delete_place, read_place, store_in};
-ghost use Rattle.kishu_meaning.specs.values.Sound.{is_sound};
 ghost use Rattle.kishu_meaning.specs.values.Values.{value_of};
 ghost use Rattle.kishu_access.specs.Access.{is_sound_place, place_of, place_reads};
-ghost use Rattle.kishu_machine.specs.Machine.{Gives, GrownBy, HasRoomBy, IsSound, ReadsBy, moment_of};
+ghost use Rattle.kishu_machine.specs.Machine.{Gives, HasRoomBy, moment_of, Costs};
+ghost use Rattle.kishu_machine.specs.Clauses.{IsSoundIn, SoundEnd, SoundValue};
 
 use crate::attributes::{attribute, delete_attribute, store_attribute};
 use crate::stores::{delete_item, store_item};
@@ -33,9 +33,8 @@ pub fn read_place<L: Ledger>(
     requires room { HasRoomBy 1 machine.old }
     requires sound_place { IsTrue (is_sound_place (length machine.old.heap) (place_of place.now)) }
     ensures gives { Gives value_of result (moment_of machine.new) (read_place (place_of place.now) (moment_of machine.old)) }
-    ensures sound { IsSound (λ v. is_sound (length machine.new.heap) (value_of v)) (length machine.new.heap) result }
-    ensures kept { GrownBy 1 machine.old steps.old machine.new steps.new }
-    ensures reads { ReadsBy 24 machine.old steps.old machine.new steps.new }
+    ensures sound { SoundValue machine.new.heap result }
+    ensures costs { Costs 1 24 machine.old steps.old machine.new steps.new }
 {
     match place {
         Place::Named(name) => read(machine, name.as_str()),
@@ -53,11 +52,10 @@ pub fn store_in<L: Ledger>(
     steps: &mut Steps<L>,
 ) -> Result<(), Fault>
     requires sound_place { IsTrue (is_sound_place (length machine.old.heap) (place_of place.now)) }
-    requires sound_value { IsTrue (is_sound (length machine.old.heap) (value_of value)) }
+    requires sound_value { IsSoundIn machine.old.heap value }
     ensures gives { Gives (λ u. u) result (moment_of machine.new) (store_in (place_of place.now) (value_of value) (moment_of machine.old)) }
-    ensures sound { IsSound (λ _. true) (length machine.new.heap) result }
-    ensures kept { GrownBy 0 machine.old steps.old machine.new steps.new }
-    ensures reads { ReadsBy (place_reads (place_of place.now)) machine.old steps.old machine.new steps.new }
+    ensures sound { SoundEnd machine.new.heap result }
+    ensures costs { Costs 0 (place_reads (place_of place.now)) machine.old steps.old machine.new steps.new }
 {
     match place {
         Place::Named(name) => assign(machine, name, value),
@@ -75,9 +73,8 @@ pub fn delete_place<L: Ledger>(
 ) -> Result<(), Fault>
     requires sound_place { IsTrue (is_sound_place (length machine.old.heap) (place_of place.now)) }
     ensures gives { Gives (λ u. u) result (moment_of machine.new) (delete_place (place_of place.now) (moment_of machine.old)) }
-    ensures sound { IsSound (λ _. true) (length machine.new.heap) result }
-    ensures kept { GrownBy 0 machine.old steps.old machine.new steps.new }
-    ensures reads { ReadsBy (place_reads (place_of place.now)) machine.old steps.old machine.new steps.new }
+    ensures sound { SoundEnd machine.new.heap result }
+    ensures costs { Costs 0 (place_reads (place_of place.now)) machine.old steps.old machine.new steps.new }
 {
     match place {
         Place::Named(name) => delete(machine, name.as_str()),

@@ -1,25 +1,26 @@
 // Slices (Python Language Reference 3, "Slicings").
 ghost use Rattle.std.specs.List.{filter_map};
-ghost use Rattle.std.specs.Prelude.{IfOk, IfSome, IsTrue, length, map, option_map, pos, true, ℕ, ◌+ℤ◌, ◌+◌, ◌<ℤ◌, ◌^◌, ◌≡◌, ◌≤ℤ◌, ◌≤◌};
+ghost use Rattle.std.specs.Prelude.{IfOk, IfSome, length, map, option_map, pos, true, ℕ, ◌+ℤ◌, ◌<ℤ◌, ◌^◌, ◌≡◌, ◌≤ℤ◌};
 ghost use Rattle.std.specs.Str.{chars};
 ghost use Rattle.kishu_meaning.specs.moments.Moment.{Moment, node_at, node_now, ◌>>=◌ as ◌⊳◌};
-ghost use Rattle.kishu_meaning.specs.values.Sound.{are_sound, is_sound};
 ghost use Rattle.kishu_meaning.specs.items.Subscripts.{at_place, bound_of, brought, counted_from_end, first_limit, highest, last_limit, limit, lowest, node_slice, places_between, slice, slice_places, step_from};
 ghost use Rattle.kishu_meaning.specs.values.Texts.{LieWithin, places};
 ghost use Rattle.kishu_meaning.specs.values.Values.{value_of};
 ghost use Rattle.kishu_meaning.specs.items.Walks.{or_none_there};
-ghost use Rattle.kishu_access.specs.Access.{AreWithin, are_sound_maybe, places_of};
+ghost use Rattle.kishu_access.specs.Access.{AreWithin, are_sound_maybe, places_of, AreSoundBounds};
 ghost use Rattle.kishu_access.specs.Forms.{items_from, maybe_picked};
 ghost use Rattle.kishu_machine.specs.Lists.{items_in};
-ghost use Rattle.kishu_machine.specs.Machine.{Gives, GrownBy, HasRoomBy, IsSound, ReadsBy, moment_of};
+ghost use Rattle.kishu_machine.specs.Machine.{Gives, HasRoomBy, IsSound, moment_of, Costs};
+ghost use Rattle.kishu_machine.specs.Clauses.{AreSoundIn, IsSoundIn, SoundEnd, SoundValue};
+ghost use Rattle.kishu_heap.specs.Costs.{Reads};
 ghost use Rattle.kishu_meaning.specs.values.Values as model;
 
 use crate::subscripts::{index_of, is_list, items_at};
 use kishu_heap::{Heap, range_length};
-use kishu_items::{VALUE_ERROR, plain_text};
+use kishu_items::plain_text;
 use kishu_machine::{Fault, Machine, new_list, new_tuple, not_subscriptable, raise, shared, spend};
-use kishu_meaning::{Steps, Value};
-use kishu_text::count;
+use kishu_meaning::{ClassId, Steps, Value};
+use kishu_text::{count, next_place};
 use std::alloc::{AllocError, Global};
 use std::sync::ledger::Ledger;
 
@@ -45,11 +46,10 @@ fn bound_of<L: Ledger>(
     bound: &Value,
     steps: &mut Steps<L>,
 ) -> Result<Option<i128>, Fault>
-    requires sound { IsTrue (is_sound (length machine.now.heap) (value_of bound.now)) }
+    requires sound { IsSoundIn machine.now.heap bound.now }
     ensures gives { Gives (λ z. z) result (moment_of machine.now) (bound_of (value_of bound.now) (moment_of machine.now)) }
-    ensures sound { IsSound (λ _. true) (length machine.now.heap) result }
-    ensures counted { steps.old ≤ steps.new }
-    ensures reads { steps.new ≤ steps.old + 1 }
+    ensures sound { SoundEnd machine.now.heap result }
+    ensures reads { Reads 1 steps.old steps.new }
 {
     if let Value::None = bound {
         return Ok(None);
@@ -66,7 +66,7 @@ fn step_from(alloc: Global, step: Option<i128>) -> Result<i128, Fault>
         return Ok(1);
     };
     if number == 0 {
-        return raise(VALUE_ERROR, plain_text(alloc, "step is zero")?);
+        return raise(ClassId::VALUE_ERROR, plain_text(alloc, "step is zero")?);
     }
     Ok(number)
 }
@@ -167,27 +167,17 @@ fn slice_places<L: Ledger>(
     bounds: &Bounds,
     steps: &mut Steps<L>,
 ) -> Result<Places, Fault>
-    requires sound_bounds { IsTrue (is_sound (length machine.now.heap) (value_of bounds.now.start.now)) × IsTrue (is_sound (length machine.now.heap) (value_of bounds.now.stop.now)) × IsTrue (is_sound (length machine.now.heap) (value_of bounds.now.step.now)) }
+    requires sound_bounds { AreSoundBounds machine.now.heap bounds.now.start bounds.now.stop bounds.now.step }
     ensures gives { Gives places_of result (moment_of machine.now) (slice_places len (value_of bounds.now.start.now) (value_of bounds.now.stop.now) (value_of bounds.now.step.now) (moment_of machine.now)) }
-    ensures sound { IsSound (λ _. true) (length machine.now.heap) result }
+    ensures sound { SoundEnd machine.now.heap result }
     ensures within { IfOk result (λ p. AreWithin len p) }
-    ensures counted { steps.old ≤ steps.new }
-    ensures reads { steps.new ≤ steps.old + 3 }
+    ensures reads { Reads 3 steps.old steps.new }
 {
     let start = bound_of(machine, bounds.start, steps)?;
     let stop = bound_of(machine, bounds.stop, steps)?;
     let asked = bound_of(machine, bounds.step, steps)?;
     let step = step_from(machine.alloc, asked)?;
     Ok(places_between(len, step, start, stop))
-}
-
-// The place that stands `step` behind a place.
-fn next_place(place: usize, step: i128) -> usize
-    requires on { pos 0 ≤ℤ (pos place +ℤ step) }
-    requires within { (pos place +ℤ step) <ℤ pos (2 ^ 64) }
-    ensures { pos result ≡ pos place +ℤ step }
-{
-    (place as i128 + step) as usize
 }
 
 // The items at `len` places, of which `first` is the first.
@@ -224,8 +214,7 @@ fn picked(alloc: Global, items: &[Value], places: Places) -> Result<Vec<Value>, 
 
 fn items_len<L: Ledger>(heap: &Heap, value: &Value, steps: &mut Steps<L>) -> Option<usize>
     ensures len { result ≡ option_map (λ vs. length vs) (items_from (node_at heap.now (value_of value.now))) }
-    ensures counted { steps.old ≤ steps.new }
-    ensures reads { steps.new ≤ steps.old + 1 }
+    ensures reads { Reads 1 steps.old steps.new }
 {
     Some(items_at(heap, value, steps)?.len())
 }
@@ -239,9 +228,8 @@ fn items_there<L: Ledger>(
 ) -> Result<Vec<Value>, AllocError>
     requires { IfSome (items_from (node_at machine.now.heap (value_of value.now))) (λ vs. AreWithin (length vs) places) }
     ensures items { IfOk result (λ v. map value_of v.items ≡ filter_map (at_place (or_none_there (items_from (node_at machine.now.heap (value_of value.now))))) (places_of places)) }
-    ensures sound { IfOk result (λ v. IsTrue (are_sound (length machine.now.heap) (map value_of v.items))) }
-    ensures counted { steps.old ≤ steps.new }
-    ensures reads { steps.new ≤ steps.old + 1 }
+    ensures sound { IfOk result (λ v. AreSoundIn machine.now.heap v.items) }
+    ensures reads { Reads 1 steps.old steps.new }
 {
     match items_at(&machine.heap, value, steps) {
         Some(items) => picked(machine.alloc, items, places),
@@ -255,11 +243,10 @@ fn text_slice<L: Ledger>(
     bounds: &Bounds,
     steps: &mut Steps<L>,
 ) -> Result<Value, Fault>
-    requires sound_bounds { IsTrue (is_sound (length machine.old.heap) (value_of bounds.now.start.now)) × IsTrue (is_sound (length machine.old.heap) (value_of bounds.now.stop.now)) × IsTrue (is_sound (length machine.old.heap) (value_of bounds.now.step.now)) }
+    requires sound_bounds { AreSoundBounds machine.old.heap bounds.now.start bounds.now.stop bounds.now.step }
     ensures gives { Gives value_of result (moment_of machine.new) (slice (model.text (chars text.now)) (value_of bounds.now.start.now) (value_of bounds.now.stop.now) (value_of bounds.now.step.now) (moment_of machine.old)) }
-    ensures sound { IsSound (λ v. is_sound (length machine.new.heap) (value_of v)) (length machine.new.heap) result }
-    ensures kept { GrownBy 0 machine.old steps.old machine.new steps.new }
-    ensures reads { ReadsBy 3 machine.old steps.old machine.new steps.new }
+    ensures sound { SoundValue machine.new.heap result }
+    ensures costs { Costs 0 3 machine.old steps.old machine.new steps.new }
 {
     let places = slice_places(machine, count(text), bounds, steps)?;
     spend(machine, places.len as u128, steps)?;
@@ -274,12 +261,11 @@ fn items_slice<L: Ledger>(
     bounds: &Bounds,
     steps: &mut Steps<L>,
 ) -> Result<Option<Vec<Value>>, Fault>
-    requires sound_bounds { IsTrue (is_sound (length machine.old.heap) (value_of bounds.now.start.now)) × IsTrue (is_sound (length machine.old.heap) (value_of bounds.now.stop.now)) × IsTrue (is_sound (length machine.old.heap) (value_of bounds.now.step.now)) }
+    requires sound_bounds { AreSoundBounds machine.old.heap bounds.now.start bounds.now.stop bounds.now.step }
     ensures gives { Gives items_in result (moment_of machine.new) ((node_now (value_of value.now) ⊳ λ m. maybe_picked (items_from m) (value_of bounds.now.start.now) (value_of bounds.now.stop.now) (value_of bounds.now.step.now)) (moment_of machine.old)) }
     ensures sound { IsSound (are_sound_maybe (length machine.new.heap)) (length machine.new.heap) result }
     ensures heap { machine.new.heap ≡ machine.old.heap }
-    ensures kept { GrownBy 0 machine.old steps.old machine.new steps.new }
-    ensures reads { ReadsBy 5 machine.old steps.old machine.new steps.new }
+    ensures costs { Costs 0 5 machine.old steps.old machine.new steps.new }
 {
     let Some(len) = items_len(&machine.heap, value, steps) else {
         return Ok(None);
@@ -297,12 +283,11 @@ fn node_slice<L: Ledger>(
     steps: &mut Steps<L>,
 ) -> Result<Value, Fault>
     requires room { HasRoomBy 1 machine.old }
-    requires sound_value { IsTrue (is_sound (length machine.old.heap) (value_of value.now)) }
-    requires sound_bounds { IsTrue (is_sound (length machine.old.heap) (value_of bounds.now.start.now)) × IsTrue (is_sound (length machine.old.heap) (value_of bounds.now.stop.now)) × IsTrue (is_sound (length machine.old.heap) (value_of bounds.now.step.now)) }
+    requires sound_value { IsSoundIn machine.old.heap value.now }
+    requires sound_bounds { AreSoundBounds machine.old.heap bounds.now.start bounds.now.stop bounds.now.step }
     ensures gives { Gives value_of result (moment_of machine.new) ((node_now (value_of value.now) ⊳ node_slice (value_of value.now) (value_of bounds.now.start.now) (value_of bounds.now.stop.now) (value_of bounds.now.step.now)) (moment_of machine.old)) }
-    ensures sound { IsSound (λ v. is_sound (length machine.new.heap) (value_of v)) (length machine.new.heap) result }
-    ensures kept { GrownBy 1 machine.old steps.old machine.new steps.new }
-    ensures reads { ReadsBy 7 machine.old steps.old machine.new steps.new }
+    ensures sound { SoundValue machine.new.heap result }
+    ensures costs { Costs 1 7 machine.old steps.old machine.new steps.new }
 {
     let Some(items) = items_slice(machine, value, bounds, steps)? else {
         return not_subscriptable(machine, value, steps);
@@ -323,12 +308,11 @@ pub fn slice<L: Ledger>(
     steps: &mut Steps<L>,
 ) -> Result<Value, Fault>
     requires room { HasRoomBy 1 machine.old }
-    requires sound_value { IsTrue (is_sound (length machine.old.heap) (value_of value.now)) }
-    requires sound_bounds { IsTrue (is_sound (length machine.old.heap) (value_of bounds.now.start.now)) × IsTrue (is_sound (length machine.old.heap) (value_of bounds.now.stop.now)) × IsTrue (is_sound (length machine.old.heap) (value_of bounds.now.step.now)) }
+    requires sound_value { IsSoundIn machine.old.heap value.now }
+    requires sound_bounds { AreSoundBounds machine.old.heap bounds.now.start bounds.now.stop bounds.now.step }
     ensures gives { Gives value_of result (moment_of machine.new) (slice (value_of value.now) (value_of bounds.now.start.now) (value_of bounds.now.stop.now) (value_of bounds.now.step.now) (moment_of machine.old)) }
-    ensures sound { IsSound (λ v. is_sound (length machine.new.heap) (value_of v)) (length machine.new.heap) result }
-    ensures kept { GrownBy 1 machine.old steps.old machine.new steps.new }
-    ensures reads { ReadsBy 16 machine.old steps.old machine.new steps.new }
+    ensures sound { SoundValue machine.new.heap result }
+    ensures costs { Costs 1 16 machine.old steps.old machine.new steps.new }
 {
     match value {
         Value::Text(text) => text_slice(machine, text.as_str(), bounds, steps),

@@ -1,16 +1,18 @@
 // Stores into items, and deletions of them (Python Language Reference 3, "Assignment statements" and "The del statement").
-ghost use Rattle.std.specs.Prelude.{IfOk, IsTrue, OnOk, Some, is_some, length, map, option_and_then, slice_get, true, ◌+◌, ◌-◌, ◌<◌, ◌≡◌, ◌≤◌};
+ghost use Rattle.std.specs.Prelude.{IfOk, IsTrue, OnOk, Some, is_some, length, map, option_and_then, slice_get, ◌-◌, ◌<◌, ◌≡◌};
 ghost use Rattle.kishu_meaning.specs.values.Keys.{key_of};
 ghost use Rattle.kishu_meaning.specs.values.Kinds.{no_key};
 ghost use Rattle.kishu_meaning.specs.moments.Moment.{change, node_at, node_now, ◌>>=◌ as ◌⊳◌};
 ghost use Rattle.kishu_meaning.specs.values.Nodes.{changed, on_list, remove, value_under};
 ghost use Rattle.kishu_meaning.specs.calls.Operators.{list_from};
-ghost use Rattle.kishu_meaning.specs.values.Sound.{are_sound, is_sound};
+ghost use Rattle.kishu_meaning.specs.values.Sound.{are_sound};
 ghost use Rattle.kishu_meaning.specs.items.Subscripts.{delete_in_node, delete_item, item, position, store_in_node, store_item, where_found, without_place};
 ghost use Rattle.kishu_meaning.specs.values.Values.{node, value_of};
 ghost use Rattle.kishu_meaning.specs.items.Walks.{or_none_there};
 ghost use Rattle.kishu_access.specs.Access.{container_of};
-ghost use Rattle.kishu_machine.specs.Machine.{Gives, GrownBy, IsSound, ReadsBy, moment_of};
+ghost use Rattle.kishu_machine.specs.Machine.{Gives, moment_of, Costs};
+ghost use Rattle.kishu_machine.specs.Clauses.{IsSoundIn, SoundEnd};
+ghost use Rattle.kishu_heap.specs.Costs.{Reads};
 
 use crate::subscripts::{found, position};
 use kishu_heap::{Heap, Node};
@@ -31,8 +33,7 @@ pub(crate) enum Container {
 
 fn container_at<L: Ledger>(heap: &Heap, id: NodeId, steps: &mut Steps<L>) -> Container
     ensures container { result ≡ container_of (slice_get heap.now id.0) }
-    ensures counted { steps.old ≤ steps.new }
-    ensures reads { steps.new ≤ steps.old + 1 }
+    ensures reads { Reads 1 steps.old steps.new }
 {
     match node_at(heap, &Value::Node(id), steps) {
         Some(Node::List(items)) => Container::List(items.len()),
@@ -55,12 +56,11 @@ fn store_in_node<L: Ledger>(
     steps: &mut Steps<L>,
 ) -> Result<(), Fault>
     requires id { id.0 < length machine.old.heap }
-    requires sound_index { IsTrue (is_sound (length machine.old.heap) (value_of index.now)) }
-    requires sound_value { IsTrue (is_sound (length machine.old.heap) (value_of value)) }
+    requires sound_index { IsSoundIn machine.old.heap index.now }
+    requires sound_value { IsSoundIn machine.old.heap value }
     ensures gives { Gives (λ u. u) result (moment_of machine.new) ((node_now (node id.0) ⊳ store_in_node id.0 (value_of index.now) (value_of value)) (moment_of machine.old)) }
-    ensures sound { IsSound (λ _. true) (length machine.new.heap) result }
-    ensures kept { GrownBy 0 machine.old steps.old machine.new steps.new }
-    ensures reads { ReadsBy 5 machine.old steps.old machine.new steps.new }
+    ensures sound { SoundEnd machine.new.heap result }
+    ensures costs { Costs 0 5 machine.old steps.old machine.new steps.new }
 {
     match container_at(&machine.heap, id, steps) {
         Container::List(len) => {
@@ -85,13 +85,12 @@ pub(crate) fn store_item<L: Ledger>(
     value: Value,
     steps: &mut Steps<L>,
 ) -> Result<(), Fault>
-    requires sound_container { IsTrue (is_sound (length machine.old.heap) (value_of container.now)) }
-    requires sound_index { IsTrue (is_sound (length machine.old.heap) (value_of index.now)) }
-    requires sound_value { IsTrue (is_sound (length machine.old.heap) (value_of value)) }
+    requires sound_container { IsSoundIn machine.old.heap container.now }
+    requires sound_index { IsSoundIn machine.old.heap index.now }
+    requires sound_value { IsSoundIn machine.old.heap value }
     ensures gives { Gives (λ u. u) result (moment_of machine.new) (store_item (value_of container.now) (value_of index.now) (value_of value) (moment_of machine.old)) }
-    ensures sound { IsSound (λ _. true) (length machine.new.heap) result }
-    ensures kept { GrownBy 0 machine.old steps.old machine.new steps.new }
-    ensures reads { ReadsBy 5 machine.old steps.old machine.new steps.new }
+    ensures sound { SoundEnd machine.new.heap result }
+    ensures costs { Costs 0 5 machine.old steps.old machine.new steps.new }
 {
     if let Value::Node(id) = container {
         return store_in_node(machine, *id, index, value, steps);
@@ -110,8 +109,7 @@ fn copied_list<L: Ledger>(
 ) -> Result<Vec<Value>, AllocError>
     ensures items { IfOk result (λ v. map value_of v.items ≡ or_none_there (list_from (slice_get heap.now id.0))) }
     ensures sound { IsTrue (are_sound (length heap.now) (or_none_there (list_from (slice_get heap.now id.0)))) }
-    ensures counted { steps.old ≤ steps.new }
-    ensures reads { steps.new ≤ steps.old + 1 }
+    ensures reads { Reads 1 steps.old steps.new }
 {
     match list_at(heap, &Value::Node(id), steps) {
         Some(items) => kishu_items::copied_all(alloc, items),
@@ -131,8 +129,7 @@ fn remove_place<L: Ledger>(
     requires place { place < length (or_none_there (list_from (slice_get heap.old id.0))) }
     ensures heap { OnOk result (heap.new ≡ changed (on_list (without_place place)) id.0 heap.old) }
     ensures long { length heap.new ≡ length heap.old }
-    ensures counted { steps.old ≤ steps.new }
-    ensures reads { steps.new ≤ steps.old + 1 }
+    ensures reads { Reads 1 steps.old steps.new }
 {
     let mut items = copied_list(alloc, heap, id, steps)?;
     items.remove(place);
@@ -142,8 +139,7 @@ fn remove_place<L: Ledger>(
 
 fn has_key<L: Ledger>(heap: &Heap, dict: &Value, key: &Key, steps: &mut Steps<L>) -> bool
     ensures is { result ≡ is_some (option_and_then (value_under (key_of key.now)) (node_at heap.now (value_of dict.now))) }
-    ensures counted { steps.old ≤ steps.new }
-    ensures reads { steps.new ≤ steps.old + 1 }
+    ensures reads { Reads 1 steps.old steps.new }
 {
     let Some(node) = node_at(heap, dict, steps) else {
         return false;
@@ -163,11 +159,10 @@ fn remove_entry<L: Ledger>(
     steps: &mut Steps<L>,
 ) -> Result<(), Fault>
     requires id { id.0 < length machine.old.heap }
-    requires sound_index { IsTrue (is_sound (length machine.old.heap) (value_of index.now)) }
+    requires sound_index { IsSoundIn machine.old.heap index.now }
     ensures gives { Gives (λ u. u) result (moment_of machine.new) (where_found (no_key (value_of index.now)) (option_and_then (value_under (key_of key.now)) (slice_get machine.old.heap id.0)) (change id.0 (remove (key_of key.now))) (moment_of machine.old)) }
-    ensures sound { IsSound (λ _. true) (length machine.new.heap) result }
-    ensures kept { GrownBy 0 machine.old steps.old machine.new steps.new }
-    ensures reads { ReadsBy 1 machine.old steps.old machine.new steps.new }
+    ensures sound { SoundEnd machine.new.heap result }
+    ensures costs { Costs 0 1 machine.old steps.old machine.new steps.new }
 {
     if has_key(&machine.heap, &Value::Node(id), key, steps) {
         let _gone = machine.heap.remove(id, key);
@@ -183,11 +178,10 @@ fn delete_in_node<L: Ledger>(
     steps: &mut Steps<L>,
 ) -> Result<(), Fault>
     requires id { id.0 < length machine.old.heap }
-    requires sound_index { IsTrue (is_sound (length machine.old.heap) (value_of index.now)) }
+    requires sound_index { IsSoundIn machine.old.heap index.now }
     ensures gives { Gives (λ u. u) result (moment_of machine.new) ((node_now (node id.0) ⊳ delete_in_node id.0 (value_of index.now)) (moment_of machine.old)) }
-    ensures sound { IsSound (λ _. true) (length machine.new.heap) result }
-    ensures kept { GrownBy 0 machine.old steps.old machine.new steps.new }
-    ensures reads { ReadsBy 6 machine.old steps.old machine.new steps.new }
+    ensures sound { SoundEnd machine.new.heap result }
+    ensures costs { Costs 0 6 machine.old steps.old machine.new steps.new }
 {
     match container_at(&machine.heap, id, steps) {
         Container::List(len) => {
@@ -209,12 +203,11 @@ pub(crate) fn delete_item<L: Ledger>(
     index: &Value,
     steps: &mut Steps<L>,
 ) -> Result<(), Fault>
-    requires sound_container { IsTrue (is_sound (length machine.old.heap) (value_of container.now)) }
-    requires sound_index { IsTrue (is_sound (length machine.old.heap) (value_of index.now)) }
+    requires sound_container { IsSoundIn machine.old.heap container.now }
+    requires sound_index { IsSoundIn machine.old.heap index.now }
     ensures gives { Gives (λ u. u) result (moment_of machine.new) (delete_item (value_of container.now) (value_of index.now) (moment_of machine.old)) }
-    ensures sound { IsSound (λ _. true) (length machine.new.heap) result }
-    ensures kept { GrownBy 0 machine.old steps.old machine.new steps.new }
-    ensures reads { ReadsBy 6 machine.old steps.old machine.new steps.new }
+    ensures sound { SoundEnd machine.new.heap result }
+    ensures costs { Costs 0 6 machine.old steps.old machine.new steps.new }
 {
     if let Value::Node(id) = container {
         return delete_in_node(machine, *id, index, steps);

@@ -1,5 +1,5 @@
 // Items that are read (Python Language Reference 3, "Subscriptions").
-ghost use Rattle.std.specs.Prelude.{IfOk, IfSome, IsTrue, Some, [], is_some, length, map, negsuc, option_and_then, option_map, pos, slice_get, true, ℕ, ◌*ℤ◌, ◌+ℤ◌, ◌+◌, ◌-ℤ◌, ◌-◌, ◌<ℤ◌, ◌<◌, ◌^◌, ◌∷◌, ◌≡◌, ◌≤ℤ◌, ◌≤◌};
+ghost use Rattle.std.specs.Prelude.{IfOk, IfSome, IsTrue, Some, [], is_some, length, map, option_and_then, option_map, slice_get, ℕ, ◌<◌, ◌∷◌, ◌≡◌};
 ghost use Rattle.std.specs.Str.{chars};
 ghost use Rattle.kishu_meaning.specs.comparing.Equal.{range_length};
 ghost use Rattle.kishu_meaning.specs.items.Indexes.{index_of, place_in, place_of};
@@ -8,17 +8,18 @@ ghost use Rattle.kishu_meaning.specs.values.Kinds.{no_key};
 ghost use Rattle.kishu_meaning.specs.moments.Moment.{Moment, node_at, node_now, ◌>>=◌ as ◌⊳◌};
 ghost use Rattle.kishu_meaning.specs.values.Nodes.{value_at, value_under};
 ghost use Rattle.kishu_meaning.specs.calls.Operators.{list_from};
-ghost use Rattle.kishu_meaning.specs.values.Sound.{are_sound, is_sound};
 ghost use Rattle.kishu_meaning.specs.items.Subscripts.{item, node_item, position, taken};
 ghost use Rattle.kishu_meaning.specs.values.Values.{node, value_of};
 ghost use Rattle.kishu_access.specs.Forms.{is_dict, items_from};
 ghost use Rattle.kishu_heap.specs.Cells.{entries_of};
-ghost use Rattle.kishu_machine.specs.Machine.{Gives, GrownBy, IsSound, ReadsBy, moment_of};
+ghost use Rattle.kishu_machine.specs.Machine.{Gives, IsSound, moment_of, Costs};
+ghost use Rattle.kishu_machine.specs.Clauses.{AreSoundIn, IsSoundIn, SoundEnd, SoundValue};
+ghost use Rattle.kishu_heap.specs.Costs.{Reads};
 ghost use Rattle.kishu_meaning.specs.values.Values as model;
 
 use indexmap::IndexMap;
 use kishu_heap::{Heap, Node, range_length};
-use kishu_items::character_text;
+use kishu_items::{character_text, number_at};
 use kishu_machine::{
     Fault, Machine, key_of, list_at, no_key, node_at, not_subscriptable, out_of_range, passed,
 };
@@ -32,11 +33,10 @@ pub(crate) fn index_of<L: Ledger>(
     index: &Value,
     steps: &mut Steps<L>,
 ) -> Result<i128, Fault>
-    requires sound { IsTrue (is_sound (length machine.now.heap) (value_of index.now)) }
+    requires sound { IsSoundIn machine.now.heap index.now }
     ensures gives { Gives (λ z. z) result (moment_of machine.now) (index_of (value_of index.now) (moment_of machine.now)) }
-    ensures sound { IsSound (λ _. true) (length machine.now.heap) result }
-    ensures counted { steps.old ≤ steps.new }
-    ensures reads { steps.new ≤ steps.old + 1 }
+    ensures sound { SoundEnd machine.now.heap result }
+    ensures reads { Reads 1 steps.old steps.new }
 {
     let number = kishu_items::index_of(machine.alloc, index, &machine.heap, steps);
     passed(number)
@@ -59,12 +59,11 @@ pub(crate) fn position<L: Ledger>(
     index: &Value,
     steps: &mut Steps<L>,
 ) -> Result<usize, Fault>
-    requires sound { IsTrue (is_sound (length machine.now.heap) (value_of index.now)) }
+    requires sound { IsSoundIn machine.now.heap index.now }
     ensures gives { Gives (λ k. k) result (moment_of machine.now) (position len (value_of index.now) (moment_of machine.now)) }
-    ensures sound { IsSound (λ _. true) (length machine.now.heap) result }
+    ensures sound { SoundEnd machine.now.heap result }
     ensures within { IfOk result (λ k. k < len) }
-    ensures counted { steps.old ≤ steps.new }
-    ensures reads { steps.new ≤ steps.old + 1 }
+    ensures reads { Reads 1 steps.old steps.new }
 {
     let number = index_of(machine, index, steps)?;
     place_of(machine.alloc, len, number)
@@ -77,12 +76,11 @@ fn taken<L: Ledger>(
     index: &Value,
     steps: &mut Steps<L>,
 ) -> Result<Value, Fault>
-    requires sound_items { IsTrue (are_sound (length machine.now.heap) (map value_of items.now)) }
-    requires sound_index { IsTrue (is_sound (length machine.now.heap) (value_of index.now)) }
+    requires sound_items { AreSoundIn machine.now.heap items.now }
+    requires sound_index { IsSoundIn machine.now.heap index.now }
     ensures gives { Gives value_of result (moment_of machine.now) (taken (map value_of items.now) (value_of index.now) (moment_of machine.now)) }
-    ensures sound { IsSound (λ v. is_sound (length machine.now.heap) (value_of v)) (length machine.now.heap) result }
-    ensures counted { steps.old ≤ steps.new }
-    ensures reads { steps.new ≤ steps.old + 1 }
+    ensures sound { SoundValue machine.now.heap result }
+    ensures reads { Reads 1 steps.old steps.new }
 {
     let place = position(machine, items.len(), index, steps)?;
     let item = items[place].copied()?;
@@ -105,50 +103,14 @@ fn text_item<L: Ledger>(
     index: &Value,
     steps: &mut Steps<L>,
 ) -> Result<Value, Fault>
-    requires sound { IsTrue (is_sound (length machine.now.heap) (value_of index.now)) }
+    requires sound { IsSoundIn machine.now.heap index.now }
     ensures gives { Gives value_of result (moment_of machine.now) (item (model.text (chars text.now)) (value_of index.now) (moment_of machine.now)) }
-    ensures sound { IsSound (λ v. is_sound (length machine.now.heap) (value_of v)) (length machine.now.heap) result }
-    ensures counted { steps.old ≤ steps.new }
-    ensures reads { steps.new ≤ steps.old + 1 }
+    ensures sound { SoundValue machine.now.heap result }
+    ensures reads { Reads 1 steps.old steps.new }
 {
     let place = position(machine, kishu_text::count(text), index, steps)?;
     let item = character(machine.alloc, text, place)?;
     Ok(item)
-}
-
-// The number so far above another, below 2 ^ 127.
-fn above(number: i128, distance: u128) -> i128
-    requires { (number +ℤ pos distance) <ℤ pos (2 ^ 127) }
-    ensures { result ≡ number +ℤ pos distance }
-{
-    match number.checked_add_unsigned(distance) {
-        Some(number) => number,
-        None => unreachable!(),
-    }
-}
-
-// The number so far below another, from -2 ^ 127 on.
-fn below(number: i128, distance: u128) -> i128
-    requires { negsuc (2 ^ 127 - 1) ≤ℤ (number -ℤ pos distance) }
-    ensures { result ≡ number -ℤ pos distance }
-{
-    match number.checked_sub_unsigned(distance) {
-        Some(number) => number,
-        None => unreachable!(),
-    }
-}
-
-/// The number of a range at a place (Library Reference, "Ranges").
-pub(crate) fn range_number(start: i128, stop: i128, step: i128, place: u128) -> i128
-    requires { place < range_length start stop step }
-    ensures { result ≡ start +ℤ pos place *ℤ step }
-{
-    let distance = place * step.unsigned_abs();
-    if step > 0 {
-        above(start, distance)
-    } else {
-        below(start, distance)
-    }
 }
 
 // The place among so many numbers that an index says.
@@ -172,15 +134,14 @@ fn range_item<L: Ledger>(
     index: &Value,
     steps: &mut Steps<L>,
 ) -> Result<Value, Fault>
-    requires sound { IsTrue (is_sound (length machine.now.heap) (value_of index.now)) }
+    requires sound { IsSoundIn machine.now.heap index.now }
     ensures gives { Gives value_of result (moment_of machine.now) (item (model.range start stop step) (value_of index.now) (moment_of machine.now)) }
-    ensures sound { IsSound (λ v. is_sound (length machine.now.heap) (value_of v)) (length machine.now.heap) result }
-    ensures counted { steps.old ≤ steps.new }
-    ensures reads { steps.new ≤ steps.old + 1 }
+    ensures sound { SoundValue machine.now.heap result }
+    ensures reads { Reads 1 steps.old steps.new }
 {
     let number = index_of(machine, index, steps)?;
     match range_place(range_length(start, stop, step), number) {
-        Some(place) => Ok(Value::Int(range_number(start, stop, step, place))),
+        Some(place) => Ok(Value::Int(number_at(start, stop, step, place))),
         None => out_of_range(machine.alloc),
     }
 }
@@ -192,9 +153,8 @@ pub(crate) fn items_at<'a, L: Ledger>(
     steps: &mut Steps<L>,
 ) -> Option<&'a [Value]>
     ensures items { option_map (λ s. map value_of s.now) result ≡ items_from (node_at heap.now (value_of value.now)) }
-    ensures sound { IfSome result (λ s. IsTrue (are_sound (length heap.now) (map value_of s.now))) }
-    ensures counted { steps.old ≤ steps.new }
-    ensures reads { steps.new ≤ steps.old + 1 }
+    ensures sound { IfSome result (λ s. AreSoundIn heap.now s.now) }
+    ensures reads { Reads 1 steps.old steps.new }
 {
     match node_at(heap, value, steps)? {
         Node::List(items) => Some(items.as_slice()),
@@ -208,8 +168,7 @@ pub(crate) fn items_at<'a, L: Ledger>(
 
 fn is_dict<L: Ledger>(heap: &Heap, value: &Value, steps: &mut Steps<L>) -> bool
     ensures is { result ≡ is_dict (node_at heap.now (value_of value.now)) }
-    ensures counted { steps.old ≤ steps.new }
-    ensures reads { steps.new ≤ steps.old + 1 }
+    ensures reads { Reads 1 steps.old steps.new }
 {
     match node_at(heap, value, steps) {
         Some(Node::Dict(_)) => true,
@@ -224,8 +183,7 @@ fn is_dict<L: Ledger>(heap: &Heap, value: &Value, steps: &mut Steps<L>) -> bool
 
 pub(crate) fn is_list<L: Ledger>(heap: &Heap, value: &Value, steps: &mut Steps<L>) -> bool
     ensures is { result ≡ is_some (list_from (node_at heap.now (value_of value.now))) }
-    ensures counted { steps.old ≤ steps.new }
-    ensures reads { steps.new ≤ steps.old + 1 }
+    ensures reads { Reads 1 steps.old steps.new }
 {
     list_at(heap, value, steps).is_some()
 }
@@ -253,9 +211,8 @@ fn value_under<L: Ledger>(
     steps: &mut Steps<L>,
 ) -> Result<Option<Value>, AllocError>
     ensures value { IfOk result (λ o. option_map value_of o ≡ option_and_then (value_under (key_of key.now)) (node_at heap.now (value_of dict.now))) }
-    ensures sound { IfOk result (λ o. IfSome o (λ v. IsTrue (is_sound (length heap.now) (value_of v)))) }
-    ensures counted { steps.old ≤ steps.new }
-    ensures reads { steps.new ≤ steps.old + 1 }
+    ensures sound { IfOk result (λ o. IfSome o (λ v. IsSoundIn heap.now v)) }
+    ensures reads { Reads 1 steps.old steps.new }
 {
     let Some(node) = node_at(heap, dict, steps) else {
         return Ok(None);
@@ -273,11 +230,10 @@ fn dict_item<L: Ledger>(
     steps: &mut Steps<L>,
 ) -> Result<Value, Fault>
     requires dict { IsTrue (is_dict (node_at machine.old.heap (value_of value.now))) }
-    requires sound_index { IsTrue (is_sound (length machine.old.heap) (value_of index.now)) }
+    requires sound_index { IsSoundIn machine.old.heap index.now }
     ensures gives { Gives value_of result (moment_of machine.new) ((node_now (value_of value.now) ⊳ node_item (value_of value.now) (value_of index.now)) (moment_of machine.old)) }
-    ensures sound { IsSound (λ v. is_sound (length machine.new.heap) (value_of v)) (length machine.new.heap) result }
-    ensures kept { GrownBy 0 machine.old steps.old machine.new steps.new }
-    ensures reads { ReadsBy 5 machine.old steps.old machine.new steps.new }
+    ensures sound { SoundValue machine.new.heap result }
+    ensures costs { Costs 0 5 machine.old steps.old machine.new steps.new }
     ensures heap { machine.new.heap ≡ machine.old.heap }
 {
     let key = key_of(machine, index, steps)?;
@@ -294,12 +250,11 @@ fn node_item<L: Ledger>(
     index: &Value,
     steps: &mut Steps<L>,
 ) -> Result<Value, Fault>
-    requires sound_value { IsTrue (is_sound (length machine.old.heap) (value_of value.now)) }
-    requires sound_index { IsTrue (is_sound (length machine.old.heap) (value_of index.now)) }
+    requires sound_value { IsSoundIn machine.old.heap value.now }
+    requires sound_index { IsSoundIn machine.old.heap index.now }
     ensures gives { Gives value_of result (moment_of machine.new) ((node_now (value_of value.now) ⊳ node_item (value_of value.now) (value_of index.now)) (moment_of machine.old)) }
-    ensures sound { IsSound (λ v. is_sound (length machine.new.heap) (value_of v)) (length machine.new.heap) result }
-    ensures kept { GrownBy 0 machine.old steps.old machine.new steps.new }
-    ensures reads { ReadsBy 7 machine.old steps.old machine.new steps.new }
+    ensures sound { SoundValue machine.new.heap result }
+    ensures costs { Costs 0 7 machine.old steps.old machine.new steps.new }
     ensures heap { machine.new.heap ≡ machine.old.heap }
 {
     if let Some(items) = items_at(&machine.heap, value, steps) {
@@ -319,12 +274,11 @@ pub fn item<L: Ledger>(
     index: &Value,
     steps: &mut Steps<L>,
 ) -> Result<Value, Fault>
-    requires sound_value { IsTrue (is_sound (length machine.old.heap) (value_of value.now)) }
-    requires sound_index { IsTrue (is_sound (length machine.old.heap) (value_of index.now)) }
+    requires sound_value { IsSoundIn machine.old.heap value.now }
+    requires sound_index { IsSoundIn machine.old.heap index.now }
     ensures gives { Gives value_of result (moment_of machine.new) (item (value_of value.now) (value_of index.now) (moment_of machine.old)) }
-    ensures sound { IsSound (λ v. is_sound (length machine.new.heap) (value_of v)) (length machine.new.heap) result }
-    ensures kept { GrownBy 0 machine.old steps.old machine.new steps.new }
-    ensures reads { ReadsBy 16 machine.old steps.old machine.new steps.new }
+    ensures sound { SoundValue machine.new.heap result }
+    ensures costs { Costs 0 16 machine.old steps.old machine.new steps.new }
     ensures heap { machine.new.heap ≡ machine.old.heap }
 {
     match value {

@@ -1,6 +1,6 @@
 // Sequences that are walked (Python Language Reference 3, "The for statement" and "Assignment
 // statements").
-ghost use Rattle.std.specs.Prelude.{IfOk, IfSome, IsTrue, None, OnOk, Some, [], codes, decimal, if◌then◌else◌, length, map, nat_lt, option_and_then, option_map, pos, slice_get, true, ℕ, ◌*ℤ◌, ◌*◌, ◌++◌, ◌+ℤ◌, ◌+◌, ◌<◌, ◌∷◌, ◌≡◌, ◌≤◌};
+ghost use Rattle.std.specs.Prelude.{IfOk, IfSome, IsTrue, None, OnOk, Some, [], codes, decimal, if◌then◌else◌, length, map, nat_lt, option_and_then, option_map, pos, slice_get, ℕ, ◌*ℤ◌, ◌*◌, ◌++◌, ◌+ℤ◌, ◌+◌, ◌<◌, ◌∷◌, ◌≡◌, ◌≤◌};
 ghost use Rattle.std.specs.Str.{chars};
 ghost use Rattle.std.specs.String.{string_bytes};
 ghost use Rattle.kishu_heap.specs.Cells.{entries_of};
@@ -13,21 +13,24 @@ ghost use Rattle.kishu_meaning.specs.items.Sequences.{extended};
 ghost use Rattle.kishu_meaning.specs.values.Sound.{are_sound, is_sound};
 ghost use Rattle.kishu_meaning.specs.values.Values.{node, value_of};
 ghost use Rattle.kishu_meaning.specs.items.Walks.{along_dict, along_text, item_for, node_walk, or_none_there, seen, unpacked, walk_view};
-ghost use Rattle.kishu_access.specs.Access.{is_sound_maybe, is_sound_walk, view_of, walk_of};
+ghost use Rattle.kishu_access.specs.Access.{is_sound_maybe, is_sound_walk, view_of, walk_of, SoundWalk};
 ghost use Rattle.kishu_machine.specs.Lists.{values_in};
-ghost use Rattle.kishu_machine.specs.Machine.{Gives, GrownBy, HasRoom, HasRoomBy, IsRaised, IsSound, ReadsBy, moment_of};
+ghost use Rattle.kishu_machine.specs.Machine.{Gives, HasRoom, HasRoomBy, IsRaised, IsSound, moment_of, Costs};
+ghost use Rattle.kishu_machine.specs.Clauses.{AreSoundIn, IsSoundIn, SoundEnd, SoundValue, SoundValues};
+ghost use Rattle.kishu_heap.specs.Costs.{Reads};
 ghost use Rattle.kishu_meaning.specs.values.Values as model;
 ghost use Rattle.kishu_meaning.specs.items.Walks as walks;
+ghost use Rattle.kishu_meaning.specs.values.Classes.{runtime_error_class, value_error_class};
 
-use crate::subscripts::{is_list, range_number};
+use crate::subscripts::is_list;
 use indexmap::IndexMap;
 use kishu_heap::{Heap, range_length};
-use kishu_items::{VALUE_ERROR, character_text, plain_text};
+use kishu_items::{character_text, plain_text, push_all};
 use kishu_machine::{
-    Fault, Machine, RUNTIME_ERROR, items_of, list_at, new_tuple, node_at, not_iterable, raise,
-    spend, tuple_at, value_of_key, walked,
+    Fault, Machine, items_of, list_at, new_tuple, node_at, not_iterable, raise, spend, tuple_at,
+    value_of_key, walked,
 };
-use kishu_meaning::{Key, NodeId, Steps, Value};
+use kishu_meaning::{ClassId, Key, NodeId, Steps, Value};
 use std::alloc::{AllocError, Global};
 use std::rc::RcStr;
 use std::sync::ledger::Ledger;
@@ -79,10 +82,10 @@ fn unpack_message(alloc: Global, count: usize) -> Result<String, AllocError>
 
 // The ValueError for items that are too many or too few.
 fn bad_count<T>(alloc: Global, count: usize) -> Result<T, Fault>
-    ensures { IsRaised result 24 (codes "cannot unpack into " ++ decimal count) }
+    ensures { IsRaised result value_error_class (codes "cannot unpack into " ++ decimal count) }
 {
     let text = unpack_message(alloc, count)?;
-    raise(VALUE_ERROR, RcStr::from_string(text)?)
+    raise(ClassId::VALUE_ERROR, RcStr::from_string(text)?)
 }
 
 /// The items for a pattern of so many targets. As many steps are taken as there are items, and only
@@ -95,11 +98,10 @@ pub fn unpacked<L: Ledger>(
     steps: &mut Steps<L>,
 ) -> Result<Vec<Value>, Fault>
     requires room { HasRoom machine.old }
-    requires sound_value { IsTrue (is_sound (length machine.old.heap) (value_of value.now)) }
+    requires sound_value { IsSoundIn machine.old.heap value.now }
     ensures gives { Gives (λ v. map value_of v.items) result (moment_of machine.new) (unpacked targets (value_of value.now) (moment_of machine.old)) }
-    ensures sound { IsSound (λ v. are_sound (length machine.new.heap) (map value_of v.items)) (length machine.new.heap) result }
-    ensures kept { GrownBy 0 machine.old steps.old machine.new steps.new }
-    ensures reads { ReadsBy 24 machine.old steps.old machine.new steps.new }
+    ensures sound { SoundValues machine.new.heap result }
+    ensures costs { Costs 0 24 machine.old steps.old machine.new steps.new }
     ensures taken { OnOk result (steps.new + 128 * machine.new.budget.left + 127 * targets ≤ steps.old + 128 * machine.old.budget.left + 24) }
 {
     let Some(count) = kishu_items::count_in(value, &machine.heap, steps) else {
@@ -113,19 +115,6 @@ pub fn unpacked<L: Ledger>(
     bad_count(machine.alloc, targets)
 }
 
-// Puts values behind a list's items.
-fn push_all(heap: &mut Heap, id: NodeId, values: &[Value]) -> Result<(), AllocError>
-    requires id { id.0 < length heap.old }
-    requires sound { IsTrue (are_sound (length heap.old) (map value_of values.now)) }
-    ensures nodes { OnOk result (heap.new ≡ changed (on_list (λ items. items ++ map value_of values.now)) id.0 heap.old) }
-    ensures long { length heap.new ≡ length heap.old }
-{
-    for i in 0..values.len() {
-        heap.push(id, values[i].copied()?)?;
-    }
-    Ok(())
-}
-
 /// A list grows by the items of a sequence, which are taken first.
 pub(crate) fn extend<L: Ledger>(
     machine: &mut Machine,
@@ -135,14 +124,13 @@ pub(crate) fn extend<L: Ledger>(
 ) -> Result<(), Fault>
     requires room { HasRoom machine.old }
     requires id { id.0 < length machine.old.heap }
-    requires sound_value { IsTrue (is_sound (length machine.old.heap) (value_of value.now)) }
+    requires sound_value { IsSoundIn machine.old.heap value.now }
     ensures gives { Gives (λ u. u) result (moment_of machine.new) (extended id.0 (value_of value.now) (moment_of machine.old)) }
-    ensures sound { IsSound (λ _. true) (length machine.new.heap) result }
-    ensures kept { GrownBy 0 machine.old steps.old machine.new steps.new }
-    ensures reads { ReadsBy 4 machine.old steps.old machine.new steps.new }
+    ensures sound { SoundEnd machine.new.heap result }
+    ensures costs { Costs 0 4 machine.old steps.old machine.new steps.new }
 {
     let more = walked(machine, value, steps)?;
-    push_all(&mut machine.heap, id, more.as_slice())?;
+    push_all(id, more.as_slice(), &mut machine.heap)?;
     Ok(())
 }
 
@@ -156,8 +144,7 @@ fn tuple_walk<L: Ledger>(
 ) -> Result<Option<Walk>, AllocError>
     ensures walk { IfOk result (λ o. option_map walk_of o ≡ option_map walks.along_tuple (tuple_from (slice_get machine.now.heap id.0))) }
     ensures sound { IfOk result (λ o. IfSome o (λ w. IsTrue (is_sound_walk (length machine.now.heap) (walk_of w)))) }
-    ensures counted { steps.old ≤ steps.new }
-    ensures reads { steps.new ≤ steps.old + 1 }
+    ensures reads { Reads 1 steps.old steps.new }
 {
     match tuple_at(&machine.heap, &Value::Node(id), steps) {
         Some(items) => {
@@ -171,8 +158,7 @@ fn tuple_walk<L: Ledger>(
 // How many entries a dict has, where the node is one.
 fn dict_size<L: Ledger>(heap: &Heap, id: NodeId, steps: &mut Steps<L>) -> Option<usize>
     ensures is { result ≡ option_map (λ es. length es) (option_and_then dict_in (slice_get heap.now id.0)) }
-    ensures counted { steps.old ≤ steps.new }
-    ensures reads { steps.new ≤ steps.old + 1 }
+    ensures reads { Reads 1 steps.old steps.new }
 {
     Some(node_at(heap, &Value::Node(id), steps)?.dict()?.len())
 }
@@ -180,9 +166,8 @@ fn dict_size<L: Ledger>(heap: &Heap, id: NodeId, steps: &mut Steps<L>) -> Option
 fn node_walk<L: Ledger>(machine: &Machine, id: NodeId, steps: &mut Steps<L>) -> Result<Walk, Fault>
     requires id { id.0 < length machine.now.heap }
     ensures gives { Gives walk_of result (moment_of machine.now) ((node_now (node id.0) ⊳ node_walk id.0) (moment_of machine.now)) }
-    ensures sound { IsSound (λ w. is_sound_walk (length machine.now.heap) (walk_of w)) (length machine.now.heap) result }
-    ensures counted { steps.old ≤ steps.new }
-    ensures reads { steps.new ≤ steps.old + 5 }
+    ensures sound { SoundWalk machine.now.heap result }
+    ensures reads { Reads 5 steps.old steps.new }
 {
     let value = Value::Node(id);
     if is_list(&machine.heap, &value, steps) {
@@ -210,11 +195,10 @@ pub fn walk_of<L: Ledger>(
     value: &Value,
     steps: &mut Steps<L>,
 ) -> Result<Walk, Fault>
-    requires sound_value { IsTrue (is_sound (length machine.now.heap) (value_of value.now)) }
+    requires sound_value { IsSoundIn machine.now.heap value.now }
     ensures gives { Gives walk_of result (moment_of machine.now) (walks.walk_of (value_of value.now) (moment_of machine.now)) }
-    ensures sound { IsSound (λ w. is_sound_walk (length machine.now.heap) (walk_of w)) (length machine.now.heap) result }
-    ensures counted { steps.old ≤ steps.new }
-    ensures reads { steps.new ≤ steps.old + 8 }
+    ensures sound { SoundWalk machine.now.heap result }
+    ensures reads { Reads 8 steps.old steps.new }
 {
     match value {
         Value::Text(text) => Ok(text_walk(machine.alloc, text.as_str())?),
@@ -227,8 +211,7 @@ pub fn walk_of<L: Ledger>(
 /// How many entries a dict has.
 fn entry_count<L: Ledger>(heap: &Heap, id: NodeId, steps: &mut Steps<L>) -> usize
     ensures is { result ≡ length (or_none_there (option_and_then dict_in (slice_get heap.now id.0))) }
-    ensures counted { steps.old ≤ steps.new }
-    ensures reads { steps.new ≤ steps.old + 1 }
+    ensures reads { Reads 1 steps.old steps.new }
 {
     dict_size(heap, id, steps).unwrap_or(0)
 }
@@ -236,8 +219,7 @@ fn entry_count<L: Ledger>(heap: &Heap, id: NodeId, steps: &mut Steps<L>) -> usiz
 /// How a view of a dict is walked.
 pub fn walk_view<L: Ledger>(machine: &Machine, id: NodeId, view: View, steps: &mut Steps<L>) -> Walk
     ensures gives { walk_view id.0 (view_of view) (moment_of machine.now) ≡ fine (walk_of result) (moment_of machine.now) }
-    ensures counted { steps.old ≤ steps.new }
-    ensures reads { steps.new ≤ steps.old + 8 }
+    ensures reads { Reads 8 steps.old steps.new }
 {
     Walk::Dict(id, entry_count(&machine.heap, id, steps), view)
 }
@@ -250,8 +232,7 @@ fn list_item<L: Ledger>(
 ) -> Result<Option<Value>, AllocError>
     ensures item { IfOk result (λ o. values_in o ≡ slice_get (or_none_there (list_from (slice_get heap.now id.0))) k) }
     ensures sound { IfOk result (λ o. IsTrue (is_sound_maybe (length heap.now) o)) }
-    ensures counted { steps.old ≤ steps.new }
-    ensures reads { steps.new ≤ steps.old + 1 }
+    ensures reads { Reads 1 steps.old steps.new }
 {
     match list_at(heap, &Value::Node(id), steps) {
         Some(items) => item_at(items, k),
@@ -295,8 +276,7 @@ fn entry_at<L: Ledger>(
 ) -> Result<Option<(Key, Value)>, AllocError>
     ensures entry { IfOk result (λ o. option_map (λ e. (key_of e.0, value_of e.1)) o ≡ slice_get (or_none_there (option_and_then dict_in (slice_get heap.now id.0))) k) }
     ensures sound { IfOk result (λ o. IfSome o (λ e. IsTrue (is_sound (length heap.now) (value_of e.1)))) }
-    ensures counted { steps.old ≤ steps.new }
-    ensures reads { steps.new ≤ steps.old + 1 }
+    ensures reads { Reads 1 steps.old steps.new }
 {
     let Some(node) = node_at(heap, &Value::Node(id), steps) else {
         return Ok(None);
@@ -316,11 +296,10 @@ fn seen<L: Ledger>(
     steps: &mut Steps<L>,
 ) -> Result<Value, Fault>
     requires room { HasRoomBy 2 machine.old }
-    requires sound_value { IsTrue (is_sound (length machine.old.heap) (value_of value)) }
+    requires sound_value { IsSoundIn machine.old.heap value }
     ensures gives { Gives value_of result (moment_of machine.new) (seen (view_of view) (key_of key.now, value_of value) (moment_of machine.old)) }
-    ensures sound { IsSound (λ v. is_sound (length machine.new.heap) (value_of v)) (length machine.new.heap) result }
-    ensures kept { GrownBy 2 machine.old steps.old machine.new steps.new }
-    ensures reads { ReadsBy 0 machine.old steps.old machine.new steps.new }
+    ensures sound { SoundValue machine.new.heap result }
+    ensures costs { Costs 2 0 machine.old steps.old machine.new steps.new }
 {
     match view {
         View::Keys => value_of_key(machine, key, steps),
@@ -335,10 +314,10 @@ fn seen<L: Ledger>(
 
 // The RuntimeError for a dict that isn't as large as at the start.
 fn size_changed<T>(alloc: Global) -> Result<T, Fault>
-    ensures { IsRaised result 19 (codes "dictionary changed size during iteration") }
+    ensures { IsRaised result runtime_error_class (codes "dictionary changed size during iteration") }
 {
     let text = plain_text(alloc, "dictionary changed size during iteration")?;
-    raise(RUNTIME_ERROR, text)
+    raise(ClassId::RUNTIME_ERROR, text)
 }
 
 fn dict_item<L: Ledger>(
@@ -352,8 +331,7 @@ fn dict_item<L: Ledger>(
     requires room { HasRoomBy 2 machine.old }
     ensures gives { Gives values_in result (moment_of machine.new) (item_for (along_dict id.0 start (view_of view)) k (moment_of machine.old)) }
     ensures sound { IsSound (is_sound_maybe (length machine.new.heap)) (length machine.new.heap) result }
-    ensures kept { GrownBy 2 machine.old steps.old machine.new steps.new }
-    ensures reads { ReadsBy 2 machine.old steps.old machine.new steps.new }
+    ensures costs { Costs 2 2 machine.old steps.old machine.new steps.new }
 {
     let size = entry_count(&machine.heap, id, steps);
     if size != start {
@@ -382,7 +360,7 @@ fn number_at(start: i128, stop: i128, step: i128, k: usize) -> Option<Value>
 {
     let place = k as u128;
     if place < range_length(start, stop, step) {
-        Some(Value::Int(range_number(start, stop, step, place)))
+        Some(Value::Int(kishu_items::number_at(start, stop, step, place)))
     } else {
         None
     }
@@ -400,8 +378,7 @@ pub fn item_for<L: Ledger>(
     requires sound_walk { IsTrue (is_sound_walk (length machine.old.heap) (walk_of walk.now)) }
     ensures gives { Gives values_in result (moment_of machine.new) (item_for (walk_of walk.now) k (moment_of machine.old)) }
     ensures sound { IsSound (is_sound_maybe (length machine.new.heap)) (length machine.new.heap) result }
-    ensures kept { GrownBy 2 machine.old steps.old machine.new steps.new }
-    ensures reads { ReadsBy 16 machine.old steps.old machine.new steps.new }
+    ensures costs { Costs 2 16 machine.old steps.old machine.new steps.new }
 {
     match walk {
         Walk::List(id) => Ok(list_item(&machine.heap, *id, k, steps)?),

@@ -7,7 +7,7 @@ use Rattle.kishu_language.specs.declared.tree.Comparison.{Comparison}
 use Rattle.kishu_meaning.specs.declared.value.Value as rust
 use Rattle.kishu_meaning.specs.calls.Builtins.{of_one, of_two, of_none_or_one, best, best_of, range_from}
 use Rattle.kishu_meaning.specs.calls.Callees.{construct, empty_object}
-use Rattle.kishu_meaning.specs.values.Classes.{namespace_number}
+use Rattle.kishu_meaning.specs.values.Classes.{namespace_class}
 use Rattle.kishu_meaning.specs.comparing.Equal.{number_in}
 use Rattle.kishu_meaning.specs.values.Kinds.{bad_arguments}
 use Rattle.kishu_meaning.specs.moments.Moment.{M, make}
@@ -112,7 +112,7 @@ no_object vs h = otherwise (length (map value_of vs) == 0) (make (object [])) (b
 pub from_eight : (n : ℕ) → 8 ≤ n → n < classes → is_exception_class n ≡ true
 from_eight n p q = grind (arith, nat_tests)
 
-no_namespace : (n : ℕ) → 8 ≤ n → (n == namespace_number) ≡ false
+no_namespace : (n : ℕ) → 8 ≤ n → (n == namespace_class) ≡ false
 no_namespace n p = grind (arith, nat_tests)
 
 either_way : (x y : Bool) (a b c : M Value) → x ≡ false → y ≡ true → (if x then a else (if y then b else c)) ≡ b
@@ -121,4 +121,4 @@ either_way false true a b c p q = refl
 either_way false false a b c p q = absurd cc
 
 pub exception_made : (n : ℕ) (vs : List Value) → 8 ≤ n → n < classes → construct n (plainly vs) ≡ make (exception n vs)
-exception_made n vs p q = either_way (n == namespace_number) (is_exception_class n) _ (make (exception n vs)) _ (no_namespace n p) (from_eight n p q)
+exception_made n vs p q = either_way (n == namespace_class) (is_exception_class n) _ (make (exception n vs)) _ (no_namespace n p) (from_eight n p q)

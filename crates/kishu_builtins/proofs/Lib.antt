@@ -1,4 +1,3 @@
-pub mod Ranges
 pub mod Items
 pub mod Written
 pub mod OfClasses

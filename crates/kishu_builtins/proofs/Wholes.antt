@@ -5,6 +5,7 @@ use Rattle.std.specs.Ordering.{int_eq}
 use Rattle.std.proofs.lemmas.Bool.Decides.{nat_tests}
 use Rattle.kishu_num.specs.declared.fault.NumFault.TheVariants.{Overflow, ZeroDivisor}
 use Rattle.kishu_num.specs.Results.{in_range, divided_by}
+use Rattle.kishu_meaning.specs.values.Classes.{overflow_error_class, zero_division_error_class}
 use Rattle.kishu_meaning.specs.values.Numbers.{is_whole, floor_quotient, floor_remainder}
 use Rattle.kishu_language.specs.declared.tree.Operator.TheVariants as operators
 use Rattle.kishu_meaning.specs.values.Values.{integer}
@@ -13,14 +14,14 @@ use Rattle.kishu_meaning.specs.calls.Operators.{whole, operate, new_tuple}
 use Rattle.kishu_meaning.specs.calls.Builtins.{quotient_and_remainder}
 use Rattle.kishu_builtins.specs.Answered.{answered}
 
-in_range_by : (b : Bool) (z : ℤ) (s : Moment) → answered (if b then Ok z else Err Overflow) s ≡ (if b then give (integer z) else raise 10 (codes "whole number too large")) s
+in_range_by : (b : Bool) (z : ℤ) (s : Moment) → answered (if b then Ok z else Err Overflow) s ≡ (if b then give (integer z) else raise overflow_error_class (codes "whole number too large")) s
 in_range_by true z s = refl
 in_range_by false z s = refl
 
 same_whole : (z : ℤ) (s : Moment) → answered (in_range z) s ≡ whole z s
 same_whole z s = in_range_by (is_whole z) z s
 
-divided_if : (b : Bool) (z : ℤ) (s : Moment) → answered (if b then Err ZeroDivisor else in_range z) s ≡ (if b then raise 11 (codes "division by zero") else whole z) s
+divided_if : (b : Bool) (z : ℤ) (s : Moment) → answered (if b then Err ZeroDivisor else in_range z) s ≡ (if b then raise zero_division_error_class (codes "division by zero") else whole z) s
 divided_if true z s = refl
 divided_if false z s = same_whole z s
 
@@ -38,7 +39,7 @@ within n s h =
     let e : is_whole (pos n) ≡ true = grind (arith, nat_tests) in
     rw e refl
 
-pub beyond : (n : ℕ) (s : Moment) → 2 ^ 127 ≤ n → whole (pos n) s ≡ raise 10 (codes "whole number too large") s
+pub beyond : (n : ℕ) (s : Moment) → 2 ^ 127 ≤ n → whole (pos n) s ≡ raise overflow_error_class (codes "whole number too large") s
 beyond n s h =
     let e : is_whole (pos n) ≡ false = grind (arith, nat_tests) in
     rw e refl

@@ -1,5 +1,5 @@
--- Builtin functions and classes but `print` are worked out from the nodes, the steps and the depth alone. They only add nodes, give no step back, and raise exceptions with texts.
-use Rattle.std.specs.Prelude.{◌≡◌, ◌≢◌, ℕ, zero, suc, ◌==◌, ℤ, pos, negsuc, ◌+ℤ◌, unsigned_abs, Bool, true, false, not, if◌then◌else◌, List, [], ◌∷◌, ◌++◌, length, map, codes, Option, Some, None, slice_get, option_and_then}
+-- Builtin functions and classes but `print` are worked out from the nodes, the steps and the depth alone. They only add nodes, give no step back, and raise exceptions with texts, of classes of exceptions.
+use Rattle.std.specs.Prelude.{◌≡◌, ◌≢◌, ℕ, zero, suc, ◌==◌, ℤ, pos, negsuc, ◌+ℤ◌, unsigned_abs, Bool, true, false, not, if◌then◌else◌, List, [], ◌∷◌, ◌++◌, length, map, take, drop, codes, Option, Some, None, slice_get, option_and_then}
 use Rattle.std.proofs.Common.{refl, arith, ap, sym, ◌∙◌, ◌-◌, ◌≤◌, nat_le, IsTrue, append_assoc}
 use Rattle.std.proofs.lemmas.List.{append-nil}
 use Rattle.std.proofs.lemmas.Bool.Decides.{nat_tests}
@@ -14,7 +14,7 @@ use Rattle.kishu_meaning.specs.values.Keys.{Key}
 use Rattle.kishu_meaning.specs.values.Nodes.{dict_in}
 use Rattle.kishu_meaning.specs.values.Numbers.{is_whole, number_read, floor_quotient, floor_remainder}
 use Rattle.kishu_meaning.specs.values.Values.{Value, none, bool, integer, text, range, builtin, class, node, Node, list, tuple, dict, object, exception}
-use Rattle.kishu_meaning.specs.moments.Moment.{Moment, Ends, fine, raised, stopped, Thrown, fresh, M, and_then, ◌>>=◌, ◌>>◌, give, or_else, spend, tick, look, make, node_now, raise, later}
+use Rattle.kishu_meaning.specs.moments.Moment.{Moment, Ends, fine, raised, stopped, Thrown, fresh, M, and_then, ◌>>=◌, ◌>>◌, give, or_else, spend, tick, look, make, node_now, raise, exhausted}
 use Rattle.kishu_meaning.specs.values.Kinds.{not_iterable}
 use Rattle.kishu_meaning.specs.comparing.Equal.{number_in, range_length, less, less_in}
 use Rattle.kishu_meaning.specs.calls.Operators.{bad_arguments, bad_operands, list_from, truth, whole, divided, operate, new_list, new_tuple}
@@ -25,8 +25,12 @@ use Rattle.kishu_meaning.specs.items.Sequences.{count_in, count_of, node_items, 
 use Rattle.kishu_meaning.specs.items.Sorting.{in_order, sort_steps}
 use Rattle.kishu_meaning.specs.comparing.Show.{repr_in, repr_of, show_in, show}
 use Rattle.kishu_meaning.specs.calls.Builtins as builtins
-use Rattle.kishu_meaning.specs.calls.Builtins.{Call, of_one, of_two, of_none_or_one, of_number, by_number, and_next, decided, decide, folded, fold, better, best_of, best, added, builtin_calls, class_calls, class_in, is_of_one}
-use Rattle.kishu_meaning.specs.values.Classes.{namespace_number, runtime_error_class}
+use Rattle.kishu_meaning.specs.calls.Builtins.{Call, of_one, of_two, of_none_or_one, of_number, by_number, and_next, decided, decide, folded, fold, better, best_of, best, added, builtin_call, builtin_calls, class_call, class_calls, class_in, is_of_one}
+use Rattle.kishu_meaning.specs.values.BuiltinNames as functions
+use Rattle.kishu_meaning.specs.values.BuiltinNames.{BuiltinFunction, all_builtins}
+use Rattle.kishu_meaning.specs.values.PlainClasses as plain
+use Rattle.kishu_meaning.specs.values.PlainClasses.{PlainClass, plain_classes}
+use Rattle.kishu_meaning.specs.values.Classes.{namespace_class, overflow_error_class, runtime_error_class, value_error_class, zero_division_error_class}
 use Rattle.kishu_meaning.specs.values.Sound.{is_exception_class}
 use Rattle.kishu_meaning.specs.calls.Callees as callees
 use Rattle.kishu_meaning.specs.items.KeyOf.{value_of_key, values_of_keys}
@@ -37,9 +41,9 @@ use Rattle.kishu_meaning_laws.specs.MakingLaws.{end_of}
 use Rattle.kishu_meaning.specs.moments.Counting.{Count, Counted, answer, too_deep, spent, ended_in, counted}
 use Rattle.kishu_meaning_laws.specs.CountingLaws.{left_of, Falls, less_in_falls, repr_falls, show_falls}
 
--- an exception with a text
+-- an exception of a class of exceptions, with a text
 abbrev pub is_text_thrown : Thrown → Bool
-is_text_thrown (fresh kind (text cs ∷ [])) = true
+is_text_thrown (fresh kind (text cs ∷ [])) = is_exception_class kind
 is_text_thrown x = false
 
 abbrev pub raises_text : {A : Type 0} → Ends A → Bool
@@ -90,8 +94,8 @@ look_kept f = record { bare = look_bare f; keeps = λ s. still _ s refl refl }
 make_kept : (n : Node) → Keeps (make n)
 make_kept n = record { bare = make_bare n; keeps = λ s. record { more = n ∷ []; is = refl; falls = omega arith; texts = refl } }
 
-raise_kept : {A : Type 0} (kind : ℕ) (message : List ℕ) → Keeps (raise {A = A} kind message)
-raise_kept kind message = record { bare = raise_bare kind message; keeps = λ s. still _ s refl refl }
+raise_kept : {A : Type 0} (kind : ℕ) (message : List ℕ) → IsTrue (is_exception_class kind) → Keeps (raise {A = A} kind message)
+raise_kept kind message h = record { bare = raise_bare kind message; keeps = λ s. still _ s refl h }
 
 either_spent : (enough : Bool) (n : ℕ) (s : Moment) → Kept {A = Unit {0}} s (if enough then fine tt (record s { left = s.left - n }) else stopped (record s { left = 0 }))
 either_spent true n s = record { more = []; is = nothing_more s.nodes; falls = omega arith; texts = refl }
@@ -111,6 +115,10 @@ ended_kept s (spent n) fits = record { more = []; is = nothing_more s.nodes; fal
 
 counted_kept : {A : Type 0} (m : List Node → ℕ → Count A) → ((ns : List Node) (depth : ℕ) → Falls (m ns depth)) → Keeps (λ s. counted (m s.nodes s.depth) s)
 counted_kept m h = record { bare = counted_bare m; keeps = λ s. ended_kept s (m s.nodes s.depth s.left) ((h s.nodes s.depth).falls s.left) }
+
+-- more turns than steps
+exhausted_kept : {A : Type 0} → Keeps (exhausted {A = A})
+exhausted_kept = record { bare = record { ends = λ s. refl }; keeps = λ s. record { more = []; is = nothing_more s.nodes; falls = omega arith; texts = refl } }
 
 if_kept : {A : Type 0} (c : Bool) (m n : M A) → Keeps m → Keeps n → Keeps (if c then m else n)
 if_kept true m n hm hn = hm
@@ -139,10 +147,10 @@ truth_kept (class n) = record { bare = record { ends = λ s. refl }; keeps = λ 
 truth_kept (node i) = record { bare = record { ends = λ s. refl }; keeps = λ s. still _ s refl refl }
 
 whole_kept : (z : ℤ) → Keeps (whole z)
-whole_kept z = if_kept (is_whole z) (give (integer z)) _ (give_kept (integer z)) (raise_kept _ _)
+whole_kept z = if_kept (is_whole z) (give (integer z)) _ (give_kept (integer z)) (raise_kept overflow_error_class _ refl)
 
 divided_kept : (d z : ℤ) → Keeps (divided d z)
-divided_kept d z = if_kept (int_eq d (pos 0)) _ (whole z) (raise_kept _ _) (whole_kept z)
+divided_kept d z = if_kept (int_eq d (pos 0)) _ (whole z) (raise_kept zero_division_error_class _ refl) (whole_kept z)
 
 -- ---- texts, keys and items
 
@@ -209,7 +217,7 @@ list_kept n = then_kept (node_now (node n)) _ (node_kept (node n)) (λ found. gi
 
 item_kept : (walk : Walk) (k : ℕ) → Keeps (item_for walk k)
 item_kept (along_list n) k = then_kept (items_now n) _ (list_kept n) (λ vs. give_kept (slice_get vs k))
-item_kept (along_dict n start view) k = then_kept (entries_now n) _ (entries_kept n) (λ es. if_kept (length es == start) (entry_seen view (slice_get es k)) _ (entry_kept view (slice_get es k)) (raise_kept runtime_error_class (codes "dictionary changed size during iteration")))
+item_kept (along_dict n start view) k = then_kept (entries_now n) _ (entries_kept n) (λ es. if_kept (length es == start) (entry_seen view (slice_get es k)) _ (entry_kept view (slice_get es k)) (raise_kept runtime_error_class (codes "dictionary changed size during iteration") refl))
 item_kept (along_tuple vs) k = give_kept _
 item_kept (along_text cs) k = give_kept _
 item_kept (along_range start stop step) k = give_kept _
@@ -219,7 +227,7 @@ next_kept (Some v) end f he hf = both_kept tick (f v) (spend_kept 1) (hf v)
 next_kept None end f he hf = he
 
 decided_kept : (which : Bool) (n : ℕ) (walk : Walk) (k : ℕ) → Keeps (decided which n walk k)
-decided_kept which zero walk k = record { bare = record { ends = λ s. refl }; keeps = λ s. still _ s refl refl }
+decided_kept which zero walk k = exhausted_kept
 decided_kept which (suc n) walk k =
     then_kept (item_for walk k) _ (item_kept walk k)
     (λ found. next_kept found (give (bool (not which))) (λ v. truth v >>= λ c. if beq c which then give (bool which) else decided which n walk (suc k)) (give_kept _)
@@ -230,7 +238,7 @@ decide_kept which v = then_kept (walk_of v) (λ walk. λ s. decided which (suc s
 
 module _ {A : Type 0} (f : A → Value → M A) (h : (a : A) (v : Value) → Keeps (f a v)) where
   folded_kept : (n : ℕ) (walk : Walk) (k : ℕ) (a : A) → Keeps (folded f n walk k a)
-  folded_kept zero walk k a = record { bare = record { ends = λ s. refl }; keeps = λ s. still _ s refl refl }
+  folded_kept zero walk k a = exhausted_kept
   folded_kept (suc n) walk k a =
       then_kept (item_for walk k) _ (item_kept walk k)
       (λ found. next_kept found (give a) (λ v. f a v >>= λ c. folded f n walk (suc k) c) (give_kept a) (λ v. then_kept (f a v) _ (h a v) (λ c. folded_kept n walk (suc k) c)))
@@ -262,7 +270,7 @@ better_kept comparison x (Some u) v = then_kept (compare comparison v u) _ (comp
 
 or_empty_kept : (o : Option Value) → Keeps (builtins.or_empty_argument o)
 or_empty_kept (Some v) = give_kept v
-or_empty_kept None = raise_kept _ _
+or_empty_kept None = raise_kept value_error_class _ refl
 
 best_of_kept : (comparison : Comparison) → Extreme comparison → (walk : Walk) → Keeps (best_of comparison walk)
 best_of_kept comparison x walk = then_kept (fold (better comparison) None walk) builtins.or_empty_argument (fold_kept (better comparison) (better_kept comparison x) None walk) or_empty_kept
@@ -277,7 +285,7 @@ by_number_kept name (Some z) f h = h z
 by_number_kept name None f h = bad_arguments_kept name
 
 -- A sum stays a whole number.
-whole_then_kept : (c : Bool) (x : ℤ) (f : Value → M Value) → Keeps (f (integer x)) → Keeps ((if c then give (integer x) else raise 10 (codes "whole number too large")) >>= f)
+whole_then_kept : (c : Bool) (x : ℤ) (f : Value → M Value) → Keeps (f (integer x)) → Keeps ((if c then give (integer x) else raise overflow_error_class (codes "whole number too large")) >>= f)
 whole_then_kept true x f h = record { bare = record { ends = λ s. h.bare.ends s }; keeps = λ s. h.keeps s }
 whole_then_kept false x f h = record { bare = record { ends = λ s. refl }; keeps = λ s. still _ s refl refl }
 
@@ -289,7 +297,7 @@ added_then_kept z v f h = by_addend (number_in v)
     by_addend None = record { bare = record { ends = λ s. refl }; keeps = λ s. still _ s refl refl }
 
 sums_kept : (n : ℕ) (walk : Walk) (k : ℕ) (z : ℤ) → Keeps (folded added n walk k (integer z))
-sums_kept zero walk k z = record { bare = record { ends = λ s. refl }; keeps = λ s. still _ s refl refl }
+sums_kept zero walk k z = exhausted_kept
 sums_kept (suc n) walk k z =
     then_kept (item_for walk k) _ (item_kept walk k)
     (λ found. next_kept found (give (integer z)) (λ v. added (integer z) v >>= λ c. folded added n walk (suc k) c) (give_kept (integer z))
@@ -299,8 +307,8 @@ sum_kept : (walk : Walk) → Keeps (fold added (integer (pos 0)) walk)
 sum_kept walk = record { bare = record { ends = λ s. (sums_kept (suc s.left) walk 0 (pos 0)).bare.ends s }; keeps = λ s. (sums_kept (suc s.left) walk 0 (pos 0)).keeps s }
 
 character_kept : (z : ℤ) → Keeps (builtins.character z)
-character_kept (pos n) = if_kept (builtins.is_character n) (give (text (n ∷ []))) _ (give_kept _) (raise_kept _ _)
-character_kept (negsuc n) = raise_kept _ _
+character_kept (pos n) = if_kept (builtins.is_character n) (give (text (n ∷ []))) _ (give_kept _) (raise_kept value_error_class _ refl)
+character_kept (negsuc n) = raise_kept value_error_class _ refl
 
 code_point_kept : (v : Value) → Keeps (builtins.code_point v)
 code_point_kept (text (c ∷ [])) = give_kept _
@@ -378,7 +386,7 @@ IsKeeping f = (vs : List Value) → Keeps (f vs)
 
 -- Whatever stands at a place of the table.
 call_kept : (fs : List Call) → Each IsKeeping fs → (n : ℕ) (vs : List Value) → Keeps (callees.or_no_call (slice_get fs n) vs)
-call_kept [] h n vs = record { bare = record { ends = λ s. refl }; keeps = λ s. still _ s refl refl }
+call_kept [] h n vs = bad_arguments_kept []
 call_kept (f ∷ fs) h zero vs = h.0 vs
 call_kept (f ∷ fs) h (suc n) vs = call_kept fs h.1 n vs
 
@@ -390,74 +398,31 @@ other_row (e ∷ front) back f g zero h = refl
 other_row (e ∷ front) back f g (suc n) h = other_row front back f g n (λ p. h (ap suc p))
 
 abbrev nothing_printed : Call
-nothing_printed vs = later
+nothing_printed vs = exhausted
 
-builtin_rows : Each IsKeeping (builtin_calls nothing_printed)
-builtin_rows = (
-  number_row_kept (codes "abs") (λ z. whole (pos (unsigned_abs z))) (λ z. whole_kept (pos (unsigned_abs z))),
-  (
-    one_kept (codes "all") (decide false) (decide_kept false),
-    (
-      one_kept (codes "any") (decide true) (decide_kept true),
-      (
-        number_row_kept (codes "chr") builtins.character character_kept,
-        (
-          two_kept (codes "divmod") builtins.divided_by divided_by_kept,
-          (
-            two_kept (codes "isinstance") builtins.is_instance is_instance_kept,
-            (
-              one_kept (codes "len") builtins.length_of length_kept,
-              (
-                best_kept (codes "max") comparisons.Greater greatest,
-                (
-                  best_kept (codes "min") comparisons.Less least,
-                  (
-                    one_kept (codes "ord") builtins.code_point code_point_kept,
-                    (
-                      (λ vs. record { bare = record { ends = λ s. refl }; keeps = λ s. still _ s refl refl }),
-                      (
-                        one_kept (codes "repr") (λ v. repr_of v >>= λ cs. give (text cs)) (λ v. then_kept (repr_of v) (λ cs. give (text cs)) (repr_kept v) (λ cs. give_kept (text cs))),
-                        (
-                          one_kept (codes "sorted") builtins.sorted sorted_kept,
-                          (
-                            one_kept (codes "sum") (λ v. walk_of v >>= fold added (integer (pos 0))) (λ v. then_kept (walk_of v) (fold added (integer (pos 0))) (walk_kept v) sum_kept),
-                            tt,
-                          ),
-                        ),
-                      ),
-                    ),
-                  ),
-                ),
-              ),
-            ),
-          ),
-        ),
-      ),
-    ),
-  ),
-)
+builtin_row : (f : BuiltinFunction) → IsKeeping (builtin_call nothing_printed f)
+builtin_row functions.abs = number_row_kept (codes "abs") (λ z. whole (pos (unsigned_abs z))) (λ z. whole_kept (pos (unsigned_abs z)))
+builtin_row functions.all = one_kept (codes "all") (decide false) (decide_kept false)
+builtin_row functions.any = one_kept (codes "any") (decide true) (decide_kept true)
+builtin_row functions.chr = number_row_kept (codes "chr") builtins.character character_kept
+builtin_row functions.divmod = two_kept (codes "divmod") builtins.divided_by divided_by_kept
+builtin_row functions.isinstance = two_kept (codes "isinstance") builtins.is_instance is_instance_kept
+builtin_row functions.len = one_kept (codes "len") builtins.length_of length_kept
+builtin_row functions.max = best_kept (codes "max") comparisons.Greater greatest
+builtin_row functions.min = best_kept (codes "min") comparisons.Less least
+builtin_row functions.ord = one_kept (codes "ord") builtins.code_point code_point_kept
+builtin_row functions.print = λ vs. exhausted_kept
+builtin_row functions.repr = one_kept (codes "repr") (λ v. repr_of v >>= λ cs. give (text cs)) (λ v. then_kept (repr_of v) (λ cs. give (text cs)) (repr_kept v) (λ cs. give_kept (text cs)))
+builtin_row functions.sorted = one_kept (codes "sorted") builtins.sorted sorted_kept
+builtin_row functions.sum = one_kept (codes "sum") (λ v. walk_of v >>= fold added (integer (pos 0))) (λ v. then_kept (walk_of v) (fold added (integer (pos 0))) (walk_kept v) sum_kept)
 
-abbrev first_rows : List Call
-first_rows =
-    of_number (codes "abs") (λ z. whole (pos (unsigned_abs z)))
-    ∷ (of_one (codes "all") (decide false)
-    ∷ (of_one (codes "any") (decide true)
-    ∷ (of_number (codes "chr") builtins.character
-    ∷ (of_two (codes "divmod") builtins.divided_by
-    ∷ (of_two (codes "isinstance") builtins.is_instance
-    ∷ (of_one (codes "len") builtins.length_of
-    ∷ (best (codes "max") comparisons.Greater
-    ∷ (best (codes "min") comparisons.Less
-    ∷ (of_one (codes "ord") builtins.code_point ∷ [])))))))))
-
-abbrev last_rows : List Call
-last_rows =
-    of_one (codes "repr") (λ v. repr_of v >>= λ cs. give (text cs))
-    ∷ (of_one (codes "sorted") builtins.sorted
-    ∷ (of_one (codes "sum") (λ v. walk_of v >>= fold added (integer (pos 0))) ∷ []))
+builtin_rows : (fs : List BuiltinFunction) → Each IsKeeping (map (builtin_call nothing_printed) fs)
+builtin_rows [] = tt
+builtin_rows (f ∷ fs) = (builtin_row f, builtin_rows fs)
 
 same_row : (n : ℕ) → n ≢ callees.print_number → slice_get (builtin_calls callees.print_plain) n ≡ slice_get (builtin_calls nothing_printed) n
-same_row n h = other_row first_rows last_rows callees.print_plain nothing_printed n h
+same_row n h =
+    other_row (map (builtin_call callees.print_plain) (take 10 all_builtins)) (map (builtin_call callees.print_plain) (drop 11 all_builtins)) callees.print_plain nothing_printed n h
 
 not_print : (n : ℕ) → n ≢ callees.print_number → (n == callees.print_number) ≡ false
 not_print n h = grind (arith, nat_tests)
@@ -468,7 +433,7 @@ other_branch x m n e h = rw e h
 pub builtin_kept : (n : ℕ) → n ≢ callees.print_number → (vs : List Value) → Keeps (callees.call_builtin n (plainly vs))
 builtin_kept n h vs =
     other_branch (n == callees.print_number) _ (callees.or_no_call (slice_get (builtin_calls callees.print_plain) n) vs) (not_print n h)
-    (rw (same_row n h) (call_kept (builtin_calls nothing_printed) builtin_rows n vs))
+    (rw (same_row n h) (call_kept (builtin_calls nothing_printed) (builtin_rows all_builtins) n vs))
 
 -- ---- classes
 
@@ -478,7 +443,7 @@ copied_kept _ = bad_arguments_kept (codes "dict")
 
 or_no_number_kept : (o : Option ℤ) → Keeps (builtins.or_no_number o)
 or_no_number_kept (Some z) = give_kept _
-or_no_number_kept None = raise_kept _ _
+or_no_number_kept None = raise_kept value_error_class _ refl
 
 number_from_kept : (v : Value) → Keeps (builtins.number_from v)
 number_from_kept (text cs) = both_kept (spend (length cs)) (builtins.or_no_number (number_read cs)) (spend_kept (length cs)) (or_no_number_kept (number_read cs))
@@ -492,40 +457,27 @@ range_kept : (os : List (Option ℤ)) → Keeps (builtins.range_from os)
 range_kept [] = bad_arguments_kept (codes "range")
 range_kept (Some stop ∷ []) = give_kept _
 range_kept (Some start ∷ (Some stop ∷ [])) = give_kept _
-range_kept (Some start ∷ (Some stop ∷ (Some step ∷ []))) = if_kept (int_eq step (pos 0)) _ (give (range start stop step)) (raise_kept _ _) (give_kept _)
+range_kept (Some start ∷ (Some stop ∷ (Some step ∷ []))) = if_kept (int_eq step (pos 0)) _ (give (range start stop step)) (raise_kept value_error_class _ refl) (give_kept _)
 range_kept os = bad_arguments_kept (codes "range")
 
 object_kept : (vs : List Value) → Keeps (callees.empty_object vs)
 object_kept vs = if_kept (length vs == 0) (make (object [])) _ (make_kept (object [])) (bad_arguments_kept _)
 
-class_rows : Each IsKeeping (class_calls callees.empty_object)
-class_rows = (
-  none_or_one_kept (codes "bool") (give (bool false)) (λ v. truth v >>= λ x. give (bool x)) (give_kept (bool false)) (λ v. then_kept (truth v) (λ x. give (bool x)) (truth_kept v) (λ x. give_kept (bool x))),
-  (
-    none_or_one_kept (codes "dict") (make (dict [])) (λ v. node_now v >>= builtins.copied_dict) (make_kept (dict [])) (λ v. then_kept (node_now v) builtins.copied_dict (node_kept v) copied_kept),
-    (
-      none_or_one_kept (codes "int") (give (integer (pos 0))) builtins.number_from (give_kept (integer (pos 0))) number_from_kept,
-      (
-        none_or_one_kept (codes "list") (new_list []) (λ v. builtins.all_items v >>= new_list) (make_kept (list [])) (λ v. then_kept (walked v) new_list (walked_kept v) (λ vs. make_kept (list vs))),
-        (
-          (λ vs. range_kept (map number_in vs)),
-          (
-            object_kept,
-            (
-              none_or_one_kept (codes "str") (give (text [])) (λ v. show v >>= λ cs. give (text cs)) (give_kept (text [])) (λ v. then_kept (show v) (λ cs. give (text cs)) (show_kept v) (λ cs. give_kept (text cs))),
-              (
-                none_or_one_kept (codes "tuple") (new_tuple []) (λ v. node_now v >>= builtins.tuple_of v) (make_kept (tuple [])) (λ v. then_kept (node_now v) (builtins.tuple_of v) (node_kept v) (tuple_of_kept v)),
-                tt,
-              ),
-            ),
-          ),
-        ),
-      ),
-    ),
-  ),
-)
+class_row : (c : PlainClass) → IsKeeping (class_call callees.empty_object c)
+class_row plain.bool = none_or_one_kept (codes "bool") (give (bool false)) (λ v. truth v >>= λ x. give (bool x)) (give_kept (bool false)) (λ v. then_kept (truth v) (λ x. give (bool x)) (truth_kept v) (λ x. give_kept (bool x)))
+class_row plain.dict = none_or_one_kept (codes "dict") (make (dict [])) (λ v. node_now v >>= builtins.copied_dict) (make_kept (dict [])) (λ v. then_kept (node_now v) builtins.copied_dict (node_kept v) copied_kept)
+class_row plain.int = none_or_one_kept (codes "int") (give (integer (pos 0))) builtins.number_from (give_kept (integer (pos 0))) number_from_kept
+class_row plain.list = none_or_one_kept (codes "list") (new_list []) (λ v. builtins.all_items v >>= new_list) (make_kept (list [])) (λ v. then_kept (walked v) new_list (walked_kept v) (λ vs. make_kept (list vs)))
+class_row plain.range = λ vs. range_kept (map number_in vs)
+class_row plain.namespace = object_kept
+class_row plain.str = none_or_one_kept (codes "str") (give (text [])) (λ v. show v >>= λ cs. give (text cs)) (give_kept (text [])) (λ v. then_kept (show v) (λ cs. give (text cs)) (show_kept v) (λ cs. give_kept (text cs)))
+class_row plain.tuple = none_or_one_kept (codes "tuple") (new_tuple []) (λ v. node_now v >>= builtins.tuple_of v) (make_kept (tuple [])) (λ v. then_kept (node_now v) (builtins.tuple_of v) (node_kept v) (tuple_of_kept v))
+
+class_rows : (cs : List PlainClass) → Each IsKeeping (map (class_call callees.empty_object) cs)
+class_rows [] = tt
+class_rows (c ∷ cs) = (class_row c, class_rows cs)
 
 pub class_kept : (n : ℕ) (vs : List Value) → Keeps (callees.construct n (plainly vs))
 class_kept n vs =
-    if_kept (n == namespace_number) (callees.empty_object vs) _ (object_kept vs)
-    (if_kept (is_exception_class n) (make (exception n vs)) _ (make_kept (exception n vs)) (call_kept (class_calls callees.empty_object) class_rows n vs))
+    if_kept (n == namespace_class) (callees.empty_object vs) _ (object_kept vs)
+    (if_kept (is_exception_class n) (make (exception n vs)) _ (make_kept (exception n vs)) (call_kept (class_calls callees.empty_object) (class_rows plain_classes) n vs))

@@ -4,4 +4,3 @@ pub mod Walking
 pub mod Extremes
 pub mod CallLaws
 pub mod SoundCalls
-pub mod GrowingCalls

@@ -15,7 +15,7 @@ use Rattle.kishu_meaning.specs.items.Walks.{Walk, walk_of, item_for}
 use Rattle.kishu_meaning.specs.items.Sequences.{count_of, items_of, walked}
 use Rattle.kishu_meaning.specs.items.Sorting.{in_order, sort_steps}
 use Rattle.kishu_meaning.specs.comparing.Show.{repr_of, show}
-use Rattle.kishu_meaning.specs.values.Classes.{namespace_number}
+use Rattle.kishu_meaning.specs.values.Classes.{namespace_class, overflow_error_class}
 use Rattle.kishu_meaning.specs.values.Sound.{is_sound, are_sound, is_exception_class}
 use Rattle.kishu_meaning.specs.calls.Builtins as builtins
 use Rattle.kishu_meaning.specs.calls.Builtins.{of_one, of_two, of_none_or_one, of_number, by_number, and_next, decided, decide, folded, fold, added, builtin_calls, class_calls, is_of_one}
@@ -84,7 +84,7 @@ by_number_sounds name (Some z) f h = h z
 by_number_sounds name None f h = bad_arguments_sound name
 
 -- A sum stays a whole number.
-whole_then_sounds : (x : Bool) (z : ℤ) (f : Value → M Value) → Sounds (f (integer z)) → Sounds ((if x then give (integer z) else raise 10 (codes "whole number too large")) >>= f)
+whole_then_sounds : (x : Bool) (z : ℤ) (f : Value → M Value) → Sounds (f (integer z)) → Sounds ((if x then give (integer z) else raise overflow_error_class (codes "whole number too large")) >>= f)
 whole_then_sounds true z f h = record { sound = λ s. h.sound s }
 whole_then_sounds false z f h = record { sound = λ s. refl }
 
@@ -254,5 +254,5 @@ either_sound false m n s hm hn = hn
 
 pub class_sounds : (n : ℕ) (vs : List Value) (s : Moment) → IsTrue (are_sound (length s.nodes) vs) → IsTrue (is_sound_end (callees.construct n (plainly vs) s))
 class_sounds n vs s h =
-    either_sound (n == namespace_number) (callees.empty_object vs) _ s (object_sounds vs)
+    either_sound (n == namespace_class) (callees.empty_object vs) _ s (object_sounds vs)
     (either_sound (is_exception_class n) (make (exception n vs)) _ s (make_sounds (exception n vs)) (class_row_sounds n vs s h))

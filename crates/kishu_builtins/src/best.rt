@@ -11,6 +11,7 @@ ghost use Rattle.kishu_meaning.specs.values.Values.{Node, value_of};
 ghost use Rattle.kishu_meaning.specs.values.Values as model;
 ghost use Rattle.kishu_meaning.specs.items.Walks.{walk_of, along_tuple};
 ghost use Rattle.kishu_heap.specs.Compared.{Orders};
+ghost use Rattle.kishu_heap.specs.Costs.{GrowsPaid, Reads, Spends};
 ghost use Rattle.kishu_builtins.specs.Called.{moment_of, Gives};
 ghost use Rattle.kishu_builtins.specs.Extremes.{comparison_of, before_in, best_name};
 ghost use Rattle.kishu_builtins.specs.Walking.{walk_in, is_there};
@@ -18,10 +19,8 @@ ghost use Rattle.kishu_meaning.specs.declared.budget.Budget.{Budget};
 
 use crate::walk::{Walk, visited, walk_of};
 use kishu_heap::{CallFault, CompareFault, Heap};
-use kishu_items::{
-    RECURSION_ERROR, TYPE_ERROR, VALUE_ERROR, bad_operands_text, copied_all, plain_text, raise,
-};
-use kishu_meaning::{Budget, Steps, Value};
+use kishu_items::{bad_operands_text, copied_all, plain_text, raise};
+use kishu_meaning::{Budget, ClassId, Steps, Value};
 use std::alloc::Global;
 use std::sync::ledger::Ledger;
 
@@ -65,11 +64,10 @@ fn bad_operands<L: Ledger>(
     requires value { IsTrue (is_sound (length heap.now) (value_of value.now)) }
     requires best { IsTrue (is_sound (length heap.now) (value_of best.now)) }
     ensures gives { (b : Budget) → Gives (λ x. x) result (moment_of heap.now b) (bad_operands (comparison_sign (comparison_of which)) (value_of value.now) (value_of best.now) (moment_of heap.now b)) }
-    ensures counted { steps.old ≤ steps.new }
-    ensures reads { steps.new ≤ steps.old + 2 }
+    ensures reads { Reads 2 steps.old steps.new }
 {
     raise(
-        TYPE_ERROR,
+        ClassId::TYPE_ERROR,
         bad_operands_text(alloc, which.sign(), value, best, heap, steps)?,
     )
 }
@@ -84,10 +82,7 @@ fn less<L: Ledger>(
     steps: &mut Steps<L>,
 ) -> Result<bool, CompareFault>
     ensures gives { Orders result budget.new.left (before_in which heap.now budget.old.depth (value_of value.now) (value_of best.now) budget.old.left) }
-    ensures depth { budget.new.depth ≡ budget.old.depth }
-    ensures left { budget.new.left ≤ budget.old.left }
-    ensures least { budget.old.left + steps.old ≤ budget.new.left + steps.new }
-    ensures reads { 24 * budget.new.left + steps.new ≤ 24 * budget.old.left + steps.old + 8 }
+    ensures spends { Spends 8 budget.old steps.old budget.new steps.new }
 {
     match which {
         Extreme::Greatest => heap.less(best, value, budget, steps),
@@ -108,16 +103,16 @@ fn goes_before<L: Ledger>(
     requires value { IsTrue (is_sound (length heap.now) (value_of value.now)) }
     requires best { IsTrue (is_sound (length heap.now) (value_of best.now)) }
     ensures gives { Gives (λ x. x) result (moment_of heap.now budget.new) (compare (comparison_of which) (value_of value.now) (value_of best.now) (moment_of heap.now budget.old)) }
-    ensures depth { budget.new.depth ≡ budget.old.depth }
-    ensures left { budget.new.left ≤ budget.old.left }
-    ensures least { budget.old.left + steps.old ≤ budget.new.left + steps.new }
-    ensures reads { 24 * budget.new.left + steps.new ≤ 24 * budget.old.left + steps.old + 10 }
+    ensures spends { Spends 10 budget.old steps.old budget.new steps.new }
 {
     match less(which, value, best, heap, budget, steps) {
         Ok(before) => Ok(before),
         Err(CompareFault::Unordered) => bad_operands(alloc, which, value, best, heap, steps),
         Err(CompareFault::Depth) => {
-            raise(RECURSION_ERROR, plain_text(alloc, "depth limit reached")?)
+            raise(
+                ClassId::RECURSION_ERROR,
+                plain_text(alloc, "depth limit reached")?,
+            )
         }
         Err(CompareFault::Spent) => Err(CallFault::Spent),
     }
@@ -137,10 +132,7 @@ fn better<L: Ledger>(
     requires value { IsTrue (is_sound (length heap.now) (value_of value)) }
     ensures gives { Gives (λ v. Some (value_of v)) result (moment_of heap.now budget.new) (better (comparison_of which) (option_map value_of best) (value_of value) (moment_of heap.now budget.old)) }
     ensures sound { IfOk result (λ v. IsTrue (is_sound (length heap.now) (value_of v))) }
-    ensures depth { budget.new.depth ≡ budget.old.depth }
-    ensures left { budget.new.left ≤ budget.old.left }
-    ensures least { budget.old.left + steps.old ≤ budget.new.left + steps.new }
-    ensures reads { 24 * budget.new.left + steps.new ≤ 24 * budget.old.left + steps.old + 10 }
+    ensures spends { Spends 10 budget.old steps.old budget.new steps.new }
 {
     let Some(best) = best else {
         return Ok(value);
@@ -165,12 +157,8 @@ fn best_in<L: Ledger>(
     requires room { length heap.old + budget.old.left < 2 ^ 32 - 16 }
     ensures gives { Gives (option_map value_of) result (moment_of heap.new budget.new) (folded (better (comparison_of which)) (suc budget.old.left) (walk_in heap.old walk.now) 0 None (moment_of heap.old budget.old)) }
     ensures sound { IfOk result (λ o. IfSome o (λ v. IsTrue (is_sound (length heap.new) (value_of v)))) }
-    ensures heap { length heap.old ≤ length heap.new }
-    ensures most { length heap.new + budget.new.left ≤ length heap.old + budget.old.left + 1 }
-    ensures depth { budget.new.depth ≡ budget.old.depth }
-    ensures left { budget.new.left ≤ budget.old.left }
-    ensures least { budget.old.left + steps.old ≤ budget.new.left + steps.new }
-    ensures reads { 24 * budget.new.left + steps.new ≤ 24 * budget.old.left + steps.old + 1 }
+    ensures grows { GrowsPaid 1 heap.old budget.old heap.new budget.new }
+    ensures spends { Spends 1 budget.old steps.old budget.new steps.new }
 {
     let mut best = None;
     for at in 0..budget.left + 1 {
@@ -194,16 +182,12 @@ fn best_of<L: Ledger>(
     requires room { length heap.old + budget.old.left < 2 ^ 32 - 16 }
     ensures gives { Gives value_of result (moment_of heap.new budget.new) (best_of (comparison_of which) (walk_in heap.old walk.now) (moment_of heap.old budget.old)) }
     ensures sound { IfOk result (λ v. IsTrue (is_sound (length heap.new) (value_of v))) }
-    ensures heap { length heap.old ≤ length heap.new }
-    ensures most { length heap.new + budget.new.left ≤ length heap.old + budget.old.left + 1 }
-    ensures depth { budget.new.depth ≡ budget.old.depth }
-    ensures left { budget.new.left ≤ budget.old.left }
-    ensures least { budget.old.left + steps.old ≤ budget.new.left + steps.new }
-    ensures reads { 24 * budget.new.left + steps.new ≤ 24 * budget.old.left + steps.old + 1 }
+    ensures grows { GrowsPaid 1 heap.old budget.old heap.new budget.new }
+    ensures spends { Spends 1 budget.old steps.old budget.new steps.new }
 {
     match best_in(alloc, which, walk, heap, budget, steps)? {
         Some(best) => Ok(best),
-        None => raise(VALUE_ERROR, plain_text(alloc, "empty argument")?),
+        None => raise(ClassId::VALUE_ERROR, plain_text(alloc, "empty argument")?),
     }
 }
 
@@ -220,12 +204,8 @@ pub(crate) fn best_of_items<L: Ledger>(
     requires room { length heap.old + budget.old.left < 2 ^ 32 - 16 }
     ensures gives { Gives value_of result (moment_of heap.new budget.new) (and_then (walk_of (value_of value.now) (moment_of heap.old budget.old)) (best_of (comparison_of which))) }
     ensures sound { IfOk result (λ v. IsTrue (is_sound (length heap.new) (value_of v))) }
-    ensures heap { length heap.old ≤ length heap.new }
-    ensures most { length heap.new + budget.new.left ≤ length heap.old + budget.old.left + 1 }
-    ensures depth { budget.new.depth ≡ budget.old.depth }
-    ensures left { budget.new.left ≤ budget.old.left }
-    ensures least { budget.old.left + steps.old ≤ budget.new.left + steps.new }
-    ensures reads { 24 * budget.new.left + steps.new ≤ 24 * budget.old.left + steps.old + 3 }
+    ensures grows { GrowsPaid 1 heap.old budget.old heap.new budget.new }
+    ensures spends { Spends 3 budget.old steps.old budget.new steps.new }
 {
     let walk = walk_of(alloc, value, heap, steps)?;
     best_of(alloc, which, &walk, heap, budget, steps)
@@ -244,12 +224,8 @@ pub(crate) fn best_of_values<L: Ledger>(
     requires room { length heap.old + budget.old.left < 2 ^ 32 - 16 }
     ensures gives { Gives value_of result (moment_of heap.new budget.new) (best_of (comparison_of which) (along_tuple (map value_of values.now)) (moment_of heap.old budget.old)) }
     ensures sound { IfOk result (λ v. IsTrue (is_sound (length heap.new) (value_of v))) }
-    ensures heap { length heap.old ≤ length heap.new }
-    ensures most { length heap.new + budget.new.left ≤ length heap.old + budget.old.left + 1 }
-    ensures depth { budget.new.depth ≡ budget.old.depth }
-    ensures left { budget.new.left ≤ budget.old.left }
-    ensures least { budget.old.left + steps.old ≤ budget.new.left + steps.new }
-    ensures reads { 24 * budget.new.left + steps.new ≤ 24 * budget.old.left + steps.old + 1 }
+    ensures grows { GrowsPaid 1 heap.old budget.old heap.new budget.new }
+    ensures spends { Spends 1 budget.old steps.old budget.new steps.new }
 {
     let walk = Walk::Values(copied_all(alloc, values)?);
     best_of(alloc, which, &walk, heap, budget, steps)

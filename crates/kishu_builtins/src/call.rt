@@ -5,10 +5,13 @@ ghost use Rattle.kishu_meaning.specs.calls.Builtins as builtins;
 ghost use Rattle.kishu_meaning.specs.calls.Builtins.{of_two, divided_by, is_instance};
 ghost use Rattle.kishu_meaning.specs.calls.Callees.{call_builtin};
 ghost use Rattle.kishu_meaning.specs.moments.Moment.{Moment};
+ghost use Rattle.kishu_meaning.specs.values.BuiltinNames as functions;
+ghost use Rattle.kishu_meaning.specs.values.BuiltinNames.{builtin_number};
 ghost use Rattle.kishu_meaning.specs.values.Sound as soundness;
 ghost use Rattle.kishu_meaning.specs.values.Sound.{is_sound, are_sound};
 ghost use Rattle.kishu_meaning.specs.values.Values as model;
 ghost use Rattle.kishu_meaning.specs.values.Values.{value_of};
+ghost use Rattle.kishu_heap.specs.Costs.{Grows, GrowsPaid, Reads, Spends};
 ghost use Rattle.kishu_builtins.specs.Called.{moment_of, Gives, plainly, Unlimited, ThrowsSound};
 ghost use Rattle.kishu_items.specs.Contents.{IsGrown};
 ghost use Rattle.kishu_builtins.specs.Extremes.{comparison_of, best_name};
@@ -37,28 +40,24 @@ fn with_one<L: Ledger>(
     steps: &mut Steps<L>,
 ) -> Result<Value, CallFault>
     requires which { which.0 < soundness.builtins }
-    requires not_two { (which.0 ≢ 4) × (which.0 ≢ 5) }
-    requires not_best { (which.0 ≢ 7) × (which.0 ≢ 8) }
-    requires not_text { (which.0 ≢ 10) × (which.0 ≢ 11) }
+    requires not_two { (which.0 ≢ builtin_number functions.divmod) × (which.0 ≢ builtin_number functions.isinstance) }
+    requires not_best { (which.0 ≢ builtin_number functions.max) × (which.0 ≢ builtin_number functions.min) }
+    requires not_text { (which.0 ≢ builtin_number functions.print) × (which.0 ≢ builtin_number functions.repr) }
     requires sound { IsTrue (is_sound (length heap.old) (value_of value.now)) }
     requires room { length heap.old + budget.old.left < 2 ^ 32 - 16 }
     ensures gives { Gives value_of result (moment_of heap.new budget.new) (call_builtin which.0 (plainly (value_of value.now ∷ [])) (moment_of heap.old budget.old)) }
-    ensures heap { length heap.old ≤ length heap.new }
-    ensures most { length heap.new + budget.new.left ≤ length heap.old + budget.old.left + 1 }
-    ensures depth { budget.new.depth ≡ budget.old.depth }
-    ensures left { budget.new.left ≤ budget.old.left }
-    ensures least { budget.old.left + steps.old ≤ budget.new.left + steps.new }
-    ensures reads { 24 * budget.new.left + steps.new ≤ 24 * budget.old.left + steps.old + 3 }
+    ensures grows { GrowsPaid 1 heap.old budget.old heap.new budget.new }
+    ensures spends { Spends 3 budget.old steps.old budget.new steps.new }
 {
-    match which.0 {
-        0 => abs(alloc, value),
-        1 => decide(alloc, false, value, heap, budget, steps),
-        2 => decide(alloc, true, value, heap, budget, steps),
-        3 => chr(alloc, value),
-        6 => length_of(alloc, value, heap, steps),
-        9 => ord(alloc, value),
-        12 => sorted_items(alloc, value, heap, budget, steps),
-        13 => sum_of(alloc, value, heap, budget, steps),
+    match which {
+        Builtin::ABS => abs(alloc, value),
+        Builtin::ALL => decide(alloc, false, value, heap, budget, steps),
+        Builtin::ANY => decide(alloc, true, value, heap, budget, steps),
+        Builtin::CHR => chr(alloc, value),
+        Builtin::LEN => length_of(alloc, value, heap, steps),
+        Builtin::ORD => ord(alloc, value),
+        Builtin::SORTED => sorted_items(alloc, value, heap, budget, steps),
+        Builtin::SUM => sum_of(alloc, value, heap, budget, steps),
         _ => unreachable!(),
     }
 }
@@ -66,20 +65,20 @@ fn with_one<L: Ledger>(
 // A function that takes just one argument, with another number of them.
 fn refused(alloc: Global, which: Builtin) -> Result<Value, CallFault>
     requires which { which.0 < soundness.builtins }
-    requires not_two { (which.0 ≢ 4) × (which.0 ≢ 5) }
-    requires not_best { (which.0 ≢ 7) × (which.0 ≢ 8) }
-    requires not_text { (which.0 ≢ 10) × (which.0 ≢ 11) }
+    requires not_two { (which.0 ≢ builtin_number functions.divmod) × (which.0 ≢ builtin_number functions.isinstance) }
+    requires not_best { (which.0 ≢ builtin_number functions.max) × (which.0 ≢ builtin_number functions.min) }
+    requires not_text { (which.0 ≢ builtin_number functions.print) × (which.0 ≢ builtin_number functions.repr) }
     ensures { (vs : List model.Value) (s : Moment) → length vs ≢ 1 → Gives value_of result s (call_builtin which.0 (plainly vs) s) }
 {
-    match which.0 {
-        0 => bad_arguments(alloc, "abs"),
-        1 => bad_arguments(alloc, "all"),
-        2 => bad_arguments(alloc, "any"),
-        3 => bad_arguments(alloc, "chr"),
-        6 => bad_arguments(alloc, "len"),
-        9 => bad_arguments(alloc, "ord"),
-        12 => bad_arguments(alloc, "sorted"),
-        13 => bad_arguments(alloc, "sum"),
+    match which {
+        Builtin::ABS => bad_arguments(alloc, "abs"),
+        Builtin::ALL => bad_arguments(alloc, "all"),
+        Builtin::ANY => bad_arguments(alloc, "any"),
+        Builtin::CHR => bad_arguments(alloc, "chr"),
+        Builtin::LEN => bad_arguments(alloc, "len"),
+        Builtin::ORD => bad_arguments(alloc, "ord"),
+        Builtin::SORTED => bad_arguments(alloc, "sorted"),
+        Builtin::SUM => bad_arguments(alloc, "sum"),
         _ => unreachable!(),
     }
 }
@@ -94,18 +93,14 @@ fn single<L: Ledger>(
     steps: &mut Steps<L>,
 ) -> Result<Value, CallFault>
     requires which { which.0 < soundness.builtins }
-    requires not_two { (which.0 ≢ 4) × (which.0 ≢ 5) }
-    requires not_best { (which.0 ≢ 7) × (which.0 ≢ 8) }
-    requires not_text { (which.0 ≢ 10) × (which.0 ≢ 11) }
+    requires not_two { (which.0 ≢ builtin_number functions.divmod) × (which.0 ≢ builtin_number functions.isinstance) }
+    requires not_best { (which.0 ≢ builtin_number functions.max) × (which.0 ≢ builtin_number functions.min) }
+    requires not_text { (which.0 ≢ builtin_number functions.print) × (which.0 ≢ builtin_number functions.repr) }
     requires sound { IsTrue (are_sound (length heap.old) (map value_of args.now)) }
     requires room { length heap.old + budget.old.left < 2 ^ 32 - 16 }
     ensures gives { Gives value_of result (moment_of heap.new budget.new) (call_builtin which.0 (plainly (map value_of args.now)) (moment_of heap.old budget.old)) }
-    ensures heap { length heap.old ≤ length heap.new }
-    ensures most { length heap.new + budget.new.left ≤ length heap.old + budget.old.left + 1 }
-    ensures depth { budget.new.depth ≡ budget.old.depth }
-    ensures left { budget.new.left ≤ budget.old.left }
-    ensures least { budget.old.left + steps.old ≤ budget.new.left + steps.new }
-    ensures reads { 24 * budget.new.left + steps.new ≤ 24 * budget.old.left + steps.old + 3 }
+    ensures grows { GrowsPaid 1 heap.old budget.old heap.new budget.new }
+    ensures spends { Spends 3 budget.old steps.old budget.new steps.new }
 {
     if args.len() != 1 {
         return refused(alloc, which);
@@ -120,8 +115,7 @@ fn quotient_and_remainder(
 ) -> Result<Value, CallFault>
     requires room { length heap.old + 1 < 2 ^ 32 }
     ensures gives { (b : Budget) → Gives value_of result (moment_of heap.new b) (of_two (codes "divmod") divided_by (map value_of args.now) (moment_of heap.old b)) }
-    ensures heap { length heap.old ≤ length heap.new }
-    ensures most { length heap.new ≤ length heap.old + 1 }
+    ensures grows { Grows 1 heap.old heap.new }
 {
     if args.len() != 2 {
         return bad_arguments(alloc, "divmod");
@@ -137,8 +131,7 @@ fn instance<L: Ledger>(
 ) -> Result<Value, CallFault>
     requires sound { IsTrue (are_sound (length heap.now) (map value_of args.now)) }
     ensures gives { (b : Budget) → Gives value_of result (moment_of heap.now b) (of_two (codes "isinstance") is_instance (map value_of args.now) (moment_of heap.now b)) }
-    ensures counted { steps.old ≤ steps.new }
-    ensures reads { steps.new ≤ steps.old + 2 }
+    ensures reads { Reads 2 steps.old steps.new }
 {
     if args.len() != 2 {
         return bad_arguments(alloc, "isinstance");
@@ -158,12 +151,8 @@ fn best<L: Ledger>(
     requires room { length heap.old + budget.old.left < 2 ^ 32 - 16 }
     ensures gives { Gives value_of result (moment_of heap.new budget.new) (builtins.best (best_name which) (comparison_of which) (map value_of args.now) (moment_of heap.old budget.old)) }
     ensures sound { IfOk result (λ v. IsTrue (is_sound (length heap.new) (value_of v))) }
-    ensures heap { length heap.old ≤ length heap.new }
-    ensures most { length heap.new + budget.new.left ≤ length heap.old + budget.old.left + 1 }
-    ensures depth { budget.new.depth ≡ budget.old.depth }
-    ensures left { budget.new.left ≤ budget.old.left }
-    ensures least { budget.old.left + steps.old ≤ budget.new.left + steps.new }
-    ensures reads { 24 * budget.new.left + steps.new ≤ 24 * budget.old.left + steps.old + 3 }
+    ensures grows { GrowsPaid 1 heap.old budget.old heap.new budget.new }
+    ensures spends { Spends 3 budget.old steps.old budget.new steps.new }
 {
     if args.is_empty() {
         return bad_arguments(alloc, which.name());
@@ -184,24 +173,20 @@ fn called<L: Ledger>(
     steps: &mut Steps<L>,
 ) -> Result<Value, CallFault>
     requires which { which.0 < soundness.builtins }
-    requires not_print { which.0 ≢ 10 }
-    requires not_repr { which.0 ≢ 11 }
+    requires not_print { which.0 ≢ builtin_number functions.print }
+    requires not_repr { which.0 ≢ builtin_number functions.repr }
     requires sound { IsTrue (are_sound (length heap.old) (map value_of args.now)) }
     requires room { length heap.old + budget.old.left < 2 ^ 32 - 16 }
     ensures gives { Gives value_of result (moment_of heap.new budget.new) (call_builtin which.0 (plainly (map value_of args.now)) (moment_of heap.old budget.old)) }
     ensures sound { IfOk result (λ v. IsTrue (is_sound (length heap.new) (value_of v))) }
-    ensures heap { length heap.old ≤ length heap.new }
-    ensures most { length heap.new + budget.new.left ≤ length heap.old + budget.old.left + 1 }
-    ensures depth { budget.new.depth ≡ budget.old.depth }
-    ensures left { budget.new.left ≤ budget.old.left }
-    ensures least { budget.old.left + steps.old ≤ budget.new.left + steps.new }
-    ensures reads { 24 * budget.new.left + steps.new ≤ 24 * budget.old.left + steps.old + 3 }
+    ensures grows { GrowsPaid 1 heap.old budget.old heap.new budget.new }
+    ensures spends { Spends 3 budget.old steps.old budget.new steps.new }
 {
-    match which.0 {
-        4 => quotient_and_remainder(alloc, args, heap),
-        5 => instance(alloc, args, heap, steps),
-        7 => best(alloc, Extreme::Greatest, args, heap, budget, steps),
-        8 => best(alloc, Extreme::Least, args, heap, budget, steps),
+    match which {
+        Builtin::DIVMOD => quotient_and_remainder(alloc, args, heap),
+        Builtin::ISINSTANCE => instance(alloc, args, heap, steps),
+        Builtin::MAX => best(alloc, Extreme::Greatest, args, heap, budget, steps),
+        Builtin::MIN => best(alloc, Extreme::Least, args, heap, budget, steps),
         _ => single(alloc, which, args, heap, budget, steps),
     }
 }
@@ -219,20 +204,16 @@ pub fn call_builtin<L: Ledger>(
     steps: &mut Steps<L>,
 ) -> Result<Value, CallFault>
     requires which { which.0 < soundness.builtins }
-    requires not_print { which.0 ≢ 10 }
-    requires not_repr { which.0 ≢ 11 }
+    requires not_print { which.0 ≢ builtin_number functions.print }
+    requires not_repr { which.0 ≢ builtin_number functions.repr }
     requires sound { IsTrue (are_sound (length heap.old) (map value_of args.now)) }
     requires room { length heap.old + budget.old.left < 2 ^ 32 - 16 }
     ensures gives { Gives value_of result (moment_of heap.new budget.new) (call_builtin which.0 (plainly (map value_of args.now)) (moment_of heap.old budget.old)) }
     ensures sound { IfOk result (λ v. IsTrue (is_sound (length heap.new) (value_of v))) }
     ensures thrown { ThrowsSound (length heap.new) result }
     ensures more { Unlimited result (IsGrown (budget.old.left - budget.new.left + 1) heap.old heap.new) }
-    ensures heap { length heap.old ≤ length heap.new }
-    ensures most { length heap.new + budget.new.left ≤ length heap.old + budget.old.left + 1 }
-    ensures depth { budget.new.depth ≡ budget.old.depth }
-    ensures left { budget.new.left ≤ budget.old.left }
-    ensures least { budget.old.left + steps.old ≤ budget.new.left + steps.new }
-    ensures reads { 24 * budget.new.left + steps.new ≤ 24 * budget.old.left + steps.old + 3 }
+    ensures grows { GrowsPaid 1 heap.old budget.old heap.new budget.new }
+    ensures spends { Spends 3 budget.old steps.old budget.new steps.new }
 {
     called(alloc, which, args, heap, budget, steps)
 }

@@ -10,15 +10,15 @@ ghost use Rattle.kishu_meaning.specs.values.Values.{value_of};
 ghost use Rattle.kishu_builtins.specs.Called.{Gives};
 
 use kishu_heap::CallFault;
-use kishu_items::{VALUE_ERROR, bad_arguments, character_text, number_in, plain_text, raise};
-use kishu_meaning::Value;
+use kishu_items::{bad_arguments, character_text, number_in, plain_text, raise};
+use kishu_meaning::{ClassId, Value};
 use kishu_text::at;
 use std::alloc::Global;
 
 fn not_a_character(alloc: Global) -> Result<Value, CallFault>
     ensures { (s : Moment) → Gives value_of result s (value_error (codes "not a character") s) }
 {
-    raise(VALUE_ERROR, plain_text(alloc, "not a character")?)
+    raise(ClassId::VALUE_ERROR, plain_text(alloc, "not a character")?)
 }
 
 fn scalar(alloc: Global, number: u32) -> Result<Value, CallFault>

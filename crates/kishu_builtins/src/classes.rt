@@ -5,9 +5,11 @@ ghost use Rattle.kishu_meaning.specs.calls.Builtins.{range_from};
 ghost use Rattle.kishu_meaning.specs.calls.Callees.{construct, empty_object};
 ghost use Rattle.kishu_meaning.specs.comparing.Equal.{number_in};
 ghost use Rattle.kishu_meaning.specs.moments.Moment.{Moment};
+ghost use Rattle.kishu_meaning.specs.values.Classes.{any_exception, namespace_class, range_class, str_class};
 ghost use Rattle.kishu_meaning.specs.values.Sound.{is_sound, are_sound, classes};
 ghost use Rattle.kishu_meaning.specs.values.Values as model;
 ghost use Rattle.kishu_meaning.specs.values.Values.{value_of};
+ghost use Rattle.kishu_heap.specs.Costs.{Grows, GrowsPaid, Spends};
 ghost use Rattle.kishu_builtins.specs.Called.{moment_of, Gives, plainly, Unlimited, ThrowsSound};
 ghost use Rattle.kishu_items.specs.Contents.{IsGrown};
 
@@ -23,20 +25,19 @@ use std::sync::ledger::Ledger;
 
 // A class that takes at most one argument, without one.
 fn empty(alloc: Global, class: ClassId, heap: &mut Heap) -> Result<Value, CallFault>
-    requires class { class.0 < 8 }
-    requires not_more { (class.0 ≢ 4) × (class.0 ≢ 5) }
-    requires not_str { class.0 ≢ 6 }
+    requires class { class.0 < any_exception }
+    requires not_more { (class.0 ≢ range_class) × (class.0 ≢ namespace_class) }
+    requires not_str { class.0 ≢ str_class }
     requires room { length heap.old + 1 < 2 ^ 32 }
     ensures gives { (b : Budget) → Gives value_of result (moment_of heap.new b) (construct class.0 (plainly []) (moment_of heap.old b)) }
-    ensures heap { length heap.old ≤ length heap.new }
-    ensures most { length heap.new ≤ length heap.old + 1 }
+    ensures grows { Grows 1 heap.old heap.new }
 {
-    match class.0 {
-        0 => Ok(Value::Bool(false)),
-        1 => empty_dict(alloc, heap),
-        2 => Ok(Value::Int(0)),
-        3 => empty_list(alloc, heap),
-        7 => empty_tuple(alloc, heap),
+    match class {
+        ClassId::BOOL => Ok(Value::Bool(false)),
+        ClassId::DICT => empty_dict(alloc, heap),
+        ClassId::INT => Ok(Value::Int(0)),
+        ClassId::LIST => empty_list(alloc, heap),
+        ClassId::TUPLE => empty_tuple(alloc, heap),
         _ => unreachable!(),
     }
 }
@@ -50,42 +51,38 @@ fn of_value<L: Ledger>(
     budget: &mut Budget,
     steps: &mut Steps<L>,
 ) -> Result<Value, CallFault>
-    requires class { class.0 < 8 }
-    requires not_more { (class.0 ≢ 4) × (class.0 ≢ 5) }
-    requires not_str { class.0 ≢ 6 }
+    requires class { class.0 < any_exception }
+    requires not_more { (class.0 ≢ range_class) × (class.0 ≢ namespace_class) }
+    requires not_str { class.0 ≢ str_class }
     requires sound { IsTrue (is_sound (length heap.old) (value_of value.now)) }
     requires room { length heap.old + budget.old.left < 2 ^ 32 - 16 }
     ensures gives { Gives value_of result (moment_of heap.new budget.new) (construct class.0 (plainly (value_of value.now ∷ [])) (moment_of heap.old budget.old)) }
-    ensures heap { length heap.old ≤ length heap.new }
-    ensures most { length heap.new + budget.new.left ≤ length heap.old + budget.old.left + 1 }
-    ensures depth { budget.new.depth ≡ budget.old.depth }
-    ensures left { budget.new.left ≤ budget.old.left }
-    ensures least { budget.old.left + steps.old ≤ budget.new.left + steps.new }
-    ensures reads { 24 * budget.new.left + steps.new ≤ 24 * budget.old.left + steps.old + 3 }
+    ensures grows { GrowsPaid 1 heap.old budget.old heap.new budget.new }
+    ensures spends { Spends 3 budget.old steps.old budget.new steps.new }
 {
-    match class.0 {
-        0 => bool_of(value, heap, steps),
-        1 => dict_of(alloc, value, heap, budget, steps),
-        2 => number_from(alloc, value, budget, steps),
-        3 => list_of(alloc, value, heap, budget, steps),
-        7 => tuple_of(alloc, value, heap, budget, steps),
+    match class {
+        ClassId::BOOL => bool_of(value, heap, steps),
+        ClassId::DICT => dict_of(alloc, value, heap, budget, steps),
+        ClassId::INT => number_from(alloc, value, budget, steps),
+        ClassId::LIST => list_of(alloc, value, heap, budget, steps),
+        ClassId::TUPLE => tuple_of(alloc, value, heap, budget, steps),
         _ => unreachable!(),
     }
 }
 
 // A class that takes at most one argument, with more.
 fn refused(alloc: Global, class: ClassId) -> Result<Value, CallFault>
-    requires class { class.0 < 8 }
-    requires not_more { (class.0 ≢ 4) × (class.0 ≢ 5) }
-    requires not_str { class.0 ≢ 6 }
+    requires class { class.0 < any_exception }
+    requires not_more { (class.0 ≢ range_class) × (class.0 ≢ namespace_class) }
+    requires not_str { class.0 ≢ str_class }
     ensures { (vs : List model.Value) (s : Moment) → 1 < length vs → Gives value_of result s (construct class.0 (plainly vs) s) }
 {
-    match class.0 {
-        0 => bad_arguments(alloc, "bool"),
-        1 => bad_arguments(alloc, "dict"),
-        2 => bad_arguments(alloc, "int"),
-        3 => bad_arguments(alloc, "list"),
-        7 => bad_arguments(alloc, "tuple"),
+    match class {
+        ClassId::BOOL => bad_arguments(alloc, "bool"),
+        ClassId::DICT => bad_arguments(alloc, "dict"),
+        ClassId::INT => bad_arguments(alloc, "int"),
+        ClassId::LIST => bad_arguments(alloc, "list"),
+        ClassId::TUPLE => bad_arguments(alloc, "tuple"),
         _ => unreachable!(),
     }
 }
@@ -99,18 +96,14 @@ fn of_at_most_one<L: Ledger>(
     budget: &mut Budget,
     steps: &mut Steps<L>,
 ) -> Result<Value, CallFault>
-    requires class { class.0 < 8 }
-    requires not_more { (class.0 ≢ 4) × (class.0 ≢ 5) }
-    requires not_str { class.0 ≢ 6 }
+    requires class { class.0 < any_exception }
+    requires not_more { (class.0 ≢ range_class) × (class.0 ≢ namespace_class) }
+    requires not_str { class.0 ≢ str_class }
     requires sound { IsTrue (are_sound (length heap.old) (map value_of args.now)) }
     requires room { length heap.old + budget.old.left < 2 ^ 32 - 16 }
     ensures gives { Gives value_of result (moment_of heap.new budget.new) (construct class.0 (plainly (map value_of args.now)) (moment_of heap.old budget.old)) }
-    ensures heap { length heap.old ≤ length heap.new }
-    ensures most { length heap.new + budget.new.left ≤ length heap.old + budget.old.left + 1 }
-    ensures depth { budget.new.depth ≡ budget.old.depth }
-    ensures left { budget.new.left ≤ budget.old.left }
-    ensures least { budget.old.left + steps.old ≤ budget.new.left + steps.new }
-    ensures reads { 24 * budget.new.left + steps.new ≤ 24 * budget.old.left + steps.old + 3 }
+    ensures grows { GrowsPaid 1 heap.old budget.old heap.new budget.new }
+    ensures spends { Spends 3 budget.old steps.old budget.new steps.new }
 {
     if args.is_empty() {
         return empty(alloc, class, heap);
@@ -139,8 +132,7 @@ fn range(alloc: Global, args: &[Value]) -> Result<Value, CallFault>
 fn namespace(alloc: Global, args: &[Value], heap: &mut Heap) -> Result<Value, CallFault>
     requires room { length heap.old + 1 < 2 ^ 32 }
     ensures gives { (b : Budget) → Gives value_of result (moment_of heap.new b) (empty_object (map value_of args.now) (moment_of heap.old b)) }
-    ensures heap { length heap.old ≤ length heap.new }
-    ensures most { length heap.new ≤ length heap.old + 1 }
+    ensures grows { Grows 1 heap.old heap.new }
 {
     if args.is_empty() {
         return new_object(alloc, heap);
@@ -157,21 +149,17 @@ fn value_of_class<L: Ledger>(
     budget: &mut Budget,
     steps: &mut Steps<L>,
 ) -> Result<Value, CallFault>
-    requires class { class.0 < 8 }
-    requires not_str { class.0 ≢ 6 }
+    requires class { class.0 < any_exception }
+    requires not_str { class.0 ≢ str_class }
     requires sound { IsTrue (are_sound (length heap.old) (map value_of args.now)) }
     requires room { length heap.old + budget.old.left < 2 ^ 32 - 16 }
     ensures gives { Gives value_of result (moment_of heap.new budget.new) (construct class.0 (plainly (map value_of args.now)) (moment_of heap.old budget.old)) }
-    ensures heap { length heap.old ≤ length heap.new }
-    ensures most { length heap.new + budget.new.left ≤ length heap.old + budget.old.left + 1 }
-    ensures depth { budget.new.depth ≡ budget.old.depth }
-    ensures left { budget.new.left ≤ budget.old.left }
-    ensures least { budget.old.left + steps.old ≤ budget.new.left + steps.new }
-    ensures reads { 24 * budget.new.left + steps.new ≤ 24 * budget.old.left + steps.old + 3 }
+    ensures grows { GrowsPaid 1 heap.old budget.old heap.new budget.new }
+    ensures spends { Spends 3 budget.old steps.old budget.new steps.new }
 {
-    match class.0 {
-        4 => range(alloc, args),
-        5 => namespace(alloc, args, heap),
+    match class {
+        ClassId::RANGE => range(alloc, args),
+        ClassId::SIMPLE_NAMESPACE => namespace(alloc, args, heap),
         _ => of_at_most_one(alloc, class, args, heap, budget, steps),
     }
 }
@@ -183,13 +171,12 @@ fn exception_of(
     args: &[Value],
     heap: &mut Heap,
 ) -> Result<Value, CallFault>
-    requires first { 8 ≤ class.0 }
+    requires first { any_exception ≤ class.0 }
     requires class { class.0 < classes }
     requires room { length heap.old + 1 < 2 ^ 32 }
     requires sound { IsTrue (are_sound (length heap.old) (map value_of args.now)) }
     ensures gives { (b : Budget) → Gives value_of result (moment_of heap.new b) (construct class.0 (plainly (map value_of args.now)) (moment_of heap.old b)) }
-    ensures heap { length heap.old ≤ length heap.new }
-    ensures most { length heap.new ≤ length heap.old + 1 }
+    ensures grows { Grows 1 heap.old heap.new }
 {
     new_exception(alloc, class, args, heap)
 }
@@ -204,18 +191,14 @@ fn constructed<L: Ledger>(
     steps: &mut Steps<L>,
 ) -> Result<Value, CallFault>
     requires class { class.0 < classes }
-    requires not_str { class.0 ≢ 6 }
+    requires not_str { class.0 ≢ str_class }
     requires sound { IsTrue (are_sound (length heap.old) (map value_of args.now)) }
     requires room { length heap.old + budget.old.left < 2 ^ 32 - 16 }
     ensures gives { Gives value_of result (moment_of heap.new budget.new) (construct class.0 (plainly (map value_of args.now)) (moment_of heap.old budget.old)) }
-    ensures heap { length heap.old ≤ length heap.new }
-    ensures most { length heap.new + budget.new.left ≤ length heap.old + budget.old.left + 1 }
-    ensures depth { budget.new.depth ≡ budget.old.depth }
-    ensures left { budget.new.left ≤ budget.old.left }
-    ensures least { budget.old.left + steps.old ≤ budget.new.left + steps.new }
-    ensures reads { 24 * budget.new.left + steps.new ≤ 24 * budget.old.left + steps.old + 3 }
+    ensures grows { GrowsPaid 1 heap.old budget.old heap.new budget.new }
+    ensures spends { Spends 3 budget.old steps.old budget.new steps.new }
 {
-    if class.0 < 8 {
+    if class.0 < ClassId::EXCEPTION.0 {
         value_of_class(alloc, class, args, heap, budget, steps)
     } else {
         exception_of(alloc, class, args, heap)
@@ -235,19 +218,15 @@ pub fn construct<L: Ledger>(
     steps: &mut Steps<L>,
 ) -> Result<Value, CallFault>
     requires class { class.0 < classes }
-    requires not_str { class.0 ≢ 6 }
+    requires not_str { class.0 ≢ str_class }
     requires sound { IsTrue (are_sound (length heap.old) (map value_of args.now)) }
     requires room { length heap.old + budget.old.left < 2 ^ 32 - 16 }
     ensures gives { Gives value_of result (moment_of heap.new budget.new) (construct class.0 (plainly (map value_of args.now)) (moment_of heap.old budget.old)) }
     ensures sound { IfOk result (λ v. IsTrue (is_sound (length heap.new) (value_of v))) }
     ensures thrown { ThrowsSound (length heap.new) result }
     ensures more { Unlimited result (IsGrown (budget.old.left - budget.new.left + 1) heap.old heap.new) }
-    ensures heap { length heap.old ≤ length heap.new }
-    ensures most { length heap.new + budget.new.left ≤ length heap.old + budget.old.left + 1 }
-    ensures depth { budget.new.depth ≡ budget.old.depth }
-    ensures left { budget.new.left ≤ budget.old.left }
-    ensures least { budget.old.left + steps.old ≤ budget.new.left + steps.new }
-    ensures reads { 24 * budget.new.left + steps.new ≤ 24 * budget.old.left + steps.old + 3 }
+    ensures grows { GrowsPaid 1 heap.old budget.old heap.new budget.new }
+    ensures spends { Spends 3 budget.old steps.old budget.new steps.new }
 {
     constructed(alloc, class, args, heap, budget, steps)
 }

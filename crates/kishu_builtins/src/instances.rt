@@ -3,55 +3,29 @@ ghost use Rattle.std.specs.Prelude.{◌≡◌, ◌+◌, ◌<◌, ◌≤◌, Some
 ghost use Rattle.std.specs.List.{list_all, list_any};
 ghost use Rattle.kishu_meaning.specs.declared.budget.Budget.{Budget};
 ghost use Rattle.kishu_meaning.specs.calls.Builtins.{is_instance, is_of, is_of_class, is_of_one, node_is_of, class_in};
-ghost use Rattle.kishu_meaning.specs.values.Classes.{class_above, is_within};
 ghost use Rattle.kishu_meaning.specs.moments.Moment.{node_at};
 ghost use Rattle.kishu_meaning.specs.values.Sound.{is_sound};
 ghost use Rattle.kishu_meaning.specs.values.Values as model;
 ghost use Rattle.kishu_meaning.specs.values.Values.{value_of, node};
 ghost use Rattle.kishu_heap.specs.Cells.{node_of};
+ghost use Rattle.kishu_heap.specs.Costs.{Reads};
 ghost use Rattle.kishu_builtins.specs.Called.{moment_of, Gives};
 
 use kishu_heap::{CallFault, Heap, Node};
-use kishu_items::bad_arguments;
+use kishu_items::{bad_arguments, is_within};
 use kishu_meaning::{ClassId, NodeId, Steps, Value};
 use std::alloc::Global;
 use std::sync::ledger::Ledger;
 
-// The class above a class of exceptions; that of all of them is its own.
-fn class_above(class: u8) -> u8
-    ensures { result ≡ class_above class }
-{
-    if class == 10 || class == 11 {
-        9
-    } else if class == 15 || class == 16 {
-        14
-    } else if class == 18 {
-        17
-    } else if class == 20 || class == 21 {
-        19
-    } else {
-        8
-    }
-}
-
-/// Whether a class of exceptions is another or lies below it.
-fn is_within(kind: u8, class: u8) -> bool
-    ensures { result ≡ is_within kind class }
-{
-    let above = class_above(kind);
-    let top = class_above(above);
-    kind == class || (above == class || top == class)
-}
-
-fn node_is_of(node: &Node, class: u8) -> bool
-    ensures { result ≡ node_is_of class (Some (node_of node.now)) }
+fn node_is_of(node: &Node, class: ClassId) -> bool
+    ensures { result ≡ node_is_of class.0 (Some (node_of node.now)) }
 {
     match node {
-        Node::Dict(_) => class == 1,
-        Node::List(_) => class == 3,
-        Node::Object(_) => class == 5,
-        Node::Tuple(_) => class == 7,
-        Node::Exception(kind, _) => is_within(kind.0, class),
+        Node::Dict(_) => class == ClassId::DICT,
+        Node::List(_) => class == ClassId::LIST,
+        Node::Object(_) => class == ClassId::SIMPLE_NAMESPACE,
+        Node::Tuple(_) => class == ClassId::TUPLE,
+        Node::Exception(kind, _) => is_within(*kind, class),
         Node::Function(_) => false,
     }
 }
@@ -60,8 +34,7 @@ fn node_is_of(node: &Node, class: u8) -> bool
 fn node_in<'a, L: Ledger>(value: &Value, heap: &'a Heap, steps: &mut Steps<L>) -> Option<&'a Node>
     requires sound { IsTrue (is_sound (length heap.now) (value_of value.now)) }
     ensures node { option_map (λ n. node_of n.now) result ≡ node_at heap.now (value_of value.now) }
-    ensures counted { steps.old ≤ steps.new }
-    ensures reads { steps.new ≤ steps.old + 1 }
+    ensures reads { Reads 1 steps.old steps.new }
 {
     match value {
         Value::Node(id) => Some(heap.node(*id, steps)),
@@ -75,8 +48,8 @@ fn node_in<'a, L: Ledger>(value: &Value, heap: &'a Heap, steps: &mut Steps<L>) -
     }
 }
 
-fn found_is_of(found: Option<&Node>, class: u8) -> bool
-    ensures { result ≡ node_is_of class (option_map (λ n. node_of n.now) found.entry) }
+fn found_is_of(found: Option<&Node>, class: ClassId) -> bool
+    ensures { result ≡ node_is_of class.0 (option_map (λ n. node_of n.now) found.entry) }
 {
     match found {
         Some(node) => node_is_of(node, class),
@@ -85,14 +58,14 @@ fn found_is_of(found: Option<&Node>, class: u8) -> bool
 }
 
 // Whether a value, or the node that it is, is of a class.
-fn is_of(value: &Value, found: Option<&Node>, class: u8) -> bool
-    ensures { result ≡ is_of (value_of value.now) (option_map (λ n. node_of n.now) found.entry) class }
+fn is_of(value: &Value, found: Option<&Node>, class: ClassId) -> bool
+    ensures { result ≡ is_of (value_of value.now) (option_map (λ n. node_of n.now) found.entry) class.0 }
 {
     match value {
-        Value::Bool(_) => class == 0 || class == 2,
-        Value::Int(_) => class == 2,
-        Value::Range(..) => class == 4,
-        Value::Text(_) => class == 6,
+        Value::Bool(_) => class == ClassId::BOOL || class == ClassId::INT,
+        Value::Int(_) => class == ClassId::INT,
+        Value::Range(..) => class == ClassId::RANGE,
+        Value::Text(_) => class == ClassId::STR,
         Value::Node(_) => found_is_of(found, class),
         Value::None => false,
         Value::Builtin(_) => false,
@@ -126,7 +99,7 @@ fn is_of_class(value: &Value, found: Option<&Node>, class: &Value) -> bool
     ensures { result ≡ is_of_class (value_of value.now) (option_map (λ n. node_of n.now) found.entry) (value_of class.now) }
 {
     match class {
-        Value::Class(class) => is_of(value, found, class.0),
+        Value::Class(class) => is_of(value, found, *class),
         Value::None => false,
         Value::Bool(_) => false,
         Value::Int(_) => false,
@@ -159,8 +132,7 @@ fn is_of_one<L: Ledger>(
 ) -> Result<Value, CallFault>
     requires sound { IsTrue (is_sound (length heap.now) (value_of value.now)) }
     ensures gives { (b : Budget) → Gives value_of result (moment_of heap.now b) (is_of_one (value_of value.now) (map value_of classes.now) (moment_of heap.now b)) }
-    ensures counted { steps.old ≤ steps.new }
-    ensures reads { steps.new ≤ steps.old + 1 }
+    ensures reads { Reads 1 steps.old steps.new }
 {
     if are_classes(classes) {
         let found = node_in(value, heap, steps);
@@ -181,8 +153,7 @@ fn is_of_tuple<L: Ledger>(
     requires sound { IsTrue (is_sound (length heap.now) (value_of value.now)) }
     requires id { id.0 < length heap.now }
     ensures gives { (b : Budget) → Gives value_of result (moment_of heap.now b) (is_instance (value_of value.now) (node id.0) (moment_of heap.now b)) }
-    ensures counted { steps.old ≤ steps.new }
-    ensures reads { steps.new ≤ steps.old + 2 }
+    ensures reads { Reads 2 steps.old steps.new }
 {
     match heap.node(id, steps) {
         Node::Tuple(classes) => is_of_one(alloc, value, classes.as_slice(), heap, steps),
@@ -202,11 +173,10 @@ fn is_of_single<L: Ledger>(
 ) -> Result<Value, CallFault>
     requires sound { IsTrue (is_sound (length heap.now) (value_of value.now)) }
     ensures gives { (b : Budget) → Gives value_of result (moment_of heap.now b) (is_instance (value_of value.now) (model.class class.0) (moment_of heap.now b)) }
-    ensures counted { steps.old ≤ steps.new }
-    ensures reads { steps.new ≤ steps.old + 1 }
+    ensures reads { Reads 1 steps.old steps.new }
 {
     let found = node_in(value, heap, steps);
-    Ok(Value::Bool(is_of(value, found, class.0)))
+    Ok(Value::Bool(is_of(value, found, class)))
 }
 
 /// Whether a value is of a class, or of one of a tuple of classes.
@@ -220,8 +190,7 @@ pub(crate) fn is_instance<L: Ledger>(
     requires sound { IsTrue (is_sound (length heap.now) (value_of value.now)) }
     requires class { IsTrue (is_sound (length heap.now) (value_of class.now)) }
     ensures gives { (b : Budget) → Gives value_of result (moment_of heap.now b) (is_instance (value_of value.now) (value_of class.now) (moment_of heap.now b)) }
-    ensures counted { steps.old ≤ steps.new }
-    ensures reads { steps.new ≤ steps.old + 2 }
+    ensures reads { Reads 2 steps.old steps.new }
 {
     match class {
         Value::Class(class) => is_of_single(value, *class, heap, steps),

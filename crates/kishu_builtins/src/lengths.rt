@@ -4,6 +4,7 @@ ghost use Rattle.kishu_meaning.specs.declared.budget.Budget.{Budget};
 ghost use Rattle.kishu_meaning.specs.calls.Builtins.{length_of};
 ghost use Rattle.kishu_meaning.specs.values.Sound.{is_sound};
 ghost use Rattle.kishu_meaning.specs.values.Values.{value_of};
+ghost use Rattle.kishu_heap.specs.Costs.{Reads};
 ghost use Rattle.kishu_builtins.specs.Called.{moment_of, Gives};
 
 use crate::numbers::whole;
@@ -22,8 +23,7 @@ pub(crate) fn length_of<L: Ledger>(
 ) -> Result<Value, CallFault>
     requires sound { IsTrue (is_sound (length heap.now) (value_of value.now)) }
     ensures gives { (b : Budget) → Gives value_of result (moment_of heap.now b) (length_of (value_of value.now) (moment_of heap.now b)) }
-    ensures counted { steps.old ≤ steps.new }
-    ensures reads { steps.new ≤ steps.old + 1 }
+    ensures reads { Reads 1 steps.old steps.new }
 {
     match count_in(value, heap, steps) {
         Some(count) => whole(alloc, count),

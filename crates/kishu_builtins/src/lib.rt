@@ -1,6 +1,6 @@
 //! The builtin functions and the classes, as they are called (Library Reference, "Built-in
 //! Functions", "Built-in Types" and "Built-in Exceptions"). What each gives or raises, by which steps
-//! and with which nodes, `Callees` and `Builtins` of `kishu_model` define.
+//! and with which nodes, `Callees` and `Builtins` of `kishu_meaning` define.
 #![tactic(auto)]
 
 mod best;

@@ -8,6 +8,7 @@ ghost use Rattle.kishu_meaning.specs.calls.Operators.{new_list, new_tuple};
 ghost use Rattle.kishu_meaning.specs.values.Sound.{is_sound, are_sound, is_exception_class};
 ghost use Rattle.kishu_meaning.specs.values.Values.{value_of, node, dict, object, exception};
 ghost use Rattle.kishu_heap.specs.Cells.{entries_of};
+ghost use Rattle.kishu_heap.specs.Costs.{Grows, GrowsPaid, Spends};
 ghost use Rattle.kishu_builtins.specs.Called.{moment_of, Gives};
 
 use indexmap::IndexMap;
@@ -22,8 +23,7 @@ pub(crate) fn new_list(items: Vec<Value>, heap: &mut Heap) -> Result<Value, Call
     requires room { length heap.old + 1 < 2 ^ 32 }
     requires sound { IsTrue (are_sound (length heap.old) (map value_of items.items)) }
     ensures gives { (b : Budget) → Gives value_of result (moment_of heap.new b) (new_list (map value_of items.items) (moment_of heap.old b)) }
-    ensures heap { length heap.old ≤ length heap.new }
-    ensures most { length heap.new ≤ length heap.old + 1 }
+    ensures grows { Grows 1 heap.old heap.new }
 {
     Ok(Value::Node(heap.make(Node::List(items))?))
 }
@@ -33,8 +33,7 @@ pub(crate) fn new_tuple(items: Vec<Value>, heap: &mut Heap) -> Result<Value, Cal
     requires room { length heap.old + 1 < 2 ^ 32 }
     requires sound { IsTrue (are_sound (length heap.old) (map value_of items.items)) }
     ensures gives { (b : Budget) → Gives value_of result (moment_of heap.new b) (new_tuple (map value_of items.items) (moment_of heap.old b)) }
-    ensures heap { length heap.old ≤ length heap.new }
-    ensures most { length heap.new ≤ length heap.old + 1 }
+    ensures grows { Grows 1 heap.old heap.new }
 {
     Ok(Value::Node(heap.make(Node::Tuple(items))?))
 }
@@ -43,8 +42,7 @@ pub(crate) fn new_tuple(items: Vec<Value>, heap: &mut Heap) -> Result<Value, Cal
 pub(crate) fn empty_list(alloc: Global, heap: &mut Heap) -> Result<Value, CallFault>
     requires room { length heap.old + 1 < 2 ^ 32 }
     ensures gives { (b : Budget) → Gives value_of result (moment_of heap.new b) (new_list [] (moment_of heap.old b)) }
-    ensures heap { length heap.old ≤ length heap.new }
-    ensures most { length heap.new ≤ length heap.old + 1 }
+    ensures grows { Grows 1 heap.old heap.new }
 {
     new_list(Vec::new(alloc), heap)
 }
@@ -53,8 +51,7 @@ pub(crate) fn empty_list(alloc: Global, heap: &mut Heap) -> Result<Value, CallFa
 pub(crate) fn empty_tuple(alloc: Global, heap: &mut Heap) -> Result<Value, CallFault>
     requires room { length heap.old + 1 < 2 ^ 32 }
     ensures gives { (b : Budget) → Gives value_of result (moment_of heap.new b) (new_tuple [] (moment_of heap.old b)) }
-    ensures heap { length heap.old ≤ length heap.new }
-    ensures most { length heap.new ≤ length heap.old + 1 }
+    ensures grows { Grows 1 heap.old heap.new }
 {
     new_tuple(Vec::new(alloc), heap)
 }
@@ -70,12 +67,8 @@ pub(crate) fn list_of<L: Ledger>(
     requires sound { IsTrue (is_sound (length heap.old) (value_of value.now)) }
     requires room { length heap.old + budget.old.left < 2 ^ 32 - 16 }
     ensures gives { Gives value_of result (moment_of heap.new budget.new) (and_then (all_items (value_of value.now) (moment_of heap.old budget.old)) new_list) }
-    ensures heap { length heap.old ≤ length heap.new }
-    ensures most { length heap.new + budget.new.left ≤ length heap.old + budget.old.left + 1 }
-    ensures depth { budget.new.depth ≡ budget.old.depth }
-    ensures left { budget.new.left ≤ budget.old.left }
-    ensures least { budget.old.left + steps.old ≤ budget.new.left + steps.new }
-    ensures reads { 24 * budget.new.left + steps.new ≤ 24 * budget.old.left + steps.old + 2 }
+    ensures grows { GrowsPaid 1 heap.old budget.old heap.new budget.new }
+    ensures spends { Spends 2 budget.old steps.old budget.new steps.new }
 {
     let items = walked(alloc, value, heap, budget, steps)?;
     new_list(items, heap)
@@ -91,12 +84,8 @@ fn tuple_of_items<L: Ledger>(
     requires sound { IsTrue (is_sound (length heap.old) (value_of value.now)) }
     requires room { length heap.old + budget.old.left < 2 ^ 32 - 16 }
     ensures gives { Gives value_of result (moment_of heap.new budget.new) (and_then (all_items (value_of value.now) (moment_of heap.old budget.old)) new_tuple) }
-    ensures heap { length heap.old ≤ length heap.new }
-    ensures most { length heap.new + budget.new.left ≤ length heap.old + budget.old.left + 1 }
-    ensures depth { budget.new.depth ≡ budget.old.depth }
-    ensures left { budget.new.left ≤ budget.old.left }
-    ensures least { budget.old.left + steps.old ≤ budget.new.left + steps.new }
-    ensures reads { 24 * budget.new.left + steps.new ≤ 24 * budget.old.left + steps.old + 2 }
+    ensures grows { GrowsPaid 1 heap.old budget.old heap.new budget.new }
+    ensures spends { Spends 2 budget.old steps.old budget.new steps.new }
 {
     let items = walked(alloc, value, heap, budget, steps)?;
     new_tuple(items, heap)
@@ -112,12 +101,8 @@ fn tuple_of_node<L: Ledger>(
     requires id { id.0 < length heap.old }
     requires room { length heap.old + budget.old.left < 2 ^ 32 - 16 }
     ensures gives { Gives value_of result (moment_of heap.new budget.new) (and_then (node_now (node id.0) (moment_of heap.old budget.old)) (tuple_of (node id.0))) }
-    ensures heap { length heap.old ≤ length heap.new }
-    ensures most { length heap.new + budget.new.left ≤ length heap.old + budget.old.left + 1 }
-    ensures depth { budget.new.depth ≡ budget.old.depth }
-    ensures left { budget.new.left ≤ budget.old.left }
-    ensures least { budget.old.left + steps.old ≤ budget.new.left + steps.new }
-    ensures reads { 24 * budget.new.left + steps.new ≤ 24 * budget.old.left + steps.old + 3 }
+    ensures grows { GrowsPaid 1 heap.old budget.old heap.new budget.new }
+    ensures spends { Spends 3 budget.old steps.old budget.new steps.new }
 {
     match heap.node(id, steps) {
         Node::Tuple(_) => Ok(Value::Node(id)),
@@ -140,12 +125,8 @@ pub(crate) fn tuple_of<L: Ledger>(
     requires sound { IsTrue (is_sound (length heap.old) (value_of value.now)) }
     requires room { length heap.old + budget.old.left < 2 ^ 32 - 16 }
     ensures gives { Gives value_of result (moment_of heap.new budget.new) (and_then (node_now (value_of value.now) (moment_of heap.old budget.old)) (tuple_of (value_of value.now))) }
-    ensures heap { length heap.old ≤ length heap.new }
-    ensures most { length heap.new + budget.new.left ≤ length heap.old + budget.old.left + 1 }
-    ensures depth { budget.new.depth ≡ budget.old.depth }
-    ensures left { budget.new.left ≤ budget.old.left }
-    ensures least { budget.old.left + steps.old ≤ budget.new.left + steps.new }
-    ensures reads { 24 * budget.new.left + steps.new ≤ 24 * budget.old.left + steps.old + 3 }
+    ensures grows { GrowsPaid 1 heap.old budget.old heap.new budget.new }
+    ensures spends { Spends 3 budget.old steps.old budget.new steps.new }
 {
     match value {
         Value::Node(id) => tuple_of_node(alloc, *id, heap, budget, steps),
@@ -164,8 +145,7 @@ pub(crate) fn new_dict(entries: IndexMap<Key, Value>, heap: &mut Heap) -> Result
     requires room { length heap.old + 1 < 2 ^ 32 }
     requires sound { IsTrue (list_all (λ e. is_sound (length heap.old) e.1) (entries_of entries.entries)) }
     ensures gives { (b : Budget) → Gives value_of result (moment_of heap.new b) (make (dict (entries_of entries.entries)) (moment_of heap.old b)) }
-    ensures heap { length heap.old ≤ length heap.new }
-    ensures most { length heap.new ≤ length heap.old + 1 }
+    ensures grows { Grows 1 heap.old heap.new }
 {
     Ok(Value::Node(heap.make(Node::Dict(entries))?))
 }
@@ -174,8 +154,7 @@ pub(crate) fn new_dict(entries: IndexMap<Key, Value>, heap: &mut Heap) -> Result
 pub(crate) fn empty_dict(alloc: Global, heap: &mut Heap) -> Result<Value, CallFault>
     requires room { length heap.old + 1 < 2 ^ 32 }
     ensures gives { (b : Budget) → Gives value_of result (moment_of heap.new b) (make (dict []) (moment_of heap.old b)) }
-    ensures heap { length heap.old ≤ length heap.new }
-    ensures most { length heap.new ≤ length heap.old + 1 }
+    ensures grows { Grows 1 heap.old heap.new }
 {
     new_dict(IndexMap::new(alloc), heap)
 }
@@ -190,12 +169,8 @@ fn dict_of_node<L: Ledger>(
     requires id { id.0 < length heap.old }
     requires room { length heap.old + 1 < 2 ^ 32 }
     ensures gives { Gives value_of result (moment_of heap.new budget.new) (copied_dict (slice_get heap.old id.0) (moment_of heap.old budget.old)) }
-    ensures heap { length heap.old ≤ length heap.new }
-    ensures most { length heap.new + budget.new.left ≤ length heap.old + budget.old.left + 1 }
-    ensures depth { budget.new.depth ≡ budget.old.depth }
-    ensures left { budget.new.left ≤ budget.old.left }
-    ensures least { budget.old.left + steps.old ≤ budget.new.left + steps.new }
-    ensures reads { 24 * budget.new.left + steps.new ≤ 24 * budget.old.left + steps.old + 1 }
+    ensures grows { GrowsPaid 1 heap.old budget.old heap.new budget.new }
+    ensures spends { Spends 1 budget.old steps.old budget.new steps.new }
 {
     let Some(entries) = heap.node(id, steps).dict() else {
         return bad_arguments(alloc, "dict");
@@ -216,12 +191,8 @@ pub(crate) fn dict_of<L: Ledger>(
     requires sound { IsTrue (is_sound (length heap.old) (value_of value.now)) }
     requires room { length heap.old + 1 < 2 ^ 32 }
     ensures gives { Gives value_of result (moment_of heap.new budget.new) (and_then (node_now (value_of value.now) (moment_of heap.old budget.old)) copied_dict) }
-    ensures heap { length heap.old ≤ length heap.new }
-    ensures most { length heap.new + budget.new.left ≤ length heap.old + budget.old.left + 1 }
-    ensures depth { budget.new.depth ≡ budget.old.depth }
-    ensures left { budget.new.left ≤ budget.old.left }
-    ensures least { budget.old.left + steps.old ≤ budget.new.left + steps.new }
-    ensures reads { 24 * budget.new.left + steps.new ≤ 24 * budget.old.left + steps.old + 1 }
+    ensures grows { GrowsPaid 1 heap.old budget.old heap.new budget.new }
+    ensures spends { Spends 1 budget.old steps.old budget.new steps.new }
 {
     match value {
         Value::Node(id) => dict_of_node(alloc, *id, heap, budget, steps),
@@ -239,8 +210,7 @@ pub(crate) fn dict_of<L: Ledger>(
 pub(crate) fn new_object(alloc: Global, heap: &mut Heap) -> Result<Value, CallFault>
     requires room { length heap.old + 1 < 2 ^ 32 }
     ensures gives { (b : Budget) → Gives value_of result (moment_of heap.new b) (make (object []) (moment_of heap.old b)) }
-    ensures heap { length heap.old ≤ length heap.new }
-    ensures most { length heap.new ≤ length heap.old + 1 }
+    ensures grows { Grows 1 heap.old heap.new }
 {
     Ok(Value::Node(heap.make(Node::Object(IndexMap::new(alloc)))?))
 }
@@ -256,8 +226,7 @@ pub(crate) fn new_exception(
     requires room { length heap.old + 1 < 2 ^ 32 }
     requires sound { IsTrue (are_sound (length heap.old) (map value_of args.now)) }
     ensures gives { (b : Budget) → Gives value_of result (moment_of heap.new b) (make (exception class.0 (map value_of args.now)) (moment_of heap.old b)) }
-    ensures heap { length heap.old ≤ length heap.new }
-    ensures most { length heap.new ≤ length heap.old + 1 }
+    ensures grows { Grows 1 heap.old heap.new }
 {
     let args = copied_all(alloc, args)?;
     Ok(Value::Node(heap.make(Node::Exception(class, args))?))

@@ -7,14 +7,13 @@ ghost use Rattle.kishu_meaning.specs.comparing.Equal.{number_in};
 ghost use Rattle.kishu_meaning.specs.moments.Moment.{Moment};
 ghost use Rattle.kishu_meaning.specs.calls.Operators.{whole, operate, new_tuple};
 ghost use Rattle.kishu_meaning.specs.values.Values.{value_of, integer};
+ghost use Rattle.kishu_heap.specs.Costs.{Grows};
 ghost use Rattle.kishu_builtins.specs.Called.{moment_of, Gives};
 ghost use Rattle.kishu_builtins.specs.Answered.{answered};
 
 use kishu_heap::{CallFault, Heap, Node};
-use kishu_items::{
-    OVERFLOW_ERROR, VALUE_ERROR, ZERO_DIVISION_ERROR, bad_arguments, number_in, plain_text, raise,
-};
-use kishu_meaning::Value;
+use kishu_items::{bad_arguments, number_in, plain_text, raise};
+use kishu_meaning::{ClassId, Value};
 use kishu_num::{NumFault, floor_div, modulo};
 use std::alloc::Global;
 
@@ -28,12 +27,21 @@ pub(crate) fn number_or_raise(
     match answer {
         Ok(number) => Ok(number),
         Err(NumFault::Overflow) => {
-            raise(OVERFLOW_ERROR, plain_text(alloc, "whole number too large")?)
+            raise(
+                ClassId::OVERFLOW_ERROR,
+                plain_text(alloc, "whole number too large")?,
+            )
         }
         Err(NumFault::ZeroDivisor) => {
-            raise(ZERO_DIVISION_ERROR, plain_text(alloc, "division by zero")?)
+            raise(
+                ClassId::ZERO_DIVISION_ERROR,
+                plain_text(alloc, "division by zero")?,
+            )
         }
-        Err(NumFault::NegativePower) => raise(VALUE_ERROR, plain_text(alloc, "negative power")?),
+        Err(NumFault::NegativePower) => raise(
+            ClassId::VALUE_ERROR,
+            plain_text(alloc, "negative power")?,
+        ),
     }
 }
 
@@ -42,7 +50,10 @@ pub(crate) fn whole(alloc: Global, number: u128) -> Result<Value, CallFault>
     ensures { (s : Moment) → Gives value_of result s (whole (pos number) s) }
 {
     if number > i128::MAX as u128 {
-        return raise(OVERFLOW_ERROR, plain_text(alloc, "whole number too large")?);
+        return raise(
+            ClassId::OVERFLOW_ERROR,
+            plain_text(alloc, "whole number too large")?,
+        );
     }
     Ok(Value::Int(number as i128))
 }
@@ -73,8 +84,7 @@ fn remainder(alloc: Global, a: i128, b: i128) -> Result<i128, CallFault>
 fn new_pair(alloc: Global, first: i128, second: i128, heap: &mut Heap) -> Result<Value, CallFault>
     requires { length heap.old + 1 < 2 ^ 32 }
     ensures gives { (b : Budget) → Gives value_of result (moment_of heap.new b) (new_tuple (integer first ∷ integer second ∷ []) (moment_of heap.old b)) }
-    ensures heap { length heap.old ≤ length heap.new }
-    ensures most { length heap.new ≤ length heap.old + 1 }
+    ensures grows { Grows 1 heap.old heap.new }
 {
     let items = vec![in alloc; Value::Int(first), Value::Int(second)]?;
     Ok(Value::Node(heap.make(Node::Tuple(items))?))
@@ -88,8 +98,7 @@ fn quotient_and_remainder(
 ) -> Result<Value, CallFault>
     requires { length heap.old + 1 < 2 ^ 32 }
     ensures gives { (c : Budget) → Gives value_of result (moment_of heap.new c) (quotient_and_remainder a b (moment_of heap.old c)) }
-    ensures heap { length heap.old ≤ length heap.new }
-    ensures most { length heap.new ≤ length heap.old + 1 }
+    ensures grows { Grows 1 heap.old heap.new }
 {
     let quotient = quotient(alloc, a, b)?;
     let remainder = remainder(alloc, a, b)?;
@@ -105,8 +114,7 @@ pub(crate) fn divmod(
 ) -> Result<Value, CallFault>
     requires room { length heap.old + 1 < 2 ^ 32 }
     ensures gives { (c : Budget) → Gives value_of result (moment_of heap.new c) (divided_by (value_of a.now) (value_of b.now) (moment_of heap.old c)) }
-    ensures heap { length heap.old ≤ length heap.new }
-    ensures most { length heap.new ≤ length heap.old + 1 }
+    ensures grows { Grows 1 heap.old heap.new }
 {
     match (number_in(a), number_in(b)) {
         (Some(a), Some(b)) => quotient_and_remainder(alloc, a, b, heap),

@@ -9,11 +9,12 @@ ghost use Rattle.kishu_meaning.specs.calls.Operators.{truth};
 ghost use Rattle.kishu_meaning.specs.values.Sound.{is_sound};
 ghost use Rattle.kishu_meaning.specs.values.Values as model;
 ghost use Rattle.kishu_meaning.specs.values.Values.{Node, value_of, bool};
+ghost use Rattle.kishu_heap.specs.Costs.{Reads, Spends};
 ghost use Rattle.kishu_builtins.specs.Called.{moment_of, Gives};
 
 use kishu_heap::{CallFault, Heap};
-use kishu_items::{VALUE_ERROR, bad_arguments, is_true, number_in, plain_text, raise, spend};
-use kishu_meaning::{Budget, Steps, Value};
+use kishu_items::{bad_arguments, is_true, number_in, plain_text, raise, spend};
+use kishu_meaning::{Budget, ClassId, Steps, Value};
 use kishu_num::read_int;
 use kishu_text::count;
 use std::alloc::Global;
@@ -27,8 +28,7 @@ pub(crate) fn bool_of<L: Ledger>(
 ) -> Result<Value, CallFault>
     requires sound { IsTrue (is_sound (length heap.now) (value_of value.now)) }
     ensures gives { (b : Budget) → Gives value_of result (moment_of heap.now b) (and_then (truth (value_of value.now) (moment_of heap.now b)) (λ holds. give (bool holds))) }
-    ensures counted { steps.old ≤ steps.new }
-    ensures reads { steps.new ≤ steps.old + 1 }
+    ensures reads { Reads 1 steps.old steps.new }
 {
     Ok(Value::Bool(is_true(value, heap, steps)))
 }
@@ -41,15 +41,15 @@ fn number_written<L: Ledger>(
     steps: &mut Steps<L>,
 ) -> Result<Value, CallFault>
     ensures gives { (ns : List Node) → Gives value_of result (moment_of ns budget.new) (number_from (model.text (chars text.now)) (moment_of ns budget.old)) }
-    ensures depth { budget.new.depth ≡ budget.old.depth }
-    ensures left { budget.new.left ≤ budget.old.left }
-    ensures least { budget.old.left + steps.old ≤ budget.new.left + steps.new }
-    ensures reads { 24 * budget.new.left + steps.new ≤ 24 * budget.old.left + steps.old }
+    ensures spends { Spends 0 budget.old steps.old budget.new steps.new }
 {
     spend(count(text) as u128, budget, steps)?;
     match read_int(text) {
         Some(number) => Ok(Value::Int(number)),
-        None => raise(VALUE_ERROR, plain_text(alloc, "not a whole number")?),
+        None => raise(
+            ClassId::VALUE_ERROR,
+            plain_text(alloc, "not a whole number")?,
+        ),
     }
 }
 
@@ -61,10 +61,7 @@ pub(crate) fn number_from<L: Ledger>(
     steps: &mut Steps<L>,
 ) -> Result<Value, CallFault>
     ensures gives { (ns : List Node) → Gives value_of result (moment_of ns budget.new) (number_from (value_of value.now) (moment_of ns budget.old)) }
-    ensures depth { budget.new.depth ≡ budget.old.depth }
-    ensures left { budget.new.left ≤ budget.old.left }
-    ensures least { budget.old.left + steps.old ≤ budget.new.left + steps.new }
-    ensures reads { 24 * budget.new.left + steps.new ≤ 24 * budget.old.left + steps.old }
+    ensures spends { Spends 0 budget.old steps.old budget.new steps.new }
 {
     match value {
         Value::Text(text) => number_written(alloc, text.as_str(), budget, steps),
@@ -82,7 +79,7 @@ fn checked_range(alloc: Global, start: i128, stop: i128, step: i128) -> Result<V
     ensures { (s : Moment) → Gives value_of result s (checked_range start stop step s) }
 {
     if step == 0 {
-        raise(VALUE_ERROR, plain_text(alloc, "step is zero")?)
+        raise(ClassId::VALUE_ERROR, plain_text(alloc, "step is zero")?)
     } else {
         Ok(Value::Range(start, stop, step))
     }

@@ -10,6 +10,7 @@ ghost use Rattle.kishu_meaning.specs.values.Sound.{is_sound, are_sound};
 ghost use Rattle.kishu_meaning.specs.values.Values as model;
 ghost use Rattle.kishu_meaning.specs.values.Values.{value_of};
 ghost use Rattle.kishu_meaning.specs.declared.budget.Budget.{Budget};
+ghost use Rattle.kishu_heap.specs.Costs.{Grows, GrowsPaid, Spends};
 ghost use Rattle.kishu_builtins.specs.Called.{moment_of, Gives};
 
 use kishu_heap::{CallFault, Heap, Node};
@@ -45,8 +46,7 @@ fn list_in_order(alloc: Global, items: Vec<Value>, heap: &mut Heap) -> Result<Va
     requires room { length heap.old + 1 < 2 ^ 32 }
     requires sound { IsTrue (are_sound (length heap.old) (map value_of items.items)) }
     ensures gives { (b : Budget) → Gives value_of result (moment_of heap.new b) (and_then (or_else (bad_arguments (codes "sorted")) (in_order (map value_of items.items)) (moment_of heap.old b)) new_list) }
-    ensures heap { length heap.old ≤ length heap.new }
-    ensures most { length heap.new ≤ length heap.old + 1 }
+    ensures grows { Grows 1 heap.old heap.new }
 {
     match in_order(items)? {
         Some(items) => Ok(Value::Node(heap.make(Node::List(items))?)),
@@ -65,12 +65,8 @@ pub(crate) fn sorted_items<L: Ledger>(
     requires sound { IsTrue (is_sound (length heap.old) (value_of value.now)) }
     requires room { length heap.old + budget.old.left < 2 ^ 32 - 16 }
     ensures gives { Gives value_of result (moment_of heap.new budget.new) (sorted (value_of value.now) (moment_of heap.old budget.old)) }
-    ensures heap { length heap.old ≤ length heap.new }
-    ensures most { length heap.new + budget.new.left ≤ length heap.old + budget.old.left + 1 }
-    ensures depth { budget.new.depth ≡ budget.old.depth }
-    ensures left { budget.new.left ≤ budget.old.left }
-    ensures least { budget.old.left + steps.old ≤ budget.new.left + steps.new }
-    ensures reads { 24 * budget.new.left + steps.new ≤ 24 * budget.old.left + steps.old + 3 }
+    ensures grows { GrowsPaid 1 heap.old budget.old heap.new budget.new }
+    ensures spends { Spends 3 budget.old steps.old budget.new steps.new }
 {
     let Some(count) = count_in(value, heap, steps) else {
         return not_iterable_value(alloc, value, heap, steps);

@@ -5,14 +5,15 @@ ghost use Rattle.kishu_meaning.specs.moments.Moment.{Moment, and_then};
 ghost use Rattle.kishu_meaning.specs.values.Sound.{is_sound};
 ghost use Rattle.kishu_meaning.specs.values.Values.{value_of, integer};
 ghost use Rattle.kishu_meaning.specs.items.Walks.{walk_of};
+ghost use Rattle.kishu_heap.specs.Costs.{GrowsPaid, Spends};
 ghost use Rattle.kishu_builtins.specs.Called.{moment_of, Gives};
 ghost use Rattle.kishu_builtins.specs.Walking.{walk_in, is_there};
 
 use crate::numbers::number_or_raise;
 use crate::walk::{Walk, visited, walk_of};
 use kishu_heap::{CallFault, Heap};
-use kishu_items::{TYPE_ERROR, bad_arguments_text, number_in, raise};
-use kishu_meaning::{Budget, Steps, Value};
+use kishu_items::{bad_arguments_text, number_in, raise};
+use kishu_meaning::{Budget, ClassId, Steps, Value};
 use kishu_num::add;
 use std::alloc::Global;
 use std::sync::ledger::Ledger;
@@ -23,7 +24,7 @@ fn further(alloc: Global, sum: i128, item: &Value) -> Result<i128, CallFault>
 {
     match number_in(item) {
         Some(number) => number_or_raise(alloc, add(sum, number)),
-        None => raise(TYPE_ERROR, bad_arguments_text(alloc, "sum")?),
+        None => raise(ClassId::TYPE_ERROR, bad_arguments_text(alloc, "sum")?),
     }
 }
 
@@ -37,12 +38,8 @@ fn total<L: Ledger>(
     requires there { IsTrue (is_there (length heap.old) walk.now) }
     requires room { length heap.old + budget.old.left < 2 ^ 32 - 16 }
     ensures gives { Gives value_of result (moment_of heap.new budget.new) (folded added (suc budget.old.left) (walk_in heap.old walk.now) 0 (integer (pos 0)) (moment_of heap.old budget.old)) }
-    ensures heap { length heap.old ≤ length heap.new }
-    ensures most { length heap.new + budget.new.left ≤ length heap.old + budget.old.left + 1 }
-    ensures depth { budget.new.depth ≡ budget.old.depth }
-    ensures left { budget.new.left ≤ budget.old.left }
-    ensures least { budget.old.left + steps.old ≤ budget.new.left + steps.new }
-    ensures reads { 24 * budget.new.left + steps.new ≤ 24 * budget.old.left + steps.old + 1 }
+    ensures grows { GrowsPaid 1 heap.old budget.old heap.new budget.new }
+    ensures spends { Spends 1 budget.old steps.old budget.new steps.new }
 {
     let mut sum = 0;
     for at in 0..budget.left + 1 {
@@ -65,12 +62,8 @@ pub(crate) fn sum_of<L: Ledger>(
     requires sound { IsTrue (is_sound (length heap.old) (value_of value.now)) }
     requires room { length heap.old + budget.old.left < 2 ^ 32 - 16 }
     ensures gives { Gives value_of result (moment_of heap.new budget.new) (and_then (walk_of (value_of value.now) (moment_of heap.old budget.old)) (fold added (integer (pos 0)))) }
-    ensures heap { length heap.old ≤ length heap.new }
-    ensures most { length heap.new + budget.new.left ≤ length heap.old + budget.old.left + 1 }
-    ensures depth { budget.new.depth ≡ budget.old.depth }
-    ensures left { budget.new.left ≤ budget.old.left }
-    ensures least { budget.old.left + steps.old ≤ budget.new.left + steps.new }
-    ensures reads { 24 * budget.new.left + steps.new ≤ 24 * budget.old.left + steps.old + 3 }
+    ensures grows { GrowsPaid 1 heap.old budget.old heap.new budget.new }
+    ensures spends { Spends 3 budget.old steps.old budget.new steps.new }
 {
     let walk = walk_of(alloc, value, heap, steps)?;
     total(alloc, &walk, heap, budget, steps)

@@ -11,6 +11,7 @@ ghost use Rattle.kishu_meaning.specs.values.Values as model;
 ghost use Rattle.kishu_meaning.specs.values.Values.{value_of, node};
 ghost use Rattle.kishu_meaning.specs.items.Walks.{walk_of, item_for, along_range, along_text, entry_seen, keys as by_keys};
 ghost use Rattle.kishu_heap.specs.Cells.{entries_of};
+ghost use Rattle.kishu_heap.specs.Costs.{GrowsPaid, Reads, Spends};
 ghost use Rattle.kishu_builtins.specs.Called.{moment_of, Gives};
 ghost use Rattle.kishu_items.specs.Contents.{IsGrown};
 ghost use Rattle.kishu_builtins.specs.Walking.{walk_in, walk_at, is_there, visited};
@@ -18,9 +19,9 @@ ghost use Rattle.kishu_builtins.specs.Walking.{walk_in, walk_at, is_there, visit
 use indexmap::IndexMap;
 use kishu_heap::{CallFault, Heap, Node, range_length};
 use kishu_items::{
-    TYPE_ERROR, character_text, copied_key, not_iterable_text, raise, spend, value_of_key,
+    character_text, copied_key, not_iterable_text, number_at, raise, spend, value_of_key,
 };
-use kishu_meaning::{Budget, Key, NodeId, Steps, Value};
+use kishu_meaning::{Budget, ClassId, Key, NodeId, Steps, Value};
 use std::alloc::{AllocError, Global};
 use std::sync::ledger::Ledger;
 
@@ -43,10 +44,12 @@ fn not_walked<L: Ledger>(
     requires sound { IsTrue (is_sound (length heap.now) (value_of value.now)) }
     ensures gives { (b : Budget) → Gives (walk_in heap.now) result (moment_of heap.now b) (not_iterable (value_of value.now) (moment_of heap.now b)) }
     ensures there { IfOk result (λ w. IsTrue (is_there (length heap.now) w)) }
-    ensures counted { steps.old ≤ steps.new }
-    ensures reads { steps.new ≤ steps.old + 1 }
+    ensures reads { Reads 1 steps.old steps.new }
 {
-    raise(TYPE_ERROR, not_iterable_text(alloc, value, heap, steps)?)
+    raise(
+        ClassId::TYPE_ERROR,
+        not_iterable_text(alloc, value, heap, steps)?,
+    )
 }
 
 fn node_walk<L: Ledger>(
@@ -58,8 +61,7 @@ fn node_walk<L: Ledger>(
     requires id { id.0 < length heap.now }
     ensures gives { (b : Budget) → Gives (walk_in heap.now) result (moment_of heap.now b) (walk_of (node id.0) (moment_of heap.now b)) }
     ensures there { IfOk result (λ w. IsTrue (is_there (length heap.now) w)) }
-    ensures counted { steps.old ≤ steps.new }
-    ensures reads { steps.new ≤ steps.old + 2 }
+    ensures reads { Reads 2 steps.old steps.new }
 {
     match heap.node(id, steps) {
         Node::List(_) => Ok(Walk::Node(id)),
@@ -81,8 +83,7 @@ pub(crate) fn walk_of<L: Ledger>(
     requires sound { IsTrue (is_sound (length heap.now) (value_of value.now)) }
     ensures gives { (b : Budget) → Gives (walk_in heap.now) result (moment_of heap.now b) (walk_of (value_of value.now) (moment_of heap.now b)) }
     ensures there { IfOk result (λ w. IsTrue (is_there (length heap.now) w)) }
-    ensures counted { steps.old ≤ steps.new }
-    ensures reads { steps.new ≤ steps.old + 2 }
+    ensures reads { Reads 2 steps.old steps.new }
 {
     match value {
         Value::Text(text) => Ok(Walk::Text(characters(alloc, text.as_str())?)),
@@ -122,41 +123,6 @@ fn character_at(alloc: Global, characters: &[char], at: u64) -> Result<Option<Va
     }
 }
 
-// The number so far above another, below 2 ^ 127.
-fn above(number: i128, distance: u128) -> i128
-    requires { (number +ℤ pos distance) <ℤ pos (2 ^ 127) }
-    ensures { result ≡ number +ℤ pos distance }
-{
-    match number.checked_add_unsigned(distance) {
-        Some(number) => number,
-        None => unreachable!(),
-    }
-}
-
-// The number so far below another, from -2 ^ 127 on.
-fn below(number: i128, distance: u128) -> i128
-    requires { negsuc (2 ^ 127 - 1) ≤ℤ (number -ℤ pos distance) }
-    ensures { result ≡ number -ℤ pos distance }
-{
-    match number.checked_sub_unsigned(distance) {
-        Some(number) => number,
-        None => unreachable!(),
-    }
-}
-
-// The number at a place of a range that has it.
-fn number_at(start: i128, stop: i128, step: i128, at: u128) -> i128
-    requires { at < range_length start stop step }
-    ensures { result ≡ start +ℤ pos at *ℤ step }
-{
-    let distance = at * step.unsigned_abs();
-    if step > 0 {
-        above(start, distance)
-    } else {
-        below(start, distance)
-    }
-}
-
 // The number at a place of a range, where it has one.
 fn number_for(start: i128, stop: i128, step: i128, at: u64) -> Option<Value>
     ensures gives { (s : Moment) → item_for (along_range start stop step) at s ≡ fine (option_map value_of result) s }
@@ -192,12 +158,8 @@ fn seen<L: Ledger>(
     ensures gives { (v : model.Value) → Gives (option_map value_of) result (moment_of heap.new budget.new) (entry_seen by_keys (option_map (λ k. (k, v)) (option_map key_of key)) (moment_of heap.old budget.old)) }
     ensures sound { IfOk result (λ o. IfSome o (λ v. IsTrue (is_sound (length heap.new) (value_of v)))) }
     ensures more { OnOk result (IsGrown 1 heap.old heap.new) }
-    ensures left { budget.new.left ≤ budget.old.left }
-    ensures heap { length heap.old ≤ length heap.new }
-    ensures most { length heap.new + budget.new.left ≤ length heap.old + budget.old.left + 1 }
-    ensures depth { budget.new.depth ≡ budget.old.depth }
-    ensures least { budget.old.left + steps.old ≤ budget.new.left + steps.new }
-    ensures reads { 24 * budget.new.left + steps.new ≤ 24 * budget.old.left + steps.old }
+    ensures spends { Spends 0 budget.old steps.old budget.new steps.new }
+    ensures grows { GrowsPaid 1 heap.old budget.old heap.new budget.new }
 {
     match key {
         Some(key) => Ok(Some(value_of_key(alloc, &key, heap, budget, steps)?)),
@@ -219,12 +181,8 @@ fn node_item<L: Ledger>(
     ensures gives { Gives (option_map value_of) result (moment_of heap.new budget.new) (item_for (walk_at id.0 (slice_get heap.old id.0)) at (moment_of heap.old budget.old)) }
     ensures sound { IfOk result (λ o. IfSome o (λ v. IsTrue (is_sound (length heap.new) (value_of v)))) }
     ensures more { OnOk result (IsGrown 1 heap.old heap.new) }
-    ensures left { budget.new.left ≤ budget.old.left }
-    ensures heap { length heap.old ≤ length heap.new }
-    ensures most { length heap.new + budget.new.left ≤ length heap.old + budget.old.left + 1 }
-    ensures depth { budget.new.depth ≡ budget.old.depth }
-    ensures least { budget.old.left + steps.old ≤ budget.new.left + steps.new }
-    ensures reads { 24 * budget.new.left + steps.new ≤ 24 * budget.old.left + steps.old + 1 }
+    ensures spends { Spends 1 budget.old steps.old budget.new steps.new }
+    ensures grows { GrowsPaid 1 heap.old budget.old heap.new budget.new }
 {
     match heap.node(id, steps) {
         Node::List(items) => Ok(value_at(items.as_slice(), at)?),
@@ -253,12 +211,8 @@ fn item_for<L: Ledger>(
     ensures gives { Gives (option_map value_of) result (moment_of heap.new budget.new) (item_for (walk_in heap.old walk.now) at (moment_of heap.old budget.old)) }
     ensures sound { IfOk result (λ o. IfSome o (λ v. IsTrue (is_sound (length heap.new) (value_of v)))) }
     ensures more { OnOk result (IsGrown 1 heap.old heap.new) }
-    ensures left { budget.new.left ≤ budget.old.left }
-    ensures heap { length heap.old ≤ length heap.new }
-    ensures most { length heap.new + budget.new.left ≤ length heap.old + budget.old.left + 1 }
-    ensures depth { budget.new.depth ≡ budget.old.depth }
-    ensures least { budget.old.left + steps.old ≤ budget.new.left + steps.new }
-    ensures reads { 24 * budget.new.left + steps.new ≤ 24 * budget.old.left + steps.old + 1 }
+    ensures spends { Spends 1 budget.old steps.old budget.new steps.new }
+    ensures grows { GrowsPaid 1 heap.old budget.old heap.new budget.new }
 {
     match walk {
         Walk::Node(id) => node_item(alloc, *id, at, heap, budget, steps),
@@ -285,12 +239,8 @@ pub(crate) fn visited<L: Ledger>(
     ensures there { IfOk result (λ o. IfSome o (λ _. IsTrue (is_there (length heap.new) walk.now))) }
     ensures room { IfOk result (λ o. IfSome o (λ _. length heap.new + budget.new.left ≤ length heap.old + budget.old.left)) }
     ensures paid { IfOk result (λ o. IfSome o (λ _. 24 * budget.new.left + steps.new + 22 ≤ 24 * budget.old.left + steps.old)) }
-    ensures heap { length heap.old ≤ length heap.new }
-    ensures most { length heap.new + budget.new.left ≤ length heap.old + budget.old.left + 1 }
-    ensures depth { budget.new.depth ≡ budget.old.depth }
-    ensures left { budget.new.left ≤ budget.old.left }
-    ensures least { budget.old.left + steps.old ≤ budget.new.left + steps.new }
-    ensures reads { 24 * budget.new.left + steps.new ≤ 24 * budget.old.left + steps.old + 1 }
+    ensures grows { GrowsPaid 1 heap.old budget.old heap.new budget.new }
+    ensures spends { Spends 1 budget.old steps.old budget.new steps.new }
 {
     let Some(item) = item_for(alloc, walk, at, heap, budget, steps)? else {
         return Ok(None);

@@ -7,8 +7,8 @@ use Rattle.std.proofs.lemmas.Nat.{from_be_bytes-to_be_bytes_4, from_be_bytes-to_
 use Rattle.std.proofs.lemmas.Int.{to_z-of_z}
 use mir.ValLaws as laws
 use Rattle.kishu_language.specs.declared.profile.Profile.{Profile}
-use Rattle.kishu_language.specs.declared.profile.Profile.TheVariants.{One}
-use Rattle.kishu_bytes.specs.Numbers.{four, sixteen}
+use Rattle.kishu_language.specs.declared.profile.Profile.TheVariants.{One, Two}
+use Rattle.kishu_bytes.specs.Numbers.{four, sixteen, profile_number}
 
 -- what two equal lists begin with, where it is as long in both
 pub append-unique : (a b x y : List ℕ) → length a ≡ length b → a ++ x ≡ b ++ y → (a ≡ b) × (x ≡ y)
@@ -68,5 +68,8 @@ sixteen-unique a b x y ha hb e =
 
 -- ---- a profile
 
-pub profiles-one : (p q : Profile) → p ≡ q
-profiles-one One One = refl
+pub profile-unique : (p q : Profile) → profile_number p ≡ profile_number q → p ≡ q
+profile-unique One One e = refl
+profile-unique One Two e = absurd (omega (arith, e))
+profile-unique Two One e = absurd (omega (arith, e))
+profile-unique Two Two e = refl

@@ -23,7 +23,7 @@ use Rattle.kishu_meaning.specs.items.Walks.{View}
 use Rattle.kishu_items.specs.Messages.{is_plain}
 use Rattle.kishu_calls.specs.Calls.{named_of}
 use Rattle.kishu_calls.specs.Forms.{view_at, viewed_or}
-use Rattle.kishu_calls.specs.Trees.{arguments_of}
+use Rattle.kishu_language.specs.trees.Parts.{arguments_of}
 use Rattle.kishu_access.specs.Forms.{is_object, number_if_dict, dict_number}
 
 -- ---- an attribute, a view or a method

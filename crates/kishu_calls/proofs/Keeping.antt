@@ -139,10 +139,6 @@ module _ (n : ℕ) where
   or_other_keeps other (Some a) h = plain_keeps a
   or_other_keeps other None h = h
 
-  pub if_keeps : {A : Type 0} (holds : ℕ → A → Bool) (b : Bool) (m o : M A) → Keeps n holds m → Keeps n holds o → Keeps n holds (if b then m else o)
-  if_keeps holds true m o h k = h
-  if_keeps holds false m o h k = k
-
   -- ---- what counts alone
 
   ended_kept : {A : Type 0} (s : Moment) (e : Counted A) → Kept anything (length s.nodes) (ended_in s e)

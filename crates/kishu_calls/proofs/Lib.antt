@@ -1,8 +1,6 @@
 pub mod Keeping
 pub mod KeepsItems
 pub mod KeepsMethods
-pub mod Sums
-pub mod KeepsBuiltins
 pub mod Passing
 pub mod BuiltinCalls
 pub mod Called

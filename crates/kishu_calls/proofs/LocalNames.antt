@@ -8,8 +8,8 @@ use Rattle.kishu_language.specs.trees.Tree.{Text, Expression, expressions, expre
 use Rattle.kishu_meaning.specs.calls.Functions.{names_in, bound_by, all_bound_by, bound_in_block, bound_in_arms, bound_in_handlers, declared_in_block, declared_in_arms, declared_in_handlers}
 use Rattle.kishu_language.specs.trees.Height.{of_expression, of_statements, of_arms, of_handlers, of_optional}
 use Rattle.kishu_items.specs.Gathering.{dropped}
-use Rattle.kishu_calls.specs.Trees.{arm_of, handler_of}
-use Rattle.kishu_calls.specs.StatementRows.{arm_is, handler_is}
+use Rattle.kishu_language.specs.trees.Parts.{arm_of, handler_of}
+use Rattle.kishu_language.specs.trees.StatementRows.{arm_is, handler_is}
 
 pub none_more : (xs : List Text) → xs ≡ xs ++ []
 none_more [] = refl

@@ -14,20 +14,21 @@ use Rattle.kishu_meaning.specs.moments.Moment.{Moment, raised}
 use Rattle.kishu_meaning.specs.values.Values.{Value, text, Names, value_of}
 use Rattle.kishu_meaning.specs.declared.value.Value as rust
 use Rattle.kishu_meaning.specs.declared.value.Value.TheVariants as variants
+use Rattle.kishu_meaning.specs.values.Classes.{type_error_class}
 use Rattle.kishu_machine.specs.declared.fault.Fault.{Fault}
 use Rattle.kishu_machine.specs.declared.fault.Fault.TheVariants as faults
 use Rattle.kishu_machine.specs.Machine.{IsRaised}
 use Rattle.kishu_calls.specs.declared.calls.Marks as rust_marks
 use Rattle.kishu_calls.specs.Calls.{PrintsBy, named_of}
 
-raises : (r : Result rust_marks.Marks Fault) (ks : Names) (vs : List Value) (s : Moment) → IsRaised r 23 (codes "print" ++ codes "() got bad arguments") → print_by ks (codes " ") (line_feed ∷ []) vs s ≡ bad_arguments {A = Value} (codes "print") s → PrintsBy r ks vs s
+raises : (r : Result rust_marks.Marks Fault) (ks : Names) (vs : List Value) (s : Moment) → IsRaised r type_error_class (codes "print" ++ codes "() got bad arguments") → print_by ks (codes " ") (line_feed ∷ []) vs s ≡ bad_arguments {A = Value} (codes "print") s → PrintsBy r ks vs s
 raises (Ok m) ks vs s h e = absurd h
 raises (Err (faults.Raised x)) ks vs s h e = e ∙ ap (λ t. raised t s) (sym h)
 raises (Err faults.Stopped) ks vs s h e = absurd h
 raises (Err faults.NoMemory) ks vs s h e = tt
 
-pub refused : (r : Result rust_marks.Marks Fault) (ks : Names) (vs : List Value) (s : Moment) → IsRaised r 23 (chars (codes "print") ++ codes "() got bad arguments") → print_by ks (codes " ") (line_feed ∷ []) vs s ≡ bad_arguments {A = Value} (codes "print") s → PrintsBy r ks vs s
-refused r ks vs s h = raises r ks vs s (subst (λ (y : List ℕ). IsRaised r 23 (y ++ codes "() got bad arguments")) (chars-plain (codes "print") refl) h)
+pub refused : (r : Result rust_marks.Marks Fault) (ks : Names) (vs : List Value) (s : Moment) → IsRaised r type_error_class (chars (codes "print") ++ codes "() got bad arguments") → print_by ks (codes " ") (line_feed ∷ []) vs s ≡ bad_arguments {A = Value} (codes "print") s → PrintsBy r ks vs s
+refused r ks vs s h = raises r ks vs s (subst (λ (y : List ℕ). IsRaised r type_error_class (y ++ codes "() got bad arguments")) (chars-plain (codes "print") refl) h)
 
 module _ (x cs : List ℕ) (ks : Names) (separator end : List ℕ) (vs : List Value) (s : Moment) where
   by_other : bytes_eq x (codes "sep") ≡ false → bytes_eq x (codes "end") ≡ false → print_by ((x, text cs) ∷ ks) separator end vs s ≡ bad_arguments {A = Value} (codes "print") s

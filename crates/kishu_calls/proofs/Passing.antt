@@ -8,6 +8,7 @@ use Rattle.kishu_meaning.specs.values.Values.{Value, text, range, node, Node, li
 use Rattle.kishu_meaning.specs.items.Walks.{keys, along_list, along_dict, along_tuple, along_text, along_range, node_walk, walk_of}
 use Rattle.kishu_meaning_laws.specs.Bare.{bare, IsBare}
 use Rattle.kishu_meaning.specs.moments.Moment.{Moment, Thrown, fresh, Ends, fine, raised, stopped, M, node_at, node_now}
+use Rattle.kishu_meaning.specs.values.Classes.{attribute_error_class}
 use Rattle.kishu_heap.specs.declared.fault.CallFault.{CallFault}
 use Rattle.kishu_items.specs.Called as called
 use Rattle.kishu_machine.specs.declared.fault.Fault.{Fault}
@@ -63,7 +64,7 @@ passed_on p q n faults.NoMemory h = tt
 -- ---- a value without an attribute of this name
 
 abbrev without_attribute : Moment → Value → List ℕ → Thrown
-without_attribute s v x = fresh 13 (text (in_quotes (kind_in s.nodes v) ++ codes " object has no attribute '" ++ chars x ++ codes "'") ∷ [])
+without_attribute s v x = fresh attribute_error_class (text (in_quotes (kind_in s.nodes v) ++ codes " object has no attribute '" ++ chars x ++ codes "'") ∷ [])
 
 module _ {X : Type 0} (s : Moment) (r : Result X Fault) (v : Value) (x : List ℕ) where
   pub unnamed : {A : Type 0} (view : X → A) → Gives {X = X} {A = X} (λ y. y) r s (no_attribute v x s) → Gives view r s (no_attribute v x s)
@@ -75,24 +76,3 @@ module _ {X : Type 0} (s : Moment) (r : Result X Fault) (v : Value) (x : List �
 -- ---- what is walked
 
 module _ (n : ℕ) where
-  node_walk_raises : (i : ℕ) (o : Option Node) → RaisesSound n (node_walk i o)
-  node_walk_raises i (Some (list vs)) = give_raises n (along_list i)
-  node_walk_raises i (Some (tuple vs)) = give_raises n (along_tuple vs)
-  node_walk_raises i (Some (dict es)) = give_raises n (along_dict i (length es) keys)
-  node_walk_raises i _ = not_iterable_raises n (node i)
-
-  pub walk_raises : (v : Value) → RaisesSound n (walk_of v)
-  walk_raises (text cs) = give_raises n (along_text cs)
-  walk_raises (range a b c) = give_raises n (along_range a b c)
-  walk_raises (node i) = then_raises n (node_now (node i)) (node_walk i) (look_raises n (λ ns. node_at ns (node i))) (node_walk_raises i)
-  walk_raises v = not_iterable_raises n v
-
-ended_by : {A : Type 0} (n : ℕ) (e : Ends A) (x : Thrown) (t : Moment) → IsTrue (is_sound_end n e) → e ≡ raised x t → IsTrue (is_sound_thrown n x)
-ended_by {A = A} n e x t h q = subst (λ (y : Ends A). IsTrue (is_sound_end n y)) q h
-
--- A call that gives what the definition says raises what is sound where the definition does.
-pub gives_sound : {X A : Type 0} (view : X → A) (n : ℕ) (holds : X → Bool) (m : M A) (s t : Moment) (r : Result X Fault) → RaisesSound n m → IfOk r (λ x. IsTrue (holds x)) → Gives view r t (m s) → IsSound holds n r
-gives_sound view n holds m s t (Ok x) b h e = h
-gives_sound view n holds m s t (Err (faults.Raised x)) b h e = ended_by n (m s) (thrown_of x) t (b.raises s) e
-gives_sound view n holds m s t (Err faults.Stopped) b h e = tt
-gives_sound view n holds m s t (Err faults.NoMemory) b h e = tt

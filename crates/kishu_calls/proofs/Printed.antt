@@ -53,8 +53,3 @@ module _ (x : Thrown) (e : Ends (List ℕ)) (kind : ℕ) (bs : List ℕ) (s : Mo
   uncaught_shown t h b k =
       ap (uncaught x) h ∙ ap (λ n. ended outcomes.Raised (fault (class_name n) (encode_utf8_all (chars (string_bytes t))) ∷ []) s) (sym k)
       ∙ ap (λ y. ended outcomes.Raised (fault (class_name kind) y ∷ []) s) (encodes-chars (string_bytes t) (IsUtf8-string_bytes t) ∙ sym b)
-
-  pub uncaught_raised : (y : Thrown) → e ≡ raised y s → bs ≡ [] → kind ≡ kind_of_thrown s.nodes x → uncaught x e ≡ ended outcomes.Raised (fault (class_name kind) bs ∷ []) s
-  uncaught_raised y h b k =
-      ap (uncaught x) h ∙ ap (λ n. ended outcomes.Raised (fault (class_name n) [] ∷ []) s) (sym k)
-      ∙ ap (λ cs. ended outcomes.Raised (fault (class_name kind) cs ∷ []) s) (sym b)

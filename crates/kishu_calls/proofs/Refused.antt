@@ -10,13 +10,15 @@ use Rattle.kishu_items.specs.Messages.{chars-plain, is_plain}
 use Rattle.kishu_meaning.specs.calls.Builtins.{of_none_or_one, of_one}
 use Rattle.kishu_meaning.specs.calls.Callees.{Given, call_builtin, construct, new_object}
 use Rattle.kishu_meaning.specs.values.Kinds.{bad_arguments}
-use Rattle.kishu_meaning.specs.values.BuiltinNames.{builtin_names, class_names}
+use Rattle.kishu_meaning.specs.values.BuiltinNames.{builtin_names, builtin_number, class_names}
+use Rattle.kishu_meaning.specs.values.BuiltinNames as functions
 use Rattle.kishu_meaning.specs.comparing.Show.{builtin_name, class_name, or_empty}
 use Rattle.kishu_items.specs.Holding.{first, second}
 use Rattle.kishu_calls.proofs.Called.{some_named}
 use Rattle.kishu_meaning.specs.moments.Moment.{Moment, Ends, fine, M, give}
 use Rattle.kishu_meaning.specs.values.Values.{Value, text, value_of}
 use Rattle.kishu_meaning.specs.declared.value.Value as rust
+use Rattle.kishu_meaning.specs.values.Classes.{namespace_class, type_error_class}
 use Rattle.kishu_machine.specs.declared.fault.Fault.{Fault}
 use Rattle.kishu_machine.specs.Machine.{Gives, IsRaised}
 use Rattle.kishu_machine.specs.Raising.{raises_text}
@@ -31,9 +33,9 @@ not_few name empty f [] s h k = absurd (h refl)
 not_few name empty f (v ∷ []) s h k = absurd (k refl)
 not_few name empty f (v ∷ (w ∷ vs)) s h k = refl
 
-module _ (name : List ℕ) (p : IsTrue (is_plain name)) (r : Result rust.Value Fault) (s : Moment) (told : IsRaised r 23 (chars name ++ codes "() got bad arguments")) where
+module _ (name : List ℕ) (p : IsTrue (is_plain name)) (r : Result rust.Value Fault) (s : Moment) (told : IsRaised r type_error_class (chars name ++ codes "() got bad arguments")) where
   refused : Gives value_of r s (bad_arguments {A = Value} name s)
-  refused = raises_text value_of 23 (name ++ codes "() got bad arguments") r s (subst (λ (y : List ℕ). IsRaised r 23 (y ++ codes "() got bad arguments")) (chars-plain name p) told)
+  refused = raises_text value_of type_error_class (name ++ codes "() got bad arguments") r s (subst (λ (y : List ℕ). IsRaised r type_error_class (y ++ codes "() got bad arguments")) (chars-plain name p) told)
 
   pub refused_one : (f : Value → M Value) (vs : List rust.Value) → (length vs ≡ 1 → ⊥) → Gives value_of r s (of_one name f (map value_of vs) s)
   refused_one f vs h = subst (λ (e : Ends Value). Gives value_of r s e) (sym (not_one name f vs s h)) refused
@@ -59,18 +61,18 @@ pub plain_there : (items : List rust.Value) (many : ℕ) (b : Bool) → many ≡
 plain_there items many b l e h z = (let m : many ≡ 0 = omega (arith, l, z, length-map items value_of) in grind (arith, nat_tests))
 
 module _ (r : Result rust.Value Fault) (s : Moment) where
-  pub refused_builtin : (n : ℕ) (given : Given) (x : List ℕ) → n ≢ 10 → (length given.named ≡ 0 → ⊥) → x ≡ builtin_name n → IsRaised r 23 (chars x ++ codes "() got bad arguments") → Gives value_of r s (call_builtin n given s)
+  pub refused_builtin : (n : ℕ) (given : Given) (x : List ℕ) → n ≢ builtin_number functions.print → (length given.named ≡ 0 → ⊥) → x ≡ builtin_name n → IsRaised r type_error_class (chars x ++ codes "() got bad arguments") → Gives value_of r s (call_builtin n given s)
   unfolding builtin_names
   refused_builtin n given x h k e told =
-      subst (λ (end : Ends Value). Gives value_of r s end) (sym (rw (not_same n 10 h) (some_named (builtin_name n) given.named _ s k)))
-      (refused (builtin_name n) (plain_names builtin_names n refl) r s (subst (λ (y : List ℕ). IsRaised r 23 (chars y ++ codes "() got bad arguments")) e told))
+      subst (λ (end : Ends Value). Gives value_of r s end) (sym (rw (not_same n (builtin_number functions.print) h) (some_named (builtin_name n) given.named _ s k)))
+      (refused (builtin_name n) (plain_names builtin_names n refl) r s (subst (λ (y : List ℕ). IsRaised r type_error_class (chars y ++ codes "() got bad arguments")) e told))
 
-  pub refused_construct : (n : ℕ) (given : Given) (x : List ℕ) → n ≢ 5 → (length given.named ≡ 0 → ⊥) → x ≡ class_name n → IsRaised r 23 (chars x ++ codes "() got bad arguments") → Gives value_of r s (construct n given s)
+  pub refused_construct : (n : ℕ) (given : Given) (x : List ℕ) → n ≢ namespace_class → (length given.named ≡ 0 → ⊥) → x ≡ class_name n → IsRaised r type_error_class (chars x ++ codes "() got bad arguments") → Gives value_of r s (construct n given s)
   unfolding class_names
   refused_construct n given x h k e told =
-      subst (λ (end : Ends Value). Gives value_of r s end) (sym (rw (not_same n 5 h) (some_named (class_name n) given.named _ s k)))
-      (refused (class_name n) (plain_names class_names n refl) r s (subst (λ (y : List ℕ). IsRaised r 23 (chars y ++ codes "() got bad arguments")) e told))
+      subst (λ (end : Ends Value). Gives value_of r s end) (sym (rw (not_same n namespace_class h) (some_named (class_name n) given.named _ s k)))
+      (refused (class_name n) (plain_names class_names n refl) r s (subst (λ (y : List ℕ). IsRaised r type_error_class (chars y ++ codes "() got bad arguments")) e told))
 
-  pub refused_object : (given : Given) → (length given.plain ≡ 0 → ⊥) → IsRaised r 23 (chars (codes "SimpleNamespace") ++ codes "() got bad arguments") → Gives value_of r s (new_object given s)
+  pub refused_object : (given : Given) → (length given.plain ≡ 0 → ⊥) → IsRaised r type_error_class (chars (codes "SimpleNamespace") ++ codes "() got bad arguments") → Gives value_of r s (new_object given s)
   unfolding class_names
   refused_object given h told = rw (not_same (length given.plain) 0 h) (refused (codes "SimpleNamespace") refl r s told)

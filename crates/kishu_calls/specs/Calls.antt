@@ -1,11 +1,13 @@
 -- What the code's parts of primaries, callees, arguments and ways of statements stand for, and when they are sound.
-use Rattle.std.specs.Prelude.{◌≡◌, ℕ, ◌+◌, ◌≤◌, Bool, true, ◌&&◌, List, [], ◌∷◌, map, length, Option, Some, Result, Ok, Err, ◌*◌, codes}
+use Rattle.std.specs.Prelude.{◌≡◌, ℕ, ◌+◌, ◌≤◌, Bool, true, IsTrue, ◌&&◌, List, [], ◌∷◌, ◌++◌, map, length, Option, Some, Result, Ok, Err, OnOk, ◌*◌, codes}
 use Rattle.std.specs.List.{list_all}
 use Rattle.std.specs.Rc.{rc_str_bytes}
 use Rattle.std.specs.Str.{chars, IsUtf8}
 use Rattle.std.specs.declared.alloc.Global.{Global}
 use Rattle.std.specs.declared.rc.RcStr.{RcStr}
+use Rattle.std.specs.declared.vec.Vec.{Vec}
 use Rattle.kishu_meaning.specs.declared.value.Value as rust
+use Rattle.kishu_language.specs.Limits.{longest_text}
 use Rattle.kishu_language.specs.tokens.Names.{is_name}
 use Rattle.kishu_language.specs.tokens.Lines.{line_feed}
 use Rattle.kishu_language.specs.grammar.Refusals.{all_differ}
@@ -29,7 +31,8 @@ use Rattle.kishu_machine.specs.declared.fault.Fault.TheVariants as faults
 use Rattle.kishu_machine.specs.declared.machine.Machine.{Machine}
 use Rattle.kishu_calls.specs.declared.ways.Flow as rust_flow
 use Rattle.kishu_calls.specs.declared.ways.Flow.TheVariants as flows
-use Rattle.kishu_machine.specs.Machine.{thrown_of, is_sound_thrown}
+use Rattle.kishu_machine.specs.Frames.{texts_of}
+use Rattle.kishu_machine.specs.Machine.{thrown_of, is_sound_thrown, IsSound}
 use Rattle.kishu_items.specs.Messages.{is_plain}
 use Rattle.kishu_access.specs.Access.{view_of}
 
@@ -76,6 +79,25 @@ is_sound_flow n broke = true
 is_sound_flow n continued = true
 is_sound_flow n (returned v) = is_sound n v
 
+-- ---- what clauses say of these, over the nodes of a heap
+
+abbrev pub IsSoundPart : List Node → rust_part.Part → Type 0
+IsSoundPart nodes p = IsTrue (is_sound_part (length nodes) (part_of p))
+
+abbrev pub IsSoundGiven : List Node → rust_given.Given → Type 0
+IsSoundGiven nodes g = IsTrue (is_sound_given (length nodes) (given_of g))
+
+abbrev pub SoundPart : List Node → Result rust_part.Part Fault → Type 0
+SoundPart nodes r = IsSound (λ p. is_sound_part (length nodes) (part_of p)) (length nodes) r
+
+abbrev pub SoundCallee : List Node → Result rust_callee.Callee Fault → Type 0
+SoundCallee nodes r = IsSound (λ f. is_sound_callee (length nodes) (callee_of f)) (length nodes) r
+
+abbrev pub SoundFlow : List Node → Result rust_flow.Flow Fault → Type 0
+SoundFlow nodes r = IsSound (λ f. is_sound_flow (length nodes) (flow_of f)) (length nodes) r
+
+-- ---- what a part owes
+
 abbrev pub owed : Part → ℕ
 owed (whole v) = 0
 owed (dotted v x) = 1
@@ -93,7 +115,7 @@ OwesReads k old a (Err f) new b = b + 128 * new.budget.left ≤ a + 128 * old.bu
 
 -- The node is a function with this tree and these defaults, and its code is short.
 abbrev pub IsFunction : Option Node → rust_function.Function → Type 0
-IsFunction (Some (function profile code vs)) f = ∥ IsCodeOf profile code (definition_of f.def.value) ∥₁ × IsUtf8 code × (length code ≤ 1048576) × (vs ≡ map value_of f.defaults.items)
+IsFunction (Some (function profile code vs)) f = ∥ IsCodeOf profile code (definition_of f.def.value) ∥₁ × IsUtf8 code × (length code ≤ longest_text) × (vs ≡ map value_of f.defaults.items)
 IsFunction _ f = ⊥
 
 abbrev pub is_sound_way : ℕ → Result rust_flow.Flow Fault → Bool
@@ -108,3 +130,7 @@ PrintsBy (Ok m) ks vs s = print_by ks (codes " ") (line_feed ∷ []) vs s ≡ pr
 PrintsBy (Err (faults.Raised x)) ks vs s = print_by ks (codes " ") (line_feed ∷ []) vs s ≡ raised (thrown_of x) s
 PrintsBy (Err faults.Stopped) ks vs s = ⊥
 PrintsBy (Err faults.NoMemory) ks vs s = Unit {0}
+
+-- Behind the names so far there are these too.
+abbrev pub Adds : {T E : Type 0} → Result T E → Vec (RcStr Global) Global → Vec (RcStr Global) Global → List (List ℕ) → Type 0
+Adds r old new xs = OnOk r (texts_of new.items ≡ texts_of old.items ++ xs)

@@ -1,18 +1,19 @@
 // What is called, and what it is given (Python Language Reference 3, "Calls").
-ghost use Rattle.std.specs.Prelude.{IsTrue, length, option_map, ◌*◌, ◌+◌, ◌<◌, ◌≡◌, ◌≤◌};
+ghost use Rattle.std.specs.Prelude.{option_map, ◌*◌, ◌<◌, ◌≡◌};
 ghost use Rattle.std.specs.Rc.{rc_str_bytes};
 ghost use Rattle.kishu_meaning.specs.calls.Callees.{callee, dotted_callee, method_of, view_in, view_named};
 ghost use Rattle.kishu_meaning.specs.calls.Methods.{has_method};
 ghost use Rattle.kishu_meaning.specs.moments.Moment.{give, ◌>>=◌ as ◌⊳◌};
-ghost use Rattle.kishu_meaning.specs.values.Sound.{is_sound};
 ghost use Rattle.kishu_meaning.specs.items.Subscripts.{attribute};
 ghost use Rattle.kishu_meaning.specs.values.Values.{value_of};
 ghost use Rattle.kishu_access.specs.Access.{view_of};
 ghost use Rattle.kishu_access.specs.Forms.{dict_number};
-ghost use Rattle.kishu_calls.specs.Calls.{callee_of, is_sound_callee, is_sound_part, owed, part_of};
+ghost use Rattle.kishu_calls.specs.Calls.{callee_of, owed, part_of, SoundCallee, IsSoundPart};
 ghost use Rattle.kishu_calls.specs.Forms.{view_at, viewed_or};
-ghost use Rattle.kishu_calls.specs.Trees.{arguments_of};
-ghost use Rattle.kishu_machine.specs.Machine.{Gives, GrownBy, HasRoomBy, IsSound, ReadsBy, moment_of};
+ghost use Rattle.kishu_language.specs.trees.Parts.{arguments_of};
+ghost use Rattle.kishu_machine.specs.Machine.{Gives, HasRoomBy, moment_of, Costs};
+ghost use Rattle.kishu_machine.specs.Clauses.{IsSoundIn};
+ghost use Rattle.kishu_heap.specs.Costs.{Reads};
 ghost use Rattle.kishu_meaning.specs.calls.Callees as c;
 
 use crate::parts::{Part, settled};
@@ -74,11 +75,10 @@ fn method_of<L: Ledger>(
     name: RcStr,
     steps: &mut Steps<L>,
 ) -> Result<Callee, Fault>
-    requires sound_value { IsTrue (is_sound (length machine.now.heap) (value_of value)) }
+    requires sound_value { IsSoundIn machine.now.heap value }
     ensures gives { Gives callee_of result (moment_of machine.now) (method_of (value_of value) (rc_str_bytes name) (moment_of machine.now)) }
-    ensures sound { IsSound (λ c. is_sound_callee (length machine.now.heap) (callee_of c)) (length machine.now.heap) result }
-    ensures counted { steps.old ≤ steps.new }
-    ensures reads { steps.new ≤ steps.old + 3 }
+    ensures sound { SoundCallee machine.now.heap result }
+    ensures reads { Reads 3 steps.old steps.new }
 {
     let title = name.as_str();
     if kishu_methods::has_method(&value, title, &machine.heap, steps) {
@@ -90,8 +90,7 @@ fn method_of<L: Ledger>(
 // The dict that a value is.
 fn dict_id<L: Ledger>(heap: &Heap, value: &Value, steps: &mut Steps<L>) -> Option<NodeId>
     ensures is { option_map (λ id. id.0) result ≡ dict_number heap.now (value_of value.now) }
-    ensures counted { steps.old ≤ steps.new }
-    ensures reads { steps.new ≤ steps.old + 1 }
+    ensures reads { Reads 1 steps.old steps.new }
 {
     if let Value::Node(id) = value {
         if let Some(Node::Dict(_)) = node_at(heap, value, steps) {
@@ -109,8 +108,7 @@ fn dict_view<L: Ledger>(
     steps: &mut Steps<L>,
 ) -> Option<(NodeId, View)>
     ensures is { option_map (λ p. (p.0.0, view_of p.1)) result ≡ view_at (dict_number heap.now (value_of value.now)) (option_map view_of view) }
-    ensures counted { steps.old ≤ steps.new }
-    ensures reads { steps.new ≤ steps.old + 1 }
+    ensures reads { Reads 1 steps.old steps.new }
 {
     let view = view?;
     Some((dict_id(heap, value, steps)?, view))
@@ -124,11 +122,10 @@ fn other_callee<L: Ledger>(
     view: Option<View>,
     steps: &mut Steps<L>,
 ) -> Result<Callee, Fault>
-    requires sound_value { IsTrue (is_sound (length machine.now.heap) (value_of value)) }
+    requires sound_value { IsSoundIn machine.now.heap value }
     ensures gives { Gives callee_of result (moment_of machine.now) (viewed_or (view_at (dict_number machine.now.heap (value_of value)) (option_map view_of view)) (method_of (value_of value) (rc_str_bytes name)) (moment_of machine.now)) }
-    ensures sound { IsSound (λ c. is_sound_callee (length machine.now.heap) (callee_of c)) (length machine.now.heap) result }
-    ensures counted { steps.old ≤ steps.new }
-    ensures reads { steps.new ≤ steps.old + 4 }
+    ensures sound { SoundCallee machine.now.heap result }
+    ensures reads { Reads 4 steps.old steps.new }
 {
     match dict_view(&machine.heap, &value, view, steps) {
         Some((id, view)) => Ok(Callee::View(id, view)),
@@ -144,11 +141,10 @@ fn object_callee<L: Ledger>(
     steps: &mut Steps<L>,
 ) -> Result<Callee, Fault>
     requires room { HasRoomBy 1 machine.old }
-    requires sound_value { IsTrue (is_sound (length machine.old.heap) (value_of value.now)) }
+    requires sound_value { IsSoundIn machine.old.heap value.now }
     ensures gives { Gives callee_of result (moment_of machine.new) ((attribute (value_of value.now) name.now ⊳ λ v. give (c.function v)) (moment_of machine.old)) }
-    ensures sound { IsSound (λ c. is_sound_callee (length machine.new.heap) (callee_of c)) (length machine.new.heap) result }
-    ensures kept { GrownBy 1 machine.old steps.old machine.new steps.new }
-    ensures reads { ReadsBy 8 machine.old steps.old machine.new steps.new }
+    ensures sound { SoundCallee machine.new.heap result }
+    ensures costs { Costs 1 8 machine.old steps.old machine.new steps.new }
 {
     let function = attribute(machine, value, name, steps)?;
     Ok(Callee::Function(function))
@@ -164,11 +160,10 @@ fn dotted_callee<L: Ledger>(
     steps: &mut Steps<L>,
 ) -> Result<Callee, Fault>
     requires room { HasRoomBy 1 machine.old }
-    requires sound_value { IsTrue (is_sound (length machine.old.heap) (value_of value)) }
+    requires sound_value { IsSoundIn machine.old.heap value }
     ensures gives { Gives callee_of result (moment_of machine.new) (dotted_callee (value_of value) (rc_str_bytes name) (option_map view_of view) (moment_of machine.old)) }
-    ensures sound { IsSound (λ c. is_sound_callee (length machine.new.heap) (callee_of c)) (length machine.new.heap) result }
-    ensures kept { GrownBy 1 machine.old steps.old machine.new steps.new }
-    ensures reads { ReadsBy 10 machine.old steps.old machine.new steps.new }
+    ensures sound { SoundCallee machine.new.heap result }
+    ensures costs { Costs 1 10 machine.old steps.old machine.new steps.new }
 {
     if is_object(&machine.heap, &value, steps) {
         object_callee(machine, &value, name.as_str(), steps)
@@ -186,11 +181,10 @@ pub fn callee_in<L: Ledger>(
     steps: &mut Steps<L>,
 ) -> Result<Callee, Fault>
     requires room { HasRoomBy (owed (part_of part)) machine.old }
-    requires sound_part { IsTrue (is_sound_part (length machine.old.heap) (part_of part)) }
+    requires sound_part { IsSoundPart machine.old.heap part }
     ensures gives { Gives callee_of result (moment_of machine.new) (callee (part_of part) (arguments_of arguments.now) (moment_of machine.old)) }
-    ensures sound { IsSound (λ c. is_sound_callee (length machine.new.heap) (callee_of c)) (length machine.new.heap) result }
-    ensures kept { GrownBy (owed (part_of part)) machine.old steps.old machine.new steps.new }
-    ensures reads { ReadsBy 64 machine.old steps.old machine.new steps.new }
+    ensures sound { SoundCallee machine.new.heap result }
+    ensures costs { Costs (owed (part_of part)) 64 machine.old steps.old machine.new steps.new }
 {
     match part {
         Part::Whole(value) => Ok(Callee::Function(value)),

@@ -1,5 +1,5 @@
 // Calls of builtin functions, classes and methods (Library Reference, "Built-in Functions").
-ghost use Rattle.std.specs.Prelude.{IfOk, IsTrue, List, [], codes, length, map, slice_get, true, ◌*◌, ◌+◌, ◌<◌, ◌^◌, ◌∷◌, ◌≡◌, ◌≢◌, ◌≤◌};
+ghost use Rattle.std.specs.Prelude.{IfOk, IsTrue, List, [], codes, length, map, slice_get, ◌*◌, ◌+◌, ◌<◌, ◌^◌, ◌∷◌, ◌≡◌, ◌≢◌};
 ghost use Rattle.kishu_meaning.specs.calls.Builtins.{builtin_calls, of_none_or_one, of_one};
 ghost use Rattle.kishu_meaning.specs.calls.Callees.{by_plain, call_builtin, construct, new_object, or_no_call, print_by, print_plain};
 ghost use Rattle.kishu_language.specs.tokens.Lines.{line_feed};
@@ -7,30 +7,31 @@ ghost use Rattle.kishu_meaning.specs.calls.Methods.{call_method, has_method};
 ghost use Rattle.kishu_language.specs.grammar.Refusals.{all_differ};
 ghost use Rattle.kishu_meaning.specs.moments.Moment.{Moment, give, ◌>>=◌ as ◌⊳◌};
 ghost use Rattle.kishu_meaning.specs.comparing.Show.{repr_of, show};
-ghost use Rattle.kishu_meaning.specs.values.Sound.{are_sound, is_sound};
 ghost use Rattle.kishu_meaning.specs.values.Values.{value_of};
 ghost use Rattle.kishu_heap.specs.Cells.{attributes_of};
 ghost use Rattle.kishu_items.specs.Messages.{is_plain};
-ghost use Rattle.kishu_calls.specs.Calls.{PrintsBy, given_of, is_sound_given, named_of};
+ghost use Rattle.kishu_calls.specs.Calls.{PrintsBy, given_of, named_of, IsSoundGiven};
 ghost use Rattle.kishu_calls.specs.Forms.{plain_construct};
-ghost use Rattle.kishu_machine.specs.Machine.{Gives, GrownBy, HasRoomBy, IsSound, ReadsBy, moment_of};
+ghost use Rattle.kishu_machine.specs.Machine.{Gives, HasRoomBy, moment_of, Costs};
+ghost use Rattle.kishu_machine.specs.Clauses.{AreSoundIn, IsSoundIn, SoundEnd, SoundValue};
+ghost use Rattle.kishu_heap.specs.Costs.{Grows};
 ghost use Rattle.kishu_meaning.specs.values.Values as model;
+ghost use Rattle.kishu_meaning.specs.values.Classes.{namespace_class, str_class};
+ghost use Rattle.kishu_meaning.specs.values.BuiltinNames.{builtin_number};
+ghost use Rattle.kishu_meaning.specs.values.BuiltinNames as functions;
+ghost use Rattle.kishu_meaning.specs.values.Sound.{builtins, classes};
 
 use crate::callees::Given;
 use indexmap::IndexMap;
 use kishu_heap::Node;
 use kishu_machine::{
-    Fault, Machine, NAMESPACE, TEXT, bad_arguments, is_same_text, make, no_attribute, passed,
-    print, repr_of, shared, show,
+    Fault, Machine, bad_arguments, is_same_text, make, no_attribute, passed, print, repr_of,
+    shared, show,
 };
 use kishu_meaning::{Builtin, ClassId, Steps, Value, builtin_name, class_name};
 use std::alloc::{AllocError, Global};
 use std::rc::RcStr;
 use std::sync::ledger::Ledger;
-
-const PRINT: u8 = 10;
-
-const REPR: u8 = 11;
 
 // ---- `print`
 
@@ -68,9 +69,8 @@ fn print_by<L: Ledger>(
     steps: &mut Steps<L>,
 ) -> Result<Value, Fault>
     ensures gives { Gives value_of result (moment_of machine.new) (print_by (named_of given.now.named.items) (codes " ") (line_feed ∷ []) (map value_of given.now.plain.items) (moment_of machine.old)) }
-    ensures sound { IsSound (λ _. true) (length machine.new.heap) result }
-    ensures kept { GrownBy 0 machine.old steps.old machine.new steps.new }
-    ensures reads { ReadsBy (2 * length given.now.plain.items) machine.old steps.old machine.new steps.new }
+    ensures sound { SoundEnd machine.new.heap result }
+    ensures costs { Costs 0 (2 * length given.now.plain.items) machine.old steps.old machine.new steps.new }
     ensures heap { machine.new.heap ≡ machine.old.heap }
 {
     let marks = marks_in(machine.alloc, given.named.as_slice())?;
@@ -87,9 +87,8 @@ fn repr_call<L: Ledger>(
     steps: &mut Steps<L>,
 ) -> Result<Value, Fault>
     ensures gives { Gives value_of result (moment_of machine.new) (of_one (codes "repr") (λ v. repr_of v ⊳ λ cs. give (model.text cs)) (map value_of values.now) (moment_of machine.old)) }
-    ensures sound { IsSound (λ _. true) (length machine.new.heap) result }
-    ensures kept { GrownBy 0 machine.old steps.old machine.new steps.new }
-    ensures reads { ReadsBy 8 machine.old steps.old machine.new steps.new }
+    ensures sound { SoundEnd machine.new.heap result }
+    ensures costs { Costs 0 8 machine.old steps.old machine.new steps.new }
     ensures heap { machine.new.heap ≡ machine.old.heap }
 {
     let [value] = values else {
@@ -107,17 +106,14 @@ fn other_builtin<L: Ledger>(
     steps: &mut Steps<L>,
 ) -> Result<Value, Fault>
     requires room { HasRoomBy 1 machine.old }
-    requires sound_values { IsTrue (are_sound (length machine.old.heap) (map value_of values.now)) }
-    requires builtin { builtin.0 < 14 }
-    requires no_print { builtin.0 ≢ 10 }
-    requires no_repr { builtin.0 ≢ 11 }
+    requires sound_values { AreSoundIn machine.old.heap values.now }
+    requires builtin { builtin.0 < builtins }
+    requires no_print { builtin.0 ≢ builtin_number functions.print }
+    requires no_repr { builtin.0 ≢ builtin_number functions.repr }
     ensures gives { Gives value_of result (moment_of machine.new) (or_no_call (slice_get (builtin_calls print_plain) builtin.0) (map value_of values.now) (moment_of machine.old)) }
-    ensures sound { IsSound (λ v. is_sound (length machine.new.heap) (value_of v)) (length machine.new.heap) result }
-    ensures kept { GrownBy 1 machine.old steps.old machine.new steps.new }
-    ensures reads { ReadsBy 3 machine.old steps.old machine.new steps.new }
+    ensures sound { SoundValue machine.new.heap result }
+    ensures costs { Costs 1 3 machine.old steps.old machine.new steps.new }
 {
-    // The heap tells that each of its nodes is sound.
-    let _size = machine.heap.len();
     passed(kishu_builtins::call_builtin(
         machine.alloc,
         builtin,
@@ -136,15 +132,14 @@ fn plain_builtin<L: Ledger>(
     steps: &mut Steps<L>,
 ) -> Result<Value, Fault>
     requires room { HasRoomBy 1 machine.old }
-    requires sound_values { IsTrue (are_sound (length machine.old.heap) (map value_of values.now)) }
-    requires builtin { builtin.0 < 14 }
-    requires other { builtin.0 ≢ 10 }
+    requires sound_values { AreSoundIn machine.old.heap values.now }
+    requires builtin { builtin.0 < builtins }
+    requires other { builtin.0 ≢ builtin_number functions.print }
     ensures gives { Gives value_of result (moment_of machine.new) (or_no_call (slice_get (builtin_calls print_plain) builtin.0) (map value_of values.now) (moment_of machine.old)) }
-    ensures sound { IsSound (λ v. is_sound (length machine.new.heap) (value_of v)) (length machine.new.heap) result }
-    ensures kept { GrownBy 1 machine.old steps.old machine.new steps.new }
-    ensures reads { ReadsBy 8 machine.old steps.old machine.new steps.new }
+    ensures sound { SoundValue machine.new.heap result }
+    ensures costs { Costs 1 8 machine.old steps.old machine.new steps.new }
 {
-    if builtin.0 == REPR {
+    if builtin.0 == Builtin::REPR.0 {
         return repr_call(machine, values, steps);
     }
     other_builtin(machine, builtin, values, steps)
@@ -159,14 +154,13 @@ pub fn call_builtin<L: Ledger>(
     steps: &mut Steps<L>,
 ) -> Result<Value, Fault>
     requires room { HasRoomBy 1 machine.old }
-    requires sound_given { IsTrue (is_sound_given (length machine.old.heap) (given_of given.now)) }
-    requires builtin { builtin.0 < 14 }
+    requires sound_given { IsSoundGiven machine.old.heap given.now }
+    requires builtin { builtin.0 < builtins }
     ensures gives { Gives value_of result (moment_of machine.new) (call_builtin builtin.0 (given_of given.now) (moment_of machine.old)) }
-    ensures sound { IsSound (λ v. is_sound (length machine.new.heap) (value_of v)) (length machine.new.heap) result }
-    ensures kept { GrownBy 1 machine.old steps.old machine.new steps.new }
-    ensures reads { ReadsBy (32 + 2 * length given.now.plain.items) machine.old steps.old machine.new steps.new }
+    ensures sound { SoundValue machine.new.heap result }
+    ensures costs { Costs 1 (32 + 2 * length given.now.plain.items) machine.old steps.old machine.new steps.new }
 {
-    if builtin.0 == PRINT {
+    if builtin.0 == Builtin::PRINT.0 {
         return print_by(machine, given, steps);
     }
     if !given.named.is_empty() {
@@ -195,11 +189,10 @@ fn attributes_of(
 // A new object with the keywords as its attributes.
 fn new_object(machine: &mut Machine, given: Given) -> Result<Value, Fault>
     requires room { length machine.old.heap + 1 < 2 ^ 32 }
-    requires sound_given { IsTrue (is_sound_given (length machine.old.heap) (given_of given)) }
+    requires sound_given { IsSoundGiven machine.old.heap given }
     ensures gives { Gives value_of result (moment_of machine.new) (new_object (given_of given) (moment_of machine.old)) }
-    ensures sound { IsSound (λ v. is_sound (length machine.new.heap) (value_of v)) (length machine.new.heap) result }
-    ensures heap { length machine.old.heap ≤ length machine.new.heap }
-    ensures one { length machine.new.heap ≤ length machine.old.heap + 1 }
+    ensures sound { SoundValue machine.new.heap result }
+    ensures grows { Grows 1 machine.old.heap machine.new.heap }
     ensures budget { machine.new.budget ≡ machine.old.budget }
 {
     if !given.plain.is_empty() {
@@ -216,9 +209,8 @@ fn text_call<L: Ledger>(
     steps: &mut Steps<L>,
 ) -> Result<Value, Fault>
     ensures gives { Gives value_of result (moment_of machine.new) (of_none_or_one (codes "str") (give (model.text [])) (λ v. show v ⊳ λ cs. give (model.text cs)) (map value_of values.now) (moment_of machine.old)) }
-    ensures sound { IsSound (λ _. true) (length machine.new.heap) result }
-    ensures kept { GrownBy 0 machine.old steps.old machine.new steps.new }
-    ensures reads { ReadsBy 8 machine.old steps.old machine.new steps.new }
+    ensures sound { SoundEnd machine.new.heap result }
+    ensures costs { Costs 0 8 machine.old steps.old machine.new steps.new }
     ensures heap { machine.new.heap ≡ machine.old.heap }
 {
     match values {
@@ -239,17 +231,14 @@ fn other_class<L: Ledger>(
     steps: &mut Steps<L>,
 ) -> Result<Value, Fault>
     requires room { HasRoomBy 1 machine.old }
-    requires sound_values { IsTrue (are_sound (length machine.old.heap) (map value_of values.now)) }
-    requires class { class.0 < 25 }
-    requires no_namespace { class.0 ≢ 5 }
-    requires no_text { class.0 ≢ 6 }
+    requires sound_values { AreSoundIn machine.old.heap values.now }
+    requires class { class.0 < classes }
+    requires no_namespace { class.0 ≢ namespace_class }
+    requires no_text { class.0 ≢ str_class }
     ensures gives { Gives value_of result (moment_of machine.new) (plain_construct class.0 (map value_of values.now) (moment_of machine.old)) }
-    ensures sound { IsSound (λ v. is_sound (length machine.new.heap) (value_of v)) (length machine.new.heap) result }
-    ensures kept { GrownBy 1 machine.old steps.old machine.new steps.new }
-    ensures reads { ReadsBy 3 machine.old steps.old machine.new steps.new }
+    ensures sound { SoundValue machine.new.heap result }
+    ensures costs { Costs 1 3 machine.old steps.old machine.new steps.new }
 {
-    // The heap tells that each of its nodes is sound.
-    let _size = machine.heap.len();
     passed(kishu_builtins::construct(
         machine.alloc,
         class,
@@ -268,15 +257,14 @@ fn plain_class<L: Ledger>(
     steps: &mut Steps<L>,
 ) -> Result<Value, Fault>
     requires room { HasRoomBy 1 machine.old }
-    requires sound_values { IsTrue (are_sound (length machine.old.heap) (map value_of values.now)) }
-    requires class { class.0 < 25 }
-    requires other { class.0 ≢ 5 }
+    requires sound_values { AreSoundIn machine.old.heap values.now }
+    requires class { class.0 < classes }
+    requires other { class.0 ≢ namespace_class }
     ensures gives { Gives value_of result (moment_of machine.new) (plain_construct class.0 (map value_of values.now) (moment_of machine.old)) }
-    ensures sound { IsSound (λ v. is_sound (length machine.new.heap) (value_of v)) (length machine.new.heap) result }
-    ensures kept { GrownBy 1 machine.old steps.old machine.new steps.new }
-    ensures reads { ReadsBy 8 machine.old steps.old machine.new steps.new }
+    ensures sound { SoundValue machine.new.heap result }
+    ensures costs { Costs 1 8 machine.old steps.old machine.new steps.new }
 {
-    if class.0 == TEXT.0 {
+    if class.0 == ClassId::STR.0 {
         return text_call(machine, values, steps);
     }
     other_class(machine, class, values, steps)
@@ -291,14 +279,13 @@ pub fn construct<L: Ledger>(
     steps: &mut Steps<L>,
 ) -> Result<Value, Fault>
     requires room { HasRoomBy 1 machine.old }
-    requires sound_given { IsTrue (is_sound_given (length machine.old.heap) (given_of given)) }
-    requires class { class.0 < 25 }
+    requires sound_given { IsSoundGiven machine.old.heap given }
+    requires class { class.0 < classes }
     ensures gives { Gives value_of result (moment_of machine.new) (construct class.0 (given_of given) (moment_of machine.old)) }
-    ensures sound { IsSound (λ v. is_sound (length machine.new.heap) (value_of v)) (length machine.new.heap) result }
-    ensures kept { GrownBy 1 machine.old steps.old machine.new steps.new }
-    ensures reads { ReadsBy 32 machine.old steps.old machine.new steps.new }
+    ensures sound { SoundValue machine.new.heap result }
+    ensures costs { Costs 1 32 machine.old steps.old machine.new steps.new }
 {
-    if class.0 == NAMESPACE.0 {
+    if class.0 == ClassId::SIMPLE_NAMESPACE.0 {
         return new_object(machine, given);
     }
     if !given.named.is_empty() {
@@ -318,13 +305,12 @@ fn known_method<L: Ledger>(
     steps: &mut Steps<L>,
 ) -> Result<Value, Fault>
     requires room { HasRoomBy 1 machine.old }
-    requires sound_receiver { IsTrue (is_sound (length machine.old.heap) (value_of receiver.now)) }
-    requires sound_values { IsTrue (are_sound (length machine.old.heap) (map value_of values.now)) }
+    requires sound_receiver { IsSoundIn machine.old.heap receiver.now }
+    requires sound_values { AreSoundIn machine.old.heap values.now }
     requires has { IsTrue (has_method machine.old.heap (value_of receiver.now) name.now) }
     ensures gives { Gives value_of result (moment_of machine.new) (call_method (value_of receiver.now) name.now (map value_of values.now) (moment_of machine.old)) }
-    ensures sound { IsSound (λ v. is_sound (length machine.new.heap) (value_of v)) (length machine.new.heap) result }
-    ensures kept { GrownBy 1 machine.old steps.old machine.new steps.new }
-    ensures reads { ReadsBy 5 machine.old steps.old machine.new steps.new }
+    ensures sound { SoundValue machine.new.heap result }
+    ensures costs { Costs 1 5 machine.old steps.old machine.new steps.new }
 {
     // The heap tells that each of its nodes is sound.
     let _size = machine.heap.len();
@@ -348,12 +334,11 @@ fn plain_method<L: Ledger>(
     steps: &mut Steps<L>,
 ) -> Result<Value, Fault>
     requires room { HasRoomBy 1 machine.old }
-    requires sound_receiver { IsTrue (is_sound (length machine.old.heap) (value_of receiver.now)) }
-    requires sound_values { IsTrue (are_sound (length machine.old.heap) (map value_of values.now)) }
+    requires sound_receiver { IsSoundIn machine.old.heap receiver.now }
+    requires sound_values { AreSoundIn machine.old.heap values.now }
     ensures gives { Gives value_of result (moment_of machine.new) (call_method (value_of receiver.now) name.now (map value_of values.now) (moment_of machine.old)) }
-    ensures sound { IsSound (λ v. is_sound (length machine.new.heap) (value_of v)) (length machine.new.heap) result }
-    ensures kept { GrownBy 1 machine.old steps.old machine.new steps.new }
-    ensures reads { ReadsBy 6 machine.old steps.old machine.new steps.new }
+    ensures sound { SoundValue machine.new.heap result }
+    ensures costs { Costs 1 6 machine.old steps.old machine.new steps.new }
 {
     if !kishu_methods::has_method(receiver, name, &machine.heap, steps) {
         return no_attribute(machine, receiver, name, steps);
@@ -371,13 +356,12 @@ pub fn call_method<L: Ledger>(
     steps: &mut Steps<L>,
 ) -> Result<Value, Fault>
     requires room { HasRoomBy 1 machine.old }
-    requires sound_receiver { IsTrue (is_sound (length machine.old.heap) (value_of receiver.now)) }
-    requires sound_given { IsTrue (is_sound_given (length machine.old.heap) (given_of given.now)) }
+    requires sound_receiver { IsSoundIn machine.old.heap receiver.now }
+    requires sound_given { IsSoundGiven machine.old.heap given.now }
     requires ascii { IsTrue (is_plain name.now) }
     ensures gives { Gives value_of result (moment_of machine.new) (by_plain name.now (named_of given.now.named.items) (call_method (value_of receiver.now) name.now (map value_of given.now.plain.items)) (moment_of machine.old)) }
-    ensures sound { IsSound (λ v. is_sound (length machine.new.heap) (value_of v)) (length machine.new.heap) result }
-    ensures kept { GrownBy 1 machine.old steps.old machine.new steps.new }
-    ensures reads { ReadsBy 32 machine.old steps.old machine.new steps.new }
+    ensures sound { SoundValue machine.new.heap result }
+    ensures costs { Costs 1 32 machine.old steps.old machine.new steps.new }
 {
     if !given.named.is_empty() {
         return bad_arguments(machine.alloc, name);

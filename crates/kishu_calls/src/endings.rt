@@ -5,7 +5,7 @@ ghost use Rattle.kishu_meaning.specs.cells.Meaning.{ended, finished, printed, sp
 ghost use Rattle.kishu_meaning.specs.moments.Moment.{Ends, fine, most_steps};
 ghost use Rattle.kishu_meaning.specs.comparing.Show.{class_name, show_thrown};
 ghost use Rattle.kishu_meaning.specs.values.Values.{fault, output_of, report_of, shown};
-ghost use Rattle.kishu_machine.specs.Machine.{Gives, GrownBy, ReadsBy, moment_of, outputs_in, shown_of, state_of, thrown_of};
+ghost use Rattle.kishu_machine.specs.Machine.{Gives, moment_of, outputs_in, shown_of, state_of, thrown_of, Costs};
 
 use crate::ways::kind_of_thrown;
 use kishu_machine::{Fault, Machine, Thrown, show_thrown};
@@ -97,8 +97,7 @@ fn finish_raised<L: Ledger>(
     ensures state { OnOk result (state_of machine.new ≡ (uncaught (thrown_of thrown.now) (show_thrown (thrown_of thrown.now) (moment_of machine.old))).state) }
     ensures accessed { OnOk result (machine.new.names.accessed ≡ (uncaught (thrown_of thrown.now) (show_thrown (thrown_of thrown.now) (moment_of machine.old))).accessed) }
     ensures charge { OnOk result ((uncaught (thrown_of thrown.now) (show_thrown (thrown_of thrown.now) (moment_of machine.old))).charge ≡ most_steps - machine.new.budget.left) }
-    ensures kept { GrownBy 0 machine.old steps.old machine.new steps.new }
-    ensures reads { ReadsBy 9 machine.old steps.old machine.new steps.new }
+    ensures costs { Costs 0 9 machine.old steps.old machine.new steps.new }
 {
     let text = show_thrown(machine, thrown, steps);
     let class = kind_of_thrown(&machine.heap, thrown, steps);
@@ -120,8 +119,7 @@ pub fn finish<L: Ledger>(
     ensures state { OnOk result ((e : Ends (Option (List ℕ))) → Gives shown_of end (moment_of machine.old) e → state_of machine.new ≡ (finished e).state) }
     ensures accessed { OnOk result ((e : Ends (Option (List ℕ))) → Gives shown_of end (moment_of machine.old) e → machine.new.names.accessed ≡ (finished e).accessed) }
     ensures charge { OnOk result ((e : Ends (Option (List ℕ))) → Gives shown_of end (moment_of machine.old) e → (finished e).charge ≡ most_steps - machine.new.budget.left) }
-    ensures kept { GrownBy 0 machine.old steps.old machine.new steps.new }
-    ensures reads { ReadsBy 32 machine.old steps.old machine.new steps.new }
+    ensures costs { Costs 0 32 machine.old steps.old machine.new steps.new }
 {
     match end {
         Ok(shown) => finish_done(machine, shown),

@@ -1,17 +1,18 @@
 // Functions: the one that a node is, and what a call binds (Python Language Reference 3, "Function
 // definitions" and "Calls").
 ghost use Rattle.std.specs.List.{list_all};
-ghost use Rattle.std.specs.Prelude.{IfOk, IfSome, IsTrue, MatchOption, OnOk, drop, length, map, not, option_map, slice_get, ◌+◌, ◌≡◌, ◌≤◌};
+ghost use Rattle.std.specs.Prelude.{IfOk, IfSome, IsTrue, MatchOption, OnOk, drop, length, map, not, option_map, slice_get, ◌≡◌, ◌≤◌};
 ghost use Rattle.std.specs.Rc.{rc_str_bytes};
 ghost use Rattle.kishu_meaning.specs.calls.Functions.{arguments_fit, bound_values, values_for, with_defaults};
 ghost use Rattle.kishu_language.specs.tokens.Names.{is_among};
 ghost use Rattle.kishu_language.specs.grammar.Refusals.{titles};
-ghost use Rattle.kishu_meaning.specs.values.Sound.{are_sound};
 ghost use Rattle.kishu_language.specs.trees.Tree.{definition_of, parameter_of, value_of as tree_value};
 ghost use Rattle.kishu_meaning.specs.values.Values.{bind, find, value_of};
 ghost use Rattle.kishu_calls.specs.Calls.{IsFunction, given_of, named_of};
 ghost use Rattle.kishu_calls.specs.Forms.{argument_for, arguments_for, bound_each, default_count, is_function, next_default};
 ghost use Rattle.kishu_machine.specs.Frames.{names_of};
+ghost use Rattle.kishu_machine.specs.Clauses.{AreSoundIn};
+ghost use Rattle.kishu_heap.specs.Costs.{Reads};
 ghost use Rattle.kishu_meaning.specs.cells.Meaning as m;
 
 use crate::callees::Given;
@@ -39,9 +40,8 @@ pub fn function_at<L: Ledger>(
     steps: &mut Steps<L>,
 ) -> Result<Option<Function>, AllocError>
     ensures found { IfOk result (λ o. MatchOption o (IsTrue (not (is_function (slice_get machine.now.heap id.0)))) (λ f. IsFunction (slice_get machine.now.heap id.0) f)) }
-    ensures sound { IfOk result (λ o. IfSome o (λ f. IsTrue (are_sound (length machine.now.heap) (map value_of f.defaults.items)))) }
-    ensures counted { steps.old ≤ steps.new }
-    ensures reads { steps.new ≤ steps.old + 4 }
+    ensures sound { IfOk result (λ o. IfSome o (λ f. AreSoundIn machine.now.heap f.defaults.items)) }
+    ensures reads { Reads 4 steps.old steps.new }
 {
     match node_at(&machine.heap, &Value::Node(id), steps) {
         Some(Node::Function(function)) => {
@@ -214,7 +214,7 @@ fn values_for(
 
 /// What a call binds; none where an argument is missing, repeated or unknown, or one too many.
 #[inline(never)]
-#[tactic(auto, using(crate::specs::StatementRows::parameters_at))]
+#[tactic(auto, using(kishu_language::specs::trees::StatementRows::parameters_at))]
 pub fn bound_values(
     alloc: Global,
     def: &Def,

@@ -1,13 +1,14 @@
 // The local names of a function (Python Language Reference 3, "Binding of names").
 ghost use Rattle.std.specs.List.{filter};
-ghost use Rattle.std.specs.Prelude.{IfOk, OnOk, [], map, not, ◌++◌, ◌+◌, ◌∷◌, ◌≡◌};
+ghost use Rattle.std.specs.Prelude.{IfOk, [], map, not, ◌+◌, ◌∷◌, ◌≡◌};
 ghost use Rattle.std.specs.Rc.{rc_str_bytes};
 ghost use Rattle.kishu_meaning.specs.calls.Functions.{all_bound_by, bound_by, bound_in, bound_in_arms, bound_in_block, bound_in_handlers, declared_in, declared_in_arms, declared_in_block, declared_in_handlers, names_in, or_class_name, own_names};
 ghost use Rattle.kishu_language.specs.tokens.Names.{is_among};
 ghost use Rattle.kishu_language.specs.grammar.Refusals.{titles};
 ghost use Rattle.kishu_language.specs.trees.Tree.{definition_of, expression_of, parameter_of, statement_of, text_of};
-ghost use Rattle.kishu_calls.specs.Trees.{arms_of, expressions_of, handlers_of, statements_of};
+ghost use Rattle.kishu_language.specs.trees.Parts.{arms_of, expressions_of, handlers_of, statements_of};
 ghost use Rattle.kishu_machine.specs.Frames.{texts_of};
+ghost use Rattle.kishu_calls.specs.Calls.{Adds};
 
 use kishu_language::{Arm, Def, Expr, Handler, Stmt};
 use kishu_machine::is_among;
@@ -17,7 +18,7 @@ use std::rc::RcStr;
 // ---- the names that a body binds or unbinds
 
 fn push_name(names: &mut Vec<RcStr>, name: &RcStr) -> Result<(), AllocError>
-    ensures { OnOk result (texts_of names.new.items ≡ texts_of names.old.items ++ rc_str_bytes name.now ∷ []) }
+    ensures { Adds result names.old names.new (rc_str_bytes name.now ∷ []) }
 {
     names.push(name.clone()?)?;
     Ok(())
@@ -25,9 +26,9 @@ fn push_name(names: &mut Vec<RcStr>, name: &RcStr) -> Result<(), AllocError>
 
 // Those of a target or a place.
 #[cycle(targets)]
-#[tactic(auto, using(crate::specs::Rows::tree_rows, crate::proofs::LocalNames::none_more))]
+#[tactic(auto, using(kishu_language::specs::trees::Rows::tree_rows, crate::proofs::LocalNames::none_more))]
 fn push_bound(names: &mut Vec<RcStr>, target: &Expr) -> Result<(), AllocError>
-    ensures { OnOk result (texts_of names.new.items ≡ texts_of names.old.items ++ bound_by (expression_of target.now)) }
+    ensures { Adds result names.old names.new (bound_by (expression_of target.now)) }
 {
     match target {
         Expr::Name(name) => push_name(names, name),
@@ -55,7 +56,7 @@ fn push_bound(names: &mut Vec<RcStr>, target: &Expr) -> Result<(), AllocError>
 
 #[cycle(targets)]
 fn push_all_bound(names: &mut Vec<RcStr>, targets: &[Expr]) -> Result<(), AllocError>
-    ensures { OnOk result (texts_of names.new.items ≡ texts_of names.old.items ++ all_bound_by (expressions_of targets.now)) }
+    ensures { Adds result names.old names.new (all_bound_by (expressions_of targets.now)) }
 {
     for target in targets {
         push_bound(names, target)?;
@@ -69,7 +70,7 @@ fn push_imported(
     names: &mut Vec<RcStr>,
     name: &Option<RcStr>,
 ) -> Result<(), AllocError>
-    ensures { OnOk result (texts_of names.new.items ≡ texts_of names.old.items ++ or_class_name (text_of name.now) ∷ []) }
+    ensures { Adds result names.old names.new (or_class_name (text_of name.now) ∷ []) }
 {
     match name {
         Some(name) => push_name(names, name),
@@ -82,7 +83,7 @@ fn push_imported(
 
 // The name that a handler binds.
 fn push_caught(names: &mut Vec<RcStr>, name: &Option<RcStr>) -> Result<(), AllocError>
-    ensures { OnOk result (texts_of names.new.items ≡ texts_of names.old.items ++ names_in (text_of name.now)) }
+    ensures { Adds result names.old names.new (names_in (text_of name.now)) }
 {
     match name {
         Some(name) => push_name(names, name),
@@ -92,9 +93,9 @@ fn push_caught(names: &mut Vec<RcStr>, name: &Option<RcStr>) -> Result<(), Alloc
 
 // Those of a statement.
 #[cycle(bodies)]
-#[tactic(auto, using(crate::specs::StatementRows::statement_rows, crate::proofs::LocalNames::none_more))]
+#[tactic(auto, using(kishu_language::specs::trees::StatementRows::statement_rows, crate::proofs::LocalNames::none_more))]
 fn push_statement(alloc: Global, names: &mut Vec<RcStr>, statement: &Stmt) -> Result<(), AllocError>
-    ensures { OnOk result (texts_of names.new.items ≡ texts_of names.old.items ++ bound_in (statement_of statement.now)) }
+    ensures { Adds result names.old names.new (bound_in (statement_of statement.now)) }
 {
     match statement {
         Stmt::Del(places) => push_all_bound(names, places),
@@ -138,7 +139,7 @@ fn push_statement(alloc: Global, names: &mut Vec<RcStr>, statement: &Stmt) -> Re
 
 #[cycle(bodies)]
 fn push_block(alloc: Global, names: &mut Vec<RcStr>, block: &[Stmt]) -> Result<(), AllocError>
-    ensures { OnOk result (texts_of names.new.items ≡ texts_of names.old.items ++ bound_in_block (statements_of block.now)) }
+    ensures { Adds result names.old names.new (bound_in_block (statements_of block.now)) }
 {
     for statement in block {
         push_statement(alloc, names, statement)?;
@@ -148,7 +149,7 @@ fn push_block(alloc: Global, names: &mut Vec<RcStr>, block: &[Stmt]) -> Result<(
 
 #[cycle(bodies)]
 fn push_arms(alloc: Global, names: &mut Vec<RcStr>, arms: &[Arm]) -> Result<(), AllocError>
-    ensures { OnOk result (texts_of names.new.items ≡ texts_of names.old.items ++ bound_in_arms (arms_of arms.now)) }
+    ensures { Adds result names.old names.new (bound_in_arms (arms_of arms.now)) }
 {
     for arm in arms {
         push_block(alloc, names, &arm.body)?;
@@ -162,7 +163,7 @@ fn push_handlers(
     names: &mut Vec<RcStr>,
     handlers: &[Handler],
 ) -> Result<(), AllocError>
-    ensures { OnOk result (texts_of names.new.items ≡ texts_of names.old.items ++ bound_in_handlers (handlers_of handlers.now)) }
+    ensures { Adds result names.old names.new (bound_in_handlers (handlers_of handlers.now)) }
 {
     for handler in handlers {
         push_caught(names, &handler.name)?;
@@ -174,9 +175,9 @@ fn push_handlers(
 // ---- the names that a body declares global
 
 #[cycle(declared)]
-#[tactic(auto, using(crate::specs::StatementRows::statement_rows, crate::proofs::LocalNames::none_more))]
+#[tactic(auto, using(kishu_language::specs::trees::StatementRows::statement_rows, crate::proofs::LocalNames::none_more))]
 fn push_declared(names: &mut Vec<RcStr>, statement: &Stmt) -> Result<(), AllocError>
-    ensures { OnOk result (texts_of names.new.items ≡ texts_of names.old.items ++ declared_in (statement_of statement.now)) }
+    ensures { Adds result names.old names.new (declared_in (statement_of statement.now)) }
 {
     match statement {
         Stmt::Global(declared) => push_names(names, declared),
@@ -216,7 +217,7 @@ fn push_declared(names: &mut Vec<RcStr>, statement: &Stmt) -> Result<(), AllocEr
 }
 
 fn push_names(names: &mut Vec<RcStr>, more: &[RcStr]) -> Result<(), AllocError>
-    ensures { OnOk result (texts_of names.new.items ≡ texts_of names.old.items ++ texts_of more.now) }
+    ensures { Adds result names.old names.new (texts_of more.now) }
 {
     for name in more {
         push_name(names, name)?;
@@ -226,7 +227,7 @@ fn push_names(names: &mut Vec<RcStr>, more: &[RcStr]) -> Result<(), AllocError>
 
 #[cycle(declared)]
 fn push_declared_block(names: &mut Vec<RcStr>, block: &[Stmt]) -> Result<(), AllocError>
-    ensures { OnOk result (texts_of names.new.items ≡ texts_of names.old.items ++ declared_in_block (statements_of block.now)) }
+    ensures { Adds result names.old names.new (declared_in_block (statements_of block.now)) }
 {
     for statement in block {
         push_declared(names, statement)?;
@@ -236,7 +237,7 @@ fn push_declared_block(names: &mut Vec<RcStr>, block: &[Stmt]) -> Result<(), All
 
 #[cycle(declared)]
 fn push_declared_arms(names: &mut Vec<RcStr>, arms: &[Arm]) -> Result<(), AllocError>
-    ensures { OnOk result (texts_of names.new.items ≡ texts_of names.old.items ++ declared_in_arms (arms_of arms.now)) }
+    ensures { Adds result names.old names.new (declared_in_arms (arms_of arms.now)) }
 {
     for arm in arms {
         push_declared_block(names, &arm.body)?;
@@ -246,7 +247,7 @@ fn push_declared_arms(names: &mut Vec<RcStr>, arms: &[Arm]) -> Result<(), AllocE
 
 #[cycle(declared)]
 fn push_declared_handlers(names: &mut Vec<RcStr>, handlers: &[Handler]) -> Result<(), AllocError>
-    ensures { OnOk result (texts_of names.new.items ≡ texts_of names.old.items ++ declared_in_handlers (handlers_of handlers.now)) }
+    ensures { Adds result names.old names.new (declared_in_handlers (handlers_of handlers.now)) }
 {
     for handler in handlers {
         push_declared_block(names, &handler.body)?;
@@ -262,7 +263,7 @@ fn push_undeclared(
     names: &[RcStr],
     declared: &[RcStr],
 ) -> Result<(), AllocError>
-    ensures { OnOk result (texts_of own.new.items ≡ texts_of own.old.items ++ filter (λ x. not (is_among x (texts_of declared.now))) (texts_of names.now)) }
+    ensures { Adds result own.old own.new (filter (λ x. not (is_among x (texts_of declared.now))) (texts_of names.now)) }
 {
     for name in names {
         if !is_among(name.as_str(), declared) {
@@ -273,7 +274,7 @@ fn push_undeclared(
 }
 
 fn push_titles(own: &mut Vec<RcStr>, params: &[(RcStr, Option<Expr>)]) -> Result<(), AllocError>
-    ensures { OnOk result (texts_of own.new.items ≡ texts_of own.old.items ++ titles (map parameter_of params.now)) }
+    ensures { Adds result own.old own.new (titles (map parameter_of params.now)) }
 {
     for (name, _) in params {
         push_name(own, name)?;
@@ -284,7 +285,7 @@ fn push_titles(own: &mut Vec<RcStr>, params: &[(RcStr, Option<Expr>)]) -> Result
 /// The names that are local to a function's body: its parameters, and the names that the body binds
 /// or unbinds, unless they are declared global.
 #[inline(never)]
-#[tactic(auto, using(crate::specs::StatementRows::parameters_at, crate::specs::StatementRows::body_at))]
+#[tactic(auto, using(kishu_language::specs::trees::StatementRows::parameters_at, kishu_language::specs::trees::StatementRows::body_at))]
 pub fn own_names(alloc: Global, def: &Def) -> Result<Vec<RcStr>, AllocError>
     ensures { IfOk result (λ v. texts_of v.items ≡ own_names (definition_of def.now)) }
 {

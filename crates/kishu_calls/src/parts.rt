@@ -1,14 +1,14 @@
 // Parts of primaries (Python Language Reference 3, "Primaries").
-ghost use Rattle.std.specs.Prelude.{IsTrue, length, ◌*◌, ◌+◌};
+ghost use Rattle.std.specs.Prelude.{◌*◌, ◌+◌};
 ghost use Rattle.std.specs.Rc.{rc_str_bytes};
 ghost use Rattle.kishu_meaning.specs.calls.Callees.{settled};
 ghost use Rattle.kishu_meaning.specs.cells.Meaning.{Calls, walked_by};
 ghost use Rattle.kishu_meaning.specs.moments.Moment.{give, ◌>>=◌ as ◌⊳◌, ◌>>◌};
-ghost use Rattle.kishu_meaning.specs.values.Sound.{is_sound};
 ghost use Rattle.kishu_meaning.specs.values.Values.{value_of};
-ghost use Rattle.kishu_access.specs.Access.{is_sound_walk, walk_of};
-ghost use Rattle.kishu_calls.specs.Calls.{OwesReads, Owing, is_sound_part, owed, part_of};
-ghost use Rattle.kishu_machine.specs.Machine.{Gives, GrownBy, HasRoomBy, IsSound, ReadsBy, moment_of};
+ghost use Rattle.kishu_access.specs.Access.{walk_of, SoundWalk};
+ghost use Rattle.kishu_calls.specs.Calls.{OwesReads, Owing, owed, part_of, SoundPart, IsSoundPart};
+ghost use Rattle.kishu_machine.specs.Machine.{Gives, GrownBy, HasRoomBy, moment_of, Costs};
+ghost use Rattle.kishu_machine.specs.Clauses.{SoundValue};
 ghost use Rattle.kishu_meaning.specs.calls.Callees as c;
 
 use kishu_access::{View, Walk, attribute, walk_of, walk_view};
@@ -36,11 +36,10 @@ pub fn settled<L: Ledger>(
     steps: &mut Steps<L>,
 ) -> Result<Value, Fault>
     requires room { HasRoomBy (owed (part_of part)) machine.old }
-    requires sound_part { IsTrue (is_sound_part (length machine.old.heap) (part_of part)) }
+    requires sound_part { IsSoundPart machine.old.heap part }
     ensures gives { Gives value_of result (moment_of machine.new) (settled (part_of part) (moment_of machine.old)) }
-    ensures sound { IsSound (λ v. is_sound (length machine.new.heap) (value_of v)) (length machine.new.heap) result }
-    ensures kept { GrownBy (owed (part_of part)) machine.old steps.old machine.new steps.new }
-    ensures reads { ReadsBy (8 * owed (part_of part)) machine.old steps.old machine.new steps.new }
+    ensures sound { SoundValue machine.new.heap result }
+    ensures costs { Costs (owed (part_of part)) (8 * owed (part_of part)) machine.old steps.old machine.new steps.new }
 {
     match part {
         Part::Whole(value) => Ok(value),
@@ -57,10 +56,10 @@ pub fn dotted_part<L: Ledger>(
     name: &RcStr,
     steps: &mut Steps<L>,
 ) -> Result<Part, Fault>
-    requires sound_part { IsTrue (is_sound_part (length machine.old.heap) (part_of part)) }
+    requires sound_part { IsSoundPart machine.old.heap part }
     requires room { HasRoomBy (1 + owed (part_of part)) machine.old }
     ensures gives { Gives part_of result (moment_of machine.new) ((settled (part_of part) ⊳ λ v. give (c.dotted v (rc_str_bytes name.now))) (moment_of machine.old)) }
-    ensures sound { IsSound (λ v. is_sound_part (length machine.new.heap) (part_of v)) (length machine.new.heap) result }
+    ensures sound { SoundPart machine.new.heap result }
     ensures kept { GrownBy (1 + owed (part_of part)) machine.old steps.old machine.new steps.new }
     ensures reads { OwesReads (8 + 8 * owed (part_of part)) machine.old steps.old result machine.new steps.new }
     ensures owes { Owing (1 + owed (part_of part)) machine.old result machine.new }
@@ -75,12 +74,11 @@ pub fn walked_by<L: Ledger>(
     part: Part,
     steps: &mut Steps<L>,
 ) -> Result<Walk, Fault>
-    requires sound_part { IsTrue (is_sound_part (length machine.old.heap) (part_of part)) }
+    requires sound_part { IsSoundPart machine.old.heap part }
     requires room { HasRoomBy (owed (part_of part)) machine.old }
     ensures gives { (calls : Calls) → Gives walk_of result (moment_of machine.new) (walked_by calls (part_of part) (moment_of machine.old)) }
-    ensures sound { IsSound (λ w. is_sound_walk (length machine.new.heap) (walk_of w)) (length machine.new.heap) result }
-    ensures kept { GrownBy (owed (part_of part)) machine.old steps.old machine.new steps.new }
-    ensures reads { ReadsBy 32 machine.old steps.old machine.new steps.new }
+    ensures sound { SoundWalk machine.new.heap result }
+    ensures costs { Costs (owed (part_of part)) 32 machine.old steps.old machine.new steps.new }
 {
     match part {
         Part::Viewed(id, view) => Ok(walk_view(machine, id, view, steps)),

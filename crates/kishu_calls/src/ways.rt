@@ -1,16 +1,18 @@
 // Exceptions that are raised and caught (Python Language Reference 3, "The raise statement" and "The
 // try statement").
 ghost use Rattle.std.specs.List.{list_all, list_any};
-ghost use Rattle.std.specs.Prelude.{IfOk, IsTrue, length, map, true, ◌+◌, ◌<◌, ◌^◌, ◌≡◌, ◌≤◌};
-ghost use Rattle.kishu_meaning.specs.values.Classes.{class_above, is_within};
+ghost use Rattle.std.specs.Prelude.{IfOk, length, map, ◌+◌, ◌<◌, ◌^◌, ◌≡◌};
 ghost use Rattle.kishu_meaning.specs.moments.Moment.{node_at};
-ghost use Rattle.kishu_meaning.specs.values.Sound.{is_exception_class, is_sound};
+ghost use Rattle.kishu_meaning.specs.values.Sound.{is_exception_class};
 ghost use Rattle.kishu_meaning.specs.values.Values.{node, value_of};
 ghost use Rattle.kishu_meaning.specs.cells.Ways.{is_caught, is_caught_by, is_class_of_exceptions, is_exception, kind_of_thrown, object_of, throw_again, throw_object, throw_value};
-ghost use Rattle.kishu_machine.specs.Machine.{Gives, GrownBy, HasRoomBy, IsSound, ReadsBy, is_sound_thrown, moment_of, thrown_of};
+ghost use Rattle.kishu_machine.specs.Machine.{Gives, HasRoomBy, moment_of, thrown_of, Costs};
+ghost use Rattle.kishu_machine.specs.Clauses.{IsSoundIn, IsSoundThrown, SoundEnd};
+ghost use Rattle.kishu_heap.specs.Costs.{Reads, Grows};
 
 use kishu_heap::{Heap, Node};
-use kishu_machine::{ANY_EXCEPTION, Fault, Machine, Thrown, make, no_exception, node_at, tuple_at};
+use kishu_items::is_within;
+use kishu_machine::{Fault, Machine, Thrown, make, no_exception, node_at, tuple_at};
 use kishu_meaning::{ClassId, NodeId, Steps, Value};
 use std::sync::ledger::Ledger;
 
@@ -28,28 +30,7 @@ pub enum Flow {
 fn is_exception_class(class: ClassId) -> bool
     ensures { result ≡ is_exception_class class.0 }
 {
-    ANY_EXCEPTION.0 <= class.0 && class.0 < 25
-}
-
-// The class above a class of exceptions; that of all of them is its own.
-fn class_above(class: u8) -> u8
-    ensures { result ≡ class_above class }
-{
-    match class {
-        10 | 11 => 9,
-        15 | 16 => 14,
-        18 => 17,
-        20 | 21 => 19,
-        _ => 8,
-    }
-}
-
-// The one class is the other or lies below it.
-fn is_within(class: u8, other: u8) -> bool
-    ensures { result ≡ is_within class other }
-{
-    let above = class_above(class);
-    class == other || above == other || class_above(above) == other
+    ClassId::EXCEPTION.0 <= class.0 && class.0 <= ClassId::VALUE_ERROR.0
 }
 
 /// The class of an exception on its way.
@@ -59,15 +40,14 @@ pub(crate) fn kind_of_thrown<L: Ledger>(
     steps: &mut Steps<L>,
 ) -> ClassId
     ensures is { result.0 ≡ kind_of_thrown heap.now (thrown_of thrown.now) }
-    ensures counted { steps.old ≤ steps.new }
-    ensures reads { steps.new ≤ steps.old + 1 }
+    ensures reads { Reads 1 steps.old steps.new }
 {
     match thrown {
         Thrown::With(class, _) => *class,
         Thrown::Plain(class) => *class,
         Thrown::Object(id) => match node_at(heap, &Value::Node(*id), steps) {
             Some(Node::Exception(class, _)) => *class,
-            _ => ANY_EXCEPTION,
+            _ => ClassId::EXCEPTION,
         },
     }
 }
@@ -76,8 +56,7 @@ pub(crate) fn kind_of_thrown<L: Ledger>(
 
 fn is_exception<L: Ledger>(heap: &Heap, value: &Value, steps: &mut Steps<L>) -> bool
     ensures is { result ≡ is_exception (node_at heap.now (value_of value.now)) }
-    ensures counted { steps.old ≤ steps.new }
-    ensures reads { steps.new ≤ steps.old + 1 }
+    ensures reads { Reads 1 steps.old steps.new }
 {
     match node_at(heap, value, steps) {
         Some(Node::Exception(..)) => true,
@@ -97,11 +76,10 @@ pub(crate) fn throw_object<T, L: Ledger>(
     value: &Value,
     steps: &mut Steps<L>,
 ) -> Result<T, Fault>
-    requires sound_value { IsTrue (is_sound (length machine.now.heap) (value_of value.now)) }
+    requires sound_value { IsSoundIn machine.now.heap value.now }
     ensures gives { Gives (λ x. x) result (moment_of machine.now) (throw_object (value_of value.now) (moment_of machine.now)) }
-    ensures sound { IsSound (λ _. true) (length machine.now.heap) result }
-    ensures counted { steps.old ≤ steps.new }
-    ensures reads { steps.new ≤ steps.old + 1 }
+    ensures sound { SoundEnd machine.now.heap result }
+    ensures reads { Reads 1 steps.old steps.new }
 {
     if let Value::Node(id) = value {
         if is_exception(&machine.heap, value, steps) {
@@ -120,11 +98,10 @@ pub fn throw_value<T, L: Ledger>(
     steps: &mut Steps<L>,
 ) -> Result<T, Fault>
     requires room { HasRoomBy 1 machine.old }
-    requires sound_value { IsTrue (is_sound (length machine.old.heap) (value_of value.now)) }
+    requires sound_value { IsSoundIn machine.old.heap value.now }
     ensures gives { Gives (λ x. x) result (moment_of machine.new) (throw_value (value_of value.now) (moment_of machine.old)) }
-    ensures sound { IsSound (λ _. true) (length machine.new.heap) result }
-    ensures kept { GrownBy 1 machine.old steps.old machine.new steps.new }
-    ensures reads { ReadsBy 16 machine.old steps.old machine.new steps.new }
+    ensures sound { SoundEnd machine.new.heap result }
+    ensures costs { Costs 1 16 machine.old steps.old machine.new steps.new }
 {
     let Value::Class(class) = value else {
         return throw_object(machine, value, steps);
@@ -141,9 +118,8 @@ pub fn throw_value<T, L: Ledger>(
 #[tactic(auto, using(crate::proofs::Thrown::throw_rules))]
 pub fn throw_again<T, L: Ledger>(machine: &Machine, steps: &mut Steps<L>) -> Result<T, Fault>
     ensures gives { Gives (λ x. x) result (moment_of machine.now) (throw_again (moment_of machine.now)) }
-    ensures sound { IsSound (λ _. true) (length machine.now.heap) result }
-    ensures counted { steps.old ≤ steps.new }
-    ensures reads { steps.new ≤ steps.old + 8 }
+    ensures sound { SoundEnd machine.now.heap result }
+    ensures reads { Reads 8 steps.old steps.new }
 {
     match &machine.handled {
         Some(value) => throw_object(machine, value, steps),
@@ -156,12 +132,11 @@ pub fn throw_again<T, L: Ledger>(machine: &Machine, steps: &mut Steps<L>) -> Res
 /// The object that an exception on its way is, made where there is none yet.
 pub fn object_of(machine: &mut Machine, thrown: Thrown) -> Result<NodeId, Fault>
     requires room { length machine.old.heap + 1 < 2 ^ 32 }
-    requires sound_thrown { IsTrue (is_sound_thrown (length machine.old.heap) (thrown_of thrown)) }
+    requires sound_thrown { IsSoundThrown machine.old.heap thrown }
     ensures gives { Gives (λ id. node id.0) result (moment_of machine.new) (object_of (thrown_of thrown) (moment_of machine.old)) }
-    ensures sound { IsSound (λ _. true) (length machine.new.heap) result }
+    ensures sound { SoundEnd machine.new.heap result }
     ensures id { IfOk result (λ id. id.0 < length machine.new.heap) }
-    ensures heap { length machine.old.heap ≤ length machine.new.heap }
-    ensures one { length machine.new.heap ≤ length machine.old.heap + 1 }
+    ensures grows { Grows 1 machine.old.heap machine.new.heap }
     ensures budget { machine.new.budget ≡ machine.old.budget }
 {
     match thrown {
@@ -207,7 +182,7 @@ fn is_caught_by(class: ClassId, value: &Value) -> bool
     ensures { result ≡ is_caught_by class.0 (value_of value.now) }
 {
     match value {
-        Value::Class(other) => is_within(class.0, other.0),
+        Value::Class(other) => is_within(class, *other),
         Value::None => false,
         Value::Bool(_) => false,
         Value::Int(_) => false,
@@ -239,9 +214,8 @@ pub fn is_caught<L: Ledger>(
     steps: &mut Steps<L>,
 ) -> Result<bool, Fault>
     ensures gives { Gives (λ b. b) result (moment_of machine.now) (is_caught (thrown_of thrown.now) (value_of classes.now) (moment_of machine.now)) }
-    ensures sound { IsSound (λ _. true) (length machine.now.heap) result }
-    ensures counted { steps.old ≤ steps.new }
-    ensures reads { steps.new ≤ steps.old + 16 }
+    ensures sound { SoundEnd machine.now.heap result }
+    ensures reads { Reads 16 steps.old steps.new }
 {
     let class = kind_of_thrown(&machine.heap, thrown, steps);
     if is_class_of_exceptions(classes) {

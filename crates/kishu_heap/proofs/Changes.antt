@@ -16,11 +16,6 @@ unchanged_set [] i m d p h = absurd (omega arith)
 unchanged_set (n ∷ ns) zero m d p h = ap (λ x. x ∷ map node_of ns) h
 unchanged_set (n ∷ ns) (suc i) m d p h = ap (λ xs. node_of n ∷ xs) (unchanged_set ns i m d (omega arith) h)
 
-pub length_changed : (f : Node → Node) (i : ℕ) (ns : List Node) → length (changed f i ns) ≡ length ns
-length_changed f i [] = refl
-length_changed f zero (n ∷ ns) = refl
-length_changed f (suc i) (n ∷ ns) = ap suc (length_changed f i ns)
-
 -- ---- a list's items
 
 pub map_set : {A B : Type 0} (f : A → B) (xs : List A) (i : ℕ) (x : A) → map f (slice_set xs i x) ≡ slice_set (map f xs) i (f x)

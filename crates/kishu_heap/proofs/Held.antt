@@ -7,7 +7,8 @@ use Rattle.kishu_meaning.specs.values.Nodes.{changed, found}
 use Rattle.kishu_meaning.specs.values.Sound.{is_sound_node, are_sound_nodes, is_sound_heap}
 use Rattle.kishu_heap.specs.declared.node.Node as rust
 use Rattle.kishu_heap.specs.Cells.{node_of}
-use Rattle.kishu_heap.proofs.Changes.{changed_set, unchanged_set, length_changed}
+use Rattle.kishu_heap.specs.Changing.{length_changed}
+use Rattle.kishu_heap.proofs.Changes.{changed_set, unchanged_set}
 use Rattle.kishu_heap.proofs.Soundness.{both, all_append, Keeps, changed_sound, node_more, nodes_more}
 
 -- what holds of the nodes

@@ -1,3 +1,5 @@
 pub mod Cells
+pub mod Changing
 pub mod Compared
+pub mod Costs
 pub mod Tells

@@ -8,6 +8,7 @@ ghost use Rattle.kishu_meaning.specs.values.Nodes.{value_at};
 ghost use Rattle.kishu_meaning.specs.comparing.Equal.{node_in, equal_by, pair_equal, items_equal, lists_equal, value_equal, entries_equal, maps_equal, nodes_equal, equal_nodes};
 ghost use Rattle.kishu_heap.specs.Cells.{entries_of, attributes_of};
 ghost use Rattle.kishu_heap.specs.Compared.{Gives};
+ghost use Rattle.kishu_heap.specs.Costs.{Compares};
 
 use crate::fault::CompareFault;
 use crate::heap::Heap;
@@ -59,8 +60,7 @@ pub(crate) fn equal_values<L: Ledger>(
     steps: &mut Steps<L>,
 ) -> Result<bool, CompareFault>
     ensures gives { Gives result left.new (equal_by (equal_nodes heap.now room) (value_of a.now) (value_of b.now) left.old) }
-    ensures least { left.old + steps.old ≤ left.new + steps.new }
-    ensures most { 8 * left.new + steps.new ≤ 8 * left.old + steps.old + 2 }
+    ensures takes { Compares 2 left.old steps.old left.new steps.new }
 {
     if let (Some(i), Some(j)) = (node_in(a), node_in(b)) {
         if room == 0 {
@@ -83,8 +83,7 @@ fn equal_nodes<L: Ledger>(
     steps: &mut Steps<L>,
 ) -> Result<bool, CompareFault>
     ensures gives { Gives result left.new (nodes_equal (equal_nodes heap.now room) i.0 j.0 (slice_get heap.now i.0) (slice_get heap.now j.0) left.old) }
-    ensures least { left.old + steps.old ≤ left.new + steps.new }
-    ensures most { 8 * left.new + steps.new ≤ 8 * left.old + steps.old + 2 }
+    ensures takes { Compares 2 left.old steps.old left.new steps.new }
 {
     let (Some(a), Some(b)) = (heap.node_at(i, steps), heap.node_at(j, steps)) else {
         return Ok(i.0 == j.0);
@@ -115,8 +114,7 @@ fn equal_lists<L: Ledger>(
     steps: &mut Steps<L>,
 ) -> Result<bool, CompareFault>
     ensures gives { Gives result left.new (lists_equal (equal_nodes heap.now room) (map value_of a.now) (map value_of b.now) left.old) }
-    ensures least { left.old + steps.old ≤ left.new + steps.new }
-    ensures most { 8 * left.new + steps.new ≤ 8 * left.old + steps.old }
+    ensures takes { Compares 0 left.old steps.old left.new steps.new }
 {
     if a.len() == b.len() {
         return equal_items(heap, a, b, room, left, steps);
@@ -136,8 +134,7 @@ fn equal_items<L: Ledger>(
 ) -> Result<bool, CompareFault>
     requires { length a.now ≡ length b.now }
     ensures gives { Gives result left.new (items_equal (equal_nodes heap.now room) (map value_of a.now) (map value_of b.now) left.old) }
-    ensures least { left.old + steps.old ≤ left.new + steps.new }
-    ensures most { 8 * left.new + steps.new ≤ 8 * left.old + steps.old }
+    ensures takes { Compares 0 left.old steps.old left.new steps.new }
 {
     for i in 0..a.len() {
         if !equal_pair(heap, &a[i], &b[i], room, left, steps)? {
@@ -158,8 +155,7 @@ pub(crate) fn equal_pair<L: Ledger>(
     steps: &mut Steps<L>,
 ) -> Result<bool, CompareFault>
     ensures gives { Gives result left.new (pair_equal (equal_nodes heap.now room) (value_of a.now) (value_of b.now) left.old) }
-    ensures least { left.old + steps.old ≤ left.new + steps.new }
-    ensures most { 8 * left.new + steps.new ≤ 8 * left.old + steps.old }
+    ensures takes { Compares 0 left.old steps.old left.new steps.new }
     ensures spare { OnOk result (8 * left.new + steps.new + 2 ≤ 8 * left.old + steps.old) }
 {
     take_steps(1, left, steps)?;
@@ -181,8 +177,7 @@ fn equal_found<L: Ledger>(
     steps: &mut Steps<L>,
 ) -> Result<bool, CompareFault>
     ensures gives { Gives result left.new (value_equal (equal_nodes heap.now room) (value_of a.now) (option_map (λ v. value_of v.now) found.entry) left.old) }
-    ensures least { left.old + steps.old ≤ left.new + steps.new }
-    ensures most { 8 * left.new + steps.new ≤ 8 * left.old + steps.old }
+    ensures takes { Compares 0 left.old steps.old left.new steps.new }
 {
     match found {
         Some(b) => equal_pair(heap, a, b, room, left, steps),
@@ -201,8 +196,7 @@ fn equal_dicts<L: Ledger>(
     steps: &mut Steps<L>,
 ) -> Result<bool, CompareFault>
     ensures gives { Gives result left.new (maps_equal (equal_nodes heap.now room) is_one (entries_of a.now.entries) (entries_of b.now.entries) left.old) }
-    ensures least { left.old + steps.old ≤ left.new + steps.new }
-    ensures most { 8 * left.new + steps.new ≤ 8 * left.old + steps.old }
+    ensures takes { Compares 0 left.old steps.old left.new steps.new }
 {
     if a.len() == b.len() {
         return equal_entries(heap, a, b, room, left, steps);
@@ -221,8 +215,7 @@ fn equal_entries<L: Ledger>(
     steps: &mut Steps<L>,
 ) -> Result<bool, CompareFault>
     ensures gives { Gives result left.new (entries_equal (equal_nodes heap.now room) is_one (entries_of a.now.entries) (entries_of b.now.entries) left.old) }
-    ensures least { left.old + steps.old ≤ left.new + steps.new }
-    ensures most { 8 * left.new + steps.new ≤ 8 * left.old + steps.old }
+    ensures takes { Compares 0 left.old steps.old left.new steps.new }
 {
     for i in 0..a.len() {
         let Some((key, value)) = a.get_index(i) else {
@@ -246,8 +239,7 @@ fn equal_objects<L: Ledger>(
     steps: &mut Steps<L>,
 ) -> Result<bool, CompareFault>
     ensures gives { Gives result left.new (maps_equal (equal_nodes heap.now room) bytes_eq (attributes_of a.now.entries) (attributes_of b.now.entries) left.old) }
-    ensures least { left.old + steps.old ≤ left.new + steps.new }
-    ensures most { 8 * left.new + steps.new ≤ 8 * left.old + steps.old }
+    ensures takes { Compares 0 left.old steps.old left.new steps.new }
 {
     if a.len() == b.len() {
         return equal_attributes(heap, a, b, room, left, steps);
@@ -266,8 +258,7 @@ fn equal_attributes<L: Ledger>(
     steps: &mut Steps<L>,
 ) -> Result<bool, CompareFault>
     ensures gives { Gives result left.new (entries_equal (equal_nodes heap.now room) bytes_eq (attributes_of a.now.entries) (attributes_of b.now.entries) left.old) }
-    ensures least { left.old + steps.old ≤ left.new + steps.new }
-    ensures most { 8 * left.new + steps.new ≤ 8 * left.old + steps.old }
+    ensures takes { Compares 0 left.old steps.old left.new steps.new }
 {
     for i in 0..a.len() {
         let Some((name, value)) = a.get_index(i) else {

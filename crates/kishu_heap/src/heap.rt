@@ -12,6 +12,7 @@ ghost use Rattle.kishu_meaning_laws.specs.EqualLaws.{value_under_equal, insert_b
 ghost use Rattle.kishu_heap.specs.Cells.{node_of};
 ghost use Rattle.kishu_heap.specs.Compared.{Gives, Orders};
 ghost use Rattle.kishu_heap.specs.Tells.{TellsOfRanges, TellsOfKeys};
+ghost use Rattle.kishu_heap.specs.Costs.{Compares, Reads};
 
 use crate::compare::{equal_pair, equal_values};
 use crate::edit;
@@ -78,8 +79,7 @@ impl Heap {
     /// A node, where there is one of this number. It takes at most one step of the counter.
     pub(crate) fn node_at<L: Ledger>(&self, id: NodeId, steps: &mut Steps<L>) -> Option<&Node>
         ensures node { option_map (λ n. node_of n.now) result ≡ slice_get self.now id.0 }
-        ensures counted { steps.new ≤ steps.old + 1 }
-        ensures kept { steps.old ≤ steps.new }
+        ensures reads { Reads 1 steps.old steps.new }
     {
         if id.0 < self.len() {
             Some(self.node(id, steps))
@@ -216,8 +216,7 @@ impl Heap {
         ensures ranges { IfOk result (TellsOfRanges (value_of a.now) (value_of b.now)) }
         ensures keys { IfOk result (TellsOfKeys self.now (value_of a.now) (value_of b.now)) }
         ensures depth { budget.new.depth ≡ budget.old.depth }
-        ensures least { budget.old.left + steps.old ≤ budget.new.left + steps.new }
-        ensures most { 8 * budget.new.left + steps.new ≤ 8 * budget.old.left + steps.old + 8 }
+        ensures takes { Compares 8 budget.old.left steps.old budget.new.left steps.new }
     {
         let room = room_at(budget.depth);
         equal_values(self, a, b, room, &mut budget.left, steps)
@@ -235,8 +234,7 @@ impl Heap {
     ) -> Result<bool, CompareFault>
         ensures gives { Gives result budget.new.left (pair_equal (equal_nodes self.now (room_at budget.old.depth)) (value_of item.now) (value_of value.now) budget.old.left) }
         ensures depth { budget.new.depth ≡ budget.old.depth }
-        ensures least { budget.old.left + steps.old ≤ budget.new.left + steps.new }
-        ensures most { 8 * budget.new.left + steps.new ≤ 8 * budget.old.left + steps.old }
+        ensures takes { Compares 0 budget.old.left steps.old budget.new.left steps.new }
     {
         let room = room_at(budget.depth);
         equal_pair(self, item, value, room, &mut budget.left, steps)
@@ -254,8 +252,7 @@ impl Heap {
     ) -> Result<bool, CompareFault>
         ensures gives { Orders result budget.new.left (less_in self.now budget.old.depth (value_of a.now) (value_of b.now) budget.old.left) }
         ensures depth { budget.new.depth ≡ budget.old.depth }
-        ensures least { budget.old.left + steps.old ≤ budget.new.left + steps.new }
-        ensures most { 8 * budget.new.left + steps.new ≤ 8 * budget.old.left + steps.old + 8 }
+        ensures takes { Compares 8 budget.old.left steps.old budget.new.left steps.new }
     {
         let room = room_at(budget.depth);
         less_values(self, a, b, room, &mut budget.left, steps)

@@ -5,6 +5,7 @@ ghost use Rattle.kishu_meaning.specs.values.Values.{value_of};
 ghost use Rattle.kishu_meaning.specs.moments.Counting.{and_then, give, spend};
 ghost use Rattle.kishu_meaning.specs.comparing.Equal.{equal_nodes, less_plain, pair_steps, less_by, items_less, nodes_less, less_nodes};
 ghost use Rattle.kishu_heap.specs.Compared.{Orders};
+ghost use Rattle.kishu_heap.specs.Costs.{Compares};
 
 use crate::compare::{equal_pair, node_in};
 use crate::fault::CompareFault;
@@ -42,8 +43,7 @@ pub(crate) fn less_values<L: Ledger>(
     steps: &mut Steps<L>,
 ) -> Result<bool, CompareFault>
     ensures gives { Orders result left.new (less_by (less_nodes heap.now room) (value_of a.now) (value_of b.now) left.old) }
-    ensures least { left.old + steps.old ≤ left.new + steps.new }
-    ensures most { 8 * left.new + steps.new ≤ 8 * left.old + steps.old + 2 }
+    ensures takes { Compares 2 left.old steps.old left.new steps.new }
 {
     if let (Some(i), Some(j)) = (node_in(a), node_in(b)) {
         if room == 0 {
@@ -65,8 +65,7 @@ fn less_nodes<L: Ledger>(
     steps: &mut Steps<L>,
 ) -> Result<bool, CompareFault>
     ensures gives { Orders result left.new (nodes_less (equal_nodes heap.now room) (less_nodes heap.now room) (slice_get heap.now i.0) (slice_get heap.now j.0) left.old) }
-    ensures least { left.old + steps.old ≤ left.new + steps.new }
-    ensures most { 8 * left.new + steps.new ≤ 8 * left.old + steps.old + 2 }
+    ensures takes { Compares 2 left.old steps.old left.new steps.new }
 {
     let (Some(a), Some(b)) = (heap.node_at(i, steps), heap.node_at(j, steps)) else {
         return Err(CompareFault::Unordered);
@@ -91,8 +90,7 @@ fn less_items<L: Ledger>(
     steps: &mut Steps<L>,
 ) -> Result<bool, CompareFault>
     ensures gives { Orders result left.new (items_less (equal_nodes heap.now room) (less_nodes heap.now room) (map value_of a.now) (map value_of b.now) left.old) }
-    ensures least { left.old + steps.old ≤ left.new + steps.new }
-    ensures most { 8 * left.new + steps.new ≤ 8 * left.old + steps.old }
+    ensures takes { Compares 0 left.old steps.old left.new steps.new }
 {
     let common = a.len().min(b.len());
     for i in 0..common {

@@ -4,7 +4,8 @@ use Rattle.std.specs.Ordering.{int_eq}
 use Rattle.std.specs.Str.{bytes_eq}
 use Rattle.std.specs.Cmp.Lexicographic.{pointwise}
 use Rattle.std.specs.Bool.{beq}
-use Rattle.kishu_language.specs.declared.profile.Profile.TheVariants.{One}
+use Rattle.kishu_language.specs.declared.profile.Profile.{Profile}
+use Rattle.kishu_language.specs.declared.profile.Profile.TheVariants.{One, Two}
 use Rattle.kishu_meaning.specs.values.Keys.{KeyPart, Key, single}
 use Rattle.kishu_meaning.specs.values.Keys as k
 use Rattle.kishu_meaning.specs.values.Values.{Value, none, bool, integer, text, range, builtin, class, node, Node, list, tuple, dict, object, function, exception, State}
@@ -19,6 +20,11 @@ is_value (builtin a) (builtin b) = a == b
 is_value (class a) (class b) = a == b
 is_value (node a) (node b) = a == b
 is_value v w = false
+
+abbrev pub is_profile : Profile → Profile → Bool
+is_profile One One = true
+is_profile Two Two = true
+is_profile p q = false
 
 abbrev pub is_part : KeyPart → KeyPart → Bool
 is_part k.none k.none = true
@@ -37,7 +43,7 @@ is_node (list vs) (list ws) = pointwise is_value vs ws
 is_node (tuple vs) (tuple ws) = pointwise is_value vs ws
 is_node (dict es) (dict fs) = pointwise (λ (e f : Key × Value). is_key e.0 f.0 && is_value e.1 f.1) es fs
 is_node (object es) (object fs) = pointwise (λ (e f : List ℕ × Value). bytes_eq e.0 f.0 && is_value e.1 f.1) es fs
-is_node (function One a vs) (function One b ws) = bytes_eq a b && pointwise is_value vs ws
+is_node (function p a vs) (function q b ws) = is_profile p q && (bytes_eq a b && pointwise is_value vs ws)
 is_node (exception a vs) (exception b ws) = (a == b) && pointwise is_value vs ws
 is_node n m = false
 

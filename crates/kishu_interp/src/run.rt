@@ -1,14 +1,13 @@
 // Texts that run.
-ghost use Rattle.std.specs.Prelude.{IfOk, IsTrue, Ok, OnOk, length, ◌+◌, ◌<◌, ◌^◌, ◌≡◌, ◌≤◌, ◌*◌};
+ghost use Rattle.std.specs.Prelude.{IfOk, IsTrue, OnOk, length, ◌*◌, ◌+◌, ◌^◌, ◌≡◌, ◌≤◌};
+ghost use Rattle.kishu_language.specs.Limits.{longest_text};
+ghost use Rattle.kishu_meaning.specs.cells.Meaning.{unread};
 ghost use Rattle.kishu_meaning.specs.moments.Accesses.{with_accesses};
-ghost use Rattle.kishu_language.specs.trees.Height.{of_statements};
-ghost use Rattle.kishu_meaning.specs.cells.Meaning.{run, run_tree, unread};
 ghost use Rattle.kishu_meaning.specs.values.Sound.{are_sound_names};
-ghost use Rattle.kishu_language.specs.trees.Tree.{program_of};
 ghost use Rattle.kishu_meaning.specs.values.Values.{State, report_of};
-ghost use Rattle.kishu_calls.specs.Trees.{statements_of};
-ghost use Rattle.kishu_language.specs.trees.Fits.{StatementsFit};
-ghost use Rattle.kishu_machine.specs.Machine.{state_in};
+ghost use Rattle.kishu_statements.specs.Handed.{FitBlock, LowBlock};
+ghost use Rattle.kishu_objects.specs.State.{IsState};
+ghost use Rattle.kishu_interp.specs.Running.{StopsAtBudget, state_in, text_run, tree_run};
 
 use kishu_calls::{ended, fault_output, finish};
 use kishu_heap::Heap;
@@ -31,16 +30,16 @@ fn run_program<L: Ledger>(
     names: &mut Names,
     steps: &mut Steps<L>,
 ) -> Result<CellResult, AllocError>
-    requires small { of_statements (statements_of program.now.statements.items) < 2 ^ 20 }
-    requires fits { StatementsFit (statements_of program.now.statements.items) }
+    requires small { LowBlock program.now.statements.items }
+    requires fits { FitBlock program.now.statements.items }
     requires room { length heap.old ≤ 2 ^ 31 }
     requires sound { IsTrue (are_sound_names (length heap.old) names.old.bound) }
-    ensures report { IfOk result (λ r. report_of r ≡ (run_tree profile (Ok (program_of program.now)) (state_in heap.old names.old)).report) }
-    ensures state { OnOk result (state_in heap.new names.new ≡ (run_tree profile (Ok (program_of program.now)) (state_in heap.old names.old)).state) }
-    ensures accessed { OnOk result (names.new.accessed ≡ with_accesses (run_tree profile (Ok (program_of program.now)) (state_in heap.old names.old)).accessed names.old.accessed) }
+    ensures report { IfOk result (λ r. report_of r ≡ (tree_run profile program.now heap.old names.old).report) }
+    ensures state { OnOk result (state_in heap.new names.new ≡ (tree_run profile program.now heap.old names.old).state) }
+    ensures accessed { OnOk result (names.new.accessed ≡ with_accesses (tree_run profile program.now heap.old names.old).accessed names.old.accessed) }
     ensures sound { IsTrue (are_sound_names (length heap.new) names.new.bound) }
-    ensures least { OnOk result (steps.old + (run_tree profile (Ok (program_of program.now)) (state_in heap.old names.old)).charge ≤ steps.new) }
-    ensures most { OnOk result (steps.new ≤ steps.old + 128 * (run_tree profile (Ok (program_of program.now)) (state_in heap.old names.old)).charge + 128) }
+    ensures least { OnOk result (steps.old + (tree_run profile program.now heap.old names.old).charge ≤ steps.new) }
+    ensures most { OnOk result (steps.new ≤ steps.old + 128 * (tree_run profile program.now heap.old names.old).charge + 128) }
 {
     let earlier = names.take_record();
     let mut machine = Machine {
@@ -78,8 +77,8 @@ fn syntax_fault(alloc: Global, line: u32) -> Result<CellResult, AllocError>
 /// Heap and names are left as the cell changed them, also before a statement that raised. The names
 /// that it accessed, misses too, are added to the record of `names`. What was printed is one output,
 /// before the value that the last statement shows, or the exception that ended the cell. A cell that
-/// takes 4,000,000 steps and needs one more is stopped. A text without a tree runs nothing: its
-/// output is a SyntaxError that names the line of its fault, and all stays.
+/// takes 4,000,000 steps and needs one more is stopped, and no other one. A text without a tree runs
+/// nothing: its output is a SyntaxError that names the line of its fault, and all stays.
 ///
 /// At `Ok` `steps` has risen by at least the steps that the cell took, and by at most 128 times these
 /// and 128. The only error is want of memory: heap and names are valid then, and nothing else is said
@@ -95,15 +94,16 @@ pub fn run_cell<L: Ledger>(
     names: &mut Names,
     steps: &mut Steps<L>,
 ) -> Result<CellResult, AllocError>
-    requires short { length text.now ≤ 1048576 }
+    requires short { length text.now ≤ longest_text }
     requires room { length heap.old ≤ 2 ^ 31 }
     requires sound { IsTrue (are_sound_names (length heap.old) names.old.bound) }
-    ensures report { IfOk result (λ r. report_of r ≡ (run profile text.now (state_in heap.old names.old)).report) }
-    ensures state { OnOk result (state_in heap.new names.new ≡ (run profile text.now (state_in heap.old names.old)).state) }
-    ensures accessed { OnOk result (names.new.accessed ≡ with_accesses (run profile text.now (state_in heap.old names.old)).accessed names.old.accessed) }
+    ensures report { IfOk result (λ r. report_of r ≡ (text_run profile text.now heap.old names.old).report) }
+    ensures state { OnOk result (state_in heap.new names.new ≡ (text_run profile text.now heap.old names.old).state) }
+    ensures accessed { OnOk result (names.new.accessed ≡ with_accesses (text_run profile text.now heap.old names.old).accessed names.old.accessed) }
     ensures sound { IsTrue (are_sound_names (length heap.new) names.new.bound) }
-    ensures least { OnOk result (steps.old + (run profile text.now (state_in heap.old names.old)).charge ≤ steps.new) }
-    ensures most { OnOk result (steps.new ≤ steps.old + 128 * (run profile text.now (state_in heap.old names.old)).charge + 128) }
+    ensures stopped { IfOk result (λ r. IsState (state_in heap.old names.old) → StopsAtBudget r.outcome profile text.now (state_in heap.old names.old)) }
+    ensures least { OnOk result (steps.old + (text_run profile text.now heap.old names.old).charge ≤ steps.new) }
+    ensures most { OnOk result (steps.new ≤ steps.old + 128 * (text_run profile text.now heap.old names.old).charge + 128) }
 {
     match parse(alloc, profile, text) {
         Ok(program) => run_program(alloc, profile, &program, heap, names, steps),

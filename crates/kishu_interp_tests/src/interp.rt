@@ -6,7 +6,7 @@ mod cells;
 
 use kishu_heap::Heap;
 use kishu_interp::run_cell;
-use kishu_language::Profile;
+use kishu_language::{LONGEST_TEXT, Profile};
 use kishu_meaning::{CellResult, Outcome, Output, Steps};
 use kishu_names::Names;
 use std::alloc::{AllocError, Global};
@@ -60,7 +60,7 @@ fn next<L: Ledger>(
     requires sound { IsTrue (are_sound_names (length heap.old) names.old.bound) }
     ensures sound { IsTrue (are_sound_names (length heap.new) names.new.bound) }
 {
-    if text.len() > 1_048_576 || heap.len() > 2_147_483_648 {
+    if text.len() > LONGEST_TEXT || heap.len() > 2_147_483_648 {
         return String::from_str(alloc, "too long");
     }
     let ran = run_cell(alloc, Profile::One, text, heap, names, steps)?;

@@ -1,5 +1,6 @@
 pub mod Ends
-pub mod Ranges
+pub mod RangeNumbers
 pub mod Parts
 pub mod Copying
 pub mod Items
+pub mod Pushing

@@ -11,6 +11,7 @@ ghost use Rattle.kishu_meaning.specs.values.Sound.{is_sound};
 ghost use Rattle.kishu_meaning.specs.values.Values.{value_of};
 ghost use Rattle.kishu_heap.specs.Compared as compared;
 ghost use Rattle.kishu_heap.specs.declared.fault.CallFault.TheVariants as faults;
+ghost use Rattle.kishu_heap.specs.Costs.{Reads};
 ghost use Rattle.kishu_items.specs.Called.{Gives};
 
 use crate::kinds::kind_name;
@@ -19,27 +20,6 @@ use kishu_meaning::{ClassId, Steps, Value};
 use std::alloc::{AllocError, Global};
 use std::rc::RcStr;
 use std::sync::ledger::Ledger;
-
-/// The class `OverflowError`.
-pub const OVERFLOW_ERROR: ClassId = ClassId(10);
-
-/// The class `ZeroDivisionError`.
-pub const ZERO_DIVISION_ERROR: ClassId = ClassId(11);
-
-/// The class `IndexError`.
-pub const INDEX_ERROR: ClassId = ClassId(15);
-
-/// The class `KeyError`.
-pub const KEY_ERROR: ClassId = ClassId(16);
-
-/// The class `RecursionError`.
-pub const RECURSION_ERROR: ClassId = ClassId(21);
-
-/// The class `TypeError`.
-pub const TYPE_ERROR: ClassId = ClassId(23);
-
-/// The class `ValueError`.
-pub const VALUE_ERROR: ClassId = ClassId(24);
 
 /// An exception of this class with this text.
 pub fn raise<T>(class: ClassId, text: RcStr) -> Result<T, CallFault>
@@ -84,7 +64,7 @@ pub fn bad_arguments(alloc: Global, name: &str) -> Result<Value, CallFault>
     requires { IsTrue (list_all (λ c. nat_lt c 128) name.now) }
     ensures { (s : Moment) → Gives value_of result s (bad_arguments name.now s) }
 {
-    raise(TYPE_ERROR, bad_arguments_text(alloc, name)?)
+    raise(ClassId::TYPE_ERROR, bad_arguments_text(alloc, name)?)
 }
 
 fn quoted(alloc: Global, front: &str, name: &str, back: &str) -> Result<String, AllocError>
@@ -104,8 +84,7 @@ pub fn not_iterable_text<L: Ledger>(
 ) -> Result<RcStr, AllocError>
     requires sound { IsTrue (is_sound (length heap.now) (value_of value.now)) }
     ensures text { IfOk result (λ t. chars (rc_str_bytes t) ≡ quoted_kind heap.now (value_of value.now) ++ codes " object is not iterable") }
-    ensures counted { steps.old ≤ steps.new }
-    ensures reads { steps.new ≤ steps.old + 1 }
+    ensures reads { Reads 1 steps.old steps.new }
 {
     let kind = kind_name(value, heap, steps);
     RcStr::from_string(quoted(alloc, "", kind, " object is not iterable")?)
@@ -131,8 +110,7 @@ pub fn bad_operands_text<L: Ledger>(
     requires left { IsTrue (is_sound (length heap.now) (value_of left.now)) }
     requires right { IsTrue (is_sound (length heap.now) (value_of right.now)) }
     ensures text { IfOk result (λ t. chars (rc_str_bytes t) ≡ codes "bad operand types for " ++ sign.now ++ codes ": " ++ quoted_kind heap.now (value_of left.now) ++ codes " and " ++ quoted_kind heap.now (value_of right.now)) }
-    ensures counted { steps.old ≤ steps.new }
-    ensures reads { steps.new ≤ steps.old + 2 }
+    ensures reads { Reads 2 steps.old steps.new }
 {
     let left = kind_name(left, heap, steps);
     let right = kind_name(right, heap, steps);
@@ -148,8 +126,7 @@ pub fn bad_index_text<L: Ledger>(
 ) -> Result<RcStr, AllocError>
     requires sound { IsTrue (is_sound (length heap.now) (value_of value.now)) }
     ensures text { IfOk result (λ t. chars (rc_str_bytes t) ≡ codes "bad index type: " ++ quoted_kind heap.now (value_of value.now)) }
-    ensures counted { steps.old ≤ steps.new }
-    ensures reads { steps.new ≤ steps.old + 1 }
+    ensures reads { Reads 1 steps.old steps.new }
 {
     let kind = kind_name(value, heap, steps);
     RcStr::from_string(quoted(alloc, "bad index type: ", kind, "")?)
@@ -164,8 +141,7 @@ pub fn unhashable_text<L: Ledger>(
 ) -> Result<RcStr, AllocError>
     requires sound { IsTrue (is_sound (length heap.now) (value_of value.now)) }
     ensures text { IfOk result (λ t. chars (rc_str_bytes t) ≡ codes "unhashable key: " ++ quoted_kind heap.now (value_of value.now)) }
-    ensures counted { steps.old ≤ steps.new }
-    ensures reads { steps.new ≤ steps.old + 1 }
+    ensures reads { Reads 1 steps.old steps.new }
 {
     let kind = kind_name(value, heap, steps);
     RcStr::from_string(quoted(alloc, "unhashable key: ", kind, "")?)
@@ -179,7 +155,7 @@ pub fn compared<T>(alloc: Global, answer: Result<T, CompareFault>) -> Result<T, 
     match answer {
         Ok(value) => Ok(value),
         Err(CompareFault::Depth) => raise(
-            RECURSION_ERROR,
+            ClassId::RECURSION_ERROR,
             plain_text(alloc, "depth limit reached")?,
         ),
         Err(CompareFault::Spent | CompareFault::Unordered) => Err(CallFault::Spent),

@@ -6,11 +6,12 @@ ghost use Rattle.kishu_meaning.specs.moments.Moment.{Moment};
 ghost use Rattle.kishu_meaning.specs.values.Sound.{is_sound};
 ghost use Rattle.kishu_meaning.specs.values.Values.{Node, value_of};
 ghost use Rattle.kishu_meaning.specs.declared.budget.Budget.{Budget};
+ghost use Rattle.kishu_heap.specs.Costs.{Reads};
 ghost use Rattle.kishu_items.specs.Called.{moment_of, Gives};
 
-use crate::faults::{INDEX_ERROR, TYPE_ERROR, bad_index_text, plain_text, raise};
+use crate::faults::{bad_index_text, plain_text, raise};
 use kishu_heap::{CallFault, Heap};
-use kishu_meaning::{Budget, Steps, Value};
+use kishu_meaning::{Budget, ClassId, Steps, Value};
 use std::alloc::Global;
 use std::sync::ledger::Ledger;
 
@@ -39,12 +40,14 @@ pub fn index_of<L: Ledger>(
 ) -> Result<i128, CallFault>
     requires sound { IsTrue (is_sound (length heap.now) (value_of value.now)) }
     ensures gives { (b : Budget) → Gives (λ z. z) result (moment_of heap.now b) (index_of (value_of value.now) (moment_of heap.now b)) }
-    ensures counted { steps.old ≤ steps.new }
-    ensures reads { steps.new ≤ steps.old + 1 }
+    ensures reads { Reads 1 steps.old steps.new }
 {
     match number_in(value) {
         Some(number) => Ok(number),
-        None => raise(TYPE_ERROR, bad_index_text(alloc, value, heap, steps)?),
+        None => raise(
+            ClassId::TYPE_ERROR,
+            bad_index_text(alloc, value, heap, steps)?,
+        ),
     }
 }
 
@@ -73,7 +76,10 @@ pub fn place_of(alloc: Global, len: usize, index: i128) -> Result<usize, CallFau
 {
     match place_in(len, index) {
         Some(place) => Ok(place),
-        None => raise(INDEX_ERROR, plain_text(alloc, "index out of range")?),
+        None => raise(
+            ClassId::INDEX_ERROR,
+            plain_text(alloc, "index out of range")?,
+        ),
     }
 }
 

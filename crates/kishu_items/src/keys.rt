@@ -11,14 +11,15 @@ ghost use Rattle.kishu_meaning.specs.values.Sound.{is_sound, are_sound};
 ghost use Rattle.kishu_meaning.specs.values.Values as model;
 ghost use Rattle.kishu_meaning.specs.values.Values.{value_of, node};
 ghost use Rattle.kishu_heap.specs.Cells.{entries_of};
+ghost use Rattle.kishu_heap.specs.Costs.{Reads, Spends};
 ghost use Rattle.kishu_items.specs.Called.{moment_of, Gives};
 ghost use Rattle.kishu_items.specs.Contents.{IsGrown};
 
-use crate::faults::{TYPE_ERROR, raise, unhashable_text};
+use crate::faults::{raise, unhashable_text};
 use crate::spending::spend;
 use indexmap::IndexMap;
 use kishu_heap::{CallFault, Heap, Node};
-use kishu_meaning::{Budget, Key, KeyPart, NodeId, Steps, Value};
+use kishu_meaning::{Budget, ClassId, Key, KeyPart, NodeId, Steps, Value};
 use std::alloc::{AllocError, Global};
 use std::sync::ledger::Ledger;
 
@@ -44,13 +45,15 @@ fn part_of<L: Ledger>(
 ) -> Result<KeyPart, CallFault>
     requires sound { IsTrue (is_sound (length heap.now) (value_of value.now)) }
     ensures gives { (b : Budget) → Gives part_of result (moment_of heap.now b) (or_else (unhashable (value_of value.now)) (part_in (value_of value.now)) (moment_of heap.now b)) }
-    ensures counted { steps.old ≤ steps.new }
-    ensures reads { steps.new ≤ steps.old + 1 }
+    ensures reads { Reads 1 steps.old steps.new }
     ensures unread { OnOk result (steps.new ≤ steps.old) }
 {
     match part_in(value)? {
         Some(part) => Ok(part),
-        None => raise(TYPE_ERROR, unhashable_text(alloc, value, heap, steps)?),
+        None => raise(
+            ClassId::TYPE_ERROR,
+            unhashable_text(alloc, value, heap, steps)?,
+        ),
     }
 }
 
@@ -63,8 +66,7 @@ fn parts_of<L: Ledger>(
 ) -> Result<Vec<KeyPart>, CallFault>
     requires sound { IsTrue (are_sound (length heap.now) (map value_of values.now)) }
     ensures gives { (b : Budget) → Gives (λ v. map part_of v.items) result (moment_of heap.now b) (parts_of (map value_of values.now) (moment_of heap.now b)) }
-    ensures counted { steps.old ≤ steps.new }
-    ensures reads { steps.new ≤ steps.old + length values.now }
+    ensures reads { Reads (length values.now) steps.old steps.new }
 {
     let mut parts = Vec::new(alloc);
     for i in 0..values.len() {
@@ -83,10 +85,7 @@ fn tuple_key<L: Ledger>(
 ) -> Result<Key, CallFault>
     requires sound { IsTrue (are_sound (length heap.now) (map value_of values.now)) }
     ensures gives { (v : model.Value) → Gives key_of result (moment_of heap.now budget.new) (tuple_key v (Some (map value_of values.now)) (moment_of heap.now budget.old)) }
-    ensures left { budget.new.left ≤ budget.old.left }
-    ensures depth { budget.new.depth ≡ budget.old.depth }
-    ensures least { budget.old.left + steps.old ≤ budget.new.left + steps.new }
-    ensures reads { 24 * budget.new.left + steps.new ≤ 24 * budget.old.left + steps.old }
+    ensures spends { Spends 0 budget.old steps.old budget.new steps.new }
 {
     spend(values.len() as u128, budget, steps)?;
     Ok(Key::Tuple(parts_of(alloc, values, heap, steps)?))
@@ -100,10 +99,12 @@ fn unhashable<L: Ledger>(
 ) -> Result<Key, CallFault>
     requires sound { IsTrue (is_sound (length heap.now) (value_of value.now)) }
     ensures gives { (b : Budget) → Gives key_of result (moment_of heap.now b) (unhashable (value_of value.now) (moment_of heap.now b)) }
-    ensures counted { steps.old ≤ steps.new }
-    ensures reads { steps.new ≤ steps.old + 1 }
+    ensures reads { Reads 1 steps.old steps.new }
 {
-    raise(TYPE_ERROR, unhashable_text(alloc, value, heap, steps)?)
+    raise(
+        ClassId::TYPE_ERROR,
+        unhashable_text(alloc, value, heap, steps)?,
+    )
 }
 
 // The key that a node is: it must be a tuple.
@@ -116,10 +117,7 @@ fn node_key<L: Ledger>(
 ) -> Result<Key, CallFault>
     requires id { id.0 < length heap.now }
     ensures gives { Gives key_of result (moment_of heap.now budget.new) (key_of_value (node id.0) (moment_of heap.now budget.old)) }
-    ensures left { budget.new.left ≤ budget.old.left }
-    ensures depth { budget.new.depth ≡ budget.old.depth }
-    ensures least { budget.old.left + steps.old ≤ budget.new.left + steps.new }
-    ensures reads { 24 * budget.new.left + steps.new ≤ 24 * budget.old.left + steps.old + 2 }
+    ensures spends { Spends 2 budget.old steps.old budget.new steps.new }
 {
     match heap.node(id, steps) {
         Node::Tuple(items) => tuple_key(alloc, items.as_slice(), heap, budget, steps),
@@ -139,10 +137,7 @@ pub fn key_of<L: Ledger>(
 ) -> Result<Key, CallFault>
     requires sound { IsTrue (is_sound (length heap.now) (value_of value.now)) }
     ensures gives { Gives key_of result (moment_of heap.now budget.new) (key_of_value (value_of value.now) (moment_of heap.now budget.old)) }
-    ensures left { budget.new.left ≤ budget.old.left }
-    ensures depth { budget.new.depth ≡ budget.old.depth }
-    ensures least { budget.old.left + steps.old ≤ budget.new.left + steps.new }
-    ensures reads { 24 * budget.new.left + steps.new ≤ 24 * budget.old.left + steps.old + 2 }
+    ensures spends { Spends 2 budget.old steps.old budget.new steps.new }
 {
     match value {
         Value::None => Ok(Key::None),
@@ -237,10 +232,7 @@ pub fn value_of_key<L: Ledger>(
     ensures gives { Gives value_of result (moment_of heap.new budget.new) (value_of_key (key_of key.now) (moment_of heap.old budget.old)) }
     ensures sound { IfOk result (λ v. IsTrue (is_sound (length heap.new) (value_of v))) }
     ensures more { IsGrown 1 heap.old heap.new }
-    ensures left { budget.new.left ≤ budget.old.left }
-    ensures depth { budget.new.depth ≡ budget.old.depth }
-    ensures least { budget.old.left + steps.old ≤ budget.new.left + steps.new }
-    ensures reads { 24 * budget.new.left + steps.new ≤ 24 * budget.old.left + steps.old }
+    ensures spends { Spends 0 budget.old steps.old budget.new steps.new }
 {
     match key {
         Key::None => Ok(Value::None),
@@ -263,10 +255,7 @@ fn new_tuple<L: Ledger>(
     ensures gives { Gives value_of result (moment_of heap.new budget.new) (value_of_key (keys.tuple (map part_of parts.now)) (moment_of heap.old budget.old)) }
     ensures sound { IfOk result (λ v. IsTrue (is_sound (length heap.new) (value_of v))) }
     ensures more { IsGrown 1 heap.old heap.new }
-    ensures left { budget.new.left ≤ budget.old.left }
-    ensures depth { budget.new.depth ≡ budget.old.depth }
-    ensures least { budget.old.left + steps.old ≤ budget.new.left + steps.new }
-    ensures reads { 24 * budget.new.left + steps.new ≤ 24 * budget.old.left + steps.old }
+    ensures spends { Spends 0 budget.old steps.old budget.new steps.new }
 {
     spend(parts.len() as u128, budget, steps)?;
     let values = values_of_parts(alloc, parts)?;
@@ -285,10 +274,7 @@ pub fn values_of_keys<L: Ledger>(
     ensures gives { Gives (λ v. map value_of v.items) result (moment_of heap.new budget.new) (values_of_keys (map key_of keys.now) (moment_of heap.old budget.old)) }
     ensures sound { IfOk result (λ v. IsTrue (are_sound (length heap.new) (map value_of v.items))) }
     ensures more { IsGrown (length keys.now) heap.old heap.new }
-    ensures left { budget.new.left ≤ budget.old.left }
-    ensures depth { budget.new.depth ≡ budget.old.depth }
-    ensures least { budget.old.left + steps.old ≤ budget.new.left + steps.new }
-    ensures reads { 24 * budget.new.left + steps.new ≤ 24 * budget.old.left + steps.old }
+    ensures spends { Spends 0 budget.old steps.old budget.new steps.new }
 {
     let mut values = Vec::new(alloc);
     for i in 0..keys.len() {

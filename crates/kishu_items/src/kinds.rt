@@ -5,6 +5,7 @@ ghost use Rattle.kishu_meaning.specs.values.Kinds.{node_kind, kind_in};
 ghost use Rattle.kishu_meaning.specs.values.Sound.{is_sound};
 ghost use Rattle.kishu_meaning.specs.values.Values.{value_of};
 ghost use Rattle.kishu_heap.specs.Cells.{node_of};
+ghost use Rattle.kishu_heap.specs.Costs.{Reads};
 
 use kishu_heap::{Heap, Node};
 use kishu_meaning::{Steps, Value, class_name};
@@ -27,8 +28,7 @@ fn node_kind(node: &Node) -> &'static str
 pub fn kind_name<L: Ledger>(value: &Value, heap: &Heap, steps: &mut Steps<L>) -> &'static str
     requires sound { IsTrue (is_sound (length heap.now) (value_of value.now)) }
     ensures kind { chars result.now ≡ kind_in heap.now (value_of value.now) }
-    ensures counted { steps.old ≤ steps.new }
-    ensures reads { steps.new ≤ steps.old + 1 }
+    ensures reads { Reads 1 steps.old steps.new }
 {
     match value {
         Value::None => "NoneType",

@@ -4,23 +4,28 @@
 //! says that no memory is left.
 #![tactic(auto)]
 
+mod classes;
 mod faults;
 mod indexes;
 mod keys;
 mod kinds;
+mod lists;
+mod ranges;
 mod sequences;
 mod sorting;
 mod spending;
 mod truth;
 
+pub use classes::is_within;
 pub use faults::{
-    INDEX_ERROR, KEY_ERROR, OVERFLOW_ERROR, RECURSION_ERROR, TYPE_ERROR, VALUE_ERROR,
-    ZERO_DIVISION_ERROR, bad_arguments, bad_arguments_text, bad_index_text, bad_operands_text,
-    compared, not_iterable_text, plain_text, raise, unhashable_text,
+    bad_arguments, bad_arguments_text, bad_index_text, bad_operands_text, compared,
+    not_iterable_text, plain_text, raise, unhashable_text,
 };
 pub use indexes::{bound_in, index_of, number_in, place_in, place_of};
 pub use keys::{copied_key, copied_keys, copied_map, key_of, value_of_key, values_of_keys};
 pub use kinds::kind_name;
+pub use lists::push_all;
+pub use ranges::number_at;
 pub use sequences::{
     character_text, copied_all, count_in, items_of, not_iterable, not_iterable_value, walked,
 };

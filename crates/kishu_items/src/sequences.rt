@@ -10,14 +10,16 @@ ghost use Rattle.kishu_meaning.specs.values.Values.{value_of, node};
 ghost use Rattle.kishu_meaning.specs.items.Sequences.{node_count, count_in, text_items, range_items, items_of, walked};
 ghost use Rattle.kishu_meaning.specs.values.Sound.{is_sound, are_sound};
 ghost use Rattle.kishu_heap.specs.Cells.{node_of};
+ghost use Rattle.kishu_heap.specs.Costs.{Reads, Spends};
 ghost use Rattle.kishu_items.specs.Called.{moment_of, Gives};
 ghost use Rattle.kishu_items.specs.Contents.{IsGrown};
 
-use crate::faults::{TYPE_ERROR, not_iterable_text, raise};
+use crate::faults::{not_iterable_text, raise};
 use crate::keys::{copied_keys, values_of_keys};
+use crate::ranges::range_items;
 use crate::spending::spend;
 use kishu_heap::{CallFault, Heap, Node, range_length};
-use kishu_meaning::{Budget, NodeId, Steps, Value};
+use kishu_meaning::{Budget, ClassId, NodeId, Steps, Value};
 use kishu_text::count;
 use std::alloc::{AllocError, Global};
 use std::rc::RcStr;
@@ -50,8 +52,7 @@ fn node_count(node: &Node) -> Option<u128>
 pub fn count_in<L: Ledger>(value: &Value, heap: &Heap, steps: &mut Steps<L>) -> Option<u128>
     requires sound { IsTrue (is_sound (length heap.now) (value_of value.now)) }
     ensures count { result ≡ count_in heap.now (value_of value.now) }
-    ensures counted { steps.old ≤ steps.new }
-    ensures reads { steps.new ≤ steps.old + 1 }
+    ensures reads { Reads 1 steps.old steps.new }
 {
     match value {
         Value::Text(text) => Some(count(text.as_str()) as u128),
@@ -100,31 +101,6 @@ fn text_items(alloc: Global, text: &str) -> Result<Vec<Value>, AllocError>
     Ok(items)
 }
 
-// The number behind one of a range, where there is a further one.
-fn next_number(number: i128, stop: i128, step: i128) -> i128
-    requires { 1 < range_length number stop step }
-    ensures value { result ≡ number +ℤ step }
-    ensures fewer { range_length result stop step + 1 ≡ range_length number stop step }
-{
-    number + step
-}
-
-// The numbers of a range.
-fn range_items(alloc: Global, start: i128, stop: i128, step: i128) -> Result<Vec<Value>, AllocError>
-    ensures { IfOk result (λ v. map value_of v.items ≡ range_items start stop step) }
-{
-    let mut items = Vec::new(alloc);
-    let mut number = start;
-    let len = range_length(start, stop, step);
-    for k in 0..len {
-        items.push(Value::Int(number))?;
-        if k + 1 < len {
-            number = next_number(number, stop, step);
-        }
-    }
-    Ok(items)
-}
-
 // The items of a node.
 fn node_items<L: Ledger>(
     alloc: Global,
@@ -138,10 +114,7 @@ fn node_items<L: Ledger>(
     ensures gives { Gives (λ v. map value_of v.items) result (moment_of heap.new budget.new) (items_of (node id.0) (moment_of heap.old budget.old)) }
     ensures sound { IfOk result (λ v. IsTrue (are_sound (length heap.new) (map value_of v.items))) }
     ensures more { IsGrown (unwrap_or (count_in heap.old (node id.0)) 0) heap.old heap.new }
-    ensures left { budget.new.left ≤ budget.old.left }
-    ensures depth { budget.new.depth ≡ budget.old.depth }
-    ensures least { budget.old.left + steps.old ≤ budget.new.left + steps.new }
-    ensures reads { 24 * budget.new.left + steps.new ≤ 24 * budget.old.left + steps.old + 2 }
+    ensures spends { Spends 2 budget.old steps.old budget.new steps.new }
     ensures sequence { (n : ℕ) → count_in heap.old (node id.0) ≡ Some n → 24 * budget.new.left + steps.new ≤ 24 * budget.old.left + steps.old + 1 }
 {
     match heap.node(id, steps) {
@@ -167,10 +140,12 @@ pub fn not_iterable<L: Ledger>(
     requires sound { IsTrue (is_sound (length heap.now) (value_of value.now)) }
     ensures gives { (b : Budget) → Gives (λ v. map value_of v.items) result (moment_of heap.now b) (not_iterable (value_of value.now) (moment_of heap.now b)) }
     ensures sound { IfOk result (λ v. IsTrue (are_sound (length heap.now) (map value_of v.items))) }
-    ensures counted { steps.old ≤ steps.new }
-    ensures reads { steps.new ≤ steps.old + 1 }
+    ensures reads { Reads 1 steps.old steps.new }
 {
-    raise(TYPE_ERROR, not_iterable_text(alloc, value, heap, steps)?)
+    raise(
+        ClassId::TYPE_ERROR,
+        not_iterable_text(alloc, value, heap, steps)?,
+    )
 }
 
 /// The items of a sequence, or a TypeError: a dict has its keys, of which those that are tuples are
@@ -187,10 +162,7 @@ pub fn items_of<L: Ledger>(
     ensures gives { Gives (λ v. map value_of v.items) result (moment_of heap.new budget.new) (items_of (value_of value.now) (moment_of heap.old budget.old)) }
     ensures sound { IfOk result (λ v. IsTrue (are_sound (length heap.new) (map value_of v.items))) }
     ensures more { IsGrown (unwrap_or (count_in heap.old (value_of value.now)) 0) heap.old heap.new }
-    ensures left { budget.new.left ≤ budget.old.left }
-    ensures depth { budget.new.depth ≡ budget.old.depth }
-    ensures least { budget.old.left + steps.old ≤ budget.new.left + steps.new }
-    ensures reads { 24 * budget.new.left + steps.new ≤ 24 * budget.old.left + steps.old + 2 }
+    ensures spends { Spends 2 budget.old steps.old budget.new steps.new }
     ensures sequence { (n : ℕ) → count_in heap.old (value_of value.now) ≡ Some n → 24 * budget.new.left + steps.new ≤ 24 * budget.old.left + steps.old + 1 }
 {
     match value {
@@ -219,10 +191,7 @@ pub fn walked<L: Ledger>(
     ensures gives { Gives (λ v. map value_of v.items) result (moment_of heap.new budget.new) (walked (value_of value.now) (moment_of heap.old budget.old)) }
     ensures sound { IfOk result (λ v. IsTrue (are_sound (length heap.new) (map value_of v.items))) }
     ensures more { IsGrown (budget.old.left - budget.new.left) heap.old heap.new }
-    ensures left { budget.new.left ≤ budget.old.left }
-    ensures depth { budget.new.depth ≡ budget.old.depth }
-    ensures least { budget.old.left + steps.old ≤ budget.new.left + steps.new }
-    ensures reads { 24 * budget.new.left + steps.new ≤ 24 * budget.old.left + steps.old + 2 }
+    ensures spends { Spends 2 budget.old steps.old budget.new steps.new }
 {
     let Some(count) = count_in(value, heap, steps) else {
         return not_iterable(alloc, value, heap, steps);
@@ -240,8 +209,10 @@ pub fn not_iterable_value<L: Ledger>(
 ) -> Result<Value, CallFault>
     requires sound { IsTrue (is_sound (length heap.now) (value_of value.now)) }
     ensures gives { (b : Budget) → Gives value_of result (moment_of heap.now b) (not_iterable (value_of value.now) (moment_of heap.now b)) }
-    ensures counted { steps.old ≤ steps.new }
-    ensures reads { steps.new ≤ steps.old + 1 }
+    ensures reads { Reads 1 steps.old steps.new }
 {
-    raise(TYPE_ERROR, not_iterable_text(alloc, value, heap, steps)?)
+    raise(
+        ClassId::TYPE_ERROR,
+        not_iterable_text(alloc, value, heap, steps)?,
+    )
 }

@@ -8,6 +8,7 @@ ghost use Rattle.kishu_meaning.specs.values.Sound.{is_sound};
 ghost use Rattle.kishu_meaning.specs.values.Values as model;
 ghost use Rattle.kishu_meaning.specs.values.Values.{value_of};
 ghost use Rattle.kishu_heap.specs.Cells.{node_of};
+ghost use Rattle.kishu_heap.specs.Costs.{Reads};
 ghost use Rattle.kishu_items.specs.Called.{moment_of};
 
 use kishu_heap::{Heap, Node, range_length};
@@ -37,8 +38,7 @@ fn is_written(text: &str) -> bool
 pub fn is_true<L: Ledger>(value: &Value, heap: &Heap, steps: &mut Steps<L>) -> bool
     requires sound { IsTrue (is_sound (length heap.now) (value_of value.now)) }
     ensures is { (b : Budget) → truth (value_of value.now) (moment_of heap.now b) ≡ fine result (moment_of heap.now b) }
-    ensures counted { steps.old ≤ steps.new }
-    ensures reads { steps.new ≤ steps.old + 1 }
+    ensures reads { Reads 1 steps.old steps.new }
 {
     match value {
         Value::None => false,

@@ -4,3 +4,6 @@ pub mod Height
 pub mod Fits
 pub mod Inside
 pub mod FunctionCodes
+pub mod Parts
+pub mod Rows
+pub mod StatementRows

@@ -2,4 +2,6 @@
 #[derive(Clone, Copy, Debug, PartialEq, Eq)]
 pub enum Profile {
     One,
+    /// The next release of the language. Nothing makes it yet.
+    Two,
 }

@@ -11,16 +11,17 @@ use Rattle.kishu_meaning.specs.values.Values.{integer}
 use Rattle.kishu_meaning.specs.moments.Moment.{Moment, give, raise}
 use Rattle.kishu_meaning.specs.calls.Operators.{whole, divided, arithmetic}
 use Rattle.kishu_meaning.specs.calls.Operators as op
+use Rattle.kishu_meaning.specs.values.Classes.{overflow_error_class, zero_division_error_class}
 use Rattle.kishu_machine.specs.Forms.{answered, answer_of}
 
-in_range_by : (b : Bool) (z : ℤ) (s : Moment) → answered (if b then Ok z else Err Overflow) s ≡ (if b then give (integer z) else raise 10 (codes "whole number too large")) s
+in_range_by : (b : Bool) (z : ℤ) (s : Moment) → answered (if b then Ok z else Err Overflow) s ≡ (if b then give (integer z) else raise overflow_error_class (codes "whole number too large")) s
 in_range_by true z s = refl
 in_range_by false z s = refl
 
 pub same_whole : (z : ℤ) (s : Moment) → answered (in_range z) s ≡ whole z s
 same_whole z s = in_range_by (is_whole z) z s
 
-divided_if : (b : Bool) (z : ℤ) (s : Moment) → answered (if b then Err ZeroDivisor else in_range z) s ≡ (if b then raise 11 (codes "division by zero") else whole z) s
+divided_if : (b : Bool) (z : ℤ) (s : Moment) → answered (if b then Err ZeroDivisor else in_range z) s ≡ (if b then raise zero_division_error_class (codes "division by zero") else whole z) s
 divided_if true z s = refl
 divided_if false z s = same_whole z s
 

@@ -2,9 +2,7 @@ pub mod Sequences
 pub mod Members
 pub mod RangeSteps
 pub mod Messages
-pub mod Bound
 pub mod Arithmetic
-pub mod SoundNames
 pub mod Showing
 pub mod Makes
 pub mod OwnNames

@@ -30,17 +30,9 @@ plain-IsAscii (b ∷ bs) e (suc i) = plain-IsAscii bs (is_both (nat_lt b 128) (i
 pub chars-plain : (bs : List ℕ) → is_plain bs ≡ true → chars bs ≡ bs
 chars-plain bs e = chars-IsAscii bs (plain-IsAscii bs e)
 
-pub ok_plain : {E : Type 0} (r : Result (String Global) E) (bs : List ℕ) → is_plain bs ≡ true → IfOk r (λ s. string_bytes s ≡ bs) → IfOk r (λ s. chars (string_bytes s) ≡ bs)
-ok_plain (Ok s) bs e h = ap chars h ∙ chars-plain bs e
-ok_plain (Err x) bs e h = tt
-
 pub ok_chars : {E : Type 0} (r : Result (String Global) E) (bs ds : List ℕ) → chars bs ≡ ds → IfOk r (λ s. string_bytes s ≡ bs) → IfOk r (λ s. chars (string_bytes s) ≡ ds)
 ok_chars (Ok s) bs ds e h = ap chars h ∙ e
 ok_chars (Err x) bs ds e h = tt
-
-pub ok_same : {T E : Type 0} (f : T → List ℕ) (r : Result T E) (bs ds : List ℕ) → bs ≡ ds → IfOk r (λ s. f s ≡ bs) → IfOk r (λ s. f s ≡ ds)
-ok_same f (Ok s) bs ds e h = h ∙ e
-ok_same f (Err x) bs ds e h = tt
 
 pub chars_behind : (x back : List ℕ) → IsUtf8 x → is_plain back ≡ true → chars (x ++ back) ≡ chars x ++ back
 chars_behind x back u e = chars-append x back u ∙ ap (λ y. chars x ++ y) (chars-plain back e)
@@ -63,10 +55,6 @@ pub name-plain : (ws : List (List ℕ)) (n : ℕ) → list_all is_plain ws ≡ t
 name-plain [] n e = refl
 name-plain (w ∷ ws) zero e = (is_both (is_plain w) (list_all is_plain ws) e).0
 name-plain (w ∷ ws) (suc n) e = name-plain ws n (is_both (is_plain w) (list_all is_plain ws) e).1
-
-pub chars-class : (n : ℕ) → chars (class_name n) ≡ class_name n
-unfolding class_names
-chars-class n = chars-plain (class_name n) (name-plain class_names n refl)
 
 -- ---- texts behind others
 

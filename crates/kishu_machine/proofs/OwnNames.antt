@@ -9,12 +9,13 @@ use Rattle.kishu_language.specs.tokens.Names.{is_name}
 use Rattle.kishu_meaning.specs.values.Sound.{is_sound}
 use Rattle.kishu_meaning.specs.values.Values.{Value, Node, Names, find, bind}
 use Rattle.kishu_meaning.specs.cells.Ways.{forget, forget_global}
+use Rattle.kishu_meaning.specs.values.Classes.{name_error_class, unbound_local_error_class}
 use Rattle.kishu_machine.specs.declared.fault.Fault.{Fault}
 use Rattle.kishu_machine.specs.Frames.{is_own, own_value, own_bound, own_unbound, is_sound_locals, is_sound_run}
 use Rattle.kishu_machine.specs.Machine.{Gives, IsRaised}
 use Rattle.kishu_machine.specs.Raising.{raises_text}
 use Rattle.kishu_machine.specs.SoundMore.{locals_in_run, run_with_locals}
-use Rattle.kishu_machine.proofs.SoundNames.{is_sound_found, finds_sound, binds_sound, unbinds_sound}
+use Rattle.kishu_machine.specs.SoundNames.{is_sound_found, finds_sound, binds_sound, unbinds_sound}
 
 -- ---- which rule is taken
 
@@ -71,20 +72,20 @@ module _ (x : List ℕ) (s : Moment) where
   forgotten_global names accessed p q = rw (p, q) refl
 
   pub missing_global : (names : Names) (accessed : List (List ℕ)) (r : Result (Unit {0}) Fault) → names ≡ unbind x s.names → accessed ≡ with_access x s.accessed → is_some (find x s.names) ≡ false
-      → IsRaised r 17 (codes "name '" ++ chars x ++ codes "' is not defined") → Gives (λ u. u) r (record s { names = names; accessed = accessed }) (delete_global x s)
-  missing_global names accessed r p q h k = rw (p, q, h, unbind_none x s.names h) (raises_text (λ u. u) 17 (codes "name '" ++ chars x ++ codes "' is not defined") r (record s { accessed = with_access x s.accessed }) k)
+      → IsRaised r name_error_class (codes "name '" ++ chars x ++ codes "' is not defined") → Gives (λ u. u) r (record s { names = names; accessed = accessed }) (delete_global x s)
+  missing_global names accessed r p q h k = rw (p, q, h, unbind_none x s.names h) (raises_text (λ u. u) name_error_class (codes "name '" ++ chars x ++ codes "' is not defined") r (record s { accessed = with_access x s.accessed }) k)
 
-  deleted_by : (here : Locals) (r : Result (Unit {0}) Fault) (b : Bool) → is_some (find x here.values) ≡ b → (IsTrue b → r ≡ Ok tt) → (IsTrue (not b) → IsRaised r 18 (codes "local name '" ++ chars x ++ codes "' has no value"))
+  deleted_by : (here : Locals) (r : Result (Unit {0}) Fault) (b : Bool) → is_some (find x here.values) ≡ b → (IsTrue b → r ≡ Ok tt) → (IsTrue (not b) → IsRaised r unbound_local_error_class (codes "local name '" ++ chars x ++ codes "' has no value"))
       → Gives (λ u. u) r (record s { locals = Some (record here { values = unbind x here.values }) }) (delete_local x here (record s { locals = Some here }))
   deleted_by here r true e some none = rw (e, some refl) refl
-  deleted_by here r false e some none = rw (e, unbind_none x here.values e) (raises_text (λ u. u) 18 (codes "local name '" ++ chars x ++ codes "' has no value") r (record s { locals = Some here }) (none refl))
+  deleted_by here r false e some none = rw (e, unbind_none x here.values e) (raises_text (λ u. u) unbound_local_error_class (codes "local name '" ++ chars x ++ codes "' has no value") r (record s { locals = Some here }) (none refl))
 
-  deleted_here : (l : Option Locals) (r : Result (Unit {0}) Fault) → is_own x l ≡ true → (IsTrue (is_some (own_value x l)) → r ≡ Ok tt) → (IsTrue (not (is_some (own_value x l))) → IsRaised r 18 (codes "local name '" ++ chars x ++ codes "' has no value"))
+  deleted_here : (l : Option Locals) (r : Result (Unit {0}) Fault) → is_own x l ≡ true → (IsTrue (is_some (own_value x l)) → r ≡ Ok tt) → (IsTrue (not (is_some (own_value x l))) → IsRaised r unbound_local_error_class (codes "local name '" ++ chars x ++ codes "' has no value"))
       → Gives (λ u. u) r (record s { locals = own_unbound x l }) (delete x (record s { locals = l }))
   deleted_here None r h some none = absurd (false≢true h)
   deleted_here (Some here) r h some none = rw h (deleted_by here r (is_some (find x here.values)) refl some none)
 
-  pub deleted_own : (l new : Option Locals) (r : Result (Unit {0}) Fault) → is_own x l ≡ true → new ≡ own_unbound x l → (IsTrue (is_some (own_value x l)) → r ≡ Ok tt) → (IsTrue (not (is_some (own_value x l))) → IsRaised r 18 (codes "local name '" ++ chars x ++ codes "' has no value"))
+  pub deleted_own : (l new : Option Locals) (r : Result (Unit {0}) Fault) → is_own x l ≡ true → new ≡ own_unbound x l → (IsTrue (is_some (own_value x l)) → r ≡ Ok tt) → (IsTrue (not (is_some (own_value x l))) → IsRaised r unbound_local_error_class (codes "local name '" ++ chars x ++ codes "' has no value"))
       → Gives (λ u. u) r (record s { locals = new }) (delete x (record s { locals = l }))
   deleted_own l new r h p some none = rw p (deleted_here l r h some none)
 

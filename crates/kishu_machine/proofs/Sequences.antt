@@ -13,6 +13,7 @@ use Rattle.kishu_meaning.specs.values.Sound.{is_sound, are_sound}
 use Rattle.kishu_meaning.specs.moments.Moment.{Moment, Thrown, Ends, fine, raised, stopped, M, and_then, give, throw, raise, or_else, spend, node_at}
 use Rattle.kishu_meaning.specs.comparing.Equal.{by_both}
 use Rattle.kishu_meaning.specs.calls.Operators.{new_list, new_tuple, both, often, times, repeated, list_from, tuple_from, node_times, value_times, bad_operands, bad_operand, whole, raised_to, arithmetic}
+use Rattle.kishu_meaning.specs.values.Classes.{overflow_error_class, zero_division_error_class}
 use Rattle.kishu_items.specs.Holding as holding
 use Rattle.kishu_machine.specs.declared.fault.Fault.{Fault}
 use Rattle.kishu_machine.specs.declared.fault.Fault.TheVariants as faults
@@ -259,14 +260,14 @@ value_sound n (Err (faults.Raised x)) t e h g = subst (λ (y : Ends Value). IsTr
 value_sound n (Err faults.Stopped) t e h g = tt
 value_sound n (Err faults.NoMemory) t e h g = tt
 
-whole_if : (n : ℕ) (b : Bool) (z : ℤ) (s : Moment) → IsTrue (is_sound_value n ((if b then give (integer z) else raise 10 (codes "whole number too large")) s))
+whole_if : (n : ℕ) (b : Bool) (z : ℤ) (s : Moment) → IsTrue (is_sound_value n ((if b then give (integer z) else raise overflow_error_class (codes "whole number too large")) s))
 whole_if n true z s = refl
 whole_if n false z s = refl
 
 pub whole_sound : (n : ℕ) (z : ℤ) (s : Moment) → IsTrue (is_sound_value n (whole z s))
 whole_sound n z s = whole_if n (is_whole z) z s
 
-divided_if : (n : ℕ) (b : Bool) (z : ℤ) (s : Moment) → IsTrue (is_sound_value n ((if b then raise 11 (codes "division by zero") else whole z) s))
+divided_if : (n : ℕ) (b : Bool) (z : ℤ) (s : Moment) → IsTrue (is_sound_value n ((if b then raise zero_division_error_class (codes "division by zero") else whole z) s))
 divided_if n true z s = refl
 divided_if n false z s = whole_sound n z s
 

@@ -34,11 +34,6 @@ spent_either false k s m = refl
 pub ticked : {A : Type 0} (s : Moment) (m : List Node → ℕ → Count A) → counted (spend 1 >> m s.nodes s.depth) s ≡ moment.and_then (tick s) (λ _ t. ended_in t (m t.nodes t.depth t.left))
 ticked s m = spent_either (nat_le 1 s.left) 1 s m
 
-unit_after : {A : Type 0} (e : Counted A) → and_then e give ≡ e
-unit_after (answer a k) = refl
-unit_after (too_deep k) = refl
-unit_after (spent k) = refl
-
 -- ---- where an exception's argument lies
 
 pub room_inside : (d : ℕ) → d < most_depth → room_at (d + 1) ≡ most_depth - d

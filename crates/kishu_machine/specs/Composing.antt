@@ -17,10 +17,6 @@ grown_on j k m1 m2 m3 a b c g h = (omega (arith, g.0, h.0), omega (arith, g.1, h
 pub grown_by_more : (j k : ℕ) (m1 m2 : Machine) (a b : ℕ) → j ≤ k → GrownBy j m1 a m2 b → GrownBy k m1 a m2 b
 grown_by_more j k m1 m2 a b le g = (omega (arith, g.0), omega (arith, le, g.1), omega (arith, g.2))
 
--- Room that is left for what comes behind.
-pub room_on : (j k : ℕ) (m1 m2 : Machine) (a b : ℕ) → HasRoomBy (j + k) m1 → GrownBy j m1 a m2 b → HasRoomBy k m2
-room_on j k m1 m2 a b r g = omega (arith, r, g.1)
-
 -- ---- what `?` passes on
 
 module _ {A B : Type 0} (g : A → M B) where
@@ -33,10 +29,6 @@ module _ {A B : Type 0} (g : A → M B) where
   -- what the second part gives is what both give
   pub gives_on : {X : Type 0} (view : X → B) (r : Result X Fault) (a : A) (s t : Moment) (e : Ends A) → e ≡ fine a s → Gives view r t (g a s) → Gives view r t (and_then e g)
   gives_on view r a s t e h k = subst (λ (e : Ends A). Gives view r t (and_then e g)) (sym h) k
-
--- a fault is one whatever the call would have returned
-pub fails_as : {A X Y : Type 0} (v : X → A) (w : Y → A) (f : Fault) (s : Moment) (e : Ends A) → Gives v (Err f) s e → Gives w (Err f) s e
-fails_as v w f s e h = h
 
 -- what is done one level deeper
 module _ {A X : Type 0} (view : X → A) (n : ℕ) where

@@ -10,12 +10,13 @@ use Rattle.kishu_meaning.specs.values.Numbers.{floor_quotient, floor_remainder}
 use Rattle.kishu_meaning.specs.values.Values.{Value, integer, text, node, Node, list, tuple}
 use Rattle.kishu_meaning.specs.moments.Moment.{M, Thrown, fresh, raised, ◌>>=◌, ◌>>◌, give, spend, node_now}
 use Rattle.kishu_meaning.specs.calls.Operators.{repeated, new_list, new_tuple, often, times, tuple_from}
+use Rattle.kishu_meaning.specs.values.Classes.{overflow_error_class, value_error_class, zero_division_error_class}
 
 -- the exception for a number that isn't there
 abbrev pub thrown_for : NumFault → Thrown
-thrown_for Overflow = fresh 10 (text (codes "whole number too large") ∷ [])
-thrown_for ZeroDivisor = fresh 11 (text (codes "division by zero") ∷ [])
-thrown_for NegativePower = fresh 24 (text (codes "negative power") ∷ [])
+thrown_for Overflow = fresh overflow_error_class (text (codes "whole number too large") ∷ [])
+thrown_for ZeroDivisor = fresh zero_division_error_class (text (codes "division by zero") ∷ [])
+thrown_for NegativePower = fresh value_error_class (text (codes "negative power") ∷ [])
 
 abbrev pub answered : Result ℤ NumFault → M Value
 answered (Ok z) s = give (integer z) s

@@ -1,21 +1,13 @@
 -- What the names of a function in progress stand for, and when a run's values are sound.
-use Rattle.std.specs.Prelude.{ℕ, Bool, true, false, ◌&&◌, List, map, length, Option, Some, None}
-use Rattle.std.specs.Rc.{rc_str_bytes}
-use Rattle.std.specs.declared.alloc.Global.{Global}
-use Rattle.std.specs.declared.rc.RcStr.{RcStr}
-use Rattle.kishu_meaning.specs.declared.value.Value as rust
+use Rattle.std.specs.Prelude.{ℕ, Bool, true, false, ◌&&◌, List, length, Option, Some, None}
 use Rattle.kishu_language.specs.tokens.Names.{is_among}
 use Rattle.kishu_meaning.specs.moments.Accesses.{unbind}
-use Rattle.kishu_meaning.specs.values.Values.{Node, Names, Value, value_of, find, bind}
+use Rattle.kishu_meaning.specs.values.Values.{Node, Names, Value, find, bind}
 use Rattle.kishu_meaning.specs.values.Sound.{is_sound, are_sound_names}
 use Rattle.kishu_meaning.specs.moments.Moment.{Locals}
+pub use Rattle.kishu_names.specs.Namespace.{names_of}
+pub use Rattle.kishu_names.specs.Record.{texts_of}
 use Rattle.kishu_machine.specs.declared.frame.Frame.{Frame}
-
-abbrev pub names_of : List (RcStr Global × rust.Value) → Names
-names_of = map (λ e. (rc_str_bytes e.0, value_of e.1))
-
-abbrev pub texts_of : List (RcStr Global) → List (List ℕ)
-texts_of = map rc_str_bytes
 
 abbrev pub frame_of : Frame → Locals
 frame_of f = record { own = texts_of f.own.items; values = names_of f.values.entries }

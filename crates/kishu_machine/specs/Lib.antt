@@ -1,9 +1,11 @@
 pub mod Frames
 pub mod Faults
 pub mod Machine
+pub mod Clauses
 pub mod Lists
 pub mod Forms
 pub mod Lifted
 pub mod SoundMore
+pub mod SoundNames
 pub mod Composing
 pub mod Raising

@@ -1,5 +1,7 @@
 -- What vectors and options of the code's values stand for.
-use Rattle.std.specs.Prelude.{ℕ, Bool, true, false, ◌&&◌, List, map, Option, Some, None}
+use Rattle.std.specs.Prelude.{◌≡◌, refl, ℕ, Bool, true, false, ◌&&◌, List, map, Option, Some, None, option_map}
+use Rattle.std.specs.Borrow.{Bor}
+use Rattle.std.specs.Option.{option_copied}
 use Rattle.std.specs.List.{list_all}
 use Rattle.std.specs.Str.{chars}
 use Rattle.std.specs.String.{string_bytes}
@@ -45,3 +47,8 @@ are_sound_in n (Some vs) = are_sound n vs
 abbrev pub is_sound_in : ℕ → Option Value → Bool
 is_sound_in n None = true
 is_sound_in n (Some v) = is_sound n v
+
+-- a value that is lent, and that value
+pub copied_value : (o : Option (Bor rust.Value)) → option_map (λ v. value_of v.now) o ≡ option_map value_of (option_copied o)
+copied_value None = refl
+copied_value (Some v) = refl

@@ -91,6 +91,11 @@ GrownBy k old a new b = (length old.heap ≤ length new.heap) × (length new.hea
 abbrev pub ReadsBy : ℕ → Machine → ℕ → Machine → ℕ → Type 0
 ReadsBy k old a new b = b + 128 * new.budget.left ≤ a + 128 * old.budget.left + k
 
+-- What a call costs: nodes, and reads of them.
+pub record Costs (made read : ℕ) (old : Machine) (a : ℕ) (new : Machine) (b : ℕ) : Type 0 where
+  pub kept : GrownBy made old a new b
+  pub reads : ReadsBy read old a new b
+
 -- A call that returned left so many reads over; another way out left none.
 abbrev pub LeavesReads : {X : Type 0} → ℕ → Machine → ℕ → Result X Fault → Machine → ℕ → Type 0
 LeavesReads k old a (Ok x) new b = b + 128 * new.budget.left + k ≤ a + 128 * old.budget.left

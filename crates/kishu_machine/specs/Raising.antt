@@ -51,15 +51,6 @@ module _ (n : ℕ) where
   pub make_raises : (x : Node) → RaisesSound n (make x)
   make_raises x = record { raises = λ s. refl }
 
-  pub change_raises : (i : ℕ) (f : Node → Node) → RaisesSound n (change i f)
-  change_raises i f = record { raises = λ s. refl }
-
-  pub raise_raises : {A : Type 0} (kind : ℕ) (message : List ℕ) → IsTrue (is_exception_class kind) → RaisesSound n (raise {A = A} kind message)
-  raise_raises kind message h = record { raises = λ s. both (is_exception_class kind) true h refl }
-
-  pub raise_with_raises : {A : Type 0} (kind : ℕ) (v : Value) → IsTrue (is_exception_class kind) → IsTrue (is_sound n v) → RaisesSound n (raise_with {A = A} kind v)
-  raise_with_raises kind v h w = record { raises = λ s. both (is_exception_class kind) _ h (both (is_sound n v) true w refl) }
-
   either_spent : (enough : Bool) (k : ℕ) (s : Moment) → IsTrue (is_sound_end n (if enough then fine (tt {0}) (record s { left = s.left - k }) else stopped (record s { left = 0 })))
   either_spent true k s = refl
   either_spent false k s = refl
@@ -80,12 +71,6 @@ module _ (n : ℕ) where
   counted_raises m = record { raises = λ s. ended_sound s (m s.nodes s.depth s.left) }
 
   -- ---- texts, keys and items
-
-  pub repr_raises : (v : Value) → RaisesSound n (repr_of v)
-  repr_raises v = counted_raises (λ ns depth. repr_in ns depth v)
-
-  pub show_raises : (v : Value) → RaisesSound n (show v)
-  show_raises v = counted_raises (λ ns depth. show_in ns depth v)
 
   pub not_iterable_raises : {A : Type 0} (v : Value) → RaisesSound n (not_iterable {A = A} v)
   not_iterable_raises v = record { raises = λ s. refl }

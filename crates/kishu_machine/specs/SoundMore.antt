@@ -61,17 +61,6 @@ module _ (n m : ℕ) (p : n ≤ m) where
   sound_more_thrown (fresh kind vs) h = both (is_exception_class kind) _ (first (is_exception_class kind) _ h) (sound_more_all vs (second (is_exception_class kind) _ h))
   sound_more_thrown (thrown_object i) h = sound_more (node i) h
 
-  -- what a call raised, whatever it would have returned
-  pub sound_more_fault : {X Y : Type 0} (p : X → Bool) (q : Y → Bool) (f : Fault) → IsSound {X = X} p n (Err f) → IsSound {X = Y} q m (Err f)
-  sound_more_fault p q (faults.Raised x) h = sound_more_thrown (thrown_of x) h
-  sound_more_fault p q faults.Stopped h = tt
-  sound_more_fault p q faults.NoMemory h = tt
-
-  -- what a call returned or raised
-  pub sound_more_result : {X : Type 0} (p q : X → Bool) → ((x : X) → IsTrue (p x) → IsTrue (q x)) → (r : Result X Fault) → IsSound p n r → IsSound q m r
-  sound_more_result p q h (Ok x) s = h x s
-  sound_more_result p q h (Err f) s = sound_more_fault p q f s
-
 -- the values of names, of locals and of the exception that is handled, over a heap that grew
 pub sound_more_run : (old new : List Node) (names : Names) (locals : Option Locals) (handled : Option Value) → length old ≤ length new
     → IsTrue (is_sound_run old names locals handled) → IsTrue (is_sound_run new names locals handled)

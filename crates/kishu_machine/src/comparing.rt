@@ -1,6 +1,6 @@
 // Comparisons (Python Language Reference 3, "Comparisons").
 ghost use Rattle.std.specs.List.{list_all};
-ghost use Rattle.std.specs.Prelude.{Bool, Err, IsTrue, Option, is_some, length, map, nat_lt, not, true, ℕ, ◌*◌, ◌+◌, ◌-ℤ◌, ◌<◌, ◌≡◌, ◌≤◌};
+ghost use Rattle.std.specs.Prelude.{Bool, Err, IsTrue, Option, is_some, map, nat_lt, not, true, ℕ, ◌*◌, ◌-ℤ◌, ◌<◌, ◌≡◌};
 ghost use Rattle.std.specs.Str.{chars};
 ghost use Rattle.kishu_meaning.specs.comparing.Comparing.{among, compare, comparison_sign, identical, in_node, in_range, is_number_of, member, or_unordered, part_in};
 ghost use Rattle.kishu_meaning.specs.moments.Counting.{Counted, ended_in};
@@ -11,11 +11,12 @@ ghost use Rattle.kishu_meaning.specs.values.Keys.{is_one, key_of};
 ghost use Rattle.kishu_meaning.specs.values.Kinds.{not_iterable};
 ghost use Rattle.kishu_meaning.specs.values.Nodes.{value_at};
 ghost use Rattle.kishu_meaning.specs.calls.Operators.{bad_operands};
-ghost use Rattle.kishu_meaning.specs.values.Sound.{is_sound};
 ghost use Rattle.kishu_meaning.specs.values.Values.{value_of};
 ghost use Rattle.kishu_heap.specs.Cells.{entries_of};
 ghost use Rattle.kishu_machine.specs.Forms.{is_step_on, natural};
-ghost use Rattle.kishu_machine.specs.Machine.{Gives, GrownBy, IsSound, ReadsBy, moment_of, placed_in};
+ghost use Rattle.kishu_machine.specs.Machine.{Gives, IsSound, moment_of, placed_in, Costs};
+ghost use Rattle.kishu_machine.specs.Clauses.{IsSoundIn, SoundEnd};
+ghost use Rattle.kishu_heap.specs.Costs.{Reads, Spends};
 ghost use Rattle.kishu_heap.specs.Compared as compared;
 ghost use Rattle.kishu_meaning.specs.values.Values as model;
 
@@ -61,12 +62,11 @@ fn no_comparison<L: Ledger>(
     b: &Value,
     steps: &mut Steps<L>,
 ) -> Result<bool, Fault>
-    requires sound_a { IsTrue (is_sound (length machine.now.heap) (value_of a.now)) }
-    requires sound_b { IsTrue (is_sound (length machine.now.heap) (value_of b.now)) }
+    requires sound_a { IsSoundIn machine.now.heap a.now }
+    requires sound_b { IsSoundIn machine.now.heap b.now }
     ensures gives { Gives (λ b. b) result (moment_of machine.now) (bad_operands (comparison_sign comparison) (value_of a.now) (value_of b.now) (moment_of machine.now)) }
-    ensures sound { IsSound (λ _. true) (length machine.now.heap) result }
-    ensures counted { steps.old ≤ steps.new }
-    ensures reads { steps.new ≤ steps.old + 2 }
+    ensures sound { SoundEnd machine.now.heap result }
+    ensures reads { Reads 2 steps.old steps.new }
 {
     bad_operands(machine, comparison_sign(comparison), a, b, steps)
 }
@@ -77,11 +77,10 @@ fn no_items<L: Ledger>(
     value: &Value,
     steps: &mut Steps<L>,
 ) -> Result<bool, Fault>
-    requires sound { IsTrue (is_sound (length machine.now.heap) (value_of value.now)) }
+    requires sound { IsSoundIn machine.now.heap value.now }
     ensures gives { Gives (λ b. b) result (moment_of machine.now) (not_iterable (value_of value.now) (moment_of machine.now)) }
-    ensures sound { IsSound (λ _. true) (length machine.now.heap) result }
-    ensures counted { steps.old ≤ steps.new }
-    ensures reads { steps.new ≤ steps.old + 2 }
+    ensures sound { SoundEnd machine.now.heap result }
+    ensures reads { Reads 2 steps.old steps.new }
 {
     not_iterable(machine, value, steps)
 }
@@ -101,9 +100,8 @@ fn equal<L: Ledger>(
     steps: &mut Steps<L>,
 ) -> Result<bool, Fault>
     ensures gives { Gives (λ b. b) result (moment_of machine.new) (equal (value_of a.now) (value_of b.now) (moment_of machine.old)) }
-    ensures sound { IsSound (λ _. true) (length machine.new.heap) result }
-    ensures kept { GrownBy 0 machine.old steps.old machine.new steps.new }
-    ensures reads { ReadsBy 8 machine.old steps.old machine.new steps.new }
+    ensures sound { SoundEnd machine.new.heap result }
+    ensures costs { Costs 0 8 machine.old steps.old machine.new steps.new }
     ensures heap { machine.new.heap ≡ machine.old.heap }
 {
     let answer = machine.heap.equal(a, b, &mut machine.budget, steps);
@@ -119,12 +117,11 @@ fn unanswered<L: Ledger>(
     b: &Value,
     steps: &mut Steps<L>,
 ) -> Result<bool, Fault>
-    requires sound_a { IsTrue (is_sound (length machine.now.heap) (value_of a.now)) }
-    requires sound_b { IsTrue (is_sound (length machine.now.heap) (value_of b.now)) }
+    requires sound_a { IsSoundIn machine.now.heap a.now }
+    requires sound_b { IsSoundIn machine.now.heap b.now }
     ensures gives { (e : Counted (Option Bool)) → compared.Orders (Err fault) machine.now.budget.left e → Gives (λ b. b) result (moment_of machine.now) (and_then (ended_in (moment_of machine.now) e) (or_unordered comparison (value_of a.now) (value_of b.now))) }
-    ensures sound { IsSound (λ _. true) (length machine.now.heap) result }
-    ensures counted { steps.old ≤ steps.new }
-    ensures reads { steps.new ≤ steps.old + 2 }
+    ensures sound { SoundEnd machine.now.heap result }
+    ensures reads { Reads 2 steps.old steps.new }
 {
     match fault {
         CompareFault::Unordered => no_comparison(machine, comparison, a, b, steps),
@@ -142,12 +139,11 @@ fn ordered<L: Ledger>(
     b: &Value,
     steps: &mut Steps<L>,
 ) -> Result<bool, Fault>
-    requires sound_a { IsTrue (is_sound (length machine.now.heap) (value_of a.now)) }
-    requires sound_b { IsTrue (is_sound (length machine.now.heap) (value_of b.now)) }
+    requires sound_a { IsSoundIn machine.now.heap a.now }
+    requires sound_b { IsSoundIn machine.now.heap b.now }
     ensures gives { (e : Counted (Option Bool)) → compared.Orders answer machine.now.budget.left e → Gives (λ b. b) result (moment_of machine.now) (and_then (ended_in (moment_of machine.now) e) (or_unordered comparison (value_of a.now) (value_of b.now))) }
-    ensures sound { IsSound (λ _. true) (length machine.now.heap) result }
-    ensures counted { steps.old ≤ steps.new }
-    ensures reads { steps.new ≤ steps.old + 2 }
+    ensures sound { SoundEnd machine.now.heap result }
+    ensures reads { Reads 2 steps.old steps.new }
 {
     match answer {
         Ok(holds) => Ok(holds),
@@ -165,12 +161,11 @@ fn less<L: Ledger>(
     b: &Value,
     steps: &mut Steps<L>,
 ) -> Result<bool, Fault>
-    requires sound_a { IsTrue (is_sound (length machine.old.heap) (value_of a.now)) }
-    requires sound_b { IsTrue (is_sound (length machine.old.heap) (value_of b.now)) }
+    requires sound_a { IsSoundIn machine.old.heap a.now }
+    requires sound_b { IsSoundIn machine.old.heap b.now }
     ensures gives { Gives (λ b. b) result (moment_of machine.new) ((less (value_of one.now) (value_of other.now) ⊳ or_unordered comparison (value_of a.now) (value_of b.now)) (moment_of machine.old)) }
-    ensures sound { IsSound (λ _. true) (length machine.new.heap) result }
-    ensures kept { GrownBy 0 machine.old steps.old machine.new steps.new }
-    ensures reads { ReadsBy 10 machine.old steps.old machine.new steps.new }
+    ensures sound { SoundEnd machine.new.heap result }
+    ensures costs { Costs 0 10 machine.old steps.old machine.new steps.new }
     ensures heap { machine.new.heap ≡ machine.old.heap }
 {
     let answer = machine.heap.less(one, other, &mut machine.budget, steps);
@@ -184,9 +179,8 @@ fn identical<L: Ledger>(
     steps: &mut Steps<L>,
 ) -> Result<bool, Fault>
     ensures gives { Gives (λ b. b) result (moment_of machine.new) (identical (value_of a.now) (value_of b.now) (moment_of machine.old)) }
-    ensures sound { IsSound (λ _. true) (length machine.new.heap) result }
-    ensures kept { GrownBy 0 machine.old steps.old machine.new steps.new }
-    ensures reads { ReadsBy 0 machine.old steps.old machine.new steps.new }
+    ensures sound { SoundEnd machine.new.heap result }
+    ensures costs { Costs 0 0 machine.old steps.old machine.new steps.new }
     ensures heap { machine.new.heap ≡ machine.old.heap }
 {
     spend(machine, pair_steps(a, b) as u128, steps)?;
@@ -204,9 +198,8 @@ fn part_in<L: Ledger>(
     steps: &mut Steps<L>,
 ) -> Result<bool, Fault>
     ensures gives { Gives (λ b. b) result (moment_of machine.new) (part_in (chars part.now) (chars text.now) (moment_of machine.old)) }
-    ensures sound { IsSound (λ _. true) (length machine.new.heap) result }
-    ensures kept { GrownBy 0 machine.old steps.old machine.new steps.new }
-    ensures reads { ReadsBy 0 machine.old steps.old machine.new steps.new }
+    ensures sound { SoundEnd machine.new.heap result }
+    ensures costs { Costs 0 0 machine.old steps.old machine.new steps.new }
     ensures heap { machine.new.heap ≡ machine.old.heap }
 {
     let width = count(part).max(1) as u128;
@@ -224,10 +217,7 @@ fn among<L: Ledger>(
     steps: &mut Steps<L>,
 ) -> Result<bool, Fault>
     ensures gives { (s : Moment) → Gives (λ b. b) result (placed_in s heap.now budget.new) (among (value_of value.now) (map value_of items.now) (placed_in s heap.now budget.old)) }
-    ensures depth { budget.new.depth ≡ budget.old.depth }
-    ensures least { budget.old.left + steps.old ≤ budget.new.left + steps.new }
-    ensures reads { 24 * budget.new.left + steps.new ≤ 24 * budget.old.left + steps.old }
-    ensures left { budget.new.left ≤ budget.old.left }
+    ensures spends { Spends 0 budget.old steps.old budget.new steps.new }
     ensures sound { (n : ℕ) → IsSound (λ _. true) n result }
 {
     for item in items {
@@ -305,13 +295,10 @@ fn key_in<L: Ledger>(
     budget: &mut Budget,
     steps: &mut Steps<L>,
 ) -> Result<Key, Fault>
-    requires sound { IsTrue (is_sound (length heap.now) (value_of value.now)) }
+    requires sound { IsSoundIn heap.now value.now }
     ensures gives { (s : Moment) → Gives key_of result (placed_in s heap.now budget.new) (key_of_value (value_of value.now) (placed_in s heap.now budget.old)) }
-    ensures sound { IsSound (λ _. true) (length heap.now) result }
-    ensures depth { budget.new.depth ≡ budget.old.depth }
-    ensures least { budget.old.left + steps.old ≤ budget.new.left + steps.new }
-    ensures reads { 24 * budget.new.left + steps.new ≤ 24 * budget.old.left + steps.old + 2 }
-    ensures left { budget.new.left ≤ budget.old.left }
+    ensures sound { SoundEnd heap.now result }
+    ensures spends { Spends 2 budget.old steps.old budget.new steps.new }
 {
     let key = kishu_items::key_of(alloc, value, heap, budget, steps);
     passed(key)
@@ -326,13 +313,10 @@ fn has_key<L: Ledger>(
     budget: &mut Budget,
     steps: &mut Steps<L>,
 ) -> Result<bool, Fault>
-    requires sound { IsTrue (is_sound (length heap.now) (value_of value.now)) }
+    requires sound { IsSoundIn heap.now value.now }
     ensures gives { (s : Moment) → Gives (λ b. b) result (placed_in s heap.now budget.new) ((key_of_value (value_of value.now) ⊳ λ k. give (is_some (value_at is_one k (entries_of entries.now.entries)))) (placed_in s heap.now budget.old)) }
-    ensures sound { IsSound (λ _. true) (length heap.now) result }
-    ensures depth { budget.new.depth ≡ budget.old.depth }
-    ensures least { budget.old.left + steps.old ≤ budget.new.left + steps.new }
-    ensures reads { 24 * budget.new.left + steps.new ≤ 24 * budget.old.left + steps.old + 2 }
-    ensures left { budget.new.left ≤ budget.old.left }
+    ensures sound { SoundEnd heap.now result }
+    ensures spends { Spends 2 budget.old steps.old budget.new steps.new }
 {
     let key = key_in(alloc, value, heap, budget, steps)?;
     Ok(is_key(entries, &key))
@@ -344,12 +328,11 @@ fn in_node<L: Ledger>(
     b: &Value,
     steps: &mut Steps<L>,
 ) -> Result<bool, Fault>
-    requires sound_a { IsTrue (is_sound (length machine.old.heap) (value_of a.now)) }
-    requires sound_b { IsTrue (is_sound (length machine.old.heap) (value_of b.now)) }
+    requires sound_a { IsSoundIn machine.old.heap a.now }
+    requires sound_b { IsSoundIn machine.old.heap b.now }
     ensures gives { Gives (λ b. b) result (moment_of machine.new) ((node_now (value_of b.now) ⊳ in_node (value_of a.now) (value_of b.now)) (moment_of machine.old)) }
-    ensures sound { IsSound (λ _. true) (length machine.new.heap) result }
-    ensures kept { GrownBy 0 machine.old steps.old machine.new steps.new }
-    ensures reads { ReadsBy 3 machine.old steps.old machine.new steps.new }
+    ensures sound { SoundEnd machine.new.heap result }
+    ensures costs { Costs 0 3 machine.old steps.old machine.new steps.new }
     ensures heap { machine.new.heap ≡ machine.old.heap }
 {
     let (alloc, heap, budget) = (machine.alloc, &machine.heap, &mut machine.budget);
@@ -382,13 +365,12 @@ fn in_text<L: Ledger>(
     text: &str,
     steps: &mut Steps<L>,
 ) -> Result<bool, Fault>
-    requires sound_a { IsTrue (is_sound (length machine.old.heap) (value_of a.now)) }
-    requires sound_b { IsTrue (is_sound (length machine.old.heap) (value_of b.now)) }
+    requires sound_a { IsSoundIn machine.old.heap a.now }
+    requires sound_b { IsSoundIn machine.old.heap b.now }
     requires text { value_of b.now ≡ model.text (chars text.now) }
     ensures gives { Gives (λ b. b) result (moment_of machine.new) (member comparison (value_of a.now) (model.text (chars text.now)) (moment_of machine.old)) }
-    ensures sound { IsSound (λ _. true) (length machine.new.heap) result }
-    ensures kept { GrownBy 0 machine.old steps.old machine.new steps.new }
-    ensures reads { ReadsBy 2 machine.old steps.old machine.new steps.new }
+    ensures sound { SoundEnd machine.new.heap result }
+    ensures costs { Costs 0 2 machine.old steps.old machine.new steps.new }
     ensures heap { machine.new.heap ≡ machine.old.heap }
 {
     match text_from(a) {
@@ -404,12 +386,11 @@ fn member<L: Ledger>(
     b: &Value,
     steps: &mut Steps<L>,
 ) -> Result<bool, Fault>
-    requires sound_a { IsTrue (is_sound (length machine.old.heap) (value_of a.now)) }
-    requires sound_b { IsTrue (is_sound (length machine.old.heap) (value_of b.now)) }
+    requires sound_a { IsSoundIn machine.old.heap a.now }
+    requires sound_b { IsSoundIn machine.old.heap b.now }
     ensures gives { Gives (λ b. b) result (moment_of machine.new) (member comparison (value_of a.now) (value_of b.now) (moment_of machine.old)) }
-    ensures sound { IsSound (λ _. true) (length machine.new.heap) result }
-    ensures kept { GrownBy 0 machine.old steps.old machine.new steps.new }
-    ensures reads { ReadsBy 3 machine.old steps.old machine.new steps.new }
+    ensures sound { SoundEnd machine.new.heap result }
+    ensures costs { Costs 0 3 machine.old steps.old machine.new steps.new }
     ensures heap { machine.new.heap ≡ machine.old.heap }
 {
     match b {
@@ -440,12 +421,11 @@ pub fn compare<L: Ledger>(
     b: &Value,
     steps: &mut Steps<L>,
 ) -> Result<bool, Fault>
-    requires sound_a { IsTrue (is_sound (length machine.old.heap) (value_of a.now)) }
-    requires sound_b { IsTrue (is_sound (length machine.old.heap) (value_of b.now)) }
+    requires sound_a { IsSoundIn machine.old.heap a.now }
+    requires sound_b { IsSoundIn machine.old.heap b.now }
     ensures gives { Gives (λ b. b) result (moment_of machine.new) (compare comparison (value_of a.now) (value_of b.now) (moment_of machine.old)) }
-    ensures sound { IsSound (λ _. true) (length machine.new.heap) result }
-    ensures kept { GrownBy 0 machine.old steps.old machine.new steps.new }
-    ensures reads { ReadsBy 16 machine.old steps.old machine.new steps.new }
+    ensures sound { SoundEnd machine.new.heap result }
+    ensures costs { Costs 0 16 machine.old steps.old machine.new steps.new }
     ensures heap { machine.new.heap ≡ machine.old.heap }
 {
     match comparison {

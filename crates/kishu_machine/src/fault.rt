@@ -6,27 +6,6 @@ use kishu_heap::CallFault;
 use kishu_meaning::{ClassId, NodeId, Value};
 use std::alloc::{AllocError, AllocFailed};
 
-/// The class `SimpleNamespace`.
-pub const NAMESPACE: ClassId = ClassId(5);
-
-/// The class `str`.
-pub const TEXT: ClassId = ClassId(6);
-
-/// The class `Exception`, which is above every class of exceptions.
-pub const ANY_EXCEPTION: ClassId = ClassId(8);
-
-/// The class `AssertionError`.
-pub const ASSERTION_ERROR: ClassId = ClassId(12);
-
-pub(crate) const ATTRIBUTE_ERROR: ClassId = ClassId(13);
-
-pub(crate) const NAME_ERROR: ClassId = ClassId(17);
-
-pub(crate) const UNBOUND_LOCAL_ERROR: ClassId = ClassId(18);
-
-/// The class `RuntimeError`.
-pub const RUNTIME_ERROR: ClassId = ClassId(19);
-
 /// An exception on its way. One that a rule raises becomes an object where it is caught.
 #[derive(Drop)]
 pub enum Thrown {

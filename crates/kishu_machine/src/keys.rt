@@ -1,11 +1,11 @@
 // Keys of dicts, and the items of sequences.
-ghost use Rattle.std.specs.Prelude.{IsTrue, length, map, true, unwrap_or, ◌+◌, ◌<◌, ◌^◌, ◌≡◌};
+ghost use Rattle.std.specs.Prelude.{length, map, unwrap_or, ◌+◌, ◌<◌, ◌^◌, ◌≡◌};
 ghost use Rattle.kishu_meaning.specs.items.KeyOf.{key_of_value, value_of_key};
 ghost use Rattle.kishu_meaning.specs.values.Keys.{key_of};
 ghost use Rattle.kishu_meaning.specs.items.Sequences.{count_in, items_of, walked};
-ghost use Rattle.kishu_meaning.specs.values.Sound.{are_sound, is_sound};
 ghost use Rattle.kishu_meaning.specs.values.Values.{value_of};
-ghost use Rattle.kishu_machine.specs.Machine.{Gives, GrownBy, HasRoom, HasRoomBy, IsSound, ReadsBy, moment_of};
+ghost use Rattle.kishu_machine.specs.Machine.{Gives, HasRoom, HasRoomBy, moment_of, Costs};
+ghost use Rattle.kishu_machine.specs.Clauses.{IsSoundIn, SoundEnd, SoundValue, SoundValues};
 
 use crate::fault::{Fault, passed};
 use crate::machine::Machine;
@@ -18,11 +18,10 @@ pub fn key_of<L: Ledger>(
     value: &Value,
     steps: &mut Steps<L>,
 ) -> Result<Key, Fault>
-    requires sound_value { IsTrue (is_sound (length machine.old.heap) (value_of value.now)) }
+    requires sound_value { IsSoundIn machine.old.heap value.now }
     ensures gives { Gives key_of result (moment_of machine.new) (key_of_value (value_of value.now) (moment_of machine.old)) }
-    ensures sound { IsSound (λ _. true) (length machine.new.heap) result }
-    ensures kept { GrownBy 0 machine.old steps.old machine.new steps.new }
-    ensures reads { ReadsBy 4 machine.old steps.old machine.new steps.new }
+    ensures sound { SoundEnd machine.new.heap result }
+    ensures costs { Costs 0 4 machine.old steps.old machine.new steps.new }
     ensures heap { machine.new.heap ≡ machine.old.heap }
 {
     let key = kishu_items::key_of(
@@ -43,9 +42,8 @@ pub fn value_of_key<L: Ledger>(
 ) -> Result<Value, Fault>
     requires room { HasRoomBy 1 machine.old }
     ensures gives { Gives value_of result (moment_of machine.new) (value_of_key (key_of key.now) (moment_of machine.old)) }
-    ensures sound { IsSound (λ v. is_sound (length machine.new.heap) (value_of v)) (length machine.new.heap) result }
-    ensures kept { GrownBy 1 machine.old steps.old machine.new steps.new }
-    ensures reads { ReadsBy 0 machine.old steps.old machine.new steps.new }
+    ensures sound { SoundValue machine.new.heap result }
+    ensures costs { Costs 1 0 machine.old steps.old machine.new steps.new }
 {
     let value = kishu_items::value_of_key(
         machine.alloc,
@@ -63,12 +61,11 @@ pub fn items_of<L: Ledger>(
     value: &Value,
     steps: &mut Steps<L>,
 ) -> Result<Vec<Value>, Fault>
-    requires sound_value { IsTrue (is_sound (length machine.old.heap) (value_of value.now)) }
+    requires sound_value { IsSoundIn machine.old.heap value.now }
     requires room { length machine.old.heap + unwrap_or (count_in machine.old.heap (value_of value.now)) 0 < 2 ^ 32 }
     ensures gives { Gives (λ v. map value_of v.items) result (moment_of machine.new) (items_of (value_of value.now) (moment_of machine.old)) }
-    ensures sound { IsSound (λ v. are_sound (length machine.new.heap) (map value_of v.items)) (length machine.new.heap) result }
-    ensures kept { GrownBy (unwrap_or (count_in machine.old.heap (value_of value.now)) 0) machine.old steps.old machine.new steps.new }
-    ensures reads { ReadsBy 4 machine.old steps.old machine.new steps.new }
+    ensures sound { SoundValues machine.new.heap result }
+    ensures costs { Costs (unwrap_or (count_in machine.old.heap (value_of value.now)) 0) 4 machine.old steps.old machine.new steps.new }
 {
     let items = kishu_items::items_of(
         machine.alloc,
@@ -87,11 +84,10 @@ pub fn walked<L: Ledger>(
     steps: &mut Steps<L>,
 ) -> Result<Vec<Value>, Fault>
     requires room { HasRoom machine.old }
-    requires sound_value { IsTrue (is_sound (length machine.old.heap) (value_of value.now)) }
+    requires sound_value { IsSoundIn machine.old.heap value.now }
     ensures gives { Gives (λ v. map value_of v.items) result (moment_of machine.new) (walked (value_of value.now) (moment_of machine.old)) }
-    ensures sound { IsSound (λ v. are_sound (length machine.new.heap) (map value_of v.items)) (length machine.new.heap) result }
-    ensures kept { GrownBy 0 machine.old steps.old machine.new steps.new }
-    ensures reads { ReadsBy 4 machine.old steps.old machine.new steps.new }
+    ensures sound { SoundValues machine.new.heap result }
+    ensures costs { Costs 0 4 machine.old steps.old machine.new steps.new }
 {
     let items = kishu_items::walked(
         machine.alloc,

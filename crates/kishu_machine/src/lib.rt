@@ -27,9 +27,7 @@ mod sums;
 mod texts;
 
 pub use comparing::compare;
-pub use fault::{
-    ANY_EXCEPTION, ASSERTION_ERROR, Fault, NAMESPACE, RUNTIME_ERROR, TEXT, Thrown, passed,
-};
+pub use fault::{Fault, Thrown, passed};
 pub use frame::Frame;
 pub use keys::{items_of, key_of, value_of_key, walked};
 pub use machine::{MOST_DEPTH, MOST_STEPS, Machine};

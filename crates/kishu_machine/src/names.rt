@@ -1,5 +1,5 @@
 // Names (Python Language Reference 3, "Naming and binding").
-ghost use Rattle.std.specs.Prelude.{IsTrue, Ok, OnErr, OnOk, codes, is_some, length, map, not, option_map, true, ℕ, ◌++◌, ◌≡◌};
+ghost use Rattle.std.specs.Prelude.{IsTrue, Ok, OnErr, OnOk, codes, is_some, map, not, option_map, ℕ, ◌++◌, ◌≡◌};
 ghost use Rattle.std.specs.Rc.{rc_str_bytes};
 ghost use Rattle.std.specs.Str.{chars};
 ghost use Rattle.kishu_meaning.specs.moments.Accesses.{unbind};
@@ -9,8 +9,11 @@ ghost use Rattle.kishu_meaning.specs.values.BuiltinNames.{builtin_names, class_n
 ghost use Rattle.kishu_meaning.specs.values.Sound.{is_sound};
 ghost use Rattle.kishu_meaning.specs.values.Values.{bind, find, value_of};
 ghost use Rattle.kishu_meaning.specs.cells.Ways.{forget};
-ghost use Rattle.kishu_machine.specs.Frames.{is_own, is_sound_locals, locals_of, names_of, own_bound, own_unbound, own_value};
+ghost use Rattle.kishu_names.specs.Namespace.{names_of};
+ghost use Rattle.kishu_machine.specs.Frames.{is_own, is_sound_locals, locals_of, own_bound, own_unbound, own_value};
 ghost use Rattle.kishu_machine.specs.Machine.{Gives, IsRaised, IsSound, moment_of};
+ghost use Rattle.kishu_machine.specs.Clauses.{IsSoundIn, SoundEnd, SoundValue};
+ghost use Rattle.kishu_meaning.specs.values.Classes.{unbound_local_error_class};
 
 use crate::fault::Fault;
 use crate::frame::Frame;
@@ -18,6 +21,7 @@ use crate::machine::Machine;
 use crate::raising::{name_error, unbound_local};
 use crate::texts::is_same_text;
 use kishu_meaning::{Value, builtin_named, class_named};
+use kishu_names::bindings::{found, set, take};
 use std::alloc::{AllocError, Global};
 use std::collections::BTreeMap;
 use std::rc::RcStr;
@@ -43,25 +47,16 @@ fn class_value(alloc: Global, name: &str) -> Result<Value, Fault>
     name_error(alloc, name)
 }
 
-fn found<'a>(values: &'a BTreeMap<RcStr, Value>, name: &str) -> Option<&'a Value>
-    ensures { option_map (λ v. value_of v.now) result ≡ find name.now (names_of values.now.entries) }
-{
-    values.get(name)
-}
-
-fn set(values: &mut BTreeMap<RcStr, Value>, name: &RcStr, value: Value) -> Result<(), AllocError>
+// Binds a name among these. They keep a copy of it.
+fn set_copied(
+    values: &mut BTreeMap<RcStr, Value>,
+    name: &RcStr,
+    value: Value,
+) -> Result<(), AllocError>
     ensures ok { OnOk result (names_of values.new.entries ≡ bind (rc_str_bytes name.now) (value_of value) (names_of values.old.entries)) }
     ensures err { OnErr result (values.new.entries ≡ values.old.entries) }
 {
-    values.insert(name.clone()?, value)?;
-    Ok(())
-}
-
-fn take(values: &mut BTreeMap<RcStr, Value>, name: &str) -> Option<Value>
-    ensures value { option_map value_of result ≡ find name.now (names_of values.old.entries) }
-    ensures names { names_of values.new.entries ≡ unbind name.now (names_of values.old.entries) }
-{
-    values.remove(name)
+    set(values, name.clone()?, value)
 }
 
 /// Whether a name is one of these.
@@ -88,7 +83,7 @@ fn is_own(locals: &Option<Frame>, name: &str) -> bool
 
 fn read_global(machine: &mut Machine, name: &str) -> Result<Value, Fault>
     ensures gives { Gives value_of result (moment_of machine.new) (read_global name.now (moment_of machine.old)) }
-    ensures sound { IsSound (λ v. is_sound (length machine.new.heap) (value_of v)) (length machine.new.heap) result }
+    ensures sound { SoundValue machine.new.heap result }
     ensures heap { machine.new.heap ≡ machine.old.heap }
     ensures budget { machine.new.budget ≡ machine.old.budget }
 {
@@ -124,7 +119,7 @@ fn read_local(alloc: Global, locals: &Option<Frame>, name: &str) -> Result<Value
 #[inline(never)]
 pub fn read(machine: &mut Machine, name: &str) -> Result<Value, Fault>
     ensures gives { Gives value_of result (moment_of machine.new) (read name.now (moment_of machine.old)) }
-    ensures sound { IsSound (λ v. is_sound (length machine.new.heap) (value_of v)) (length machine.new.heap) result }
+    ensures sound { SoundValue machine.new.heap result }
     ensures heap { machine.new.heap ≡ machine.old.heap }
     ensures budget { machine.new.budget ≡ machine.old.budget }
 {
@@ -139,7 +134,7 @@ fn set_own(locals: &mut Option<Frame>, name: &RcStr, value: Value) -> Result<(),
     ensures err { OnErr result (locals_of locals.new ≡ locals_of locals.old) }
 {
     match locals {
-        Some(frame) => set(&mut frame.values, name, value),
+        Some(frame) => set_copied(&mut frame.values, name, value),
         None => Ok(()),
     }
 }
@@ -147,9 +142,9 @@ fn set_own(locals: &mut Option<Frame>, name: &RcStr, value: Value) -> Result<(),
 /// Binds a name (Python Language Reference 3, "Assignment statements").
 pub fn assign(machine: &mut Machine, name: &RcStr, value: Value) -> Result<(), Fault>
     requires name { IsTrue (is_name (rc_str_bytes name.now)) }
-    requires sound { IsTrue (is_sound (length machine.old.heap) (value_of value)) }
+    requires sound { IsSoundIn machine.old.heap value }
     ensures gives { Gives (λ u. u) result (moment_of machine.new) (assign (rc_str_bytes name.now) (value_of value) (moment_of machine.old)) }
-    ensures sound { IsSound (λ _. true) (length machine.new.heap) result }
+    ensures sound { SoundEnd machine.new.heap result }
     ensures heap { machine.new.heap ≡ machine.old.heap }
     ensures budget { machine.new.budget ≡ machine.old.budget }
 {
@@ -163,7 +158,7 @@ pub fn assign(machine: &mut Machine, name: &RcStr, value: Value) -> Result<(), F
 
 fn delete_global(machine: &mut Machine, name: &str) -> Result<(), Fault>
     ensures gives { Gives (λ u. u) result (moment_of machine.new) (delete_global name.now (moment_of machine.old)) }
-    ensures sound { IsSound (λ _. true) (length machine.new.heap) result }
+    ensures sound { SoundEnd machine.new.heap result }
     ensures heap { machine.new.heap ≡ machine.old.heap }
     ensures budget { machine.new.budget ≡ machine.old.budget }
 {
@@ -188,7 +183,7 @@ fn take_own(locals: &mut Option<Frame>, name: &str) -> Option<Value>
 fn delete_local(alloc: Global, locals: &mut Option<Frame>, name: &str) -> Result<(), Fault>
     ensures locals { locals_of locals.new ≡ own_unbound name.now (locals_of locals.old) }
     ensures some { IsTrue (is_some (own_value name.now (locals_of locals.old))) → result ≡ Ok tt }
-    ensures none { IsTrue (not (is_some (own_value name.now (locals_of locals.old)))) → IsRaised result 18 (codes "local name '" ++ chars name.now ++ codes "' has no value") }
+    ensures none { IsTrue (not (is_some (own_value name.now (locals_of locals.old)))) → IsRaised result unbound_local_error_class (codes "local name '" ++ chars name.now ++ codes "' has no value") }
 {
     let was_bound = take_own(locals, name).is_some();
     if was_bound {
@@ -202,7 +197,7 @@ fn delete_local(alloc: Global, locals: &mut Option<Frame>, name: &str) -> Result
 /// raises `UnboundLocalError` for a local name, and `NameError` for another.
 pub fn delete(machine: &mut Machine, name: &str) -> Result<(), Fault>
     ensures gives { Gives (λ u. u) result (moment_of machine.new) (delete name.now (moment_of machine.old)) }
-    ensures sound { IsSound (λ _. true) (length machine.new.heap) result }
+    ensures sound { SoundEnd machine.new.heap result }
     ensures heap { machine.new.heap ≡ machine.old.heap }
     ensures budget { machine.new.budget ≡ machine.old.budget }
 {
@@ -215,7 +210,7 @@ pub fn delete(machine: &mut Machine, name: &str) -> Result<(), Fault>
 /// Takes a name's value away, where it has one still.
 pub fn forget(machine: &mut Machine, name: &str) -> Result<(), Fault>
     ensures gives { Gives (λ u. u) result (moment_of machine.new) (forget name.now (moment_of machine.old)) }
-    ensures sound { IsSound (λ _. true) (length machine.new.heap) result }
+    ensures sound { SoundEnd machine.new.heap result }
     ensures heap { machine.new.heap ≡ machine.old.heap }
     ensures budget { machine.new.budget ≡ machine.old.budget }
 {

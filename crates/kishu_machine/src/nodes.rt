@@ -1,11 +1,13 @@
 // Nodes, read and made.
-ghost use Rattle.std.specs.Prelude.{IfOk, IfSome, IsTrue, length, map, option_map, true, ◌+◌, ◌<◌, ◌^◌, ◌≡◌, ◌≤◌};
+ghost use Rattle.std.specs.Prelude.{IfOk, IfSome, IsTrue, length, map, option_map, ◌+◌, ◌<◌, ◌^◌, ◌≡◌};
 ghost use Rattle.kishu_meaning.specs.moments.Moment.{fine, make, node_at};
 ghost use Rattle.kishu_meaning.specs.calls.Operators.{list_from, new_list, new_tuple, truth, tuple_from};
-ghost use Rattle.kishu_meaning.specs.values.Sound.{are_sound, is_sound, is_sound_node};
+ghost use Rattle.kishu_meaning.specs.values.Sound.{is_sound_node};
 ghost use Rattle.kishu_meaning.specs.values.Values.{value_of};
 ghost use Rattle.kishu_heap.specs.Cells.{node_of};
-ghost use Rattle.kishu_machine.specs.Machine.{Gives, IsSound, moment_of};
+ghost use Rattle.kishu_machine.specs.Machine.{Gives, moment_of};
+ghost use Rattle.kishu_machine.specs.Clauses.{AreSoundIn, IsSoundIn, SoundEnd, SoundValue};
+ghost use Rattle.kishu_heap.specs.Costs.{Reads, Grows};
 ghost use Rattle.kishu_meaning.specs.values.Values as model;
 
 use crate::fault::Fault;
@@ -22,8 +24,7 @@ pub fn node_at<'a, L: Ledger>(
 ) -> Option<&'a Node>
     ensures node { option_map (λ n. node_of n.now) result ≡ node_at heap.now (value_of value.now) }
     ensures sound { IfSome result (λ n. IsTrue (is_sound_node (length heap.now) (node_of n.now))) }
-    ensures counted { steps.old ≤ steps.new }
-    ensures reads { steps.new ≤ steps.old + 1 }
+    ensures reads { Reads 1 steps.old steps.new }
 {
     if let Value::Node(id) = value {
         if id.0 < heap.len() {
@@ -40,9 +41,8 @@ pub fn list_at<'a, L: Ledger>(
     steps: &mut Steps<L>,
 ) -> Option<&'a [Value]>
     ensures items { option_map (λ s. map value_of s.now) result ≡ list_from (node_at heap.now (value_of value.now)) }
-    ensures sound { IfSome result (λ s. IsTrue (are_sound (length heap.now) (map value_of s.now))) }
-    ensures counted { steps.old ≤ steps.new }
-    ensures reads { steps.new ≤ steps.old + 1 }
+    ensures sound { IfSome result (λ s. AreSoundIn heap.now s.now) }
+    ensures reads { Reads 1 steps.old steps.new }
 {
     node_at(heap, value, steps)?.list()
 }
@@ -54,9 +54,8 @@ pub fn tuple_at<'a, L: Ledger>(
     steps: &mut Steps<L>,
 ) -> Option<&'a [Value]>
     ensures items { option_map (λ s. map value_of s.now) result ≡ tuple_from (node_at heap.now (value_of value.now)) }
-    ensures sound { IfSome result (λ s. IsTrue (are_sound (length heap.now) (map value_of s.now))) }
-    ensures counted { steps.old ≤ steps.new }
-    ensures reads { steps.new ≤ steps.old + 1 }
+    ensures sound { IfSome result (λ s. AreSoundIn heap.now s.now) }
+    ensures reads { Reads 1 steps.old steps.new }
 {
     node_at(heap, value, steps)?.tuple()
 }
@@ -67,10 +66,9 @@ pub fn make(machine: &mut Machine, node: Node) -> Result<NodeId, Fault>
     requires room { length machine.old.heap + 1 < 2 ^ 32 }
     requires sound { IsTrue (is_sound_node (length machine.old.heap) (node_of node)) }
     ensures gives { Gives (λ id. model.node id.0) result (moment_of machine.new) (make (node_of node) (moment_of machine.old)) }
-    ensures sound { IsSound (λ _. true) (length machine.new.heap) result }
+    ensures sound { SoundEnd machine.new.heap result }
     ensures id { IfOk result (λ id. id.0 < length machine.new.heap) }
-    ensures heap { length machine.old.heap ≤ length machine.new.heap }
-    ensures one { length machine.new.heap ≤ length machine.old.heap + 1 }
+    ensures grows { Grows 1 machine.old.heap machine.new.heap }
     ensures budget { machine.new.budget ≡ machine.old.budget }
 {
     Ok(machine.heap.make(node)?)
@@ -80,11 +78,10 @@ pub fn make(machine: &mut Machine, node: Node) -> Result<NodeId, Fault>
 #[inline(never)]
 pub fn new_list(machine: &mut Machine, items: Vec<Value>) -> Result<Value, Fault>
     requires room { length machine.old.heap + 1 < 2 ^ 32 }
-    requires sound { IsTrue (are_sound (length machine.old.heap) (map value_of items.items)) }
+    requires sound { AreSoundIn machine.old.heap items.items }
     ensures gives { Gives value_of result (moment_of machine.new) (new_list (map value_of items.items) (moment_of machine.old)) }
-    ensures sound { IsSound (λ v. is_sound (length machine.new.heap) (value_of v)) (length machine.new.heap) result }
-    ensures heap { length machine.old.heap ≤ length machine.new.heap }
-    ensures one { length machine.new.heap ≤ length machine.old.heap + 1 }
+    ensures sound { SoundValue machine.new.heap result }
+    ensures grows { Grows 1 machine.old.heap machine.new.heap }
     ensures budget { machine.new.budget ≡ machine.old.budget }
 {
     Ok(Value::Node(make(machine, Node::List(items))?))
@@ -94,11 +91,10 @@ pub fn new_list(machine: &mut Machine, items: Vec<Value>) -> Result<Value, Fault
 #[inline(never)]
 pub fn new_tuple(machine: &mut Machine, items: Vec<Value>) -> Result<Value, Fault>
     requires room { length machine.old.heap + 1 < 2 ^ 32 }
-    requires sound { IsTrue (are_sound (length machine.old.heap) (map value_of items.items)) }
+    requires sound { AreSoundIn machine.old.heap items.items }
     ensures gives { Gives value_of result (moment_of machine.new) (new_tuple (map value_of items.items) (moment_of machine.old)) }
-    ensures sound { IsSound (λ v. is_sound (length machine.new.heap) (value_of v)) (length machine.new.heap) result }
-    ensures heap { length machine.old.heap ≤ length machine.new.heap }
-    ensures one { length machine.new.heap ≤ length machine.old.heap + 1 }
+    ensures sound { SoundValue machine.new.heap result }
+    ensures grows { Grows 1 machine.old.heap machine.new.heap }
     ensures budget { machine.new.budget ≡ machine.old.budget }
 {
     Ok(Value::Node(make(machine, Node::Tuple(items))?))
@@ -106,10 +102,9 @@ pub fn new_tuple(machine: &mut Machine, items: Vec<Value>) -> Result<Value, Faul
 
 /// Whether a value is true (Python Language Reference 3, "Boolean operations").
 pub fn truth<L: Ledger>(machine: &Machine, value: &Value, steps: &mut Steps<L>) -> bool
-    requires sound { IsTrue (is_sound (length machine.now.heap) (value_of value.now)) }
+    requires sound { IsSoundIn machine.now.heap value.now }
     ensures is { truth (value_of value.now) (moment_of machine.now) ≡ fine result (moment_of machine.now) }
-    ensures counted { steps.old ≤ steps.new }
-    ensures reads { steps.new ≤ steps.old + 1 }
+    ensures reads { Reads 1 steps.old steps.new }
 {
     kishu_items::is_true(value, &machine.heap, steps)
 }

@@ -8,9 +8,9 @@ ghost use Rattle.kishu_machine.specs.Machine.{Gives};
 
 use crate::fault::Fault;
 use crate::raising::raise;
-use kishu_items::{OVERFLOW_ERROR, VALUE_ERROR, ZERO_DIVISION_ERROR, plain_text};
+use kishu_items::plain_text;
 use kishu_language::{Operator, Sign};
-use kishu_meaning::Value;
+use kishu_meaning::{ClassId, Value};
 use kishu_num::{NumFault, add, floor_div, modulo, mul, power, sub};
 use std::alloc::Global;
 
@@ -20,14 +20,17 @@ fn number_value(alloc: Global, answer: Result<i128, NumFault>) -> Result<Value, 
     match answer {
         Ok(number) => Ok(Value::Int(number)),
         Err(NumFault::Overflow) => raise(
-            OVERFLOW_ERROR,
+            ClassId::OVERFLOW_ERROR,
             plain_text(alloc, "whole number too large")?,
         ),
         Err(NumFault::ZeroDivisor) => raise(
-            ZERO_DIVISION_ERROR,
+            ClassId::ZERO_DIVISION_ERROR,
             plain_text(alloc, "division by zero")?,
         ),
-        Err(NumFault::NegativePower) => raise(VALUE_ERROR, plain_text(alloc, "negative power")?),
+        Err(NumFault::NegativePower) => raise(
+            ClassId::VALUE_ERROR,
+            plain_text(alloc, "negative power")?,
+        ),
     }
 }
 

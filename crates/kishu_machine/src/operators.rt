@@ -1,14 +1,16 @@
 // Operators (Python Language Reference 3, "Binary arithmetic operations" and "Unary arithmetic
 // operations").
 ghost use Rattle.std.specs.List.{list_all};
-ghost use Rattle.std.specs.Prelude.{Some, IsTrue, OnOk, length, map, nat_lt, option_map, ℕ, ◌*◌, ◌++◌, ◌+◌, ◌<◌, ◌≡◌, ◌≤◌};
+ghost use Rattle.std.specs.Prelude.{Some, IsTrue, OnOk, map, nat_lt, option_map, ℕ, ◌*◌, ◌++◌, ◌<◌, ◌≡◌};
 ghost use Rattle.std.specs.Str.{chars};
 ghost use Rattle.kishu_meaning.specs.comparing.Equal.{number_in};
 ghost use Rattle.kishu_meaning.specs.calls.Operators.{bad_operands, both, on_numbers, on_sequences, operate, operator_sign, product_of, sign_text, signed_value, sum_of};
 ghost use Rattle.kishu_meaning.specs.values.Sound.{is_sound};
 ghost use Rattle.kishu_meaning.specs.values.Values.{value_of};
 ghost use Rattle.kishu_machine.specs.Forms.{text_from};
-ghost use Rattle.kishu_machine.specs.Machine.{Gives, GrownBy, HasRoomBy, IsSound, ReadsBy, moment_of};
+ghost use Rattle.kishu_machine.specs.Machine.{Gives, HasRoomBy, IsSound, moment_of, Costs};
+ghost use Rattle.kishu_machine.specs.Clauses.{IsSoundIn, SoundValue};
+ghost use Rattle.kishu_heap.specs.Costs.{Reads};
 
 use crate::fault::Fault;
 use crate::machine::Machine;
@@ -54,12 +56,11 @@ pub(crate) fn bad_values<L: Ledger>(
     b: &Value,
     steps: &mut Steps<L>,
 ) -> Result<Value, Fault>
-    requires sound_a { IsTrue (is_sound (length machine.now.heap) (value_of a.now)) }
-    requires sound_b { IsTrue (is_sound (length machine.now.heap) (value_of b.now)) }
+    requires sound_a { IsSoundIn machine.now.heap a.now }
+    requires sound_b { IsSoundIn machine.now.heap b.now }
     ensures gives { Gives value_of result (moment_of machine.now) (bad_operands (operator_sign operator) (value_of a.now) (value_of b.now) (moment_of machine.now)) }
-    ensures sound { IsSound (λ v. is_sound (length machine.now.heap) (value_of v)) (length machine.now.heap) result }
-    ensures counted { steps.old ≤ steps.new }
-    ensures reads { steps.new ≤ steps.old + 2 }
+    ensures sound { SoundValue machine.now.heap result }
+    ensures reads { Reads 2 steps.old steps.new }
 {
     bad_operands(machine, operator_sign(operator), a, b, steps)
 }
@@ -100,12 +101,11 @@ fn on_sequences<L: Ledger>(
     steps: &mut Steps<L>,
 ) -> Result<Value, Fault>
     requires room { HasRoomBy 1 machine.old }
-    requires sound_a { IsTrue (is_sound (length machine.old.heap) (value_of a.now)) }
-    requires sound_b { IsTrue (is_sound (length machine.old.heap) (value_of b.now)) }
+    requires sound_a { IsSoundIn machine.old.heap a.now }
+    requires sound_b { IsSoundIn machine.old.heap b.now }
     ensures gives { Gives value_of result (moment_of machine.new) (on_sequences operator (value_of a.now) (value_of b.now) (moment_of machine.old)) }
-    ensures sound { IsSound (λ v. is_sound (length machine.new.heap) (value_of v)) (length machine.new.heap) result }
-    ensures kept { GrownBy 1 machine.old steps.old machine.new steps.new }
-    ensures reads { ReadsBy 6 machine.old steps.old machine.new steps.new }
+    ensures sound { SoundValue machine.new.heap result }
+    ensures costs { Costs 1 6 machine.old steps.old machine.new steps.new }
 {
     match operator {
         Operator::Add => sum_of(machine, a, b, steps),
@@ -127,12 +127,11 @@ fn with_number<L: Ledger>(
     steps: &mut Steps<L>,
 ) -> Result<Value, Fault>
     requires room { HasRoomBy 1 machine.old }
-    requires sound_a { IsTrue (is_sound (length machine.old.heap) (value_of a.now)) }
-    requires sound_b { IsTrue (is_sound (length machine.old.heap) (value_of b.now)) }
+    requires sound_a { IsSoundIn machine.old.heap a.now }
+    requires sound_b { IsSoundIn machine.old.heap b.now }
     ensures gives { Gives value_of result (moment_of machine.new) (on_numbers operator (Some number) (number_in (value_of b.now)) (on_sequences operator (value_of a.now) (value_of b.now)) (moment_of machine.old)) }
-    ensures sound { IsSound (λ v. is_sound (length machine.new.heap) (value_of v)) (length machine.new.heap) result }
-    ensures kept { GrownBy 1 machine.old steps.old machine.new steps.new }
-    ensures reads { ReadsBy 6 machine.old steps.old machine.new steps.new }
+    ensures sound { SoundValue machine.new.heap result }
+    ensures costs { Costs 1 6 machine.old steps.old machine.new steps.new }
 {
     match number_in(b) {
         Some(other) => arithmetic(machine.alloc, operator, number, other),
@@ -150,12 +149,11 @@ pub fn operate<L: Ledger>(
     steps: &mut Steps<L>,
 ) -> Result<Value, Fault>
     requires room { HasRoomBy 1 machine.old }
-    requires sound_a { IsTrue (is_sound (length machine.old.heap) (value_of a.now)) }
-    requires sound_b { IsTrue (is_sound (length machine.old.heap) (value_of b.now)) }
+    requires sound_a { IsSoundIn machine.old.heap a.now }
+    requires sound_b { IsSoundIn machine.old.heap b.now }
     ensures gives { Gives value_of result (moment_of machine.new) (operate operator (value_of a.now) (value_of b.now) (moment_of machine.old)) }
-    ensures sound { IsSound (λ v. is_sound (length machine.new.heap) (value_of v)) (length machine.new.heap) result }
-    ensures kept { GrownBy 1 machine.old steps.old machine.new steps.new }
-    ensures reads { ReadsBy 16 machine.old steps.old machine.new steps.new }
+    ensures sound { SoundValue machine.new.heap result }
+    ensures costs { Costs 1 16 machine.old steps.old machine.new steps.new }
 {
     match number_in(a) {
         Some(number) => with_number(machine, operator, number, a, b, steps),
@@ -171,11 +169,10 @@ pub fn signed_value<L: Ledger>(
     value: &Value,
     steps: &mut Steps<L>,
 ) -> Result<Value, Fault>
-    requires sound_value { IsTrue (is_sound (length machine.now.heap) (value_of value.now)) }
+    requires sound_value { IsSoundIn machine.now.heap value.now }
     ensures gives { Gives value_of result (moment_of machine.now) (signed_value sign (value_of value.now) (moment_of machine.now)) }
     ensures sound { (n : ℕ) → IsSound (λ v. is_sound n (value_of v)) n result }
-    ensures counted { steps.old ≤ steps.new }
-    ensures reads { steps.new ≤ steps.old + 4 }
+    ensures reads { Reads 4 steps.old steps.new }
 {
     match number_in(value) {
         Some(number) => signed_number(machine.alloc, sign, number),

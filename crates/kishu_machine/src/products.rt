@@ -6,11 +6,12 @@ ghost use Rattle.std.specs.String.{string_bytes};
 ghost use Rattle.kishu_meaning.specs.comparing.Equal.{number_in};
 ghost use Rattle.kishu_meaning.specs.moments.Moment.{Moment, node_now, ◌>>=◌ as ◌⊳◌};
 ghost use Rattle.kishu_meaning.specs.calls.Operators.{bad_operands, list_from, new_tuple, operator_sign, product_of, repeated, times, tuple_from, value_times};
-ghost use Rattle.kishu_meaning.specs.values.Sound.{are_sound, is_sound};
+ghost use Rattle.kishu_meaning.specs.values.Sound.{are_sound};
 ghost use Rattle.kishu_meaning.specs.values.Values.{value_of};
 ghost use Rattle.kishu_machine.specs.Forms.{maybe_node_times, maybe_often, maybe_tuple_times, maybe_value_times, some_value, text_from};
-ghost use Rattle.kishu_machine.specs.Lists.{are_sound_in, is_sound_in, items_in, values_in};
-ghost use Rattle.kishu_machine.specs.Machine.{Gives, GrownBy, HasRoom, HasRoomBy, IsSound, ReadsBy, moment_of, placed};
+ghost use Rattle.kishu_machine.specs.Lists.{are_sound_in, items_in, values_in};
+ghost use Rattle.kishu_machine.specs.Machine.{Gives, GrownBy, HasRoom, HasRoomBy, IsSound, moment_of, placed, Costs};
+ghost use Rattle.kishu_machine.specs.Clauses.{IsSoundIn, SoundMaybe, SoundMaybes, SoundValue};
 ghost use Rattle.kishu_meaning.specs.values.Values as model;
 ghost use Rattle.kishu_language.specs.declared.tree.Operator.TheVariants as operators;
 
@@ -73,9 +74,8 @@ fn repeated<L: Ledger>(
 ) -> Result<Value, Fault>
     requires room { HasRoom machine.old }
     ensures gives { Gives value_of result (moment_of machine.new) (repeated (chars text.now) number (moment_of machine.old)) }
-    ensures sound { IsSound (λ v. is_sound (length machine.new.heap) (value_of v)) (length machine.new.heap) result }
-    ensures kept { GrownBy 0 machine.old steps.old machine.new steps.new }
-    ensures reads { ReadsBy 0 machine.old steps.old machine.new steps.new }
+    ensures sound { SoundValue machine.new.heap result }
+    ensures costs { Costs 0 0 machine.old steps.old machine.new steps.new }
     ensures heap { machine.new.heap ≡ machine.old.heap }
 {
     let times = times(number);
@@ -135,10 +135,9 @@ fn list_times<L: Ledger>(
 ) -> Result<Option<Vec<Value>>, Fault>
     requires room { HasRoom machine.old }
     ensures gives { Gives items_in result (moment_of machine.new) ((node_now (value_of value.now) ⊳ λ m. maybe_often (list_from m) times) (moment_of machine.old)) }
-    ensures sound { IsSound (λ o. are_sound_in (length machine.new.heap) (items_in o)) (length machine.new.heap) result }
+    ensures sound { SoundMaybes machine.new.heap result }
     ensures heap { machine.new.heap ≡ machine.old.heap }
-    ensures kept { GrownBy 0 machine.old steps.old machine.new steps.new }
-    ensures reads { ReadsBy 1 machine.old steps.old machine.new steps.new }
+    ensures costs { Costs 0 1 machine.old steps.old machine.new steps.new }
 {
     let part = list_at(&machine.heap, value, steps);
     items_times(machine.alloc, part, times, &mut machine.budget, steps)
@@ -153,10 +152,9 @@ fn tuple_times<L: Ledger>(
 ) -> Result<Option<Vec<Value>>, Fault>
     requires room { HasRoom machine.old }
     ensures gives { Gives items_in result (moment_of machine.new) ((node_now (value_of value.now) ⊳ λ m. maybe_often (tuple_from m) times) (moment_of machine.old)) }
-    ensures sound { IsSound (λ o. are_sound_in (length machine.new.heap) (items_in o)) (length machine.new.heap) result }
+    ensures sound { SoundMaybes machine.new.heap result }
     ensures heap { machine.new.heap ≡ machine.old.heap }
-    ensures kept { GrownBy 0 machine.old steps.old machine.new steps.new }
-    ensures reads { ReadsBy 1 machine.old steps.old machine.new steps.new }
+    ensures costs { Costs 0 1 machine.old steps.old machine.new steps.new }
 {
     let part = tuple_at(&machine.heap, value, steps);
     items_times(machine.alloc, part, times, &mut machine.budget, steps)
@@ -180,12 +178,11 @@ fn tuple_product<L: Ledger>(
     steps: &mut Steps<L>,
 ) -> Result<Option<Value>, Fault>
     requires room { HasRoomBy 1 machine.old }
-    requires sound_value { IsTrue (is_sound (length machine.old.heap) (value_of value.now)) }
+    requires sound_value { IsSoundIn machine.old.heap value.now }
     ensures gives { Gives values_in result (moment_of machine.new) ((node_now (value_of value.now) ⊳ λ m. maybe_tuple_times m number) (moment_of machine.old)) }
-    ensures kept { GrownBy 1 machine.old steps.old machine.new steps.new }
-    ensures reads { ReadsBy 1 machine.old steps.old machine.new steps.new }
+    ensures costs { Costs 1 1 machine.old steps.old machine.new steps.new }
     ensures unmade { IfOk result (λ o. IfNone o (GrownBy 0 machine.old steps.old machine.new steps.new)) }
-    ensures sound { IsSound (λ o. is_sound_in (length machine.new.heap) (values_in o)) (length machine.new.heap) result }
+    ensures sound { SoundMaybe machine.new.heap result }
 {
     let found = tuple_times(machine, value, times(number), steps)?;
     match found {
@@ -202,12 +199,11 @@ fn node_times<L: Ledger>(
     steps: &mut Steps<L>,
 ) -> Result<Option<Value>, Fault>
     requires room { HasRoomBy 1 machine.old }
-    requires sound_value { IsTrue (is_sound (length machine.old.heap) (value_of value.now)) }
+    requires sound_value { IsSoundIn machine.old.heap value.now }
     ensures gives { Gives values_in result (moment_of machine.new) ((node_now (value_of value.now) ⊳ λ m. maybe_node_times m number) (moment_of machine.old)) }
-    ensures kept { GrownBy 1 machine.old steps.old machine.new steps.new }
-    ensures reads { ReadsBy 2 machine.old steps.old machine.new steps.new }
+    ensures costs { Costs 1 2 machine.old steps.old machine.new steps.new }
     ensures unmade { IfOk result (λ o. IfNone o (GrownBy 0 machine.old steps.old machine.new steps.new)) }
-    ensures sound { IsSound (λ o. is_sound_in (length machine.new.heap) (values_in o)) (length machine.new.heap) result }
+    ensures sound { SoundMaybe machine.new.heap result }
 {
     let found = list_times(machine, value, times(number), steps)?;
     match found {
@@ -224,12 +220,11 @@ fn value_often<L: Ledger>(
     steps: &mut Steps<L>,
 ) -> Result<Option<Value>, Fault>
     requires room { HasRoomBy 1 machine.old }
-    requires sound_value { IsTrue (is_sound (length machine.old.heap) (value_of value.now)) }
+    requires sound_value { IsSoundIn machine.old.heap value.now }
     ensures gives { Gives values_in result (moment_of machine.new) (maybe_value_times (value_of value.now) (Some number) (moment_of machine.old)) }
-    ensures kept { GrownBy 1 machine.old steps.old machine.new steps.new }
-    ensures reads { ReadsBy 2 machine.old steps.old machine.new steps.new }
+    ensures costs { Costs 1 2 machine.old steps.old machine.new steps.new }
     ensures unmade { IfOk result (λ o. IfNone o (GrownBy 0 machine.old steps.old machine.new steps.new)) }
-    ensures sound { IsSound (λ o. is_sound_in (length machine.new.heap) (values_in o)) (length machine.new.heap) result }
+    ensures sound { SoundMaybe machine.new.heap result }
 {
     match text_from(value) {
         Some(text) => some_value(repeated(machine, text, number, steps)),
@@ -245,12 +240,11 @@ fn value_times<L: Ledger>(
     steps: &mut Steps<L>,
 ) -> Result<Option<Value>, Fault>
     requires room { HasRoomBy 1 machine.old }
-    requires sound_value { IsTrue (is_sound (length machine.old.heap) (value_of value.now)) }
+    requires sound_value { IsSoundIn machine.old.heap value.now }
     ensures gives { Gives values_in result (moment_of machine.new) (maybe_value_times (value_of value.now) number (moment_of machine.old)) }
-    ensures kept { GrownBy 1 machine.old steps.old machine.new steps.new }
-    ensures reads { ReadsBy 2 machine.old steps.old machine.new steps.new }
+    ensures costs { Costs 1 2 machine.old steps.old machine.new steps.new }
     ensures unmade { IfOk result (λ o. IfNone o (GrownBy 0 machine.old steps.old machine.new steps.new)) }
-    ensures sound { IsSound (λ o. is_sound_in (length machine.new.heap) (values_in o)) (length machine.new.heap) result }
+    ensures sound { SoundMaybe machine.new.heap result }
 {
     match number {
         Some(number) => value_often(machine, value, number, steps),
@@ -266,12 +260,11 @@ fn right_product<L: Ledger>(
     steps: &mut Steps<L>,
 ) -> Result<Value, Fault>
     requires room { HasRoomBy 1 machine.old }
-    requires sound_a { IsTrue (is_sound (length machine.old.heap) (value_of a.now)) }
-    requires sound_b { IsTrue (is_sound (length machine.old.heap) (value_of b.now)) }
+    requires sound_a { IsSoundIn machine.old.heap a.now }
+    requires sound_b { IsSoundIn machine.old.heap b.now }
     ensures gives { Gives value_of result (moment_of machine.new) (value_times (value_of b.now) (number_in (value_of a.now)) (bad_operands (operator_sign operators.Multiply) (value_of a.now) (value_of b.now)) (moment_of machine.old)) }
-    ensures sound { IsSound (λ v. is_sound (length machine.new.heap) (value_of v)) (length machine.new.heap) result }
-    ensures kept { GrownBy 1 machine.old steps.old machine.new steps.new }
-    ensures reads { ReadsBy 4 machine.old steps.old machine.new steps.new }
+    ensures sound { SoundValue machine.new.heap result }
+    ensures costs { Costs 1 4 machine.old steps.old machine.new steps.new }
 {
     let made = value_times(machine, b, number_in(a), steps)?;
     match made {
@@ -288,12 +281,11 @@ pub(crate) fn product_of<L: Ledger>(
     steps: &mut Steps<L>,
 ) -> Result<Value, Fault>
     requires room { HasRoomBy 1 machine.old }
-    requires sound_a { IsTrue (is_sound (length machine.old.heap) (value_of a.now)) }
-    requires sound_b { IsTrue (is_sound (length machine.old.heap) (value_of b.now)) }
+    requires sound_a { IsSoundIn machine.old.heap a.now }
+    requires sound_b { IsSoundIn machine.old.heap b.now }
     ensures gives { Gives value_of result (moment_of machine.new) (product_of (value_of a.now) (value_of b.now) (moment_of machine.old)) }
-    ensures sound { IsSound (λ v. is_sound (length machine.new.heap) (value_of v)) (length machine.new.heap) result }
-    ensures kept { GrownBy 1 machine.old steps.old machine.new steps.new }
-    ensures reads { ReadsBy 6 machine.old steps.old machine.new steps.new }
+    ensures sound { SoundValue machine.new.heap result }
+    ensures costs { Costs 1 6 machine.old steps.old machine.new steps.new }
 {
     let made = value_times(machine, a, number_in(b), steps)?;
     match made {

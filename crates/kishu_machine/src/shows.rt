@@ -1,6 +1,6 @@
 // Texts of values, and what is printed.
 ghost use Rattle.std.specs.List.{flat_map};
-ghost use Rattle.std.specs.Prelude.{IfOk, List, OnOk, [], length, map, true, ℕ, ◌*◌, ◌++◌, ◌+◌, ◌-◌, ◌<◌, ◌∷◌, ◌≡◌, ◌≤◌};
+ghost use Rattle.std.specs.Prelude.{IfOk, List, OnOk, [], length, map, true, ℕ, ◌*◌, ◌++◌, ◌+◌, ◌-◌, ◌<◌, ◌∷◌, ◌≡◌};
 ghost use Rattle.std.specs.Str.{chars};
 ghost use Rattle.std.specs.String.{string_bytes};
 ghost use Rattle.kishu_meaning.specs.calls.Callees.{print};
@@ -10,7 +10,9 @@ ghost use Rattle.kishu_meaning.specs.comparing.Equal.{room_at};
 ghost use Rattle.kishu_meaning.specs.comparing.Show.{argument_text, repr_nodes, repr_of, show, show_all, show_all_in, show_nodes, show_thrown};
 ghost use Rattle.kishu_meaning.specs.values.Values.{none, value_of};
 ghost use Rattle.kishu_machine.specs.Lists.{is_node, string_texts};
-ghost use Rattle.kishu_machine.specs.Machine.{Gives, GrownBy, IsSound, ReadsBy, moment_of, thrown_of};
+ghost use Rattle.kishu_machine.specs.Machine.{Gives, IsSound, moment_of, thrown_of, Costs};
+ghost use Rattle.kishu_machine.specs.Clauses.{SoundEnd};
+ghost use Rattle.kishu_heap.specs.Costs.{Spends};
 ghost use Rattle.kishu_meaning.specs.values.Texts as words;
 ghost use Rattle.kishu_show.specs.Shown as shown;
 
@@ -19,8 +21,7 @@ use crate::machine::{MOST_DEPTH, Machine};
 use crate::stepping::{spend, tick, too_deep};
 use crate::texts::push_text;
 use kishu_heap::Heap;
-use kishu_items::KEY_ERROR;
-use kishu_meaning::{Budget, Steps, Value};
+use kishu_meaning::{Budget, ClassId, Steps, Value};
 use kishu_show::ShowFault;
 use kishu_text::count;
 use std::alloc::{AllocError, Global};
@@ -45,9 +46,8 @@ pub fn repr_of<L: Ledger>(
     steps: &mut Steps<L>,
 ) -> Result<String, Fault>
     ensures gives { Gives (λ t. chars (string_bytes t)) result (moment_of machine.new) (repr_of (value_of value.now) (moment_of machine.old)) }
-    ensures sound { IsSound (λ _. true) (length machine.new.heap) result }
-    ensures kept { GrownBy 0 machine.old steps.old machine.new steps.new }
-    ensures reads { ReadsBy 8 machine.old steps.old machine.new steps.new }
+    ensures sound { SoundEnd machine.new.heap result }
+    ensures costs { Costs 0 8 machine.old steps.old machine.new steps.new }
     ensures heap { machine.new.heap ≡ machine.old.heap }
 {
     let alloc = machine.alloc;
@@ -62,9 +62,8 @@ pub fn show<L: Ledger>(
     steps: &mut Steps<L>,
 ) -> Result<String, Fault>
     ensures gives { Gives (λ t. chars (string_bytes t)) result (moment_of machine.new) (show (value_of value.now) (moment_of machine.old)) }
-    ensures sound { IsSound (λ _. true) (length machine.new.heap) result }
-    ensures kept { GrownBy 0 machine.old steps.old machine.new steps.new }
-    ensures reads { ReadsBy 8 machine.old steps.old machine.new steps.new }
+    ensures sound { SoundEnd machine.new.heap result }
+    ensures costs { Costs 0 8 machine.old steps.old machine.new steps.new }
     ensures heap { machine.new.heap ≡ machine.old.heap }
 {
     let alloc = machine.alloc;
@@ -84,12 +83,9 @@ fn inner_text<L: Ledger>(
     steps: &mut Steps<L>,
 ) -> Result<String, ShowFault>
     ensures gives { shown.Gives (λ t. chars (string_bytes t)) result budget.new.left (argument_text (repr_nodes heap.now (room_at budget.old.depth) []) (show_nodes heap.now (room_at budget.old.depth)) class (value_of argument.now) budget.old.left) }
-    ensures left { budget.new.left ≤ budget.old.left }
-    ensures depth { budget.new.depth ≡ budget.old.depth }
-    ensures least { budget.old.left + steps.old ≤ budget.new.left + steps.new }
-    ensures reads { 24 * budget.new.left + steps.new ≤ 24 * budget.old.left + steps.old + 2 }
+    ensures spends { Spends 2 budget.old steps.old budget.new steps.new }
 {
-    if class == KEY_ERROR.0 {
+    if class == ClassId::KEY_ERROR.0 {
         kishu_show::repr_of(alloc, argument, heap, budget, steps)
     } else {
         kishu_show::show(alloc, argument, heap, budget, steps)
@@ -122,10 +118,7 @@ fn text_below<L: Ledger>(
 ) -> Result<String, ShowFault>
     requires { budget.old.depth < most_depth }
     ensures gives { shown.Gives (λ t. chars (string_bytes t)) result budget.new.left (argument_text (repr_nodes heap.now (most_depth - budget.old.depth) []) (show_nodes heap.now (most_depth - budget.old.depth)) class (value_of argument.now) budget.old.left) }
-    ensures left { budget.new.left ≤ budget.old.left }
-    ensures depth { budget.new.depth ≡ budget.old.depth }
-    ensures least { budget.old.left + steps.old ≤ budget.new.left + steps.new }
-    ensures reads { 24 * budget.new.left + steps.new ≤ 24 * budget.old.left + steps.old + 2 }
+    ensures spends { Spends 2 budget.old steps.old budget.new steps.new }
 {
     let mut inner = Budget {
         left: budget.left,
@@ -146,10 +139,7 @@ fn deeper_text<L: Ledger>(
     steps: &mut Steps<L>,
 ) -> Result<String, ShowFault>
     ensures gives { shown.Gives (λ t. chars (string_bytes t)) result budget.new.left (argument_text (repr_nodes heap.now (most_depth - budget.old.depth) []) (show_nodes heap.now (most_depth - budget.old.depth)) class (value_of argument.now) budget.old.left) }
-    ensures left { budget.new.left ≤ budget.old.left }
-    ensures depth { budget.new.depth ≡ budget.old.depth }
-    ensures least { budget.old.left + steps.old ≤ budget.new.left + steps.new }
-    ensures reads { 24 * budget.new.left + steps.new ≤ 24 * budget.old.left + steps.old + 2 }
+    ensures spends { Spends 2 budget.old steps.old budget.new steps.new }
 {
     if budget.depth < MOST_DEPTH {
         return text_below(alloc, class, argument, heap, budget, steps);
@@ -168,9 +158,8 @@ fn argument_text<L: Ledger>(
     steps: &mut Steps<L>,
 ) -> Result<String, Fault>
     ensures gives { Gives (λ t. chars (string_bytes t)) result (moment_of machine.new) (show_thrown (fresh class (value_of argument.now ∷ [])) (moment_of machine.old)) }
-    ensures sound { IsSound (λ _. true) (length machine.new.heap) result }
-    ensures kept { GrownBy 0 machine.old steps.old machine.new steps.new }
-    ensures reads { ReadsBy 0 machine.old steps.old machine.new steps.new }
+    ensures sound { SoundEnd machine.new.heap result }
+    ensures costs { Costs 0 0 machine.old steps.old machine.new steps.new }
     ensures heap { machine.new.heap ≡ machine.old.heap }
 {
     tick(machine, steps)?;
@@ -193,9 +182,8 @@ pub fn show_thrown<L: Ledger>(
     steps: &mut Steps<L>,
 ) -> Result<String, Fault>
     ensures gives { Gives (λ t. chars (string_bytes t)) result (moment_of machine.new) (show_thrown (thrown_of thrown.now) (moment_of machine.old)) }
-    ensures sound { IsSound (λ _. true) (length machine.new.heap) result }
-    ensures kept { GrownBy 0 machine.old steps.old machine.new steps.new }
-    ensures reads { ReadsBy 8 machine.old steps.old machine.new steps.new }
+    ensures sound { SoundEnd machine.new.heap result }
+    ensures costs { Costs 0 8 machine.old steps.old machine.new steps.new }
     ensures heap { machine.new.heap ≡ machine.old.heap }
 {
     match thrown {
@@ -216,10 +204,7 @@ fn all_texts<L: Ledger>(
 ) -> Result<Vec<String>, Fault>
     ensures gives { (s : Moment) → Gives string_texts result (record s { left = budget.new.left }) (ended_in s (show_all_in heap.now budget.old.depth (map value_of values.now) budget.old.left)) }
     ensures sound { (n : ℕ) → IsSound (λ _. true) n result }
-    ensures left { budget.new.left ≤ budget.old.left }
-    ensures depth { budget.new.depth ≡ budget.old.depth }
-    ensures least { budget.old.left + steps.old ≤ budget.new.left + steps.new }
-    ensures reads { 24 * budget.new.left + steps.new ≤ 24 * budget.old.left + steps.old + 2 * length values.now }
+    ensures spends { Spends (2 * length values.now) budget.old steps.old budget.new steps.new }
 {
     let mut texts = Vec::new(alloc);
     for value in values {
@@ -235,9 +220,8 @@ fn show_all<L: Ledger>(
     steps: &mut Steps<L>,
 ) -> Result<Vec<String>, Fault>
     ensures gives { Gives string_texts result (moment_of machine.new) (show_all (map value_of values.now) (moment_of machine.old)) }
-    ensures sound { IsSound (λ _. true) (length machine.new.heap) result }
-    ensures kept { GrownBy 0 machine.old steps.old machine.new steps.new }
-    ensures reads { ReadsBy (2 * length values.now) machine.old steps.old machine.new steps.new }
+    ensures sound { SoundEnd machine.new.heap result }
+    ensures costs { Costs 0 (2 * length values.now) machine.old steps.old machine.new steps.new }
     ensures heap { machine.new.heap ≡ machine.old.heap }
 {
     let alloc = machine.alloc;
@@ -281,9 +265,8 @@ pub fn print<L: Ledger>(
     steps: &mut Steps<L>,
 ) -> Result<Value, Fault>
     ensures gives { Gives value_of result (moment_of machine.new) (print (chars separator.now) (chars end.now) (map value_of values.now) (moment_of machine.old)) }
-    ensures sound { IsSound (λ _. true) (length machine.new.heap) result }
-    ensures kept { GrownBy 0 machine.old steps.old machine.new steps.new }
-    ensures reads { ReadsBy (2 * length values.now) machine.old steps.old machine.new steps.new }
+    ensures sound { SoundEnd machine.new.heap result }
+    ensures costs { Costs 0 (2 * length values.now) machine.old steps.old machine.new steps.new }
     ensures heap { machine.new.heap ≡ machine.old.heap }
     ensures none { IfOk result (λ v. value_of v ≡ none) }
 {

@@ -1,7 +1,8 @@
 // Steps of a budget, taken while the heap is read.
-ghost use Rattle.std.specs.Prelude.{OnOk, length, true, ℕ, ◌*◌, ◌+◌, ◌≡◌, ◌≤◌};
+ghost use Rattle.std.specs.Prelude.{OnOk, true, ℕ, ◌*◌, ◌+◌, ◌≡◌, ◌≤◌};
 ghost use Rattle.kishu_meaning.specs.moments.Moment.{Moment, spend};
 ghost use Rattle.kishu_machine.specs.Machine.{Gives, GrownBy, IsSound, moment_of, placed};
+ghost use Rattle.kishu_machine.specs.Clauses.{SoundEnd};
 
 use crate::fault::{Fault, passed};
 use crate::machine::Machine;
@@ -54,7 +55,7 @@ pub(crate) fn spend_times<L: Ledger>(
     steps: &mut Steps<L>,
 ) -> Result<(), Fault>
     ensures gives { Gives (λ u. u) result (moment_of machine.new) (spend (size * times) (moment_of machine.old)) }
-    ensures sound { IsSound (λ _. true) (length machine.new.heap) result }
+    ensures sound { SoundEnd machine.new.heap result }
     ensures kept { GrownBy 0 machine.old steps.old machine.new steps.new }
     ensures counted { steps.new + machine.new.budget.left ≡ steps.old + machine.old.budget.left }
     ensures taken { OnOk result (machine.new.budget.left + size * times ≡ machine.old.budget.left) }

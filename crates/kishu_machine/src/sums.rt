@@ -1,15 +1,16 @@
 // `+` of texts, lists and tuples (Python Language Reference 3, "Binary arithmetic operations").
-ghost use Rattle.std.specs.Prelude.{IfOk, IfSome, Some, IsTrue, length, map, option_map, ℕ, ◌++◌, ◌+◌, ◌<◌, ◌≡◌, ◌≤◌};
+ghost use Rattle.std.specs.Prelude.{IfOk, IfSome, Some, IsTrue, map, option_map, ℕ, ◌++◌, ◌+◌, ◌<◌, ◌≡◌, ◌≤◌};
 ghost use Rattle.std.specs.Str.{chars};
 ghost use Rattle.std.specs.String.{string_bytes};
 ghost use Rattle.kishu_meaning.specs.comparing.Equal.{by_both};
 ghost use Rattle.kishu_meaning.specs.moments.Moment.{Moment, node_now, ◌>>=◌ as ◌⊳◌};
 ghost use Rattle.kishu_meaning.specs.calls.Operators.{bad_operands, both, joined, list_from, new_tuple, operator_sign, sum_of, sum_of_nodes, tuple_from};
-ghost use Rattle.kishu_meaning.specs.values.Sound.{are_sound, is_sound};
+ghost use Rattle.kishu_meaning.specs.values.Sound.{are_sound};
 ghost use Rattle.kishu_meaning.specs.values.Values.{value_of};
 ghost use Rattle.kishu_machine.specs.Forms.{maybe_both, text_from};
 ghost use Rattle.kishu_machine.specs.Lists.{are_sound_in, items_in};
-ghost use Rattle.kishu_machine.specs.Machine.{Gives, GrownBy, HasRoomBy, IsSound, ReadsBy, moment_of, placed};
+ghost use Rattle.kishu_machine.specs.Machine.{Gives, HasRoomBy, IsSound, moment_of, placed, Costs};
+ghost use Rattle.kishu_machine.specs.Clauses.{IsSoundIn, SoundMaybes, SoundValue};
 ghost use Rattle.kishu_meaning.specs.values.Values as model;
 ghost use Rattle.kishu_language.specs.declared.tree.Operator.TheVariants as operators;
 
@@ -53,9 +54,8 @@ fn joined<L: Ledger>(
     steps: &mut Steps<L>,
 ) -> Result<Value, Fault>
     ensures gives { Gives value_of result (moment_of machine.new) (joined (chars a.now) (chars b.now) (moment_of machine.old)) }
-    ensures sound { IsSound (λ v. is_sound (length machine.new.heap) (value_of v)) (length machine.new.heap) result }
-    ensures kept { GrownBy 0 machine.old steps.old machine.new steps.new }
-    ensures reads { ReadsBy 0 machine.old steps.old machine.new steps.new }
+    ensures sound { SoundValue machine.new.heap result }
+    ensures costs { Costs 0 0 machine.old steps.old machine.new steps.new }
     ensures heap { machine.new.heap ≡ machine.old.heap }
 {
     spend(machine, count(a) as u128 + count(b) as u128, steps)?;
@@ -103,10 +103,9 @@ fn list_sum<L: Ledger>(
     steps: &mut Steps<L>,
 ) -> Result<Option<Vec<Value>>, Fault>
     ensures gives { Gives items_in result (moment_of machine.new) ((node_now (value_of a.now) ⊳ λ m. node_now (value_of b.now) ⊳ λ n. maybe_both (list_from m) (list_from n)) (moment_of machine.old)) }
-    ensures sound { IsSound (λ o. are_sound_in (length machine.new.heap) (items_in o)) (length machine.new.heap) result }
+    ensures sound { SoundMaybes machine.new.heap result }
     ensures heap { machine.new.heap ≡ machine.old.heap }
-    ensures kept { GrownBy 0 machine.old steps.old machine.new steps.new }
-    ensures reads { ReadsBy 2 machine.old steps.old machine.new steps.new }
+    ensures costs { Costs 0 2 machine.old steps.old machine.new steps.new }
 {
     let x = list_at(&machine.heap, a, steps);
     let y = list_at(&machine.heap, b, steps);
@@ -121,10 +120,9 @@ fn tuple_sum<L: Ledger>(
     steps: &mut Steps<L>,
 ) -> Result<Option<Vec<Value>>, Fault>
     ensures gives { Gives items_in result (moment_of machine.new) ((node_now (value_of a.now) ⊳ λ m. node_now (value_of b.now) ⊳ λ n. maybe_both (tuple_from m) (tuple_from n)) (moment_of machine.old)) }
-    ensures sound { IsSound (λ o. are_sound_in (length machine.new.heap) (items_in o)) (length machine.new.heap) result }
+    ensures sound { SoundMaybes machine.new.heap result }
     ensures heap { machine.new.heap ≡ machine.old.heap }
-    ensures kept { GrownBy 0 machine.old steps.old machine.new steps.new }
-    ensures reads { ReadsBy 2 machine.old steps.old machine.new steps.new }
+    ensures costs { Costs 0 2 machine.old steps.old machine.new steps.new }
 {
     let x = tuple_at(&machine.heap, a, steps);
     let y = tuple_at(&machine.heap, b, steps);
@@ -139,12 +137,11 @@ fn sum_of_tuples<L: Ledger>(
     steps: &mut Steps<L>,
 ) -> Result<Value, Fault>
     requires room { HasRoomBy 1 machine.old }
-    requires sound_a { IsTrue (is_sound (length machine.old.heap) (value_of a.now)) }
-    requires sound_b { IsTrue (is_sound (length machine.old.heap) (value_of b.now)) }
+    requires sound_a { IsSoundIn machine.old.heap a.now }
+    requires sound_b { IsSoundIn machine.old.heap b.now }
     ensures gives { Gives value_of result (moment_of machine.new) ((node_now (value_of a.now) ⊳ λ m. node_now (value_of b.now) ⊳ λ n. by_both (tuple_from m) (tuple_from n) (both new_tuple) (bad_operands (operator_sign operators.Add) (value_of a.now) (value_of b.now))) (moment_of machine.old)) }
-    ensures sound { IsSound (λ v. is_sound (length machine.new.heap) (value_of v)) (length machine.new.heap) result }
-    ensures kept { GrownBy 1 machine.old steps.old machine.new steps.new }
-    ensures reads { ReadsBy 4 machine.old steps.old machine.new steps.new }
+    ensures sound { SoundValue machine.new.heap result }
+    ensures costs { Costs 1 4 machine.old steps.old machine.new steps.new }
 {
     let found = tuple_sum(machine, a, b, steps)?;
     match found {
@@ -161,12 +158,11 @@ fn sum_of_nodes<L: Ledger>(
     steps: &mut Steps<L>,
 ) -> Result<Value, Fault>
     requires room { HasRoomBy 1 machine.old }
-    requires sound_a { IsTrue (is_sound (length machine.old.heap) (value_of a.now)) }
-    requires sound_b { IsTrue (is_sound (length machine.old.heap) (value_of b.now)) }
+    requires sound_a { IsSoundIn machine.old.heap a.now }
+    requires sound_b { IsSoundIn machine.old.heap b.now }
     ensures gives { Gives value_of result (moment_of machine.new) ((node_now (value_of a.now) ⊳ λ m. node_now (value_of b.now) ⊳ λ n. sum_of_nodes m n (bad_operands (operator_sign operators.Add) (value_of a.now) (value_of b.now))) (moment_of machine.old)) }
-    ensures sound { IsSound (λ v. is_sound (length machine.new.heap) (value_of v)) (length machine.new.heap) result }
-    ensures kept { GrownBy 1 machine.old steps.old machine.new steps.new }
-    ensures reads { ReadsBy 6 machine.old steps.old machine.new steps.new }
+    ensures sound { SoundValue machine.new.heap result }
+    ensures costs { Costs 1 6 machine.old steps.old machine.new steps.new }
 {
     let found = list_sum(machine, a, b, steps)?;
     match found {
@@ -183,12 +179,11 @@ pub(crate) fn sum_of<L: Ledger>(
     steps: &mut Steps<L>,
 ) -> Result<Value, Fault>
     requires room { HasRoomBy 1 machine.old }
-    requires sound_a { IsTrue (is_sound (length machine.old.heap) (value_of a.now)) }
-    requires sound_b { IsTrue (is_sound (length machine.old.heap) (value_of b.now)) }
+    requires sound_a { IsSoundIn machine.old.heap a.now }
+    requires sound_b { IsSoundIn machine.old.heap b.now }
     ensures gives { Gives value_of result (moment_of machine.new) (sum_of (value_of a.now) (value_of b.now) (moment_of machine.old)) }
-    ensures sound { IsSound (λ v. is_sound (length machine.new.heap) (value_of v)) (length machine.new.heap) result }
-    ensures kept { GrownBy 1 machine.old steps.old machine.new steps.new }
-    ensures reads { ReadsBy 6 machine.old steps.old machine.new steps.new }
+    ensures sound { SoundValue machine.new.heap result }
+    ensures costs { Costs 1 6 machine.old steps.old machine.new steps.new }
 {
     let Some(left) = text_from(a) else {
         return sum_of_nodes(machine, a, b, steps);

@@ -9,3 +9,5 @@ pub mod Nodes
 pub mod Kinds
 pub mod Sound
 pub mod Classes
+pub mod PlainClasses
+pub mod Numbered

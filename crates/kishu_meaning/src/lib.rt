@@ -14,7 +14,7 @@ mod value;
 
 pub use budget::Budget;
 pub use key::{Key, KeyPart};
-pub use names::{builtin_name, builtin_named, class_name, class_named};
+pub use names::{builtin_name, builtin_named, class_name, class_named, constants_are_numbers};
 pub use result::{CellResult, Outcome, Output};
 pub use steps::Steps;
 pub use value::{Builtin, ClassId, NodeId, Value};

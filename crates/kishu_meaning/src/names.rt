@@ -2,6 +2,7 @@
 ghost use Rattle.std.specs.Prelude.{◌≡◌, ◌<◌, length, map, option_map, slice_get};
 ghost use Rattle.kishu_language.specs.tokens.Names.{place_among};
 ghost use Rattle.kishu_meaning.specs.values.BuiltinNames.{builtin_names, class_names};
+ghost use Rattle.kishu_meaning.specs.values.Numbered.{AreInOrder, builtin_constants, builtin_numbers, class_constants, class_numbers};
 ghost use Rattle.kishu_meaning.specs.comparing.Show.{builtin_name, class_name, or_empty};
 
 use crate::value::{Builtin, ClassId};
@@ -111,3 +112,11 @@ pub fn class_name(class: ClassId) -> &'static str
     let words: [&str; 25] = CLASSES;
     word_at(words.as_slice(), class.0)
 }
+
+/// The constants of `Builtin` and `ClassId` are the numbers of the definitions, at which their names
+/// stand.
+pub fn constants_are_numbers()
+    ensures builtins { map (λ b. b.0) builtin_constants ≡ builtin_numbers }
+    ensures classes { map (λ c. c.0) class_constants ≡ class_numbers }
+    ensures order { AreInOrder builtin_numbers × AreInOrder class_numbers }
+{}

@@ -9,9 +9,91 @@ use std::rc::RcStr;
 #[derive(Clone, Copy, Debug, PartialEq, Eq)]
 pub struct Builtin(pub u8);
 
+impl Builtin {
+    pub const ABS: Builtin = Builtin(0);
+
+    pub const ALL: Builtin = Builtin(1);
+
+    pub const ANY: Builtin = Builtin(2);
+
+    pub const CHR: Builtin = Builtin(3);
+
+    pub const DIVMOD: Builtin = Builtin(4);
+
+    pub const ISINSTANCE: Builtin = Builtin(5);
+
+    pub const LEN: Builtin = Builtin(6);
+
+    pub const MAX: Builtin = Builtin(7);
+
+    pub const MIN: Builtin = Builtin(8);
+
+    pub const ORD: Builtin = Builtin(9);
+
+    pub const PRINT: Builtin = Builtin(10);
+
+    pub const REPR: Builtin = Builtin(11);
+
+    pub const SORTED: Builtin = Builtin(12);
+
+    pub const SUM: Builtin = Builtin(13);
+}
+
 /// A class, by its number among the classes.
 #[derive(Clone, Copy, Debug, PartialEq, Eq)]
 pub struct ClassId(pub u8);
+
+impl ClassId {
+    pub const BOOL: ClassId = ClassId(0);
+
+    pub const DICT: ClassId = ClassId(1);
+
+    pub const INT: ClassId = ClassId(2);
+
+    pub const LIST: ClassId = ClassId(3);
+
+    pub const RANGE: ClassId = ClassId(4);
+
+    pub const SIMPLE_NAMESPACE: ClassId = ClassId(5);
+
+    pub const STR: ClassId = ClassId(6);
+
+    pub const TUPLE: ClassId = ClassId(7);
+
+    pub const EXCEPTION: ClassId = ClassId(8);
+
+    pub const ARITHMETIC_ERROR: ClassId = ClassId(9);
+
+    pub const OVERFLOW_ERROR: ClassId = ClassId(10);
+
+    pub const ZERO_DIVISION_ERROR: ClassId = ClassId(11);
+
+    pub const ASSERTION_ERROR: ClassId = ClassId(12);
+
+    pub const ATTRIBUTE_ERROR: ClassId = ClassId(13);
+
+    pub const LOOKUP_ERROR: ClassId = ClassId(14);
+
+    pub const INDEX_ERROR: ClassId = ClassId(15);
+
+    pub const KEY_ERROR: ClassId = ClassId(16);
+
+    pub const NAME_ERROR: ClassId = ClassId(17);
+
+    pub const UNBOUND_LOCAL_ERROR: ClassId = ClassId(18);
+
+    pub const RUNTIME_ERROR: ClassId = ClassId(19);
+
+    pub const NOT_IMPLEMENTED_ERROR: ClassId = ClassId(20);
+
+    pub const RECURSION_ERROR: ClassId = ClassId(21);
+
+    pub const SYNTAX_ERROR: ClassId = ClassId(22);
+
+    pub const TYPE_ERROR: ClassId = ClassId(23);
+
+    pub const VALUE_ERROR: ClassId = ClassId(24);
+}
 
 /// A node of a heap, by its number there.
 #[derive(Clone, Copy, Debug, PartialEq, Eq)]

@@ -1,54 +1,16 @@
--- What only counts gives no step back: comparisons, searches for an item and texts of values.
-use Rattle.std.specs.Prelude.{ℕ, zero, suc, ◌-◌, ◌≤◌, ◌==◌, nat_le, Bool, true, false, if◌then◌else◌, List, [], ◌∷◌, length, Option, Some, None, slice_get}
-use Rattle.std.proofs.Common.{arith}
+-- What only counts: comparisons, searches for an item and texts of values give no step back, and go the same way with more steps to spend.
+use Rattle.std.specs.Prelude.{ℕ, zero, suc, ◌==◌, Bool, true, false, if◌then◌else◌, List, [], ◌∷◌, length, Option, Some, None, slice_get}
 use Rattle.std.specs.Str.{bytes_eq}
 use Rattle.kishu_meaning.specs.values.Keys.{is_one}
 use Rattle.kishu_meaning.specs.values.Values.{Value, Node}
 use Rattle.kishu_meaning.specs.values.Nodes.{value_at, list_in, tuple_in, dict_in, object_in}
-use Rattle.kishu_meaning.specs.moments.Counting.{Count, Counted, answer, too_deep, spent, and_then, ◌>>=◌, ◌>>◌, give, spend, stop_deep}
+use Rattle.kishu_meaning.specs.moments.Counting.{Count, ◌>>◌, give, spend}
 use Rattle.kishu_meaning.specs.comparing.Equal as e
 use Rattle.kishu_meaning.specs.comparing.Equal.{by_both, node_in, is_same, is_equal, pair_steps, less_plain, equal_by, pair_equal, equal_nodes, less_by, less_nodes, room_at, equal_in, less_in}
 use Rattle.kishu_meaning.specs.items.Finding.{is_found, place_from, count_from}
 use Rattle.kishu_meaning.specs.comparing.Show.{repr_in, show_in}
-use Rattle.kishu_meaning_laws.specs.ShowLaws.{Covers, made_covers, repr_takes, show_covers}
-
-abbrev pub left_of : {A : Type 0} → Counted A → ℕ
-left_of (answer a left) = left
-left_of (too_deep left) = left
-left_of (spent left) = left
-
-pub record Falls {A : Type 0} (m : Count A) : Type 0 where
-  pub falls : (n : ℕ) → left_of (m n) ≤ n
-
--- ---- how such computations are put together
-
-after : {A B : Type 0} (f : A → Count B) → ((a : A) → Falls (f a)) → (n : ℕ) (e : Counted A) → left_of e ≤ n → left_of (and_then e f) ≤ n
-after f h n (answer a k) fits = (let t = (h a).falls k in omega (arith, t, fits))
-after f h n (too_deep k) fits = fits
-after f h n (spent k) fits = fits
-
-pub then_falls : {A B : Type 0} (m : Count A) (f : A → Count B) → Falls m → ((a : A) → Falls (f a)) → Falls (m >>= f)
-then_falls m f hm hf = record { falls = λ n. after f hf n (m n) (hm.falls n) }
-
-pub both_fall : {A B : Type 0} (m : Count A) (k : Count B) → Falls m → Falls k → Falls (m >> k)
-both_fall m k hm hk = then_falls m (λ _. k) hm (λ _. hk)
-
-pub give_falls : {A : Type 0} (a : A) → Falls (give a)
-give_falls a = record { falls = λ n. omega arith }
-
-either_spent : (k n : ℕ) (b : Bool) → left_of {A = Unit {0}} (if b then answer tt (n - k) else spent 0) ≤ n
-either_spent k n true = omega arith
-either_spent k n false = omega arith
-
-pub spend_falls : (k : ℕ) → Falls (spend k)
-spend_falls k = record { falls = λ n. either_spent k n (nat_le k n) }
-
-pub deep_falls : {A : Type 0} → Falls (stop_deep {A = A})
-deep_falls = record { falls = λ n. omega arith }
-
-pub either_falls : {A : Type 0} (b : Bool) (m k : Count A) → Falls m → Falls k → Falls (if b then m else k)
-either_falls true m k hm hk = hm
-either_falls false m k hm hk = hk
+pub use Rattle.kishu_meaning_laws.specs.CountLaws.{left_of, Wider, both_answer, both_deep, one_spent, Falls, then_falls, both_fall, give_falls, spend_falls, deep_falls, either_falls}
+use Rattle.kishu_meaning_laws.specs.ShowLaws.{repr_takes, show_covers}
 
 by_both_falls : {X A : Type 0} (x y : Option X) (f : X → X → Count A) (other : Count A) → ((a b : X) → Falls (f a b)) → Falls other → Falls (by_both x y f other)
 by_both_falls (Some a) (Some b) f other hf h = hf a b
@@ -157,13 +119,8 @@ module _ (ns : List Node) (depth : ℕ) (x : Value) where
 
 -- ---- texts
 
-taken_falls : (n : ℕ) (e : Counted (List ℕ)) → Covers n e → left_of e ≤ n
-taken_falls n (answer cs left) t = omega (arith, t)
-taken_falls n (too_deep left) t = t
-taken_falls n (spent left) t = omega (arith, t)
-
 pub show_falls : (ns : List Node) (depth : ℕ) (v : Value) → Falls (show_in ns depth v)
-show_falls ns depth v = record { falls = λ n. taken_falls n (show_in ns depth v n) ((show_covers ns depth v).covers n) }
+show_falls ns depth v = (show_covers ns depth v).counts
 
 pub repr_falls : (ns : List Node) (depth : ℕ) (v : Value) → Falls (repr_in ns depth v)
-repr_falls ns depth v = record { falls = λ n. taken_falls n (repr_in ns depth v n) ((made_covers (repr_in ns depth v) (repr_takes ns depth v)).covers n) }
+repr_falls ns depth v = (repr_takes ns depth v).counts

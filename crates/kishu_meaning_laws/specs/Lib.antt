@@ -1,6 +1,7 @@
 pub mod NumberLaws
 pub mod ShowLaws
 pub mod EqualLaws
+pub mod CountLaws
 pub mod CountingLaws
 pub mod SortingLaws
 pub mod Bare

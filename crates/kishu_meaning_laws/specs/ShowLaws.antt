@@ -10,7 +10,9 @@ use Rattle.kishu_meaning.specs.values.Values.{Value, none, bool, integer, text, 
 use Rattle.kishu_meaning.specs.moments.Moment.{most_depth}
 use Rattle.kishu_meaning.specs.moments.Counting.{Count, Counted, answer, too_deep, spent, and_then, ◌>>=◌, ◌>>◌, give, spend, stop_deep}
 use Rattle.kishu_meaning.specs.comparing.Equal.{room_at}
-use Rattle.kishu_meaning.specs.comparing.Show.{title_in, function_name, function_text, class_name, repr_text, key_text, tuple_end, made, ◌⊕◌, further, listed, repr_by, entry_repr, attribute_repr, tuple_repr, contents_repr, again, repr_at, repr_nodes, repr_in, show_by, argument_text, exception_text, show_at, show_nodes, show_in, thrown_in, key_error}
+use Rattle.kishu_meaning.specs.values.Classes.{key_error_class}
+use Rattle.kishu_meaning.specs.comparing.Show.{title_in, function_name, function_text, class_name, repr_text, key_text, tuple_end, made, ◌⊕◌, further, listed, repr_by, entry_repr, attribute_repr, tuple_repr, contents_repr, again, repr_at, repr_nodes, repr_in, show_by, argument_text, exception_text, show_at, show_nodes, show_in, thrown_in}
+use Rattle.kishu_meaning_laws.specs.CountLaws.{Falls, then_falls, both_fall, give_falls, spend_falls, deep_falls}
 
 pub name_as_read : (profile : Profile) (code : Text) (d : Definition) → ReadsDef profile code d → function_name profile code ≡ chars d.title
 name_as_read profile code d h = ap (λ r. chars (title_in r)) h
@@ -25,16 +27,17 @@ Takes n (spent left) = left ≡ 0
 
 pub record IsMade (m : Count (List ℕ)) : Type 0 where
   pub takes : (n : ℕ) → Takes n (m n)
+  pub counts : Falls m
 
 either_made : (cs : List ℕ) (n : ℕ) (b : Bool) → nat_le (length cs) n ≡ b → Takes n (and_then {A = Unit {0}} (if b then answer tt (n - length cs) else spent 0) (λ _. give cs))
 either_made cs n true e = (let fits : length cs ≤ n = leb-true (length cs) n e in omega (arith, fits))
 either_made cs n false e = refl
 
 made_takes : (cs : List ℕ) → IsMade (made cs)
-made_takes cs = record { takes = λ n. either_made cs n (nat_le (length cs) n) refl }
+made_takes cs = record { takes = λ n. either_made cs n (nat_le (length cs) n) refl; counts = both_fall (spend (length cs)) (give cs) (spend_falls (length cs)) (give_falls cs) }
 
 nothing_takes : IsMade (give [])
-nothing_takes = record { takes = λ n. omega arith }
+nothing_takes = record { takes = λ n. omega arith; counts = give_falls [] }
 
 behind : (front : List ℕ) (n k : ℕ) (e : Counted (List ℕ)) → k + length front ≡ n → Takes k e → Takes n (and_then e (λ back. give (front ++ back)))
 behind front n k (answer back j) h t = ap (λ l. j + l) (length-append front back) ∙ omega (arith, h, t)
@@ -47,10 +50,13 @@ in_front b h n (too_deep k) t = t
 in_front b h n (spent k) t = t
 
 both_take : (a b : Count (List ℕ)) → IsMade a → IsMade b → IsMade (a ⊕ b)
-both_take a b ha hb = record { takes = λ n. in_front b hb n (a n) (ha.takes n) }
+both_take a b ha hb = record {
+  takes = λ n. in_front b hb n (a n) (ha.takes n);
+  counts = then_falls a (λ front. b >>= λ back. give (front ++ back)) ha.counts (λ front. then_falls b (λ back. give (front ++ back)) hb.counts (λ back. give_falls (front ++ back)));
+}
 
 deep_takes : IsMade stop_deep
-deep_takes = record { takes = λ n. omega arith }
+deep_takes = record { takes = λ n. omega arith; counts = deep_falls }
 
 module _ {A : Type 0} (text_of : A → Count (List ℕ)) (h : (a : A) → IsMade (text_of a)) where
   further_takes : (as' : List A) → IsMade (further text_of as')
@@ -116,6 +122,7 @@ Covers n (spent left) = left ≡ 0
 
 pub record IsCovered (m : Count (List ℕ)) : Type 0 where
   pub covers : (n : ℕ) → Covers n (m n)
+  pub counts : Falls m
 
 as_many : (n : ℕ) (e : Counted (List ℕ)) → Takes n e → Covers n e
 as_many n (answer cs left) t = omega (arith, t)
@@ -123,7 +130,7 @@ as_many n (too_deep left) t = t
 as_many n (spent left) t = t
 
 pub made_covers : (m : Count (List ℕ)) → IsMade m → IsCovered m
-made_covers m h = record { covers = λ n. as_many n (m n) (h.takes n) }
+made_covers m h = record { covers = λ n. as_many n (m n) (h.takes n); counts = h.counts }
 
 one_less : (n : ℕ) (e : Counted (List ℕ)) → Covers (n - 1) e → Covers n e
 one_less n (answer cs left) t = omega (arith, t)
@@ -135,7 +142,7 @@ either_step m h n true = one_less n (m (n - 1)) (h.covers (n - 1))
 either_step m h n false = refl
 
 after_step : (m : Count (List ℕ)) → IsCovered m → IsCovered (spend 1 >> m)
-after_step m h = record { covers = λ n. either_step m h n (nat_le 1 n) }
+after_step m h = record { covers = λ n. either_step m h n (nat_le 1 n); counts = both_fall (spend 1) m (spend_falls 1) h.counts }
 
 module _ (reprs shows : ℕ → Count (List ℕ)) (hr : (i : ℕ) → IsMade (reprs i)) (hs : (i : ℕ) → IsCovered (shows i)) where
   shown_covers : (v : Value) → IsCovered (show_by shows v)
@@ -154,7 +161,7 @@ module _ (reprs shows : ℕ → Count (List ℕ)) (hr : (i : ℕ) → IsMade (re
 
   exception_covers : (kind : ℕ) (vs : List Value) → IsCovered (exception_text reprs shows kind vs)
   exception_covers kind [] = made_covers (give []) nothing_takes
-  exception_covers kind (v ∷ []) = after_step (argument_text reprs shows kind v) (either_argument (kind == key_error) v)
+  exception_covers kind (v ∷ []) = after_step (argument_text reprs shows kind v) (either_argument (kind == key_error_class) v)
   exception_covers kind (v ∷ (w ∷ vs)) = made_covers (tuple_repr reprs (v ∷ w ∷ vs)) (tuple_takes reprs hr (v ∷ w ∷ vs))
 
   show_at_covers : (other : Count (List ℕ)) → IsMade other → (o : Option Node) → IsCovered (show_at (exception_text reprs shows) other o)

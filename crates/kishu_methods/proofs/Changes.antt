@@ -1,68 +1,17 @@
--- Nodes that are changed one after the other, and what a change leaves sound.
-use Rattle.std.proofs.Common.{◌≡◌, ◌∙◌, ap, sym, refl, ℕ, zero, suc, Bool, IsTrue, List, [], ◌∷◌, ◌++◌, length, map, take, drop, append_assoc, Some}
-use Rattle.std.specs.Prelude.{slice_get, unwrap_or}
+-- Entries that come to a dict one after the other, lists that are replaced, and what a change leaves sound.
+use Rattle.std.proofs.Common.{◌≡◌, ◌∙◌, ap, sym, refl, ℕ, zero, suc, Bool, IsTrue, List, [], ◌∷◌, ◌++◌, map, take, drop, Some}
+use Rattle.std.specs.Prelude.{slice_get}
 use Rattle.std.specs.List.{list_all, insert, remove}
-use Rattle.std.proofs.lemmas.List.{map-append, take-map, drop-map, append-nil}
+use Rattle.std.proofs.lemmas.List.{map-append, take-map, drop-map}
 use Rattle.kishu_meaning.specs.values.Keys.{Key}
 use Rattle.kishu_meaning.specs.calls.Methods.{with_entries}
 use Rattle.kishu_meaning.specs.values.Values.{Value, Node, list, tuple, dict, object, function, exception}
-use Rattle.kishu_meaning.specs.values.Nodes.{changed, on_list, on_dict, push, insert as put, replace_list}
+use Rattle.kishu_meaning.specs.values.Nodes.{changed, on_list, on_dict, insert as put, replace_list}
+pub use Rattle.kishu_heap.specs.Changing.{length_changed, changed_at, unmoved, unchanged, changed_twice, changed_like}
 pub use Rattle.kishu_items.specs.Holding.{both, first, second}
 use Rattle.kishu_methods.specs.Contents.{items_at}
 
-pub length_changed : (f : Node → Node) (i : ℕ) (ns : List Node) → length (changed f i ns) ≡ length ns
-length_changed f i [] = refl
-length_changed f zero (n ∷ ns) = refl
-length_changed f (suc i) (n ∷ ns) = ap suc (length_changed f i ns)
-
--- Two changes that make the same of the node there are one.
-pub changed_at : (f g : Node → Node) (i : ℕ) (ns : List Node) (n : Node) → slice_get ns i ≡ Some n → f n ≡ g n → changed f i ns ≡ changed g i ns
-changed_at f g i [] n h e = refl
-changed_at f g zero (x ∷ xs) n h e =
-    (let p : x ≡ n = ap (λ o. unwrap_or o x) h in ap (λ y. y ∷ xs) (ap f p ∙ e ∙ sym (ap g p)))
-changed_at f g (suc i) (x ∷ xs) n h e = ap (λ ys. x ∷ ys) (changed_at f g i xs n h e)
-
-stays : (i : ℕ) (ns : List Node) → changed (λ n. n) i ns ≡ ns
-stays i [] = refl
-stays zero (n ∷ ns) = refl
-stays (suc i) (n ∷ ns) = ap (λ ys. n ∷ ys) (stays i ns)
-
-pub unchanged : (f : Node → Node) (i : ℕ) (ns : List Node) (n : Node) → slice_get ns i ≡ Some n → f n ≡ n → changed f i ns ≡ ns
-unchanged f i ns n h e = changed_at f (λ x. x) i ns n h e ∙ stays i ns
-
-pub changed_twice : (f g : Node → Node) (i : ℕ) (ns : List Node) → changed f i (changed g i ns) ≡ changed (λ n. f (g n)) i ns
-changed_twice f g i [] = refl
-changed_twice f g zero (n ∷ ns) = refl
-changed_twice f g (suc i) (n ∷ ns) = ap (λ ys. n ∷ ys) (changed_twice f g i ns)
-
-pub changed_like : (f g : Node → Node) → ((n : Node) → f n ≡ g n) → (i : ℕ) (ns : List Node) → changed f i ns ≡ changed g i ns
-changed_like f g h i [] = refl
-changed_like f g h zero (n ∷ ns) = ap (λ m. m ∷ ns) (h n)
-changed_like f g h (suc i) (n ∷ ns) = ap (λ ys. n ∷ ys) (changed_like f g h i ns)
-
--- ---- values that are put behind a list's items, and entries that come to a dict, one after the other
-
-pushed_more : (v : Value) (rest : List Value) (n : Node) → on_list (λ items. items ++ v ∷ rest) n ≡ on_list (λ items. items ++ rest) (push v n)
-pushed_more v rest (list vs) = ap list (sym (append_assoc vs (v ∷ []) rest))
-pushed_more v rest (tuple vs) = refl
-pushed_more v rest (dict es) = refl
-pushed_more v rest (object as') = refl
-pushed_more v rest (function profile code vs) = refl
-pushed_more v rest (exception kind vs) = refl
-
-pub pushes_on : (v : Value) (rest : List Value) (i : ℕ) (ns : List Node) → changed (on_list (λ items. items ++ v ∷ rest)) i ns ≡ changed (on_list (λ items. items ++ rest)) i (changed (push v) i ns)
-pushes_on v rest i ns = changed_like _ _ (pushed_more v rest) i ns ∙ sym (changed_twice (on_list (λ items. items ++ rest)) (push v) i ns)
-
-pushed_none : (n : Node) → on_list (λ items. items ++ []) n ≡ n
-pushed_none (list vs) = ap list (append-nil vs)
-pushed_none (tuple vs) = refl
-pushed_none (dict es) = refl
-pushed_none (object as') = refl
-pushed_none (function profile code vs) = refl
-pushed_none (exception kind vs) = refl
-
-pub pushes_none : (i : ℕ) (ns : List Node) → changed (on_list (λ items. items ++ [])) i ns ≡ ns
-pushes_none i ns = changed_like _ (λ n. n) pushed_none i ns ∙ stays i ns
+-- ---- entries that come to a dict, one after the other
 
 inserted_more : (e : Key × Value) (es : List (Key × Value)) (n : Node) → on_dict (with_entries (e ∷ es)) n ≡ on_dict (with_entries es) (put e.0 e.1 n)
 inserted_more e es (list vs) = refl
@@ -84,7 +33,7 @@ inserted_none (function profile code vs) = refl
 inserted_none (exception kind vs) = refl
 
 pub inserts_none : (i : ℕ) (ns : List Node) → changed (on_dict (with_entries [])) i ns ≡ ns
-inserts_none i ns = changed_like _ (λ n. n) inserted_none i ns ∙ stays i ns
+inserts_none i ns = changed_like _ (λ n. n) inserted_none i ns ∙ unmoved i ns
 
 -- ---- a list and its items
 

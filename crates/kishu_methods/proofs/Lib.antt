@@ -1,6 +1,4 @@
-pub mod Messages
 pub mod Changes
-pub mod Rows
 pub mod Finds
 pub mod Passing
 pub mod Pops
@@ -13,3 +11,4 @@ mod TextEnds
 mod TextRows
 mod TextSteps
 mod DictNodes
+mod Calls

@@ -4,6 +4,7 @@ use Rattle.std.specs.Prelude.{slice_get, unwrap_or, codes}
 use Rattle.kishu_meaning.specs.declared.budget.Budget.{Budget}
 use Rattle.kishu_meaning.specs.calls.Methods.{pop_last}
 use Rattle.kishu_meaning.specs.moments.Moment.{raised, fresh}
+use Rattle.kishu_meaning.specs.values.Classes.{index_error_class}
 use Rattle.kishu_meaning.specs.values.Values.{Value, text, Node, list}
 use Rattle.kishu_meaning.specs.values.Nodes.{changed, found, last_item, last_of, without_last, list_in, pop}
 use Rattle.kishu_methods.specs.Called.{moment_of}
@@ -33,7 +34,7 @@ pops_nothing ns i vs h e = unchanged pop i ns (list vs) h (ap list (none_left vs
 
 -- where there is none
 pub pops_from_empty : (ns ms : List Node) (i : ℕ) (vs : List Value) (cs : List ℕ) (b : Budget) → slice_get ns i ≡ Some (list vs) → found last_item i ns ≡ None → ms ≡ changed pop i ns → cs ≡ codes "pop from empty list"
-    → pop_last i vs (moment_of ns b) ≡ raised (fresh 15 (text cs ∷ [])) (moment_of ms b)
+    → pop_last i vs (moment_of ns b) ≡ raised (fresh index_error_class (text cs ∷ [])) (moment_of ms b)
 pops_from_empty ns ms i vs cs b h f p q =
     let e : last_of vs ≡ None = sym (last_found ns i vs h) ∙ f in
     rw (e, p, pops_nothing ns i vs h e, q) refl

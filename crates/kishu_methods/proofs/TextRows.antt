@@ -7,9 +7,9 @@ use Rattle.kishu_meaning.specs.values.Kinds.{bad_arguments}
 use Rattle.kishu_meaning.specs.calls.Methods as m
 use Rattle.kishu_meaning.specs.calls.Methods.{Method, method_name, text_row}
 use Rattle.kishu_heap.specs.declared.fault.CallFault.{CallFault}
-use Rattle.kishu_methods.specs.declared.method.Method as rust
-use Rattle.kishu_methods.specs.declared.method.Method.TheVariants as methods
-use Rattle.kishu_methods.specs.Called.{Gives, method_of}
+use Rattle.kishu_methods.specs.declared.method.TextMethod as rust
+use Rattle.kishu_methods.specs.declared.method.TextMethod.TheVariants as methods
+use Rattle.kishu_methods.specs.Called.{Gives, text_method_of}
 use Rattle.kishu_methods.specs.TextValues.{text_in}
 
 pub startswith_other : (cs : List ℕ) (v : Value) → text_in v ≡ None → text_row m.startswith cs (v ∷ []) ≡ bad_arguments (method_name m.startswith)
@@ -52,15 +52,15 @@ too_many method cs v w x vs = refl
 
 -- ---- which methods take how many arguments
 
-pub none_refused : (x : rust.Method) (cs : List ℕ) → (x ≡ methods.Strip → ⊥) → (x ≡ methods.IsDigit → ⊥) → (x ≡ methods.Split → ⊥)
-    → text_row (method_of x) cs [] ≡ bad_arguments (method_name (method_of x))
+pub none_refused : (x : rust.TextMethod) (cs : List ℕ) → (x ≡ methods.Strip → ⊥) → (x ≡ methods.IsDigit → ⊥) → (x ≡ methods.Split → ⊥)
+    → text_row (text_method_of x) cs [] ≡ bad_arguments (method_name (text_method_of x))
 none_refused methods.Strip cs h i j = absurd (h refl)
 none_refused methods.IsDigit cs h i j = absurd (i refl)
 none_refused methods.Split cs h i j = absurd (j refl)
 none_refused x cs h i j = refl
 
-pub one_refused : (x : rust.Method) (cs : List ℕ) (v : Value) → (x ≡ methods.StartsWith → ⊥) → (x ≡ methods.EndsWith → ⊥) → (x ≡ methods.Find → ⊥) → (x ≡ methods.Count → ⊥) → (x ≡ methods.Split → ⊥) → (x ≡ methods.Join → ⊥)
-    → text_row (method_of x) cs (v ∷ []) ≡ bad_arguments (method_name (method_of x))
+pub one_refused : (x : rust.TextMethod) (cs : List ℕ) (v : Value) → (x ≡ methods.StartsWith → ⊥) → (x ≡ methods.EndsWith → ⊥) → (x ≡ methods.Find → ⊥) → (x ≡ methods.Count → ⊥) → (x ≡ methods.Split → ⊥) → (x ≡ methods.Join → ⊥)
+    → text_row (text_method_of x) cs (v ∷ []) ≡ bad_arguments (method_name (text_method_of x))
 one_refused methods.StartsWith cs v h i j k l n = absurd (h refl)
 one_refused methods.EndsWith cs v h i j k l n = absurd (i refl)
 one_refused methods.Find cs v h i j k l n = absurd (j refl)
@@ -70,7 +70,7 @@ one_refused methods.Join cs v h i j k l n = absurd (n refl)
 one_refused methods.Replace cs (text t) h i j k l n = refl
 one_refused x cs v h i j k l n = refl
 
-pub two_refused : (x : rust.Method) (cs : List ℕ) (v w : Value) → (x ≡ methods.Replace → ⊥) → text_row (method_of x) cs (v ∷ w ∷ []) ≡ bad_arguments (method_name (method_of x))
+pub two_refused : (x : rust.TextMethod) (cs : List ℕ) (v w : Value) → (x ≡ methods.Replace → ⊥) → text_row (text_method_of x) cs (v ∷ w ∷ []) ≡ bad_arguments (method_name (text_method_of x))
 two_refused methods.Replace cs v w h = absurd (h refl)
 two_refused methods.StartsWith cs (text t) w h = refl
 two_refused methods.EndsWith cs (text t) w h = refl
@@ -83,8 +83,8 @@ two_refused x cs v w h = refl
 pub refused : (r : Result rust_value.Value CallFault) (row other : M Value) (s : Moment) → row ≡ other → Gives value_of r s (other s) → Gives value_of r s (row s)
 refused r row other s e h = subst (λ (m : M Value). Gives value_of r s (m s)) (sym e) h
 
-pub many_refused : (x : rust.Method) (cs : List ℕ) (vs : List rust_value.Value) → 3 ≤ length vs → text_row (method_of x) cs (map value_of vs) ≡ bad_arguments (method_name (method_of x))
+pub many_refused : (x : rust.TextMethod) (cs : List ℕ) (vs : List rust_value.Value) → 3 ≤ length vs → text_row (text_method_of x) cs (map value_of vs) ≡ bad_arguments (method_name (text_method_of x))
 many_refused x cs [] l = absurd (omega arith)
 many_refused x cs (a ∷ []) l = absurd (omega arith)
 many_refused x cs (a ∷ b ∷ []) l = absurd (omega arith)
-many_refused x cs (a ∷ b ∷ d ∷ vs) l = too_many (method_of x) cs (value_of a) (value_of b) (value_of d) (map value_of vs)
+many_refused x cs (a ∷ b ∷ d ∷ vs) l = too_many (text_method_of x) cs (value_of a) (value_of b) (value_of d) (map value_of vs)

@@ -2,6 +2,7 @@
 use Rattle.std.proofs.Common.{◌≡◌, ◌∙◌, ap, sym, ℕ, List, [], ◌∷◌, length, Some, Bool, true, false, if◌then◌else◌, subst, Result, Err}
 use Rattle.std.specs.Prelude.{codes, ℤ}
 use Rattle.std.specs.List.{sum_by}
+use Rattle.kishu_meaning.specs.values.Classes.{value_error_class}
 use Rattle.kishu_meaning.specs.values.Values.{Value, none, bool, integer, text, range, builtin, class, node, value_of}
 use Rattle.kishu_meaning.specs.moments.Moment.{M, Moment, Ends, fine, raised, and_then, ◌>>◌, give, spend, fresh}
 use Rattle.kishu_meaning.specs.values.Texts.{pieces, is_nonempty, first_place, occurrences}
@@ -45,7 +46,7 @@ split_taken v t cs n u w x s s1 s2 ev e1 e2 en e3 =
 pub cutting_some : (t : List ℕ) (s : Moment) → true ≡ is_nonempty t → is_cutting t s ≡ fine tt s
 cutting_some t s e = ap (λ (b : Bool). (if b then give {A = Unit {0}} tt else value_error (codes "empty separator")) s) (sym e)
 
-pub cutting_none : (t : List ℕ) (s : Moment) → false ≡ is_nonempty t → is_cutting t s ≡ raised (fresh 24 (text (codes "empty separator") ∷ [])) s
+pub cutting_none : (t : List ℕ) (s : Moment) → false ≡ is_nonempty t → is_cutting t s ≡ raised (fresh value_error_class (text (codes "empty separator") ∷ [])) s
 cutting_none t s e = ap (λ (b : Bool). (if b then give {A = Unit {0}} tt else value_error (codes "empty separator")) s) (sym e)
 
 pub found_row : (v : Value) (t cs : List ℕ) (r w : ℤ) (u : Unit {0}) (s s1 : Moment) → Some t ≡ text_in v → search t cs s ≡ fine u s1 → r ≡ place_or_minus_one (first_place t cs) → w ≡ r

@@ -1,29 +1,47 @@
 -- When a call of a method gives what the definition says.
 use Rattle.kishu_meaning.specs.calls.Methods as m
-use Rattle.kishu_methods.specs.declared.method.Method.{Method}
-use Rattle.kishu_methods.specs.declared.method.Method.TheVariants as methods
+use Rattle.kishu_methods.specs.declared.method.ListMethod.{ListMethod}
+use Rattle.kishu_methods.specs.declared.method.ListMethod.TheVariants as lists
+use Rattle.kishu_methods.specs.declared.method.TupleMethod.{TupleMethod}
+use Rattle.kishu_methods.specs.declared.method.TupleMethod.TheVariants as tuples
+use Rattle.kishu_methods.specs.declared.method.DictMethod.{DictMethod}
+use Rattle.kishu_methods.specs.declared.method.DictMethod.TheVariants as dicts
+use Rattle.kishu_methods.specs.declared.method.TextMethod.{TextMethod}
+use Rattle.kishu_methods.specs.declared.method.TextMethod.TheVariants as texts
 pub use Rattle.kishu_items.specs.Called.{moment_of, Fails, Gives}
 
-abbrev pub method_of : Method → m.Method
-method_of methods.Append = m.append
-method_of methods.Clear = m.clear
-method_of methods.Copy = m.copy
-method_of methods.Count = m.count
-method_of methods.EndsWith = m.endswith
-method_of methods.Extend = m.extend
-method_of methods.Find = m.find
-method_of methods.Get = m.get
-method_of methods.Index = m.index
-method_of methods.Insert = m.insert
-method_of methods.IsDigit = m.isdigit
-method_of methods.Join = m.join
-method_of methods.Pop = m.pop
-method_of methods.Remove = m.remove
-method_of methods.Replace = m.replace
-method_of methods.Reverse = m.reverse
-method_of methods.SetDefault = m.setdefault
-method_of methods.Sort = m.sort
-method_of methods.Split = m.split
-method_of methods.StartsWith = m.startswith
-method_of methods.Strip = m.strip
-method_of methods.Update = m.update
+abbrev pub list_method_of : ListMethod → m.Method
+list_method_of lists.Append = m.append
+list_method_of lists.Clear = m.clear
+list_method_of lists.Copy = m.copy
+list_method_of lists.Count = m.count
+list_method_of lists.Extend = m.extend
+list_method_of lists.Index = m.index
+list_method_of lists.Insert = m.insert
+list_method_of lists.Pop = m.pop
+list_method_of lists.Remove = m.remove
+list_method_of lists.Reverse = m.reverse
+list_method_of lists.Sort = m.sort
+
+abbrev pub tuple_method_of : TupleMethod → m.Method
+tuple_method_of tuples.Count = m.count
+tuple_method_of tuples.Index = m.index
+
+abbrev pub dict_method_of : DictMethod → m.Method
+dict_method_of dicts.Clear = m.clear
+dict_method_of dicts.Copy = m.copy
+dict_method_of dicts.Get = m.get
+dict_method_of dicts.Pop = m.pop
+dict_method_of dicts.SetDefault = m.setdefault
+dict_method_of dicts.Update = m.update
+
+abbrev pub text_method_of : TextMethod → m.Method
+text_method_of texts.Count = m.count
+text_method_of texts.EndsWith = m.endswith
+text_method_of texts.Find = m.find
+text_method_of texts.IsDigit = m.isdigit
+text_method_of texts.Join = m.join
+text_method_of texts.Replace = m.replace
+text_method_of texts.Split = m.split
+text_method_of texts.StartsWith = m.startswith
+text_method_of texts.Strip = m.strip

@@ -8,15 +8,16 @@ ghost use Rattle.kishu_meaning.specs.values.Nodes.{changed, on_dict, value_at, w
 ghost use Rattle.kishu_meaning.specs.values.Kinds.{no_key};
 ghost use Rattle.kishu_meaning.specs.values.Sound.{is_sound, are_sound};
 ghost use Rattle.kishu_meaning.specs.values.Values.{value_of};
-ghost use Rattle.kishu_methods.specs.Called.{moment_of, method_of, Gives};
+ghost use Rattle.kishu_heap.specs.Costs.{GrowsPaid, Spends};
+ghost use Rattle.kishu_methods.specs.Called.{moment_of, dict_method_of, Gives};
 ghost use Rattle.kishu_methods.specs.Contents.{entries_at, IsDict};
 
 use crate::entries::{dict_entries, dict_in, dict_len, insert_all, value_under};
 use crate::faults::bad_arguments;
-use crate::method::Method;
+use crate::method::DictMethod;
 use kishu_heap::{CallFault, Heap, Node};
-use kishu_items::{KEY_ERROR, copied_map, key_of, spend};
-use kishu_meaning::{Budget, Key, NodeId, Steps, Value};
+use kishu_items::{copied_map, key_of, spend};
+use kishu_meaning::{Budget, ClassId, Key, NodeId, Steps, Value};
 use std::alloc::{AllocError, Global};
 use std::sync::ledger::Ledger;
 
@@ -33,10 +34,7 @@ fn get<L: Ledger>(
     requires dict { IsDict heap.now id.0 }
     requires sound { IsTrue (is_sound (length heap.now) (value_of key.now)) }
     ensures gives { Gives value_of result (moment_of heap.now budget.new) (m.look_up (entries_at heap.now id.0) (value_of key.now) (give (value_of other.now)) (moment_of heap.now budget.old)) }
-    ensures left { budget.new.left ≤ budget.old.left }
-    ensures depth { budget.new.depth ≡ budget.old.depth }
-    ensures least { budget.old.left + steps.old ≤ budget.new.left + steps.new }
-    ensures reads { 24 * budget.new.left + steps.new ≤ 24 * budget.old.left + steps.old + 3 }
+    ensures spends { Spends 3 budget.old steps.old budget.new steps.new }
 {
     let key = key_of(alloc, key, heap, budget, steps)?;
     match value_under(&key, id, heap, steps)? {
@@ -71,12 +69,8 @@ fn set_default<L: Ledger>(
     requires key { IsTrue (is_sound (length heap.old) (value_of key.now)) }
     requires sound { IsTrue (is_sound (length heap.old) (value_of value.now)) }
     ensures gives { Gives value_of result (moment_of heap.new budget.new) (m.set_default id.0 (entries_at heap.old id.0) (value_of key.now) (value_of value.now) (moment_of heap.old budget.old)) }
-    ensures heap { length heap.old ≤ length heap.new }
-    ensures most { length heap.new + budget.new.left ≤ length heap.old + budget.old.left + 1 }
-    ensures left { budget.new.left ≤ budget.old.left }
-    ensures depth { budget.new.depth ≡ budget.old.depth }
-    ensures least { budget.old.left + steps.old ≤ budget.new.left + steps.new }
-    ensures reads { 24 * budget.new.left + steps.new ≤ 24 * budget.old.left + steps.old + 3 }
+    ensures grows { GrowsPaid 1 heap.old budget.old heap.new budget.new }
+    ensures spends { Spends 3 budget.old steps.old budget.new steps.new }
 {
     let key = key_of(alloc, key, heap, budget, steps)?;
     match value_under(&key, id, heap, steps)? {
@@ -110,12 +104,8 @@ fn pop_or<L: Ledger>(
     requires dict { IsDict heap.old id.0 }
     requires sound { IsTrue (is_sound (length heap.old) (value_of key.now)) }
     ensures gives { Gives value_of result (moment_of heap.new budget.new) (m.pop_key id.0 (entries_at heap.old id.0) (value_of key.now) (give (value_of other.now)) (moment_of heap.old budget.old)) }
-    ensures heap { length heap.old ≤ length heap.new }
-    ensures most { length heap.new + budget.new.left ≤ length heap.old + budget.old.left + 1 }
-    ensures left { budget.new.left ≤ budget.old.left }
-    ensures depth { budget.new.depth ≡ budget.old.depth }
-    ensures least { budget.old.left + steps.old ≤ budget.new.left + steps.new }
-    ensures reads { 24 * budget.new.left + steps.new ≤ 24 * budget.old.left + steps.old + 2 }
+    ensures grows { GrowsPaid 1 heap.old budget.old heap.new budget.new }
+    ensures spends { Spends 2 budget.old steps.old budget.new steps.new }
 {
     let key = key_of(alloc, key, heap, budget, steps)?;
     match take_out(id, &key, heap) {
@@ -136,12 +126,8 @@ fn pop<L: Ledger>(
     requires dict { IsDict heap.old id.0 }
     requires sound { IsTrue (is_sound (length heap.old) (value_of key.now)) }
     ensures gives { Gives value_of result (moment_of heap.new budget.new) (m.pop_key id.0 (entries_at heap.old id.0) (value_of key.now) (no_key (value_of key.now)) (moment_of heap.old budget.old)) }
-    ensures heap { length heap.old ≤ length heap.new }
-    ensures most { length heap.new + budget.new.left ≤ length heap.old + budget.old.left + 1 }
-    ensures left { budget.new.left ≤ budget.old.left }
-    ensures depth { budget.new.depth ≡ budget.old.depth }
-    ensures least { budget.old.left + steps.old ≤ budget.new.left + steps.new }
-    ensures reads { 24 * budget.new.left + steps.new ≤ 24 * budget.old.left + steps.old + 2 }
+    ensures grows { GrowsPaid 1 heap.old budget.old heap.new budget.new }
+    ensures spends { Spends 2 budget.old steps.old budget.new steps.new }
 {
     let found = key_of(alloc, key, heap, budget, steps)?;
     match take_out(id, &found, heap) {
@@ -149,7 +135,7 @@ fn pop<L: Ledger>(
         None => {
             let value = key.copied()?;
             Err(CallFault::RaiseWith {
-                class: KEY_ERROR,
+                class: ClassId::KEY_ERROR,
                 value,
             })
         }
@@ -176,15 +162,11 @@ fn update<L: Ledger>(
     requires id { id.0 < length heap.old }
     requires sound { IsTrue (is_sound (length heap.old) (value_of other.now)) }
     ensures gives { Gives value_of result (moment_of heap.new budget.new) (m.dict_row m.update id.0 (entries_at heap.old id.0) (value_of other.now ∷ []) (moment_of heap.old budget.old)) }
-    ensures heap { length heap.old ≤ length heap.new }
-    ensures most { length heap.new + budget.new.left ≤ length heap.old + budget.old.left + 1 }
-    ensures left { budget.new.left ≤ budget.old.left }
-    ensures depth { budget.new.depth ≡ budget.old.depth }
-    ensures least { budget.old.left + steps.old ≤ budget.new.left + steps.new }
-    ensures reads { 24 * budget.new.left + steps.new ≤ 24 * budget.old.left + steps.old + 3 }
+    ensures grows { GrowsPaid 1 heap.old budget.old heap.new budget.new }
+    ensures spends { Spends 3 budget.old steps.old budget.new steps.new }
 {
     let Some(source) = dict_in(other, heap, steps) else {
-        return bad_arguments(alloc, Method::Update);
+        return bad_arguments(alloc, DictMethod::Update);
     };
     spend(dict_len(heap, source, steps) as u128, budget, steps)?;
     let entries = copied_map(alloc, dict_entries(heap, source, steps))?;
@@ -203,12 +185,8 @@ fn copy<L: Ledger>(
     requires dict { IsDict heap.old id.0 }
     requires room { length heap.old + budget.old.left < 2 ^ 32 - 16 }
     ensures gives { Gives value_of result (moment_of heap.new budget.new) (m.dict_row m.copy id.0 (entries_at heap.old id.0) [] (moment_of heap.old budget.old)) }
-    ensures heap { length heap.old ≤ length heap.new }
-    ensures most { length heap.new + budget.new.left ≤ length heap.old + budget.old.left + 1 }
-    ensures left { budget.new.left ≤ budget.old.left }
-    ensures depth { budget.new.depth ≡ budget.old.depth }
-    ensures least { budget.old.left + steps.old ≤ budget.new.left + steps.new }
-    ensures reads { 24 * budget.new.left + steps.new ≤ 24 * budget.old.left + steps.old + 2 }
+    ensures grows { GrowsPaid 1 heap.old budget.old heap.new budget.new }
+    ensures spends { Spends 2 budget.old steps.old budget.new steps.new }
 {
     spend(dict_len(heap, id, steps) as u128, budget, steps)?;
     let entries = copied_map(alloc, dict_entries(heap, id, steps))?;
@@ -217,7 +195,7 @@ fn copy<L: Ledger>(
 
 fn without_argument<L: Ledger>(
     alloc: Global,
-    method: Method,
+    method: DictMethod,
     id: NodeId,
     heap: &mut Heap,
     budget: &mut Budget,
@@ -226,43 +204,21 @@ fn without_argument<L: Ledger>(
     requires id { id.0 < length heap.old }
     requires dict { IsDict heap.old id.0 }
     requires room { length heap.old + budget.old.left < 2 ^ 32 - 16 }
-    ensures gives { Gives value_of result (moment_of heap.new budget.new) (m.dict_row (method_of method) id.0 (entries_at heap.old id.0) [] (moment_of heap.old budget.old)) }
-    ensures heap { length heap.old ≤ length heap.new }
-    ensures most { length heap.new + budget.new.left ≤ length heap.old + budget.old.left + 1 }
-    ensures left { budget.new.left ≤ budget.old.left }
-    ensures depth { budget.new.depth ≡ budget.old.depth }
-    ensures least { budget.old.left + steps.old ≤ budget.new.left + steps.new }
-    ensures reads { 24 * budget.new.left + steps.new ≤ 24 * budget.old.left + steps.old + 2 }
+    ensures gives { Gives value_of result (moment_of heap.new budget.new) (m.dict_row (dict_method_of method) id.0 (entries_at heap.old id.0) [] (moment_of heap.old budget.old)) }
+    ensures grows { GrowsPaid 1 heap.old budget.old heap.new budget.new }
+    ensures spends { Spends 2 budget.old steps.old budget.new steps.new }
 {
     match method {
-        Method::Clear => clear(id, heap),
-        Method::Copy => copy(alloc, id, heap, budget, steps),
-        Method::Append
-        | Method::Count
-        | Method::EndsWith
-        | Method::Extend
-        | Method::Find
-        | Method::Get
-        | Method::Index
-        | Method::Insert
-        | Method::IsDigit
-        | Method::Join
-        | Method::Pop
-        | Method::Remove
-        | Method::Replace
-        | Method::Reverse
-        | Method::SetDefault
-        | Method::Sort
-        | Method::Split
-        | Method::StartsWith
-        | Method::Strip
-        | Method::Update => bad_arguments(alloc, method),
+        DictMethod::Clear => clear(id, heap),
+        DictMethod::Copy => copy(alloc, id, heap, budget, steps),
+        DictMethod::Get | DictMethod::Pop | DictMethod::SetDefault | DictMethod::Update =>
+            bad_arguments(alloc, method),
     }
 }
 
 fn with_argument<L: Ledger>(
     alloc: Global,
-    method: Method,
+    method: DictMethod,
     id: NodeId,
     x: &Value,
     heap: &mut Heap,
@@ -273,43 +229,22 @@ fn with_argument<L: Ledger>(
     requires dict { IsDict heap.old id.0 }
     requires room { length heap.old + budget.old.left < 2 ^ 32 - 16 }
     requires sound { IsTrue (is_sound (length heap.old) (value_of x.now)) }
-    ensures gives { Gives value_of result (moment_of heap.new budget.new) (m.dict_row (method_of method) id.0 (entries_at heap.old id.0) (value_of x.now ∷ []) (moment_of heap.old budget.old)) }
-    ensures heap { length heap.old ≤ length heap.new }
-    ensures most { length heap.new + budget.new.left ≤ length heap.old + budget.old.left + 1 }
-    ensures left { budget.new.left ≤ budget.old.left }
-    ensures depth { budget.new.depth ≡ budget.old.depth }
-    ensures least { budget.old.left + steps.old ≤ budget.new.left + steps.new }
-    ensures reads { 24 * budget.new.left + steps.new ≤ 24 * budget.old.left + steps.old + 3 }
+    ensures gives { Gives value_of result (moment_of heap.new budget.new) (m.dict_row (dict_method_of method) id.0 (entries_at heap.old id.0) (value_of x.now ∷ []) (moment_of heap.old budget.old)) }
+    ensures grows { GrowsPaid 1 heap.old budget.old heap.new budget.new }
+    ensures spends { Spends 3 budget.old steps.old budget.new steps.new }
 {
     match method {
-        Method::Get => get(alloc, id, x, &Value::None, heap, budget, steps),
-        Method::SetDefault => set_default(alloc, id, x, &Value::None, heap, budget, steps),
-        Method::Pop => pop(alloc, id, x, heap, budget, steps),
-        Method::Update => update(alloc, id, x, heap, budget, steps),
-        Method::Append
-        | Method::Clear
-        | Method::Copy
-        | Method::Count
-        | Method::EndsWith
-        | Method::Extend
-        | Method::Find
-        | Method::Index
-        | Method::Insert
-        | Method::IsDigit
-        | Method::Join
-        | Method::Remove
-        | Method::Replace
-        | Method::Reverse
-        | Method::Sort
-        | Method::Split
-        | Method::StartsWith
-        | Method::Strip => bad_arguments(alloc, method),
+        DictMethod::Get => get(alloc, id, x, &Value::None, heap, budget, steps),
+        DictMethod::SetDefault => set_default(alloc, id, x, &Value::None, heap, budget, steps),
+        DictMethod::Pop => pop(alloc, id, x, heap, budget, steps),
+        DictMethod::Update => update(alloc, id, x, heap, budget, steps),
+        DictMethod::Clear | DictMethod::Copy => bad_arguments(alloc, method),
     }
 }
 
 fn with_arguments<L: Ledger>(
     alloc: Global,
-    method: Method,
+    method: DictMethod,
     id: NodeId,
     x: &Value,
     y: &Value,
@@ -322,44 +257,22 @@ fn with_arguments<L: Ledger>(
     requires room { length heap.old + budget.old.left < 2 ^ 32 - 16 }
     requires sound { IsTrue (is_sound (length heap.old) (value_of x.now)) }
     requires other { IsTrue (is_sound (length heap.old) (value_of y.now)) }
-    ensures gives { Gives value_of result (moment_of heap.new budget.new) (m.dict_row (method_of method) id.0 (entries_at heap.old id.0) (value_of x.now ∷ value_of y.now ∷ []) (moment_of heap.old budget.old)) }
-    ensures heap { length heap.old ≤ length heap.new }
-    ensures most { length heap.new + budget.new.left ≤ length heap.old + budget.old.left + 1 }
-    ensures left { budget.new.left ≤ budget.old.left }
-    ensures depth { budget.new.depth ≡ budget.old.depth }
-    ensures least { budget.old.left + steps.old ≤ budget.new.left + steps.new }
-    ensures reads { 24 * budget.new.left + steps.new ≤ 24 * budget.old.left + steps.old + 3 }
+    ensures gives { Gives value_of result (moment_of heap.new budget.new) (m.dict_row (dict_method_of method) id.0 (entries_at heap.old id.0) (value_of x.now ∷ value_of y.now ∷ []) (moment_of heap.old budget.old)) }
+    ensures grows { GrowsPaid 1 heap.old budget.old heap.new budget.new }
+    ensures spends { Spends 3 budget.old steps.old budget.new steps.new }
 {
     match method {
-        Method::Get => get(alloc, id, x, y, heap, budget, steps),
-        Method::SetDefault => set_default(alloc, id, x, y, heap, budget, steps),
-        Method::Pop => pop_or(alloc, id, x, y, heap, budget, steps),
-        Method::Append
-        | Method::Clear
-        | Method::Copy
-        | Method::Count
-        | Method::EndsWith
-        | Method::Extend
-        | Method::Find
-        | Method::Index
-        | Method::Insert
-        | Method::IsDigit
-        | Method::Join
-        | Method::Remove
-        | Method::Replace
-        | Method::Reverse
-        | Method::Sort
-        | Method::Split
-        | Method::StartsWith
-        | Method::Strip
-        | Method::Update => bad_arguments(alloc, method),
+        DictMethod::Get => get(alloc, id, x, y, heap, budget, steps),
+        DictMethod::SetDefault => set_default(alloc, id, x, y, heap, budget, steps),
+        DictMethod::Pop => pop_or(alloc, id, x, y, heap, budget, steps),
+        DictMethod::Clear | DictMethod::Copy | DictMethod::Update => bad_arguments(alloc, method),
     }
 }
 
 /// A method of the dict of this number.
 pub(crate) fn dict_method<L: Ledger>(
     alloc: Global,
-    method: Method,
+    method: DictMethod,
     id: NodeId,
     args: &[Value],
     heap: &mut Heap,
@@ -370,13 +283,9 @@ pub(crate) fn dict_method<L: Ledger>(
     requires dict { IsDict heap.old id.0 }
     requires room { length heap.old + budget.old.left < 2 ^ 32 - 16 }
     requires sound { IsTrue (are_sound (length heap.old) (map value_of args.now)) }
-    ensures gives { Gives value_of result (moment_of heap.new budget.new) (m.dict_row (method_of method) id.0 (entries_at heap.old id.0) (map value_of args.now) (moment_of heap.old budget.old)) }
-    ensures heap { length heap.old ≤ length heap.new }
-    ensures most { length heap.new + budget.new.left ≤ length heap.old + budget.old.left + 1 }
-    ensures left { budget.new.left ≤ budget.old.left }
-    ensures depth { budget.new.depth ≡ budget.old.depth }
-    ensures least { budget.old.left + steps.old ≤ budget.new.left + steps.new }
-    ensures reads { 24 * budget.new.left + steps.new ≤ 24 * budget.old.left + steps.old + 3 }
+    ensures gives { Gives value_of result (moment_of heap.new budget.new) (m.dict_row (dict_method_of method) id.0 (entries_at heap.old id.0) (map value_of args.now) (moment_of heap.old budget.old)) }
+    ensures grows { GrowsPaid 1 heap.old budget.old heap.new budget.new }
+    ensures spends { Spends 3 budget.old steps.old budget.new steps.new }
 {
     match args {
         [] => without_argument(alloc, method, id, heap, budget, steps),

@@ -9,6 +9,7 @@ ghost use Rattle.kishu_meaning.specs.values.Nodes.{changed, on_dict, value_at};
 ghost use Rattle.kishu_meaning.specs.values.Sound.{is_sound};
 ghost use Rattle.kishu_meaning.specs.values.Values.{value_of};
 ghost use Rattle.kishu_heap.specs.Cells.{entries_of};
+ghost use Rattle.kishu_heap.specs.Costs.{Reads};
 ghost use Rattle.kishu_methods.specs.Contents.{entries_at, IsDict};
 
 use indexmap::IndexMap;
@@ -28,8 +29,7 @@ pub(crate) fn dict_entries<'a, L: Ledger>(
     requires dict { IsDict heap.now id.0 }
     ensures entries { entries_of result.now.entries ≡ entries_at heap.now id.0 }
     ensures sound { IsTrue (list_all (λ e. is_sound (length heap.now) e.1) (entries_at heap.now id.0)) }
-    ensures counted { steps.old ≤ steps.new }
-    ensures reads { steps.new ≤ steps.old + 1 }
+    ensures reads { Reads 1 steps.old steps.new }
 {
     match heap.node(id, steps).dict() {
         Some(entries) => entries,
@@ -42,8 +42,7 @@ pub(crate) fn dict_len<L: Ledger>(heap: &Heap, id: NodeId, steps: &mut Steps<L>)
     requires id { id.0 < length heap.now }
     requires dict { IsDict heap.now id.0 }
     ensures len { result ≡ length (entries_at heap.now id.0) }
-    ensures counted { steps.old ≤ steps.new }
-    ensures reads { steps.new ≤ steps.old + 1 }
+    ensures reads { Reads 1 steps.old steps.new }
 {
     dict_entries(heap, id, steps).len()
 }
@@ -64,8 +63,7 @@ pub(crate) fn value_under<L: Ledger>(
     requires id { id.0 < length heap.now }
     requires dict { IsDict heap.now id.0 }
     ensures value { IfOk result (λ o. option_map value_of o ≡ value_at is_one (key_of key.now) (entries_at heap.now id.0)) }
-    ensures counted { steps.old ≤ steps.new }
-    ensures reads { steps.new ≤ steps.old + 1 }
+    ensures reads { Reads 1 steps.old steps.new }
 {
     match found(dict_entries(heap, id, steps), key) {
         Some(value) => Ok(Some(value.copied()?)),
@@ -79,8 +77,7 @@ pub(crate) fn dict_in<L: Ledger>(value: &Value, heap: &Heap, steps: &mut Steps<L
     ensures entries { option_map (λ id. entries_at heap.now id.0) result ≡ option_and_then nodes.dict_in (node_at heap.now (value_of value.now)) }
     ensures id { IfSome result (λ id. id.0 < length heap.now) }
     ensures dict { IfSome result (λ id. IsDict heap.now id.0) }
-    ensures counted { steps.old ≤ steps.new }
-    ensures reads { steps.new ≤ steps.old + 1 }
+    ensures reads { Reads 1 steps.old steps.new }
 {
     let Value::Node(id) = value else {
         return None;

@@ -4,11 +4,12 @@ ghost use Rattle.kishu_meaning.specs.items.Finding.{place_from, count_from, plac
 ghost use Rattle.kishu_meaning.specs.calls.Methods.{place_of_equal, place_number, count_number};
 ghost use Rattle.kishu_meaning.specs.values.Values.{value_of};
 ghost use Rattle.kishu_heap.specs.Compared as compared;
+ghost use Rattle.kishu_heap.specs.Costs.{Spends};
 ghost use Rattle.kishu_methods.specs.Called.{moment_of, Gives};
 
 use kishu_heap::{CallFault, CompareFault, Heap};
-use kishu_items::{VALUE_ERROR, compared, plain_text, raise};
-use kishu_meaning::{Budget, Steps, Value};
+use kishu_items::{compared, plain_text, raise};
+use kishu_meaning::{Budget, ClassId, Steps, Value};
 use std::alloc::Global;
 use std::sync::ledger::Ledger;
 
@@ -22,10 +23,7 @@ fn first_equal<L: Ledger>(
 ) -> Result<Option<usize>, CompareFault>
     ensures gives { compared.Gives result budget.new.left (place_from heap.now budget.old.depth (value_of value.now) 0 (map value_of items.now) budget.old.left) }
     ensures within { IfOk result (λ o. IfSome o (λ place. place < length items.now)) }
-    ensures left { budget.new.left ≤ budget.old.left }
-    ensures depth { budget.new.depth ≡ budget.old.depth }
-    ensures least { budget.old.left + steps.old ≤ budget.new.left + steps.new }
-    ensures reads { 24 * budget.new.left + steps.new ≤ 24 * budget.old.left + steps.old }
+    ensures spends { Spends 0 budget.old steps.old budget.new steps.new }
 {
     for i in 0..items.len() {
         if heap.is_item(&items[i], value, budget, steps)? {
@@ -51,10 +49,7 @@ fn all_equal<L: Ledger>(
     steps: &mut Steps<L>,
 ) -> Result<usize, CompareFault>
     ensures gives { compared.Gives result budget.new.left (count_from heap.now budget.old.depth (value_of value.now) 0 (map value_of items.now) budget.old.left) }
-    ensures left { budget.new.left ≤ budget.old.left }
-    ensures depth { budget.new.depth ≡ budget.old.depth }
-    ensures least { budget.old.left + steps.old ≤ budget.new.left + steps.new }
-    ensures reads { 24 * budget.new.left + steps.new ≤ 24 * budget.old.left + steps.old }
+    ensures spends { Spends 0 budget.old steps.old budget.new steps.new }
 {
     let mut found = 0;
     for i in 0..items.len() {
@@ -74,10 +69,7 @@ fn place_among<L: Ledger>(
 ) -> Result<Option<usize>, CallFault>
     ensures gives { Gives (λ o. o) result (moment_of heap.now budget.new) (place_among (value_of value.now) (map value_of items.now) (moment_of heap.now budget.old)) }
     ensures within { IfOk result (λ o. IfSome o (λ place. place < length items.now)) }
-    ensures left { budget.new.left ≤ budget.old.left }
-    ensures depth { budget.new.depth ≡ budget.old.depth }
-    ensures least { budget.old.left + steps.old ≤ budget.new.left + steps.new }
-    ensures reads { 24 * budget.new.left + steps.new ≤ 24 * budget.old.left + steps.old }
+    ensures spends { Spends 0 budget.old steps.old budget.new steps.new }
 {
     compared(alloc, first_equal(value, items, heap, budget, steps))
 }
@@ -93,14 +85,11 @@ pub(crate) fn place_of_equal<L: Ledger>(
 ) -> Result<usize, CallFault>
     ensures gives { Gives (λ n. n) result (moment_of heap.now budget.new) (place_of_equal (value_of value.now) (map value_of items.now) (moment_of heap.now budget.old)) }
     ensures within { IfOk result (λ place. place < length items.now) }
-    ensures left { budget.new.left ≤ budget.old.left }
-    ensures depth { budget.new.depth ≡ budget.old.depth }
-    ensures least { budget.old.left + steps.old ≤ budget.new.left + steps.new }
-    ensures reads { 24 * budget.new.left + steps.new ≤ 24 * budget.old.left + steps.old }
+    ensures spends { Spends 0 budget.old steps.old budget.new steps.new }
 {
     match place_among(alloc, value, items, heap, budget, steps)? {
         Some(place) => Ok(place),
-        None => raise(VALUE_ERROR, plain_text(alloc, "value not found")?),
+        None => raise(ClassId::VALUE_ERROR, plain_text(alloc, "value not found")?),
     }
 }
 
@@ -114,10 +103,7 @@ pub(crate) fn count_among<L: Ledger>(
     steps: &mut Steps<L>,
 ) -> Result<usize, CallFault>
     ensures gives { Gives (λ n. n) result (moment_of heap.now budget.new) (count_among (value_of value.now) (map value_of items.now) (moment_of heap.now budget.old)) }
-    ensures left { budget.new.left ≤ budget.old.left }
-    ensures depth { budget.new.depth ≡ budget.old.depth }
-    ensures least { budget.old.left + steps.old ≤ budget.new.left + steps.new }
-    ensures reads { 24 * budget.new.left + steps.new ≤ 24 * budget.old.left + steps.old }
+    ensures spends { Spends 0 budget.old steps.old budget.new steps.new }
 {
     compared(alloc, all_equal(value, items, heap, budget, steps))
 }
@@ -132,10 +118,7 @@ pub(crate) fn place_number<L: Ledger>(
     steps: &mut Steps<L>,
 ) -> Result<Value, CallFault>
     ensures gives { Gives value_of result (moment_of heap.now budget.new) (place_number (value_of value.now) (map value_of items.now) (moment_of heap.now budget.old)) }
-    ensures left { budget.new.left ≤ budget.old.left }
-    ensures depth { budget.new.depth ≡ budget.old.depth }
-    ensures least { budget.old.left + steps.old ≤ budget.new.left + steps.new }
-    ensures reads { 24 * budget.new.left + steps.new ≤ 24 * budget.old.left + steps.old }
+    ensures spends { Spends 0 budget.old steps.old budget.new steps.new }
 {
     let place = place_of_equal(alloc, value, items, heap, budget, steps)?;
     Ok(Value::Int(place as i128))
@@ -151,10 +134,7 @@ pub(crate) fn count_number<L: Ledger>(
     steps: &mut Steps<L>,
 ) -> Result<Value, CallFault>
     ensures gives { Gives value_of result (moment_of heap.now budget.new) (count_number (value_of value.now) (map value_of items.now) (moment_of heap.now budget.old)) }
-    ensures left { budget.new.left ≤ budget.old.left }
-    ensures depth { budget.new.depth ≡ budget.old.depth }
-    ensures least { budget.old.left + steps.old ≤ budget.new.left + steps.new }
-    ensures reads { 24 * budget.new.left + steps.new ≤ 24 * budget.old.left + steps.old }
+    ensures spends { Spends 0 budget.old steps.old budget.new steps.new }
 {
     let count = count_among(alloc, value, items, heap, budget, steps)?;
     Ok(Value::Int(count as i128))

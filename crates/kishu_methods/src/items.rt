@@ -5,6 +5,7 @@ ghost use Rattle.kishu_meaning.specs.calls.Methods.{without_place};
 ghost use Rattle.kishu_meaning.specs.values.Nodes.{changed, on_list};
 ghost use Rattle.kishu_meaning.specs.values.Sound.{is_sound, are_sound};
 ghost use Rattle.kishu_meaning.specs.values.Values.{value_of, none};
+ghost use Rattle.kishu_heap.specs.Costs.{Reads};
 ghost use Rattle.kishu_methods.specs.Contents.{items_at, IsList};
 
 use kishu_heap::{Heap, Node};
@@ -23,8 +24,7 @@ pub(crate) fn list_items<'a, L: Ledger>(
     requires list { IsList heap.now id.0 }
     ensures items { map value_of result.now ≡ items_at heap.now id.0 }
     ensures sound { IsTrue (are_sound (length heap.now) (items_at heap.now id.0)) }
-    ensures counted { steps.old ≤ steps.new }
-    ensures reads { steps.new ≤ steps.old + 1 }
+    ensures reads { Reads 1 steps.old steps.new }
 {
     match heap.node(id, steps).list() {
         Some(items) => items,
@@ -37,8 +37,7 @@ pub(crate) fn list_len<L: Ledger>(heap: &Heap, id: NodeId, steps: &mut Steps<L>)
     requires id { id.0 < length heap.now }
     requires list { IsList heap.now id.0 }
     ensures len { result ≡ length (items_at heap.now id.0) }
-    ensures counted { steps.old ≤ steps.new }
-    ensures reads { steps.new ≤ steps.old + 1 }
+    ensures reads { Reads 1 steps.old steps.new }
 {
     list_items(heap, id, steps).len()
 }
@@ -54,8 +53,7 @@ pub(crate) fn copied_list<L: Ledger>(
     requires list { IsList heap.now id.0 }
     ensures items { IfOk result (λ v. map value_of v.items ≡ items_at heap.now id.0) }
     ensures sound { IsTrue (are_sound (length heap.now) (items_at heap.now id.0)) }
-    ensures counted { steps.old ≤ steps.new }
-    ensures reads { steps.new ≤ steps.old + 1 }
+    ensures reads { Reads 1 steps.old steps.new }
 {
     let items = copied_all(alloc, list_items(heap, id, steps))?;
     Ok(items)
@@ -74,8 +72,7 @@ pub(crate) fn without_place<L: Ledger>(
     requires place { place < length (items_at heap.old id.0) }
     ensures value { IfOk result (λ v. value_of v ≡ slice_index_or (items_at heap.old id.0) place none) }
     ensures nodes { OnOk result (heap.new ≡ changed (without_place place) id.0 heap.old) }
-    ensures counted { steps.old ≤ steps.new }
-    ensures reads { steps.new ≤ steps.old + 1 }
+    ensures reads { Reads 1 steps.old steps.new }
     ensures long { length heap.new ≡ length heap.old }
 {
     let mut items = copied_list(alloc, heap, id, steps)?;
@@ -98,8 +95,7 @@ pub(crate) fn with_place<L: Ledger>(
     requires place { place ≤ length (items_at heap.old id.0) }
     requires sound { IsTrue (is_sound (length heap.old) (value_of value.now)) }
     ensures nodes { OnOk result (heap.new ≡ changed (on_list (λ items. insert items place (value_of value.now))) id.0 heap.old) }
-    ensures counted { steps.old ≤ steps.new }
-    ensures reads { steps.new ≤ steps.old + 1 }
+    ensures reads { Reads 1 steps.old steps.new }
     ensures long { length heap.new ≡ length heap.old }
 {
     let mut items = copied_list(alloc, heap, id, steps)?;
@@ -118,25 +114,11 @@ pub(crate) fn reverse<L: Ledger>(
     requires id { id.0 < length heap.old }
     requires list { IsList heap.old id.0 }
     ensures nodes { OnOk result (heap.new ≡ changed (on_list reverse) id.0 heap.old) }
-    ensures counted { steps.old ≤ steps.new }
-    ensures reads { steps.new ≤ steps.old + 1 }
+    ensures reads { Reads 1 steps.old steps.new }
     ensures long { length heap.new ≡ length heap.old }
 {
     let mut items = copied_list(alloc, heap, id, steps)?;
     items.reverse();
     heap.replace_list(id, items);
-    Ok(())
-}
-
-/// Puts values behind a list's items.
-pub(crate) fn push_all(id: NodeId, values: &[Value], heap: &mut Heap) -> Result<(), AllocError>
-    requires id { id.0 < length heap.old }
-    requires sound { IsTrue (are_sound (length heap.old) (map value_of values.now)) }
-    ensures nodes { OnOk result (heap.new ≡ changed (on_list (λ items. items ++ map value_of values.now)) id.0 heap.old) }
-    ensures long { length heap.new ≡ length heap.old }
-{
-    for i in 0..values.len() {
-        heap.push(id, values[i].copied()?)?;
-    }
     Ok(())
 }

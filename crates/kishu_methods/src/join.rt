@@ -8,11 +8,12 @@ ghost use Rattle.kishu_meaning.specs.calls.Methods as m;
 ghost use Rattle.kishu_meaning.specs.calls.Methods.{joined_by, text_row, texts_in};
 ghost use Rattle.kishu_meaning.specs.values.Sound.{is_sound};
 ghost use Rattle.kishu_meaning.specs.values.Texts.{joined};
+ghost use Rattle.kishu_heap.specs.Costs.{GrowsPaid, Spends};
 ghost use Rattle.kishu_methods.specs.Called.{moment_of, Gives};
 ghost use Rattle.kishu_methods.specs.TextValues.{texts_of};
 
 use crate::faults::bad_arguments;
-use crate::method::Method;
+use crate::method::TextMethod;
 use kishu_heap::{CallFault, Heap};
 use kishu_items::{spend, walked};
 use kishu_meaning::{Budget, Steps, Value};
@@ -95,13 +96,10 @@ fn joined_by<L: Ledger>(
     steps: &mut Steps<L>,
 ) -> Result<Value, CallFault>
     ensures gives { (ns : List Node) → Gives value_of result (moment_of ns budget.new) (joined_by (chars by.now) (map value_of values.now) (moment_of ns budget.old)) }
-    ensures left { budget.new.left ≤ budget.old.left }
-    ensures depth { budget.new.depth ≡ budget.old.depth }
-    ensures least { budget.old.left + steps.old ≤ budget.new.left + steps.new }
-    ensures reads { 24 * budget.new.left + steps.new ≤ 24 * budget.old.left + steps.old }
+    ensures spends { Spends 0 budget.old steps.old budget.new steps.new }
 {
     let Some(texts) = texts_in(alloc, values)? else {
-        return bad_arguments(alloc, Method::Join);
+        return bad_arguments(alloc, TextMethod::Join);
     };
     spend(joined_length(by, &texts), budget, steps)?;
     let joined = joined(alloc, by, &texts)?;
@@ -121,12 +119,8 @@ pub(crate) fn join<L: Ledger>(
     requires sound { IsTrue (is_sound (length heap.old) (value_of argument.now)) }
     requires room { length heap.old + budget.old.left < 2 ^ 32 - 16 }
     ensures gives { Gives value_of result (moment_of heap.new budget.new) (text_row m.join (chars text.now) (value_of argument.now ∷ []) (moment_of heap.old budget.old)) }
-    ensures heap { length heap.old ≤ length heap.new }
-    ensures most { length heap.new + budget.new.left ≤ length heap.old + budget.old.left + 1 }
-    ensures left { budget.new.left ≤ budget.old.left }
-    ensures depth { budget.new.depth ≡ budget.old.depth }
-    ensures least { budget.old.left + steps.old ≤ budget.new.left + steps.new }
-    ensures reads { 24 * budget.new.left + steps.new ≤ 24 * budget.old.left + steps.old + 2 }
+    ensures grows { GrowsPaid 1 heap.old budget.old heap.new budget.new }
+    ensures spends { Spends 2 budget.old steps.old budget.new steps.new }
 {
     let items = walked(alloc, argument, heap, budget, steps)?;
     joined_by(alloc, text, &items, budget, steps)

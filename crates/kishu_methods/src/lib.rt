@@ -1,6 +1,6 @@
 //! The methods of lists, tuples, dicts and texts (Library Reference, "Mutable Sequence Types",
 //! "Mapping Types" and "String Methods"). As the method's row says (`specs/Methods` of
-//! `kishu_model`), a call refuses the number and the kinds of its arguments first, then takes its
+//! `kishu_meaning`), a call refuses the number and the kinds of its arguments first, then takes its
 //! steps, then looks at items, and changes a node last.
 #![tactic(auto)]
 

@@ -5,21 +5,19 @@ ghost use Rattle.kishu_meaning.specs.calls.Methods as m;
 ghost use Rattle.kishu_meaning.specs.values.Nodes.{push, replace_list};
 ghost use Rattle.kishu_meaning.specs.values.Sound.{is_sound, are_sound};
 ghost use Rattle.kishu_meaning.specs.values.Values.{value_of};
-ghost use Rattle.kishu_methods.specs.Called.{moment_of, method_of, Gives};
+ghost use Rattle.kishu_heap.specs.Costs.{GrowsPaid, Spends};
+ghost use Rattle.kishu_methods.specs.Called.{moment_of, list_method_of, Gives};
 ghost use Rattle.kishu_methods.specs.Contents.{items_at, IsList};
 
 use crate::faults::bad_arguments;
 use crate::finding::{count_number, place_number, place_of_equal};
-use crate::items::{
-    copied_list, list_items, list_len, push_all, reverse, with_place, without_place,
-};
-use crate::method::Method;
+use crate::items::{copied_list, list_items, list_len, reverse, with_place, without_place};
+use crate::method::ListMethod;
 use kishu_heap::{CallFault, Heap, Node};
 use kishu_items::{
-    INDEX_ERROR, bound_in, in_order, index_of, place_of, plain_text, raise, sort_steps, spend,
-    walked,
+    bound_in, in_order, index_of, place_of, plain_text, push_all, raise, sort_steps, spend, walked,
 };
-use kishu_meaning::{Budget, NodeId, Steps, Value};
+use kishu_meaning::{Budget, ClassId, NodeId, Steps, Value};
 use std::alloc::Global;
 use std::sync::ledger::Ledger;
 
@@ -41,7 +39,10 @@ fn pop_last(alloc: Global, id: NodeId, heap: &mut Heap) -> Result<Value, CallFau
 {
     match heap.pop(id) {
         Some(value) => Ok(value),
-        None => raise(INDEX_ERROR, plain_text(alloc, "pop from empty list")?),
+        None => raise(
+            ClassId::INDEX_ERROR,
+            plain_text(alloc, "pop from empty list")?,
+        ),
     }
 }
 
@@ -66,12 +67,8 @@ fn take_out<L: Ledger>(
     requires list { IsList heap.old id.0 }
     requires place { place < length (items_at heap.old id.0) }
     ensures gives { Gives value_of result (moment_of heap.new budget.new) (m.take_out id.0 (items_at heap.old id.0) place (moment_of heap.old budget.old)) }
-    ensures heap { length heap.old ≤ length heap.new }
-    ensures most { length heap.new + budget.new.left ≤ length heap.old + budget.old.left + 1 }
-    ensures left { budget.new.left ≤ budget.old.left }
-    ensures depth { budget.new.depth ≡ budget.old.depth }
-    ensures least { budget.old.left + steps.old ≤ budget.new.left + steps.new }
-    ensures reads { 24 * budget.new.left + steps.new ≤ 24 * budget.old.left + steps.old + 1 }
+    ensures grows { GrowsPaid 1 heap.old budget.old heap.new budget.new }
+    ensures spends { Spends 1 budget.old steps.old budget.new steps.new }
 {
     spend(list_len(heap, id, steps) as u128, budget, steps)?;
     Ok(without_place(alloc, id, place, heap, steps)?)
@@ -89,17 +86,16 @@ fn pop_at<L: Ledger>(
     requires list { IsList heap.old id.0 }
     requires sound { IsTrue (is_sound (length heap.old) (value_of at.now)) }
     ensures gives { Gives value_of result (moment_of heap.new budget.new) (m.list_row m.pop id.0 (items_at heap.old id.0) (value_of at.now ∷ []) (moment_of heap.old budget.old)) }
-    ensures heap { length heap.old ≤ length heap.new }
-    ensures most { length heap.new + budget.new.left ≤ length heap.old + budget.old.left + 1 }
-    ensures left { budget.new.left ≤ budget.old.left }
-    ensures depth { budget.new.depth ≡ budget.old.depth }
-    ensures least { budget.old.left + steps.old ≤ budget.new.left + steps.new }
-    ensures reads { 24 * budget.new.left + steps.new ≤ 24 * budget.old.left + steps.old + 3 }
+    ensures grows { GrowsPaid 1 heap.old budget.old heap.new budget.new }
+    ensures spends { Spends 3 budget.old steps.old budget.new steps.new }
 {
     let index = index_of(alloc, at, heap, steps)?;
     let len = list_len(heap, id, steps);
     if len == 0 {
-        return raise(INDEX_ERROR, plain_text(alloc, "pop from empty list")?);
+        return raise(
+            ClassId::INDEX_ERROR,
+            plain_text(alloc, "pop from empty list")?,
+        );
     }
     let place = place_of(alloc, len, index)?;
     take_out(alloc, id, place, heap, budget, steps)
@@ -118,12 +114,8 @@ fn put_in<L: Ledger>(
     requires list { IsList heap.old id.0 }
     requires sound { IsTrue (is_sound (length heap.old) (value_of x.now)) }
     ensures gives { Gives value_of result (moment_of heap.new budget.new) (m.insert_at id.0 (items_at heap.old id.0) (value_of x.now) index (moment_of heap.old budget.old)) }
-    ensures heap { length heap.old ≤ length heap.new }
-    ensures most { length heap.new + budget.new.left ≤ length heap.old + budget.old.left + 1 }
-    ensures left { budget.new.left ≤ budget.old.left }
-    ensures depth { budget.new.depth ≡ budget.old.depth }
-    ensures least { budget.old.left + steps.old ≤ budget.new.left + steps.new }
-    ensures reads { 24 * budget.new.left + steps.new ≤ 24 * budget.old.left + steps.old + 2 }
+    ensures grows { GrowsPaid 1 heap.old budget.old heap.new budget.new }
+    ensures spends { Spends 2 budget.old steps.old budget.new steps.new }
 {
     let len = list_len(heap, id, steps);
     spend(len as u128, budget, steps)?;
@@ -145,12 +137,8 @@ fn insert_at<L: Ledger>(
     requires at { IsTrue (is_sound (length heap.old) (value_of at.now)) }
     requires sound { IsTrue (is_sound (length heap.old) (value_of x.now)) }
     ensures gives { Gives value_of result (moment_of heap.new budget.new) (m.list_row m.insert id.0 (items_at heap.old id.0) (value_of at.now ∷ value_of x.now ∷ []) (moment_of heap.old budget.old)) }
-    ensures heap { length heap.old ≤ length heap.new }
-    ensures most { length heap.new + budget.new.left ≤ length heap.old + budget.old.left + 1 }
-    ensures left { budget.new.left ≤ budget.old.left }
-    ensures depth { budget.new.depth ≡ budget.old.depth }
-    ensures least { budget.old.left + steps.old ≤ budget.new.left + steps.new }
-    ensures reads { 24 * budget.new.left + steps.new ≤ 24 * budget.old.left + steps.old + 3 }
+    ensures grows { GrowsPaid 1 heap.old budget.old heap.new budget.new }
+    ensures spends { Spends 3 budget.old steps.old budget.new steps.new }
 {
     let index = index_of(alloc, at, heap, steps)?;
     put_in(alloc, id, index, x, heap, budget, steps)
@@ -169,12 +157,8 @@ fn extend<L: Ledger>(
     requires sound { IsTrue (is_sound (length heap.old) (value_of sequence.now)) }
     requires room { length heap.old + budget.old.left < 2 ^ 32 - 16 }
     ensures gives { Gives value_of result (moment_of heap.new budget.new) (m.list_row m.extend id.0 (items_at heap.old id.0) (value_of sequence.now ∷ []) (moment_of heap.old budget.old)) }
-    ensures heap { length heap.old ≤ length heap.new }
-    ensures most { length heap.new + budget.new.left ≤ length heap.old + budget.old.left + 1 }
-    ensures left { budget.new.left ≤ budget.old.left }
-    ensures depth { budget.new.depth ≡ budget.old.depth }
-    ensures least { budget.old.left + steps.old ≤ budget.new.left + steps.new }
-    ensures reads { 24 * budget.new.left + steps.new ≤ 24 * budget.old.left + steps.old + 2 }
+    ensures grows { GrowsPaid 1 heap.old budget.old heap.new budget.new }
+    ensures spends { Spends 2 budget.old steps.old budget.new steps.new }
 {
     let items = walked(alloc, sequence, heap, budget, steps)?;
     push_all(id, items.as_slice(), heap)?;
@@ -192,12 +176,8 @@ fn remove<L: Ledger>(
     requires id { id.0 < length heap.old }
     requires list { IsList heap.old id.0 }
     ensures gives { Gives value_of result (moment_of heap.new budget.new) (m.list_row m.remove id.0 (items_at heap.old id.0) (value_of x.now ∷ []) (moment_of heap.old budget.old)) }
-    ensures heap { length heap.old ≤ length heap.new }
-    ensures most { length heap.new + budget.new.left ≤ length heap.old + budget.old.left + 1 }
-    ensures left { budget.new.left ≤ budget.old.left }
-    ensures depth { budget.new.depth ≡ budget.old.depth }
-    ensures least { budget.old.left + steps.old ≤ budget.new.left + steps.new }
-    ensures reads { 24 * budget.new.left + steps.new ≤ 24 * budget.old.left + steps.old + 2 }
+    ensures grows { GrowsPaid 1 heap.old budget.old heap.new budget.new }
+    ensures spends { Spends 2 budget.old steps.old budget.new steps.new }
 {
     let items = list_items(heap, id, steps);
     let place = place_of_equal(alloc, x, items, heap, budget, steps)?;
@@ -215,12 +195,8 @@ fn turn_round<L: Ledger>(
     requires id { id.0 < length heap.old }
     requires list { IsList heap.old id.0 }
     ensures gives { Gives value_of result (moment_of heap.new budget.new) (m.list_row m.reverse id.0 (items_at heap.old id.0) [] (moment_of heap.old budget.old)) }
-    ensures heap { length heap.old ≤ length heap.new }
-    ensures most { length heap.new + budget.new.left ≤ length heap.old + budget.old.left + 1 }
-    ensures left { budget.new.left ≤ budget.old.left }
-    ensures depth { budget.new.depth ≡ budget.old.depth }
-    ensures least { budget.old.left + steps.old ≤ budget.new.left + steps.new }
-    ensures reads { 24 * budget.new.left + steps.new ≤ 24 * budget.old.left + steps.old + 2 }
+    ensures grows { GrowsPaid 1 heap.old budget.old heap.new budget.new }
+    ensures spends { Spends 2 budget.old steps.old budget.new steps.new }
 {
     spend(list_len(heap, id, steps) as u128, budget, steps)?;
     reverse(alloc, id, heap, steps)?;
@@ -238,12 +214,8 @@ fn copy<L: Ledger>(
     requires list { IsList heap.old id.0 }
     requires room { length heap.old + 1 < 2 ^ 32 }
     ensures gives { Gives value_of result (moment_of heap.new budget.new) (m.list_row m.copy id.0 (items_at heap.old id.0) [] (moment_of heap.old budget.old)) }
-    ensures heap { length heap.old ≤ length heap.new }
-    ensures most { length heap.new + budget.new.left ≤ length heap.old + budget.old.left + 1 }
-    ensures left { budget.new.left ≤ budget.old.left }
-    ensures depth { budget.new.depth ≡ budget.old.depth }
-    ensures least { budget.old.left + steps.old ≤ budget.new.left + steps.new }
-    ensures reads { 24 * budget.new.left + steps.new ≤ 24 * budget.old.left + steps.old + 2 }
+    ensures grows { GrowsPaid 1 heap.old budget.old heap.new budget.new }
+    ensures spends { Spends 2 budget.old steps.old budget.new steps.new }
 {
     spend(list_len(heap, id, steps) as u128, budget, steps)?;
     let items = copied_list(alloc, heap, id, steps)?;
@@ -260,12 +232,8 @@ fn sort<L: Ledger>(
     requires id { id.0 < length heap.old }
     requires list { IsList heap.old id.0 }
     ensures gives { Gives value_of result (moment_of heap.new budget.new) (m.sort_in_place id.0 (items_at heap.old id.0) (moment_of heap.old budget.old)) }
-    ensures heap { length heap.old ≤ length heap.new }
-    ensures most { length heap.new + budget.new.left ≤ length heap.old + budget.old.left + 1 }
-    ensures left { budget.new.left ≤ budget.old.left }
-    ensures depth { budget.new.depth ≡ budget.old.depth }
-    ensures least { budget.old.left + steps.old ≤ budget.new.left + steps.new }
-    ensures reads { 24 * budget.new.left + steps.new ≤ 24 * budget.old.left + steps.old + 2 }
+    ensures grows { GrowsPaid 1 heap.old budget.old heap.new budget.new }
+    ensures spends { Spends 2 budget.old steps.old budget.new steps.new }
 {
     spend(sort_steps(list_len(heap, id, steps) as u64), budget, steps)?;
     let items = copied_list(alloc, heap, id, steps)?;
@@ -274,13 +242,13 @@ fn sort<L: Ledger>(
             heap.replace_list(id, sorted);
             Ok(Value::None)
         }
-        None => bad_arguments(alloc, Method::Sort),
+        None => bad_arguments(alloc, ListMethod::Sort),
     }
 }
 
 fn without_argument<L: Ledger>(
     alloc: Global,
-    method: Method,
+    method: ListMethod,
     id: NodeId,
     heap: &mut Heap,
     budget: &mut Budget,
@@ -289,43 +257,28 @@ fn without_argument<L: Ledger>(
     requires id { id.0 < length heap.old }
     requires list { IsList heap.old id.0 }
     requires room { length heap.old + budget.old.left < 2 ^ 32 - 16 }
-    ensures gives { Gives value_of result (moment_of heap.new budget.new) (m.list_row (method_of method) id.0 (items_at heap.old id.0) [] (moment_of heap.old budget.old)) }
-    ensures heap { length heap.old ≤ length heap.new }
-    ensures most { length heap.new + budget.new.left ≤ length heap.old + budget.old.left + 1 }
-    ensures left { budget.new.left ≤ budget.old.left }
-    ensures depth { budget.new.depth ≡ budget.old.depth }
-    ensures least { budget.old.left + steps.old ≤ budget.new.left + steps.new }
-    ensures reads { 24 * budget.new.left + steps.new ≤ 24 * budget.old.left + steps.old + 2 }
+    ensures gives { Gives value_of result (moment_of heap.new budget.new) (m.list_row (list_method_of method) id.0 (items_at heap.old id.0) [] (moment_of heap.old budget.old)) }
+    ensures grows { GrowsPaid 1 heap.old budget.old heap.new budget.new }
+    ensures spends { Spends 2 budget.old steps.old budget.new steps.new }
 {
     match method {
-        Method::Pop => pop_last(alloc, id, heap),
-        Method::Clear => clear(alloc, id, heap),
-        Method::Reverse => turn_round(alloc, id, heap, budget, steps),
-        Method::Copy => copy(alloc, id, heap, budget, steps),
-        Method::Sort => sort(alloc, id, heap, budget, steps),
-        Method::Append
-        | Method::Count
-        | Method::EndsWith
-        | Method::Extend
-        | Method::Find
-        | Method::Get
-        | Method::Index
-        | Method::Insert
-        | Method::IsDigit
-        | Method::Join
-        | Method::Remove
-        | Method::Replace
-        | Method::SetDefault
-        | Method::Split
-        | Method::StartsWith
-        | Method::Strip
-        | Method::Update => bad_arguments(alloc, method),
+        ListMethod::Pop => pop_last(alloc, id, heap),
+        ListMethod::Clear => clear(alloc, id, heap),
+        ListMethod::Reverse => turn_round(alloc, id, heap, budget, steps),
+        ListMethod::Copy => copy(alloc, id, heap, budget, steps),
+        ListMethod::Sort => sort(alloc, id, heap, budget, steps),
+        ListMethod::Append
+        | ListMethod::Count
+        | ListMethod::Extend
+        | ListMethod::Index
+        | ListMethod::Insert
+        | ListMethod::Remove => bad_arguments(alloc, method),
     }
 }
 
 fn with_argument<L: Ledger>(
     alloc: Global,
-    method: Method,
+    method: ListMethod,
     id: NodeId,
     x: &Value,
     heap: &mut Heap,
@@ -336,43 +289,42 @@ fn with_argument<L: Ledger>(
     requires list { IsList heap.old id.0 }
     requires room { length heap.old + budget.old.left < 2 ^ 32 - 16 }
     requires sound { IsTrue (is_sound (length heap.old) (value_of x.now)) }
-    ensures gives { Gives value_of result (moment_of heap.new budget.new) (m.list_row (method_of method) id.0 (items_at heap.old id.0) (value_of x.now ∷ []) (moment_of heap.old budget.old)) }
-    ensures heap { length heap.old ≤ length heap.new }
-    ensures most { length heap.new + budget.new.left ≤ length heap.old + budget.old.left + 1 }
-    ensures left { budget.new.left ≤ budget.old.left }
-    ensures depth { budget.new.depth ≡ budget.old.depth }
-    ensures least { budget.old.left + steps.old ≤ budget.new.left + steps.new }
-    ensures reads { 24 * budget.new.left + steps.new ≤ 24 * budget.old.left + steps.old + 3 }
+    ensures gives { Gives value_of result (moment_of heap.new budget.new) (m.list_row (list_method_of method) id.0 (items_at heap.old id.0) (value_of x.now ∷ []) (moment_of heap.old budget.old)) }
+    ensures grows { GrowsPaid 1 heap.old budget.old heap.new budget.new }
+    ensures spends { Spends 3 budget.old steps.old budget.new steps.new }
 {
     match method {
-        Method::Append => append(id, x, heap),
-        Method::Pop => pop_at(alloc, id, x, heap, budget, steps),
-        Method::Extend => extend(alloc, id, x, heap, budget, steps),
-        Method::Remove => remove(alloc, id, x, heap, budget, steps),
-        Method::Index => place_number(alloc, x, list_items(heap, id, steps), heap, budget, steps),
-        Method::Count => count_number(alloc, x, list_items(heap, id, steps), heap, budget, steps),
-        Method::Clear
-        | Method::Copy
-        | Method::EndsWith
-        | Method::Find
-        | Method::Get
-        | Method::Insert
-        | Method::IsDigit
-        | Method::Join
-        | Method::Replace
-        | Method::Reverse
-        | Method::SetDefault
-        | Method::Sort
-        | Method::Split
-        | Method::StartsWith
-        | Method::Strip
-        | Method::Update => bad_arguments(alloc, method),
+        ListMethod::Append => append(id, x, heap),
+        ListMethod::Pop => pop_at(alloc, id, x, heap, budget, steps),
+        ListMethod::Extend => extend(alloc, id, x, heap, budget, steps),
+        ListMethod::Remove => remove(alloc, id, x, heap, budget, steps),
+        ListMethod::Index => place_number(
+            alloc,
+            x,
+            list_items(heap, id, steps),
+            heap,
+            budget,
+            steps,
+        ),
+        ListMethod::Count => count_number(
+            alloc,
+            x,
+            list_items(heap, id, steps),
+            heap,
+            budget,
+            steps,
+        ),
+        ListMethod::Clear
+        | ListMethod::Copy
+        | ListMethod::Insert
+        | ListMethod::Reverse
+        | ListMethod::Sort => bad_arguments(alloc, method),
     }
 }
 
 fn with_arguments<L: Ledger>(
     alloc: Global,
-    method: Method,
+    method: ListMethod,
     id: NodeId,
     at: &Value,
     x: &Value,
@@ -385,44 +337,29 @@ fn with_arguments<L: Ledger>(
     requires room { length heap.old + budget.old.left < 2 ^ 32 - 16 }
     requires at { IsTrue (is_sound (length heap.old) (value_of at.now)) }
     requires sound { IsTrue (is_sound (length heap.old) (value_of x.now)) }
-    ensures gives { Gives value_of result (moment_of heap.new budget.new) (m.list_row (method_of method) id.0 (items_at heap.old id.0) (value_of at.now ∷ value_of x.now ∷ []) (moment_of heap.old budget.old)) }
-    ensures heap { length heap.old ≤ length heap.new }
-    ensures most { length heap.new + budget.new.left ≤ length heap.old + budget.old.left + 1 }
-    ensures left { budget.new.left ≤ budget.old.left }
-    ensures depth { budget.new.depth ≡ budget.old.depth }
-    ensures least { budget.old.left + steps.old ≤ budget.new.left + steps.new }
-    ensures reads { 24 * budget.new.left + steps.new ≤ 24 * budget.old.left + steps.old + 3 }
+    ensures gives { Gives value_of result (moment_of heap.new budget.new) (m.list_row (list_method_of method) id.0 (items_at heap.old id.0) (value_of at.now ∷ value_of x.now ∷ []) (moment_of heap.old budget.old)) }
+    ensures grows { GrowsPaid 1 heap.old budget.old heap.new budget.new }
+    ensures spends { Spends 3 budget.old steps.old budget.new steps.new }
 {
     match method {
-        Method::Insert => insert_at(alloc, id, at, x, heap, budget, steps),
-        Method::Append
-        | Method::Clear
-        | Method::Copy
-        | Method::Count
-        | Method::EndsWith
-        | Method::Extend
-        | Method::Find
-        | Method::Get
-        | Method::Index
-        | Method::IsDigit
-        | Method::Join
-        | Method::Pop
-        | Method::Remove
-        | Method::Replace
-        | Method::Reverse
-        | Method::SetDefault
-        | Method::Sort
-        | Method::Split
-        | Method::StartsWith
-        | Method::Strip
-        | Method::Update => bad_arguments(alloc, method),
+        ListMethod::Insert => insert_at(alloc, id, at, x, heap, budget, steps),
+        ListMethod::Append
+        | ListMethod::Clear
+        | ListMethod::Copy
+        | ListMethod::Count
+        | ListMethod::Extend
+        | ListMethod::Index
+        | ListMethod::Pop
+        | ListMethod::Remove
+        | ListMethod::Reverse
+        | ListMethod::Sort => bad_arguments(alloc, method),
     }
 }
 
 /// A method of the list of this number.
 pub(crate) fn list_method<L: Ledger>(
     alloc: Global,
-    method: Method,
+    method: ListMethod,
     id: NodeId,
     args: &[Value],
     heap: &mut Heap,
@@ -433,13 +370,9 @@ pub(crate) fn list_method<L: Ledger>(
     requires list { IsList heap.old id.0 }
     requires room { length heap.old + budget.old.left < 2 ^ 32 - 16 }
     requires sound { IsTrue (are_sound (length heap.old) (map value_of args.now)) }
-    ensures gives { Gives value_of result (moment_of heap.new budget.new) (m.list_row (method_of method) id.0 (items_at heap.old id.0) (map value_of args.now) (moment_of heap.old budget.old)) }
-    ensures heap { length heap.old ≤ length heap.new }
-    ensures most { length heap.new + budget.new.left ≤ length heap.old + budget.old.left + 1 }
-    ensures left { budget.new.left ≤ budget.old.left }
-    ensures depth { budget.new.depth ≡ budget.old.depth }
-    ensures least { budget.old.left + steps.old ≤ budget.new.left + steps.new }
-    ensures reads { 24 * budget.new.left + steps.new ≤ 24 * budget.old.left + steps.old + 3 }
+    ensures gives { Gives value_of result (moment_of heap.new budget.new) (m.list_row (list_method_of method) id.0 (items_at heap.old id.0) (map value_of args.now) (moment_of heap.old budget.old)) }
+    ensures grows { GrowsPaid 1 heap.old budget.old heap.new budget.new }
+    ensures spends { Spends 3 budget.old steps.old budget.new steps.new }
 {
     match args {
         [] => without_argument(alloc, method, id, heap, budget, steps),

@@ -1,114 +1,22 @@
-// The methods that there are.
-ghost use Rattle.std.specs.Prelude.{◌≡◌, ◌+◌, ◌≤◌, IsTrue, List, map, option_map, length};
-ghost use Rattle.kishu_meaning.specs.calls.Methods.{method_name, method_named, text_methods, list_methods, tuple_methods, dict_methods, node_methods, methods_in};
-ghost use Rattle.kishu_meaning.specs.values.Sound.{is_sound};
-ghost use Rattle.kishu_meaning.specs.values.Values.{value_of};
-ghost use Rattle.kishu_heap.specs.Cells.{node_of};
-ghost use Rattle.kishu_methods.specs.Called.{method_of};
+// The methods that there are, by what has them.
+ghost use Rattle.std.specs.Prelude.{◌≡◌, IsTrue, map, nat_lt, option_map};
+ghost use Rattle.std.specs.List.{list_all};
+ghost use Rattle.kishu_meaning.specs.calls.Methods as m;
+ghost use Rattle.kishu_meaning.specs.calls.Methods.{method_name, method_named, list_methods, tuple_methods, dict_methods, text_methods};
 
-use kishu_heap::{Heap, Node};
-use kishu_meaning::{Steps, Value};
-use std::sync::ledger::Ledger;
+/// A method of one kind of receiver.
+pub(crate) trait Method: Copy {
+    ghost method_of: { Self → m.Method };
 
-/// A method, whatever has it.
-#[derive(Clone, Copy, Debug, PartialEq, Eq)]
-pub(crate) enum Method {
-    Append,
-    Clear,
-    Copy,
-    Count,
-    EndsWith,
-    Extend,
-    Find,
-    Get,
-    Index,
-    Insert,
-    IsDigit,
-    Join,
-    Pop,
-    Remove,
-    Replace,
-    Reverse,
-    SetDefault,
-    Sort,
-    Split,
-    StartsWith,
-    Strip,
-    Update,
+    /// The method's name, in ASCII characters.
+    fn name(self) -> &'static str
+        ensures text { result.now ≡ method_name (method_of self) }
+        ensures plain { IsTrue (list_all (λ c. nat_lt c 128) result.now) };
 }
-
-impl Method {
-    /// The method's name.
-    pub(crate) fn name(self) -> &'static str
-        ensures { result.now ≡ method_name (method_of self) }
-    {
-        match self {
-            Method::Append => "append",
-            Method::Clear => "clear",
-            Method::Copy => "copy",
-            Method::Count => "count",
-            Method::EndsWith => "endswith",
-            Method::Extend => "extend",
-            Method::Find => "find",
-            Method::Get => "get",
-            Method::Index => "index",
-            Method::Insert => "insert",
-            Method::IsDigit => "isdigit",
-            Method::Join => "join",
-            Method::Pop => "pop",
-            Method::Remove => "remove",
-            Method::Replace => "replace",
-            Method::Reverse => "reverse",
-            Method::SetDefault => "setdefault",
-            Method::Sort => "sort",
-            Method::Split => "split",
-            Method::StartsWith => "startswith",
-            Method::Strip => "strip",
-            Method::Update => "update",
-        }
-    }
-}
-
-const OF_LISTS: [Method; 11] = [
-    Method::Append,
-    Method::Pop,
-    Method::Insert,
-    Method::Clear,
-    Method::Extend,
-    Method::Remove,
-    Method::Index,
-    Method::Count,
-    Method::Reverse,
-    Method::Copy,
-    Method::Sort,
-];
-
-const OF_TUPLES: [Method; 2] = [Method::Index, Method::Count];
-
-const OF_DICTS: [Method; 6] = [
-    Method::Get,
-    Method::SetDefault,
-    Method::Pop,
-    Method::Clear,
-    Method::Update,
-    Method::Copy,
-];
-
-const OF_TEXTS: [Method; 9] = [
-    Method::StartsWith,
-    Method::EndsWith,
-    Method::Strip,
-    Method::IsDigit,
-    Method::Find,
-    Method::Count,
-    Method::Split,
-    Method::Replace,
-    Method::Join,
-];
 
 // The method of this name among these.
-fn named(name: &str, methods: &[Method]) -> Option<Method>
-    ensures { option_map method_of result ≡ method_named name.now (map method_of methods.now) }
+fn named<M: Method>(name: &str, methods: &[M]) -> Option<M>
+    ensures { option_map M.method_of result ≡ method_named name.now (map M.method_of methods.now) }
 {
     for method in methods {
         if name == method.name() {
@@ -118,65 +26,207 @@ fn named(name: &str, methods: &[Method]) -> Option<Method>
     None
 }
 
-fn of_text(name: &str) -> Option<Method>
-    ensures { option_map method_of result ≡ method_named name.now text_methods }
-{
-    let methods: [Method; 9] = OF_TEXTS;
-    named(name, methods.as_slice())
+/// A method of a list.
+#[derive(Clone, Copy, Debug, PartialEq, Eq)]
+pub(crate) enum ListMethod {
+    Append,
+    Clear,
+    Copy,
+    Count,
+    Extend,
+    Index,
+    Insert,
+    Pop,
+    Remove,
+    Reverse,
+    Sort,
 }
 
-fn of_list(name: &str) -> Option<Method>
-    ensures { option_map method_of result ≡ method_named name.now list_methods }
-{
-    let methods: [Method; 11] = OF_LISTS;
-    named(name, methods.as_slice())
-}
+impl ListMethod {
+    ghost use Rattle.kishu_methods.specs.Called.{list_method_of};
 
-fn of_tuple(name: &str) -> Option<Method>
-    ensures { option_map method_of result ≡ method_named name.now tuple_methods }
-{
-    let methods: [Method; 2] = OF_TUPLES;
-    named(name, methods.as_slice())
-}
+    const ALL: [ListMethod; 11] = [
+        ListMethod::Append,
+        ListMethod::Pop,
+        ListMethod::Insert,
+        ListMethod::Clear,
+        ListMethod::Extend,
+        ListMethod::Remove,
+        ListMethod::Index,
+        ListMethod::Count,
+        ListMethod::Reverse,
+        ListMethod::Copy,
+        ListMethod::Sort,
+    ];
 
-fn of_dict(name: &str) -> Option<Method>
-    ensures { option_map method_of result ≡ method_named name.now dict_methods }
-{
-    let methods: [Method; 6] = OF_DICTS;
-    named(name, methods.as_slice())
-}
-
-fn of_node(name: &str, node: &Node) -> Option<Method>
-    ensures { option_map method_of result ≡ method_named name.now (node_methods (node_of node.now)) }
-{
-    match node {
-        Node::List(_) => of_list(name),
-        Node::Tuple(_) => of_tuple(name),
-        Node::Dict(_) => of_dict(name),
-        Node::Object(_) | Node::Function(_) | Node::Exception(..) => None,
+    /// The method of this name.
+    pub(crate) fn named(name: &str) -> Option<ListMethod>
+        ensures { option_map list_method_of result ≡ method_named name.now list_methods }
+    {
+        let methods: [ListMethod; 11] = ListMethod::ALL;
+        named(name, methods.as_slice())
     }
 }
 
-/// The method of this name that a value has.
-pub(crate) fn method_of<L: Ledger>(
-    value: &Value,
-    name: &str,
-    heap: &Heap,
-    steps: &mut Steps<L>,
-) -> Option<Method>
-    requires sound { IsTrue (is_sound (length heap.now) (value_of value.now)) }
-    ensures method { option_map method_of result ≡ method_named name.now (methods_in heap.now (value_of value.now)) }
-    ensures counted { steps.old ≤ steps.new }
-    ensures reads { steps.new ≤ steps.old + 1 }
-{
-    match value {
-        Value::Text(_) => of_text(name),
-        Value::Node(id) => of_node(name, heap.node(*id, steps)),
-        Value::None
-        | Value::Bool(_)
-        | Value::Int(_)
-        | Value::Range(..)
-        | Value::Builtin(_)
-        | Value::Class(_) => None,
+impl Method for ListMethod {
+    ghost use Rattle.kishu_methods.specs.Called.{list_method_of};
+
+    ghost method_of = { list_method_of };
+
+    fn name(self) -> &'static str {
+        match self {
+            ListMethod::Append => "append",
+            ListMethod::Clear => "clear",
+            ListMethod::Copy => "copy",
+            ListMethod::Count => "count",
+            ListMethod::Extend => "extend",
+            ListMethod::Index => "index",
+            ListMethod::Insert => "insert",
+            ListMethod::Pop => "pop",
+            ListMethod::Remove => "remove",
+            ListMethod::Reverse => "reverse",
+            ListMethod::Sort => "sort",
+        }
+    }
+}
+
+/// A method of a tuple.
+#[derive(Clone, Copy, Debug, PartialEq, Eq)]
+pub(crate) enum TupleMethod {
+    Count,
+    Index,
+}
+
+impl TupleMethod {
+    ghost use Rattle.kishu_methods.specs.Called.{tuple_method_of};
+
+    const ALL: [TupleMethod; 2] = [TupleMethod::Index, TupleMethod::Count];
+
+    /// The method of this name.
+    pub(crate) fn named(name: &str) -> Option<TupleMethod>
+        ensures { option_map tuple_method_of result ≡ method_named name.now tuple_methods }
+    {
+        let methods: [TupleMethod; 2] = TupleMethod::ALL;
+        named(name, methods.as_slice())
+    }
+}
+
+impl Method for TupleMethod {
+    ghost use Rattle.kishu_methods.specs.Called.{tuple_method_of};
+
+    ghost method_of = { tuple_method_of };
+
+    fn name(self) -> &'static str {
+        match self {
+            TupleMethod::Count => "count",
+            TupleMethod::Index => "index",
+        }
+    }
+}
+
+/// A method of a dict.
+#[derive(Clone, Copy, Debug, PartialEq, Eq)]
+pub(crate) enum DictMethod {
+    Clear,
+    Copy,
+    Get,
+    Pop,
+    SetDefault,
+    Update,
+}
+
+impl DictMethod {
+    ghost use Rattle.kishu_methods.specs.Called.{dict_method_of};
+
+    const ALL: [DictMethod; 6] = [
+        DictMethod::Get,
+        DictMethod::SetDefault,
+        DictMethod::Pop,
+        DictMethod::Clear,
+        DictMethod::Update,
+        DictMethod::Copy,
+    ];
+
+    /// The method of this name.
+    pub(crate) fn named(name: &str) -> Option<DictMethod>
+        ensures { option_map dict_method_of result ≡ method_named name.now dict_methods }
+    {
+        let methods: [DictMethod; 6] = DictMethod::ALL;
+        named(name, methods.as_slice())
+    }
+}
+
+impl Method for DictMethod {
+    ghost use Rattle.kishu_methods.specs.Called.{dict_method_of};
+
+    ghost method_of = { dict_method_of };
+
+    fn name(self) -> &'static str {
+        match self {
+            DictMethod::Clear => "clear",
+            DictMethod::Copy => "copy",
+            DictMethod::Get => "get",
+            DictMethod::Pop => "pop",
+            DictMethod::SetDefault => "setdefault",
+            DictMethod::Update => "update",
+        }
+    }
+}
+
+/// A method of a text.
+#[derive(Clone, Copy, Debug, PartialEq, Eq)]
+pub(crate) enum TextMethod {
+    Count,
+    EndsWith,
+    Find,
+    IsDigit,
+    Join,
+    Replace,
+    Split,
+    StartsWith,
+    Strip,
+}
+
+impl TextMethod {
+    ghost use Rattle.kishu_methods.specs.Called.{text_method_of};
+
+    const ALL: [TextMethod; 9] = [
+        TextMethod::StartsWith,
+        TextMethod::EndsWith,
+        TextMethod::Strip,
+        TextMethod::IsDigit,
+        TextMethod::Find,
+        TextMethod::Count,
+        TextMethod::Split,
+        TextMethod::Replace,
+        TextMethod::Join,
+    ];
+
+    /// The method of this name.
+    pub(crate) fn named(name: &str) -> Option<TextMethod>
+        ensures { option_map text_method_of result ≡ method_named name.now text_methods }
+    {
+        let methods: [TextMethod; 9] = TextMethod::ALL;
+        named(name, methods.as_slice())
+    }
+}
+
+impl Method for TextMethod {
+    ghost use Rattle.kishu_methods.specs.Called.{text_method_of};
+
+    ghost method_of = { text_method_of };
+
+    fn name(self) -> &'static str {
+        match self {
+            TextMethod::Count => "count",
+            TextMethod::EndsWith => "endswith",
+            TextMethod::Find => "find",
+            TextMethod::IsDigit => "isdigit",
+            TextMethod::Join => "join",
+            TextMethod::Replace => "replace",
+            TextMethod::Split => "split",
+            TextMethod::StartsWith => "startswith",
+            TextMethod::Strip => "strip",
+        }
     }
 }

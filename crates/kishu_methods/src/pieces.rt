@@ -6,10 +6,11 @@ ghost use Rattle.kishu_meaning.specs.values.Values.{text, value_of};
 ghost use Rattle.kishu_meaning.specs.calls.Methods as m;
 ghost use Rattle.kishu_meaning.specs.calls.Methods.{new_texts, text_row};
 ghost use Rattle.kishu_meaning.specs.values.Texts.{code_points};
+ghost use Rattle.kishu_heap.specs.Costs.{Grows, GrowsPaid, Spends};
 ghost use Rattle.kishu_methods.specs.Called.{moment_of, Gives};
 
 use crate::faults::bad_arguments;
-use crate::method::Method;
+use crate::method::TextMethod;
 use crate::parts::replaced_length;
 use crate::texts::{check_separator, spend_search, text_in};
 use kishu_heap::{CallFault, Heap, Node};
@@ -35,8 +36,7 @@ fn text_values(alloc: Global, texts: Vec<String>) -> Result<Vec<Value>, AllocErr
 fn new_texts(alloc: Global, texts: Vec<String>, heap: &mut Heap) -> Result<Value, CallFault>
     requires { length heap.old + 1 < 2 ^ 32 }
     ensures gives { (left depth : ℕ) → Gives value_of result (bare heap.new left depth) (new_texts (code_points texts.items) (bare heap.old left depth)) }
-    ensures heap { length heap.old ≤ length heap.new }
-    ensures most { length heap.new ≤ length heap.old + 1 }
+    ensures grows { Grows 1 heap.old heap.new }
 {
     let items = text_values(alloc, texts)?;
     Ok(Value::Node(heap.make(Node::List(items))?))
@@ -53,12 +53,8 @@ pub(crate) fn split_space<L: Ledger>(
 ) -> Result<Value, CallFault>
     requires room { length heap.old + budget.old.left < 2 ^ 32 - 16 }
     ensures gives { Gives value_of result (moment_of heap.new budget.new) (text_row m.split (chars text.now) [] (moment_of heap.old budget.old)) }
-    ensures heap { length heap.old ≤ length heap.new }
-    ensures most { length heap.new + budget.new.left ≤ length heap.old + budget.old.left + 1 }
-    ensures left { budget.new.left ≤ budget.old.left }
-    ensures depth { budget.new.depth ≡ budget.old.depth }
-    ensures least { budget.old.left + steps.old ≤ budget.new.left + steps.new }
-    ensures reads { 24 * budget.new.left + steps.new ≤ 24 * budget.old.left + steps.old }
+    ensures grows { GrowsPaid 1 heap.old budget.old heap.new budget.new }
+    ensures spends { Spends 0 budget.old steps.old budget.new steps.new }
 {
     spend(count(text) as u128, budget, steps)?;
     let words = kishu_text::split_space(alloc, text)?;
@@ -77,15 +73,11 @@ pub(crate) fn split<L: Ledger>(
 ) -> Result<Value, CallFault>
     requires room { length heap.old + budget.old.left < 2 ^ 32 - 16 }
     ensures gives { Gives value_of result (moment_of heap.new budget.new) (text_row m.split (chars text.now) (value_of argument.now ∷ []) (moment_of heap.old budget.old)) }
-    ensures heap { length heap.old ≤ length heap.new }
-    ensures most { length heap.new + budget.new.left ≤ length heap.old + budget.old.left + 1 }
-    ensures left { budget.new.left ≤ budget.old.left }
-    ensures depth { budget.new.depth ≡ budget.old.depth }
-    ensures least { budget.old.left + steps.old ≤ budget.new.left + steps.new }
-    ensures reads { 24 * budget.new.left + steps.new ≤ 24 * budget.old.left + steps.old }
+    ensures grows { GrowsPaid 1 heap.old budget.old heap.new budget.new }
+    ensures spends { Spends 0 budget.old steps.old budget.new steps.new }
 {
     let Some(part) = text_in(argument) else {
-        return bad_arguments(alloc, Method::Split);
+        return bad_arguments(alloc, TextMethod::Split);
     };
     check_separator(alloc, part)?;
     spend_search(text, part, budget, steps)?;

@@ -7,17 +7,18 @@ ghost use Rattle.kishu_meaning.specs.calls.Methods.{text_row, is_cutting, number
 ghost use Rattle.kishu_meaning.specs.moments.Moment.{Moment};
 ghost use Rattle.kishu_meaning.specs.values.Sound.{is_sound, are_sound};
 ghost use Rattle.kishu_meaning.specs.values.Texts.{first_place};
-ghost use Rattle.kishu_methods.specs.Called.{moment_of, method_of, Gives};
+ghost use Rattle.kishu_heap.specs.Costs.{GrowsPaid, Spends};
+ghost use Rattle.kishu_methods.specs.Called.{moment_of, text_method_of, Gives};
 ghost use Rattle.kishu_methods.specs.TextValues.{text_in};
 
 use crate::faults::bad_arguments;
 use crate::join::join;
-use crate::method::Method;
+use crate::method::TextMethod;
 use crate::parts::{begins_with, is_digits, is_nonempty, replaced_length, search_steps};
 use crate::pieces::{split, split_space};
 use kishu_heap::{CallFault, Heap};
-use kishu_items::{VALUE_ERROR, plain_text, raise, spend};
-use kishu_meaning::{Budget, Steps, Value};
+use kishu_items::{plain_text, raise, spend};
+use kishu_meaning::{Budget, ClassId, Steps, Value};
 use kishu_text::count;
 use std::alloc::Global;
 use std::rc::RcStr;
@@ -47,7 +48,7 @@ pub(crate) fn check_separator(alloc: Global, part: &str) -> Result<(), CallFault
     if is_nonempty(part) {
         return Ok(());
     }
-    raise(VALUE_ERROR, plain_text(alloc, "empty separator")?)
+    raise(ClassId::VALUE_ERROR, plain_text(alloc, "empty separator")?)
 }
 
 /// Takes the steps of a search.
@@ -58,10 +59,7 @@ pub(crate) fn spend_search<L: Ledger>(
     steps: &mut Steps<L>,
 ) -> Result<(), CallFault>
     ensures gives { (ns : List Node) → Gives (λ u. u) result (moment_of ns budget.new) (search (chars part.now) (chars text.now) (moment_of ns budget.old)) }
-    ensures depth { budget.new.depth ≡ budget.old.depth }
-    ensures left { budget.new.left ≤ budget.old.left }
-    ensures least { budget.old.left + steps.old ≤ budget.new.left + steps.new }
-    ensures reads { 24 * budget.new.left + steps.new ≤ 24 * budget.old.left + steps.old }
+    ensures spends { Spends 0 budget.old steps.old budget.new steps.new }
 {
     spend(search_steps(text, part), budget, steps)
 }
@@ -75,13 +73,10 @@ fn starts_with<L: Ledger>(
     steps: &mut Steps<L>,
 ) -> Result<Value, CallFault>
     ensures gives { (ns : List Node) → Gives value_of result (moment_of ns budget.new) (text_row m.startswith (chars text.now) (value_of argument.now ∷ []) (moment_of ns budget.old)) }
-    ensures left { budget.new.left ≤ budget.old.left }
-    ensures depth { budget.new.depth ≡ budget.old.depth }
-    ensures least { budget.old.left + steps.old ≤ budget.new.left + steps.new }
-    ensures reads { 24 * budget.new.left + steps.new ≤ 24 * budget.old.left + steps.old }
+    ensures spends { Spends 0 budget.old steps.old budget.new steps.new }
 {
     let Some(part) = text_in(argument) else {
-        return bad_arguments(alloc, Method::StartsWith);
+        return bad_arguments(alloc, TextMethod::StartsWith);
     };
     spend(count(text) as u128, budget, steps)?;
     Ok(Value::Bool(begins_with(text, part)))
@@ -96,13 +91,10 @@ fn ends_with<L: Ledger>(
     steps: &mut Steps<L>,
 ) -> Result<Value, CallFault>
     ensures gives { (ns : List Node) → Gives value_of result (moment_of ns budget.new) (text_row m.endswith (chars text.now) (value_of argument.now ∷ []) (moment_of ns budget.old)) }
-    ensures left { budget.new.left ≤ budget.old.left }
-    ensures depth { budget.new.depth ≡ budget.old.depth }
-    ensures least { budget.old.left + steps.old ≤ budget.new.left + steps.new }
-    ensures reads { 24 * budget.new.left + steps.new ≤ 24 * budget.old.left + steps.old }
+    ensures spends { Spends 0 budget.old steps.old budget.new steps.new }
 {
     let Some(part) = text_in(argument) else {
-        return bad_arguments(alloc, Method::EndsWith);
+        return bad_arguments(alloc, TextMethod::EndsWith);
     };
     spend(count(text) as u128, budget, steps)?;
     Ok(Value::Bool(crate::parts::ends_with(text, part)))
@@ -116,10 +108,7 @@ fn strip<L: Ledger>(
     steps: &mut Steps<L>,
 ) -> Result<Value, CallFault>
     ensures gives { (ns : List Node) → Gives value_of result (moment_of ns budget.new) (text_row m.strip (chars text.now) [] (moment_of ns budget.old)) }
-    ensures left { budget.new.left ≤ budget.old.left }
-    ensures depth { budget.new.depth ≡ budget.old.depth }
-    ensures least { budget.old.left + steps.old ≤ budget.new.left + steps.new }
-    ensures reads { 24 * budget.new.left + steps.new ≤ 24 * budget.old.left + steps.old }
+    ensures spends { Spends 0 budget.old steps.old budget.new steps.new }
 {
     spend(count(text) as u128, budget, steps)?;
     Ok(Value::Text(RcStr::from_str(alloc, kishu_text::strip(text))?))
@@ -133,10 +122,7 @@ fn is_digit<L: Ledger>(
     steps: &mut Steps<L>,
 ) -> Result<Value, CallFault>
     ensures gives { (ns : List Node) → Gives value_of result (moment_of ns budget.new) (text_row m.isdigit (chars text.now) [] (moment_of ns budget.old)) }
-    ensures left { budget.new.left ≤ budget.old.left }
-    ensures depth { budget.new.depth ≡ budget.old.depth }
-    ensures least { budget.old.left + steps.old ≤ budget.new.left + steps.new }
-    ensures reads { 24 * budget.new.left + steps.new ≤ 24 * budget.old.left + steps.old }
+    ensures spends { Spends 0 budget.old steps.old budget.new steps.new }
 {
     spend(count(text) as u128, budget, steps)?;
     Ok(Value::Bool(is_digits(text)))
@@ -168,13 +154,10 @@ fn find<L: Ledger>(
     steps: &mut Steps<L>,
 ) -> Result<Value, CallFault>
     ensures gives { (ns : List Node) → Gives value_of result (moment_of ns budget.new) (text_row m.find (chars text.now) (value_of argument.now ∷ []) (moment_of ns budget.old)) }
-    ensures left { budget.new.left ≤ budget.old.left }
-    ensures depth { budget.new.depth ≡ budget.old.depth }
-    ensures least { budget.old.left + steps.old ≤ budget.new.left + steps.new }
-    ensures reads { 24 * budget.new.left + steps.new ≤ 24 * budget.old.left + steps.old }
+    ensures spends { Spends 0 budget.old steps.old budget.new steps.new }
 {
     let Some(part) = text_in(argument) else {
-        return bad_arguments(alloc, Method::Find);
+        return bad_arguments(alloc, TextMethod::Find);
     };
     spend_search(text, part, budget, steps)?;
     Ok(Value::Int(place_or_minus_one(text, part)))
@@ -190,13 +173,10 @@ fn occurrences<L: Ledger>(
     steps: &mut Steps<L>,
 ) -> Result<Value, CallFault>
     ensures gives { (ns : List Node) → Gives value_of result (moment_of ns budget.new) (text_row m.count (chars text.now) (value_of argument.now ∷ []) (moment_of ns budget.old)) }
-    ensures left { budget.new.left ≤ budget.old.left }
-    ensures depth { budget.new.depth ≡ budget.old.depth }
-    ensures least { budget.old.left + steps.old ≤ budget.new.left + steps.new }
-    ensures reads { 24 * budget.new.left + steps.new ≤ 24 * budget.old.left + steps.old }
+    ensures spends { Spends 0 budget.old steps.old budget.new steps.new }
 {
     let Some(part) = text_in(argument) else {
-        return bad_arguments(alloc, Method::Count);
+        return bad_arguments(alloc, TextMethod::Count);
     };
     check_separator(alloc, part)?;
     spend_search(text, part, budget, steps)?;
@@ -214,13 +194,10 @@ fn replace<L: Ledger>(
     steps: &mut Steps<L>,
 ) -> Result<Value, CallFault>
     ensures gives { (ns : List Node) → Gives value_of result (moment_of ns budget.new) (text_row m.replace (chars text.now) (value_of first.now ∷ value_of second.now ∷ []) (moment_of ns budget.old)) }
-    ensures left { budget.new.left ≤ budget.old.left }
-    ensures depth { budget.new.depth ≡ budget.old.depth }
-    ensures least { budget.old.left + steps.old ≤ budget.new.left + steps.new }
-    ensures reads { 24 * budget.new.left + steps.new ≤ 24 * budget.old.left + steps.old }
+    ensures spends { Spends 0 budget.old steps.old budget.new steps.new }
 {
     let (Some(part), Some(by)) = (text_in(first), text_in(second)) else {
-        return bad_arguments(alloc, Method::Replace);
+        return bad_arguments(alloc, TextMethod::Replace);
     };
     check_separator(alloc, part)?;
     spend_search(text, part, budget, steps)?;
@@ -232,25 +209,21 @@ fn replace<L: Ledger>(
 /// A method of a text without arguments.
 fn without_arguments<L: Ledger>(
     alloc: Global,
-    method: Method,
+    method: TextMethod,
     text: &str,
     heap: &mut Heap,
     budget: &mut Budget,
     steps: &mut Steps<L>,
 ) -> Result<Value, CallFault>
     requires room { length heap.old + budget.old.left < 2 ^ 32 - 16 }
-    ensures gives { Gives value_of result (moment_of heap.new budget.new) (text_row (method_of method) (chars text.now) [] (moment_of heap.old budget.old)) }
-    ensures heap { length heap.old ≤ length heap.new }
-    ensures most { length heap.new + budget.new.left ≤ length heap.old + budget.old.left + 1 }
-    ensures left { budget.new.left ≤ budget.old.left }
-    ensures depth { budget.new.depth ≡ budget.old.depth }
-    ensures least { budget.old.left + steps.old ≤ budget.new.left + steps.new }
-    ensures reads { 24 * budget.new.left + steps.new ≤ 24 * budget.old.left + steps.old }
+    ensures gives { Gives value_of result (moment_of heap.new budget.new) (text_row (text_method_of method) (chars text.now) [] (moment_of heap.old budget.old)) }
+    ensures grows { GrowsPaid 1 heap.old budget.old heap.new budget.new }
+    ensures spends { Spends 0 budget.old steps.old budget.new steps.new }
 {
     match method {
-        Method::Strip => strip(alloc, text, budget, steps),
-        Method::IsDigit => is_digit(text, budget, steps),
-        Method::Split => split_space(alloc, text, heap, budget, steps),
+        TextMethod::Strip => strip(alloc, text, budget, steps),
+        TextMethod::IsDigit => is_digit(text, budget, steps),
+        TextMethod::Split => split_space(alloc, text, heap, budget, steps),
         _ => bad_arguments(alloc, method),
     }
 }
@@ -258,7 +231,7 @@ fn without_arguments<L: Ledger>(
 /// A method of a text with one argument.
 fn with_argument<L: Ledger>(
     alloc: Global,
-    method: Method,
+    method: TextMethod,
     text: &str,
     argument: &Value,
     heap: &mut Heap,
@@ -267,21 +240,17 @@ fn with_argument<L: Ledger>(
 ) -> Result<Value, CallFault>
     requires sound { IsTrue (is_sound (length heap.old) (value_of argument.now)) }
     requires room { length heap.old + budget.old.left < 2 ^ 32 - 16 }
-    ensures gives { Gives value_of result (moment_of heap.new budget.new) (text_row (method_of method) (chars text.now) (value_of argument.now ∷ []) (moment_of heap.old budget.old)) }
-    ensures heap { length heap.old ≤ length heap.new }
-    ensures most { length heap.new + budget.new.left ≤ length heap.old + budget.old.left + 1 }
-    ensures left { budget.new.left ≤ budget.old.left }
-    ensures depth { budget.new.depth ≡ budget.old.depth }
-    ensures least { budget.old.left + steps.old ≤ budget.new.left + steps.new }
-    ensures reads { 24 * budget.new.left + steps.new ≤ 24 * budget.old.left + steps.old + 2 }
+    ensures gives { Gives value_of result (moment_of heap.new budget.new) (text_row (text_method_of method) (chars text.now) (value_of argument.now ∷ []) (moment_of heap.old budget.old)) }
+    ensures grows { GrowsPaid 1 heap.old budget.old heap.new budget.new }
+    ensures spends { Spends 2 budget.old steps.old budget.new steps.new }
 {
     match method {
-        Method::StartsWith => starts_with(alloc, text, argument, budget, steps),
-        Method::EndsWith => ends_with(alloc, text, argument, budget, steps),
-        Method::Find => find(alloc, text, argument, budget, steps),
-        Method::Count => occurrences(alloc, text, argument, budget, steps),
-        Method::Split => split(alloc, text, argument, heap, budget, steps),
-        Method::Join => join(alloc, text, argument, heap, budget, steps),
+        TextMethod::StartsWith => starts_with(alloc, text, argument, budget, steps),
+        TextMethod::EndsWith => ends_with(alloc, text, argument, budget, steps),
+        TextMethod::Find => find(alloc, text, argument, budget, steps),
+        TextMethod::Count => occurrences(alloc, text, argument, budget, steps),
+        TextMethod::Split => split(alloc, text, argument, heap, budget, steps),
+        TextMethod::Join => join(alloc, text, argument, heap, budget, steps),
         _ => bad_arguments(alloc, method),
     }
 }
@@ -289,21 +258,18 @@ fn with_argument<L: Ledger>(
 /// A method of a text with two arguments.
 fn with_two<L: Ledger>(
     alloc: Global,
-    method: Method,
+    method: TextMethod,
     text: &str,
     first: &Value,
     second: &Value,
     budget: &mut Budget,
     steps: &mut Steps<L>,
 ) -> Result<Value, CallFault>
-    ensures gives { (ns : List Node) → Gives value_of result (moment_of ns budget.new) (text_row (method_of method) (chars text.now) (value_of first.now ∷ value_of second.now ∷ []) (moment_of ns budget.old)) }
-    ensures left { budget.new.left ≤ budget.old.left }
-    ensures depth { budget.new.depth ≡ budget.old.depth }
-    ensures least { budget.old.left + steps.old ≤ budget.new.left + steps.new }
-    ensures reads { 24 * budget.new.left + steps.new ≤ 24 * budget.old.left + steps.old }
+    ensures gives { (ns : List Node) → Gives value_of result (moment_of ns budget.new) (text_row (text_method_of method) (chars text.now) (value_of first.now ∷ value_of second.now ∷ []) (moment_of ns budget.old)) }
+    ensures spends { Spends 0 budget.old steps.old budget.new steps.new }
 {
     match method {
-        Method::Replace => replace(alloc, text, first, second, budget, steps),
+        TextMethod::Replace => replace(alloc, text, first, second, budget, steps),
         _ => bad_arguments(alloc, method),
     }
 }
@@ -311,7 +277,7 @@ fn with_two<L: Ledger>(
 /// A method of a text.
 pub(crate) fn text_method<L: Ledger>(
     alloc: Global,
-    method: Method,
+    method: TextMethod,
     text: &str,
     args: &[Value],
     heap: &mut Heap,
@@ -320,13 +286,9 @@ pub(crate) fn text_method<L: Ledger>(
 ) -> Result<Value, CallFault>
     requires sound { IsTrue (are_sound (length heap.old) (map value_of args.now)) }
     requires room { length heap.old + budget.old.left < 2 ^ 32 - 16 }
-    ensures gives { Gives value_of result (moment_of heap.new budget.new) (text_row (method_of method) (chars text.now) (map value_of args.now) (moment_of heap.old budget.old)) }
-    ensures heap { length heap.old ≤ length heap.new }
-    ensures most { length heap.new + budget.new.left ≤ length heap.old + budget.old.left + 1 }
-    ensures left { budget.new.left ≤ budget.old.left }
-    ensures depth { budget.new.depth ≡ budget.old.depth }
-    ensures least { budget.old.left + steps.old ≤ budget.new.left + steps.new }
-    ensures reads { 24 * budget.new.left + steps.new ≤ 24 * budget.old.left + steps.old + 2 }
+    ensures gives { Gives value_of result (moment_of heap.new budget.new) (text_row (text_method_of method) (chars text.now) (map value_of args.now) (moment_of heap.old budget.old)) }
+    ensures grows { GrowsPaid 1 heap.old budget.old heap.new budget.new }
+    ensures spends { Spends 2 budget.old steps.old budget.new steps.new }
 {
     match args {
         [] => without_arguments(alloc, method, text, heap, budget, steps),

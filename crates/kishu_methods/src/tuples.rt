@@ -2,11 +2,12 @@
 ghost use Rattle.std.specs.Prelude.{◌≡◌, ◌+◌, ◌*◌, ◌≤◌, ◌∷◌, [], map};
 ghost use Rattle.kishu_meaning.specs.calls.Methods.{tuple_row};
 ghost use Rattle.kishu_meaning.specs.values.Values.{value_of};
-ghost use Rattle.kishu_methods.specs.Called.{moment_of, method_of, Gives};
+ghost use Rattle.kishu_heap.specs.Costs.{Spends};
+ghost use Rattle.kishu_methods.specs.Called.{moment_of, tuple_method_of, Gives};
 
 use crate::faults::bad_arguments;
 use crate::finding::{count_number, place_number};
-use crate::method::Method;
+use crate::method::TupleMethod;
 use kishu_heap::{CallFault, Heap};
 use kishu_meaning::{Budget, Steps, Value};
 use std::alloc::Global;
@@ -14,60 +15,34 @@ use std::sync::ledger::Ledger;
 
 fn with_argument<L: Ledger>(
     alloc: Global,
-    method: Method,
+    method: TupleMethod,
     items: &[Value],
     value: &Value,
     heap: &Heap,
     budget: &mut Budget,
     steps: &mut Steps<L>,
 ) -> Result<Value, CallFault>
-    ensures gives { Gives value_of result (moment_of heap.now budget.new) (tuple_row (method_of method) (map value_of items.now) (value_of value.now ∷ []) (moment_of heap.now budget.old)) }
-    ensures left { budget.new.left ≤ budget.old.left }
-    ensures depth { budget.new.depth ≡ budget.old.depth }
-    ensures least { budget.old.left + steps.old ≤ budget.new.left + steps.new }
-    ensures reads { 24 * budget.new.left + steps.new ≤ 24 * budget.old.left + steps.old }
+    ensures gives { Gives value_of result (moment_of heap.now budget.new) (tuple_row (tuple_method_of method) (map value_of items.now) (value_of value.now ∷ []) (moment_of heap.now budget.old)) }
+    ensures spends { Spends 0 budget.old steps.old budget.new steps.new }
 {
     match method {
-        Method::Index => place_number(alloc, value, items, heap, budget, steps),
-        Method::Count => count_number(alloc, value, items, heap, budget, steps),
-        Method::Append
-        | Method::Clear
-        | Method::Copy
-        | Method::EndsWith
-        | Method::Extend
-        | Method::Find
-        | Method::Get
-        | Method::Insert
-        | Method::IsDigit
-        | Method::Join
-        | Method::Pop
-        | Method::Remove
-        | Method::Replace
-        | Method::Reverse
-        | Method::SetDefault
-        | Method::Sort
-        | Method::Split
-        | Method::StartsWith
-        | Method::Strip
-        | Method::Update => bad_arguments(alloc, method),
+        TupleMethod::Index => place_number(alloc, value, items, heap, budget, steps),
+        TupleMethod::Count => count_number(alloc, value, items, heap, budget, steps),
     }
 }
 
 /// A method of a tuple, of whose items it is asked.
 pub(crate) fn tuple_method<L: Ledger>(
     alloc: Global,
-    method: Method,
+    method: TupleMethod,
     items: &[Value],
     args: &[Value],
     heap: &Heap,
     budget: &mut Budget,
     steps: &mut Steps<L>,
 ) -> Result<Value, CallFault>
-    ensures gives { Gives value_of result (moment_of heap.now budget.new) (tuple_row (method_of method) (map value_of items.now) (map value_of args.now) (moment_of heap.now budget.old)) }
-    ensures left { budget.new.left ≤ budget.old.left }
-    ensures depth { budget.new.depth ≡ budget.old.depth }
-    ensures least { budget.old.left + steps.old ≤ budget.new.left + steps.new }
-    ensures reads { 24 * budget.new.left + steps.new ≤ 24 * budget.old.left + steps.old }
+    ensures gives { Gives value_of result (moment_of heap.now budget.new) (tuple_row (tuple_method_of method) (map value_of items.now) (map value_of args.now) (moment_of heap.now budget.old)) }
+    ensures spends { Spends 0 budget.old steps.old budget.new steps.new }
 {
     match args {
         [] => bad_arguments(alloc, method),

@@ -4,6 +4,7 @@
 //! don't. `is_name` tells which texts are names.
 #![tactic(auto)]
 
+pub mod bindings;
 mod identifier;
 mod names;
 mod record;

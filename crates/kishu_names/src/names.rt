@@ -7,8 +7,8 @@ ghost use Rattle.kishu_meaning.specs.values.Sound.{is_valid};
 ghost use Rattle.kishu_meaning.specs.moments.Accesses.{unbind, with_access, with_accesses};
 ghost use Rattle.kishu_names.specs.Record.{Rises, texts_of};
 ghost use Rattle.kishu_names.specs.Namespace.{IsKept, names_of};
-ghost use Rattle.kishu_names.specs.Record.{Rises};
 
+use crate::bindings::{found, set, take};
 use crate::record::{note, note_all, note_in_room};
 use kishu_meaning::Value;
 use std::alloc::{AllocError, Global};
@@ -36,13 +36,6 @@ impl Model for Names {
     ghost invariant = { λ n. IsKept (names_of n.bound.entries) (texts_of n.accessed.items) };
 }
 
-/// The value under a name.
-fn found<'a>(bound: &'a BTreeMap<RcStr, Value>, name: &str) -> Option<&'a Value>
-    ensures { option_map (λ v. value_of v.now) result ≡ find name.now (names_of bound.now.entries) }
-{
-    bound.get(name)
-}
-
 /// The value under a name, once more.
 fn copied_value(bound: &BTreeMap<RcStr, Value>, name: &str) -> Result<Option<Value>, AllocError>
     ensures { IfOk result (λ o. option_map value_of o ≡ find name.now (names_of bound.now.entries)) }
@@ -61,23 +54,6 @@ fn text_of(alloc: Global, bound: &BTreeMap<RcStr, Value>, name: &str) -> Result<
         Some((text, _)) => text.clone(),
         None => RcStr::from_str(alloc, name),
     }
-}
-
-/// Binds a name. Where there is no memory for it, the names stay.
-fn set(bound: &mut BTreeMap<RcStr, Value>, name: RcStr, value: Value) -> Result<(), AllocError>
-    ensures ok { OnOk result (names_of bound.new.entries ≡ bind (rc_str_bytes name) (value_of value) (names_of bound.old.entries)) }
-    ensures err { OnErr result (bound.new.entries ≡ bound.old.entries) }
-{
-    bound.insert(name, value)?;
-    Ok(())
-}
-
-/// Takes a name out.
-fn take(bound: &mut BTreeMap<RcStr, Value>, name: &str) -> Option<Value>
-    ensures value { option_map value_of result ≡ find name.now (names_of bound.old.entries) }
-    ensures names { names_of bound.new.entries ≡ unbind name.now (names_of bound.old.entries) }
-{
-    bound.remove(name)
 }
 
 impl Names {

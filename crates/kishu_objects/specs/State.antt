@@ -5,6 +5,7 @@ use Rattle.std.specs.List.Sorted.{IsStrictlySortedBy}
 use Rattle.std.specs.Cmp.Lexicographic.{slice_cmp}
 use Rattle.std.specs.Ordering.{nat_cmp, int_eq}
 use Rattle.std.specs.Str.{IsUtf8, all_scalars, bytes_eq}
+use Rattle.kishu_language.specs.Limits.{longest_text}
 use Rattle.kishu_language.specs.declared.profile.Profile.{Profile}
 use Rattle.kishu_language.specs.tokens.Names.{is_name}
 use Rattle.kishu_language.specs.trees.Tree.{Text, Definition}
@@ -62,7 +63,7 @@ values_in es = map (λ e. e.1) es
 -- The code of a function: a text of at most 1,048,576 bytes that reads as the function and as nothing else, which has so many defaults.
 pub record IsCode (profile : Profile) (code : Text) (defaults : ℕ) : Type 0 where
   pub utf8 : IsUtf8 code
-  pub short : length code ≤ 1048576
+  pub short : length code ≤ longest_text
   pub function : Definition
   pub reads : ReadsDef profile code function
   pub filled : defaults ≡ default_count function
@@ -93,7 +94,7 @@ pub record IsState (s : State) : Type 0 where
 
 -- the text of a cell
 abbrev pub IsCell : List ℕ → Type 0
-IsCell cell = IsUtf8 cell × (length cell ≤ 1048576)
+IsCell cell = IsUtf8 cell × (length cell ≤ longest_text)
 
 -- What a node may become: a list, a dict or an object may hold other things, and a tuple, a function and an exception stay.
 pub data Stays : Node → Node → Type 0 where

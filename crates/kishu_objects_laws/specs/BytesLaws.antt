@@ -8,8 +8,8 @@ use Rattle.std.proofs.lemmas.Str.{chars-encodes}
 use Rattle.kishu_meaning.specs.values.Keys.{Key, KeyPart}
 use Rattle.kishu_meaning.specs.values.Values.{Value, none, bool, integer, text, range, builtin, class, node, Node, list, tuple, dict, object, function, exception, Names, State}
 use Rattle.kishu_meaning.specs.values.Keys as k
-use Rattle.kishu_bytes.specs.Numbers.{sixteen}
-use Rattle.kishu_bytes_laws.specs.NumberLaws.{append-unique, four-unique, profiles-one, sixteen-unique}
+use Rattle.kishu_bytes.specs.Numbers.{sixteen, profile_number}
+use Rattle.kishu_bytes_laws.specs.NumberLaws.{append-unique, four-unique, profile-unique, sixteen-unique}
 use Rattle.kishu_objects.specs.Same.{SameOn}
 use Rattle.kishu_objects.specs.Picture.{picture}
 use Rattle.kishu_objects.specs.Sound.{IsSound}
@@ -143,7 +143,8 @@ reads_row (function p c vs) (function q d ws) x y ha hb e =
     let u : (long c ++ many value_bytes vs) ++ x ≡ (long d ++ many value_bytes ws) ++ y = cc in
     let f = reads_long c d (many value_bytes vs ++ x) (many value_bytes ws ++ y) ha.0 hb.0 (sym (append_assoc (long c) (many value_bytes vs) x) ∙ u ∙ append_assoc (long d) (many value_bytes ws) y) in
     let r = reads_many value_bytes ValueFits reads_value vs ws x y ha.1 hb.1 f.1 in
-    let o = profiles-one p q in
+    let n : profile_number p ≡ profile_number q = cc in
+    let o = profile-unique p q n in
     let g = f.0 in
     let h = r.0 in
     (cc, r.1)

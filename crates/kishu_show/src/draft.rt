@@ -4,6 +4,7 @@ ghost use Rattle.std.specs.List.{list_all};
 ghost use Rattle.std.specs.Str.{chars};
 ghost use Rattle.kishu_meaning.specs.moments.Counting.{spend};
 ghost use Rattle.kishu_meaning.specs.comparing.Show.{made};
+ghost use Rattle.kishu_heap.specs.Costs.{TakesAt};
 ghost use Rattle.kishu_show.specs.Shown.{Gives, Makes, onto};
 
 use crate::fault::ShowFault;
@@ -47,8 +48,7 @@ pub(crate) fn spend<L: Ledger>(
     steps: &mut Steps<L>,
 ) -> Result<(), ShowFault>
     ensures gives { Gives (λ u. u) result left.new (spend count left.old) }
-    ensures left { left.new ≤ left.old }
-    ensures counted { steps.new + left.new ≡ steps.old + left.old }
+    ensures takes { TakesAt 1 0 left.old steps.old left.new steps.new }
     ensures taken { OnOk result (left.new + count ≤ left.old) }
 {
     match take_steps(count, left, steps) {
@@ -66,8 +66,7 @@ pub(crate) fn push_made<L: Ledger>(
     steps: &mut Steps<L>,
 ) -> Result<(), ShowFault>
     ensures gives { Makes result draft.new (onto draft.old (made (chars text.now))) }
-    ensures left { draft.new.left ≤ draft.old.left }
-    ensures counted { steps.new + draft.new.left ≡ steps.old + draft.old.left }
+    ensures takes { TakesAt 1 0 draft.old.left steps.old draft.new.left steps.new }
     ensures taken { OnOk result (draft.new.left + length (chars text.now) ≤ draft.old.left) }
 {
     spend(count(text), &mut draft.left, steps)?;
@@ -83,8 +82,7 @@ pub(crate) fn push_mark<L: Ledger>(
 ) -> Result<(), ShowFault>
     requires { IsTrue (list_all (λ c. nat_lt c 128) mark.now) }
     ensures gives { Makes result draft.new (onto draft.old (made mark.now)) }
-    ensures left { draft.new.left ≤ draft.old.left }
-    ensures counted { steps.new + draft.new.left ≡ steps.old + draft.old.left }
+    ensures takes { TakesAt 1 0 draft.old.left steps.old draft.new.left steps.new }
     ensures taken { OnOk result (draft.new.left + length mark.now ≤ draft.old.left) }
 {
     push_made(mark, draft, steps)

@@ -3,7 +3,7 @@
 //!
 //! A text is made from the left, and each of its code points takes a step of the budget when it is
 //! made. A node that lies deeper in others than is allowed gives `Depth`, and a budget that is spent
-//! gives `Spent`, where the definition does (`specs/Show` of `kishu_model`).
+//! gives `Spent`, where the definition does (`specs/Show` of `kishu_meaning`).
 #![tactic(auto)]
 
 mod around;

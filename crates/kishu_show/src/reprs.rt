@@ -9,6 +9,7 @@ ghost use Rattle.kishu_meaning.specs.values.Keys.{key_of};
 ghost use Rattle.kishu_meaning.specs.values.Values.{value_of, list, dict, object, exception};
 ghost use Rattle.kishu_meaning.specs.comparing.Show.{again, attribute_repr, class_name, contents_repr, entry_repr, function_text, key_text, listed, made, repr_at, repr_by, repr_in, repr_nodes, repr_text, tuple_end, tuple_repr};
 ghost use Rattle.kishu_heap.specs.Cells.{attributes_of, entries_of, node_of};
+ghost use Rattle.kishu_heap.specs.Costs.{Reads, Spends, Takes, TakesAt};
 ghost use Rattle.kishu_show.specs.Shown.{Gives, Makes, onto};
 ghost use Rattle.kishu_show.specs.Stack.{around_of};
 ghost use Rattle.kishu_show.specs.Turns.{comma};
@@ -33,8 +34,7 @@ pub(crate) fn node_at<'a, L: Ledger>(
     steps: &mut Steps<L>,
 ) -> Option<&'a Node>
     ensures node { option_map (λ n. node_of n.now) result ≡ slice_get heap.now id.0 }
-    ensures counted { steps.new ≤ steps.old + 1 }
-    ensures kept { steps.old ≤ steps.new }
+    ensures reads { Reads 1 steps.old steps.new }
 {
     if id.0 < heap.len() {
         Some(heap.node(id, steps))
@@ -50,9 +50,7 @@ pub(crate) fn push_plain<L: Ledger>(
     steps: &mut Steps<L>,
 ) -> Result<(), ShowFault>
     ensures gives { Makes result draft.new (onto draft.old (made (repr_text (value_of value.now)))) }
-    ensures left { draft.new.left ≤ draft.old.left }
-    ensures least { draft.old.left + steps.old ≤ draft.new.left + steps.new }
-    ensures reads { 24 * draft.new.left + steps.new ≤ 24 * draft.old.left + steps.old }
+    ensures takes { Takes 0 draft.old.left steps.old draft.new.left steps.new }
 {
     let text = plain_text(draft.alloc, value)?;
     push_made(text.as_str(), draft, steps)
@@ -65,9 +63,7 @@ fn push_class<L: Ledger>(
     steps: &mut Steps<L>,
 ) -> Result<(), ShowFault>
     ensures gives { Makes result draft.new (onto draft.old (made (class_name class.0))) }
-    ensures left { draft.new.left ≤ draft.old.left }
-    ensures least { draft.old.left + steps.old ≤ draft.new.left + steps.new }
-    ensures reads { 24 * draft.new.left + steps.new ≤ 24 * draft.old.left + steps.old }
+    ensures takes { Takes 0 draft.old.left steps.old draft.new.left steps.new }
 {
     push_mark(class_name(class), draft, steps)
 }
@@ -79,9 +75,7 @@ fn push_again<L: Ledger>(
     steps: &mut Steps<L>,
 ) -> Result<(), ShowFault>
     ensures gives { Makes result draft.new (onto draft.old (made (again (node_of node.now)))) }
-    ensures left { draft.new.left ≤ draft.old.left }
-    ensures least { draft.old.left + steps.old ≤ draft.new.left + steps.new }
-    ensures reads { 24 * draft.new.left + steps.new ≤ 24 * draft.old.left + steps.old }
+    ensures takes { Takes 0 draft.old.left steps.old draft.new.left steps.new }
 {
     let text = again_text(draft.alloc, node)?;
     push_made(text.as_str(), draft, steps)
@@ -94,9 +88,7 @@ fn push_function<L: Ledger>(
     steps: &mut Steps<L>,
 ) -> Result<(), ShowFault>
     ensures gives { Makes result draft.new (onto draft.old (made (function_text function.now.profile (rc_str_bytes function.now.code)))) }
-    ensures left { draft.new.left ≤ draft.old.left }
-    ensures least { draft.old.left + steps.old ≤ draft.new.left + steps.new }
-    ensures reads { 24 * draft.new.left + steps.new ≤ 24 * draft.old.left + steps.old }
+    ensures takes { Takes 0 draft.old.left steps.old draft.new.left steps.new }
 {
     let text = function_text(draft.alloc, function)?;
     push_made(text.as_str(), draft, steps)
@@ -105,9 +97,7 @@ fn push_function<L: Ledger>(
 // Puts a key and a colon behind what is there.
 fn push_key<L: Ledger>(key: &Key, draft: &mut Draft, steps: &mut Steps<L>) -> Result<(), ShowFault>
     ensures gives { Makes result draft.new (onto draft.old (made (key_text (key_of key.now)))) }
-    ensures left { draft.new.left ≤ draft.old.left }
-    ensures least { draft.old.left + steps.old ≤ draft.new.left + steps.new }
-    ensures reads { 24 * draft.new.left + steps.new ≤ 24 * draft.old.left + steps.old }
+    ensures takes { Takes 0 draft.old.left steps.old draft.new.left steps.new }
 {
     let text = key_text(draft.alloc, key)?;
     push_made(text.as_str(), draft, steps)
@@ -120,9 +110,7 @@ fn push_comma<L: Ledger>(
     steps: &mut Steps<L>,
 ) -> Result<(), ShowFault>
     ensures gives { Makes result draft.new (onto draft.old (comma place)) }
-    ensures left { draft.new.left ≤ draft.old.left }
-    ensures least { draft.old.left + steps.old ≤ draft.new.left + steps.new }
-    ensures counted { steps.new + draft.new.left ≡ steps.old + draft.old.left }
+    ensures takes { TakesAt 1 0 draft.old.left steps.old draft.new.left steps.new }
     ensures taken { OnOk result (draft.new.left + min place 1 ≤ draft.old.left) }
 {
     if place == 0 {
@@ -138,9 +126,7 @@ fn push_tuple_end<L: Ledger>(
     steps: &mut Steps<L>,
 ) -> Result<(), ShowFault>
     ensures gives { Makes result draft.new (onto draft.old (made (tuple_end (map value_of items.now)))) }
-    ensures left { draft.new.left ≤ draft.old.left }
-    ensures least { draft.old.left + steps.old ≤ draft.new.left + steps.new }
-    ensures reads { 24 * draft.new.left + steps.new ≤ 24 * draft.old.left + steps.old }
+    ensures takes { Takes 0 draft.old.left steps.old draft.new.left steps.new }
 {
     push_mark(tuple_end(items.len()), draft, steps)
 }
@@ -157,9 +143,7 @@ pub(crate) fn push_value<L: Ledger>(
     steps: &mut Steps<L>,
 ) -> Result<(), ShowFault>
     ensures gives { Makes result draft.new (onto draft.old (repr_by (repr_nodes heap.now room (around_of around.now)) (value_of value.now))) }
-    ensures left { draft.new.left ≤ draft.old.left }
-    ensures least { draft.old.left + steps.old ≤ draft.new.left + steps.new }
-    ensures reads { 24 * draft.new.left + steps.new ≤ 24 * draft.old.left + steps.old + 1 }
+    ensures takes { Takes 1 draft.old.left steps.old draft.new.left steps.new }
 {
     let Some(id) = node_in(value) else {
         return push_plain(value, draft, steps);
@@ -181,9 +165,7 @@ pub(crate) fn push_node<L: Ledger>(
     steps: &mut Steps<L>,
 ) -> Result<(), ShowFault>
     ensures gives { Makes result draft.new (onto draft.old (repr_at (repr_nodes heap.now room (id.0 ∷ around_of around.now)) (list_any (λ j. id.0 == j) (around_of around.now)) (slice_get heap.now id.0))) }
-    ensures left { draft.new.left ≤ draft.old.left }
-    ensures least { draft.old.left + steps.old ≤ draft.new.left + steps.new }
-    ensures reads { 24 * draft.new.left + steps.new ≤ 24 * draft.old.left + steps.old + 1 }
+    ensures takes { Takes 1 draft.old.left steps.old draft.new.left steps.new }
 {
     let Some(node) = node_at(heap, id, steps) else {
         return Ok(());
@@ -206,9 +188,7 @@ fn push_inside<L: Ledger>(
     steps: &mut Steps<L>,
 ) -> Result<(), ShowFault>
     ensures gives { Makes result draft.new (onto draft.old (contents_repr (repr_nodes heap.now room (id.0 ∷ around_of around.now)) (node_of node.now))) }
-    ensures left { draft.new.left ≤ draft.old.left }
-    ensures least { draft.old.left + steps.old ≤ draft.new.left + steps.new }
-    ensures reads { 24 * draft.new.left + steps.new ≤ 24 * draft.old.left + steps.old }
+    ensures takes { Takes 0 draft.old.left steps.old draft.new.left steps.new }
 {
     let inner = Around::Inside(id.0, &*around);
     push_contents(heap, node, room, &inner, draft, steps)
@@ -225,9 +205,7 @@ fn push_contents<L: Ledger>(
     steps: &mut Steps<L>,
 ) -> Result<(), ShowFault>
     ensures gives { Makes result draft.new (onto draft.old (contents_repr (repr_nodes heap.now room (around_of around.now)) (node_of node.now))) }
-    ensures left { draft.new.left ≤ draft.old.left }
-    ensures least { draft.old.left + steps.old ≤ draft.new.left + steps.new }
-    ensures reads { 24 * draft.new.left + steps.new ≤ 24 * draft.old.left + steps.old }
+    ensures takes { Takes 0 draft.old.left steps.old draft.new.left steps.new }
 {
     match node {
         Node::List(items) => push_list(heap, items.as_slice(), room, around, draft, steps),
@@ -259,9 +237,7 @@ fn push_list<L: Ledger>(
     steps: &mut Steps<L>,
 ) -> Result<(), ShowFault>
     ensures gives { Makes result draft.new (onto draft.old (contents_repr (repr_nodes heap.now room (around_of around.now)) (list (map value_of items.now)))) }
-    ensures left { draft.new.left ≤ draft.old.left }
-    ensures least { draft.old.left + steps.old ≤ draft.new.left + steps.new }
-    ensures reads { 24 * draft.new.left + steps.new ≤ 24 * draft.old.left + steps.old }
+    ensures takes { Takes 0 draft.old.left steps.old draft.new.left steps.new }
 {
     push_mark("[", draft, steps)?;
     push_values(heap, items, room, around, draft, steps)?;
@@ -279,9 +255,7 @@ pub(crate) fn push_tuple<L: Ledger>(
     steps: &mut Steps<L>,
 ) -> Result<(), ShowFault>
     ensures gives { Makes result draft.new (onto draft.old (tuple_repr (repr_nodes heap.now room (around_of around.now)) (map value_of items.now))) }
-    ensures left { draft.new.left ≤ draft.old.left }
-    ensures least { draft.old.left + steps.old ≤ draft.new.left + steps.new }
-    ensures reads { 24 * draft.new.left + steps.new ≤ 24 * draft.old.left + steps.old }
+    ensures takes { Takes 0 draft.old.left steps.old draft.new.left steps.new }
 {
     push_mark("(", draft, steps)?;
     push_values(heap, items, room, around, draft, steps)?;
@@ -298,9 +272,7 @@ fn push_dict<L: Ledger>(
     steps: &mut Steps<L>,
 ) -> Result<(), ShowFault>
     ensures gives { Makes result draft.new (onto draft.old (contents_repr (repr_nodes heap.now room (around_of around.now)) (dict (entries_of entries.now.entries)))) }
-    ensures left { draft.new.left ≤ draft.old.left }
-    ensures least { draft.old.left + steps.old ≤ draft.new.left + steps.new }
-    ensures reads { 24 * draft.new.left + steps.new ≤ 24 * draft.old.left + steps.old }
+    ensures takes { Takes 0 draft.old.left steps.old draft.new.left steps.new }
 {
     push_mark("{", draft, steps)?;
     push_entries(heap, entries, room, around, draft, steps)?;
@@ -317,9 +289,7 @@ fn push_object<L: Ledger>(
     steps: &mut Steps<L>,
 ) -> Result<(), ShowFault>
     ensures gives { Makes result draft.new (onto draft.old (contents_repr (repr_nodes heap.now room (around_of around.now)) (object (attributes_of attributes.now.entries)))) }
-    ensures left { draft.new.left ≤ draft.old.left }
-    ensures least { draft.old.left + steps.old ≤ draft.new.left + steps.new }
-    ensures reads { 24 * draft.new.left + steps.new ≤ 24 * draft.old.left + steps.old }
+    ensures takes { Takes 0 draft.old.left steps.old draft.new.left steps.new }
 {
     push_mark("namespace(", draft, steps)?;
     push_attributes(heap, attributes, room, around, draft, steps)?;
@@ -337,9 +307,7 @@ fn push_exception<L: Ledger>(
     steps: &mut Steps<L>,
 ) -> Result<(), ShowFault>
     ensures gives { Makes result draft.new (onto draft.old (contents_repr (repr_nodes heap.now room (around_of around.now)) (exception class.0 (map value_of arguments.now)))) }
-    ensures left { draft.new.left ≤ draft.old.left }
-    ensures least { draft.old.left + steps.old ≤ draft.new.left + steps.new }
-    ensures reads { 24 * draft.new.left + steps.new ≤ 24 * draft.old.left + steps.old }
+    ensures takes { Takes 0 draft.old.left steps.old draft.new.left steps.new }
 {
     push_class(class, draft, steps)?;
     push_mark("(", draft, steps)?;
@@ -358,9 +326,7 @@ fn push_values<L: Ledger>(
     steps: &mut Steps<L>,
 ) -> Result<(), ShowFault>
     ensures gives { Makes result draft.new (onto draft.old (listed (repr_by (repr_nodes heap.now room (around_of around.now))) (map value_of values.now))) }
-    ensures left { draft.new.left ≤ draft.old.left }
-    ensures least { draft.old.left + steps.old ≤ draft.new.left + steps.new }
-    ensures reads { 24 * draft.new.left + steps.new ≤ 24 * draft.old.left + steps.old + 1 }
+    ensures takes { Takes 1 draft.old.left steps.old draft.new.left steps.new }
 {
     for i in 0..values.len() {
         push_comma(i, draft, steps)?;
@@ -380,9 +346,7 @@ fn push_entries<L: Ledger>(
     steps: &mut Steps<L>,
 ) -> Result<(), ShowFault>
     ensures gives { Makes result draft.new (onto draft.old (listed (entry_repr (repr_nodes heap.now room (around_of around.now))) (entries_of entries.now.entries))) }
-    ensures left { draft.new.left ≤ draft.old.left }
-    ensures least { draft.old.left + steps.old ≤ draft.new.left + steps.new }
-    ensures reads { 24 * draft.new.left + steps.new ≤ 24 * draft.old.left + steps.old }
+    ensures takes { Takes 0 draft.old.left steps.old draft.new.left steps.new }
 {
     for i in 0..entries.len() {
         let Some((key, value)) = entries.get_index(i) else {
@@ -405,9 +369,7 @@ fn push_entry<L: Ledger>(
     steps: &mut Steps<L>,
 ) -> Result<(), ShowFault>
     ensures gives { Makes result draft.new (onto draft.old (entry_repr (repr_nodes heap.now room (around_of around.now)) (key_of key.now, value_of value.now))) }
-    ensures left { draft.new.left ≤ draft.old.left }
-    ensures least { draft.old.left + steps.old ≤ draft.new.left + steps.new }
-    ensures reads { 24 * draft.new.left + steps.new ≤ 24 * draft.old.left + steps.old }
+    ensures takes { Takes 0 draft.old.left steps.old draft.new.left steps.new }
 {
     push_key(key, draft, steps)?;
     push_mark(": ", draft, steps)?;
@@ -425,9 +387,7 @@ fn push_attributes<L: Ledger>(
     steps: &mut Steps<L>,
 ) -> Result<(), ShowFault>
     ensures gives { Makes result draft.new (onto draft.old (listed (attribute_repr (repr_nodes heap.now room (around_of around.now))) (attributes_of attributes.now.entries))) }
-    ensures left { draft.new.left ≤ draft.old.left }
-    ensures least { draft.old.left + steps.old ≤ draft.new.left + steps.new }
-    ensures reads { 24 * draft.new.left + steps.new ≤ 24 * draft.old.left + steps.old }
+    ensures takes { Takes 0 draft.old.left steps.old draft.new.left steps.new }
 {
     for i in 0..attributes.len() {
         let Some((name, value)) = attributes.get_index(i) else {
@@ -450,9 +410,7 @@ fn push_attribute<L: Ledger>(
     steps: &mut Steps<L>,
 ) -> Result<(), ShowFault>
     ensures gives { Makes result draft.new (onto draft.old (attribute_repr (repr_nodes heap.now room (around_of around.now)) (name.now, value_of value.now))) }
-    ensures left { draft.new.left ≤ draft.old.left }
-    ensures least { draft.old.left + steps.old ≤ draft.new.left + steps.new }
-    ensures reads { 24 * draft.new.left + steps.new ≤ 24 * draft.old.left + steps.old }
+    ensures takes { Takes 0 draft.old.left steps.old draft.new.left steps.new }
 {
     push_made(name, draft, steps)?;
     push_mark("=", draft, steps)?;
@@ -472,10 +430,7 @@ pub fn repr_of<L: Ledger>(
     steps: &mut Steps<L>,
 ) -> Result<String, ShowFault>
     ensures gives { Gives (λ s. chars (string_bytes s)) result budget.new.left (repr_in heap.now budget.old.depth (value_of value.now) budget.old.left) }
-    ensures depth { budget.new.depth ≡ budget.old.depth }
-    ensures left { budget.new.left ≤ budget.old.left }
-    ensures least { budget.old.left + steps.old ≤ budget.new.left + steps.new }
-    ensures reads { 24 * budget.new.left + steps.new ≤ 24 * budget.old.left + steps.old + 1 }
+    ensures spends { Spends 1 budget.old steps.old budget.new steps.new }
 {
     let mut draft = Draft::new(alloc, budget.left);
     let room = room_at(budget.depth);

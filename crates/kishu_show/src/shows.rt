@@ -4,6 +4,7 @@ ghost use Rattle.std.specs.Str.{chars};
 ghost use Rattle.std.specs.String.{string_bytes};
 ghost use Rattle.kishu_meaning.specs.values.Values.{value_of};
 ghost use Rattle.kishu_meaning.specs.comparing.Show.{argument_text, exception_text, made, repr_at, repr_nodes, show_at, show_by, show_in, show_nodes};
+ghost use Rattle.kishu_heap.specs.Costs.{Spends, Takes};
 ghost use Rattle.kishu_show.specs.Plainly.{plain_shown};
 ghost use Rattle.kishu_show.specs.Shown.{Gives, Makes, onto};
 
@@ -16,9 +17,6 @@ use kishu_heap::{Heap, Node, room_at};
 use kishu_meaning::{Budget, ClassId, NodeId, Steps, Value};
 use std::alloc::{AllocError, Global};
 use std::sync::ledger::Ledger;
-
-// The class whose text is its argument's repr.
-const KEY_ERROR: u8 = 16;
 
 // The text of a value that has no node: a text is itself. A node's is empty here.
 fn shown_text(alloc: Global, value: &Value) -> Result<String, AllocError>
@@ -43,9 +41,7 @@ fn push_plain_shown<L: Ledger>(
     steps: &mut Steps<L>,
 ) -> Result<(), ShowFault>
     ensures gives { Makes result draft.new (onto draft.old (made (plain_shown (value_of value.now)))) }
-    ensures left { draft.new.left ≤ draft.old.left }
-    ensures least { draft.old.left + steps.old ≤ draft.new.left + steps.new }
-    ensures reads { 24 * draft.new.left + steps.new ≤ 24 * draft.old.left + steps.old }
+    ensures takes { Takes 0 draft.old.left steps.old draft.new.left steps.new }
 {
     let text = shown_text(draft.alloc, value)?;
     push_made(text.as_str(), draft, steps)
@@ -61,9 +57,7 @@ fn push_shown<L: Ledger>(
     steps: &mut Steps<L>,
 ) -> Result<(), ShowFault>
     ensures gives { Makes result draft.new (onto draft.old (show_by (show_nodes heap.now room) (value_of value.now))) }
-    ensures left { draft.new.left ≤ draft.old.left }
-    ensures least { draft.old.left + steps.old ≤ draft.new.left + steps.new }
-    ensures reads { 24 * draft.new.left + steps.new ≤ 24 * draft.old.left + steps.old + 2 }
+    ensures takes { Takes 2 draft.old.left steps.old draft.new.left steps.new }
 {
     let Some(id) = node_in(value) else {
         return push_plain_shown(value, draft, steps);
@@ -84,9 +78,7 @@ fn push_shown_node<L: Ledger>(
     steps: &mut Steps<L>,
 ) -> Result<(), ShowFault>
     ensures gives { Makes result draft.new (onto draft.old (show_at (exception_text (repr_nodes heap.now room []) (show_nodes heap.now room)) (repr_at (repr_nodes heap.now room (id.0 ∷ [])) false (slice_get heap.now id.0)) (slice_get heap.now id.0))) }
-    ensures left { draft.new.left ≤ draft.old.left }
-    ensures least { draft.old.left + steps.old ≤ draft.new.left + steps.new }
-    ensures reads { 24 * draft.new.left + steps.new ≤ 24 * draft.old.left + steps.old + 2 }
+    ensures takes { Takes 2 draft.old.left steps.old draft.new.left steps.new }
 {
     let Some(node) = node_at(heap, id, steps) else {
         return Ok(());
@@ -113,9 +105,7 @@ fn push_exception_shown<L: Ledger>(
     steps: &mut Steps<L>,
 ) -> Result<(), ShowFault>
     ensures gives { Makes result draft.new (onto draft.old (exception_text (repr_nodes heap.now room []) (show_nodes heap.now room) class.0 (map value_of arguments.now))) }
-    ensures left { draft.new.left ≤ draft.old.left }
-    ensures least { draft.old.left + steps.old ≤ draft.new.left + steps.new }
-    ensures reads { 24 * draft.new.left + steps.new ≤ 24 * draft.old.left + steps.old }
+    ensures takes { Takes 0 draft.old.left steps.old draft.new.left steps.new }
 {
     let Some((argument, others)) = arguments.split_first() else {
         return Ok(());
@@ -138,11 +128,9 @@ fn push_argument<L: Ledger>(
     steps: &mut Steps<L>,
 ) -> Result<(), ShowFault>
     ensures gives { Makes result draft.new (onto draft.old (argument_text (repr_nodes heap.now room []) (show_nodes heap.now room) class.0 (value_of argument.now))) }
-    ensures left { draft.new.left ≤ draft.old.left }
-    ensures least { draft.old.left + steps.old ≤ draft.new.left + steps.new }
-    ensures reads { 24 * draft.new.left + steps.new ≤ 24 * draft.old.left + steps.old + 2 }
+    ensures takes { Takes 2 draft.old.left steps.old draft.new.left steps.new }
 {
-    if class.0 == KEY_ERROR {
+    if class == ClassId::KEY_ERROR {
         return push_value(heap, argument, room, &Around::Nothing, draft, steps);
     }
     push_shown(heap, argument, room, draft, steps)
@@ -160,10 +148,7 @@ pub fn show<L: Ledger>(
     steps: &mut Steps<L>,
 ) -> Result<String, ShowFault>
     ensures gives { Gives (λ s. chars (string_bytes s)) result budget.new.left (show_in heap.now budget.old.depth (value_of value.now) budget.old.left) }
-    ensures depth { budget.new.depth ≡ budget.old.depth }
-    ensures left { budget.new.left ≤ budget.old.left }
-    ensures least { budget.old.left + steps.old ≤ budget.new.left + steps.new }
-    ensures reads { 24 * budget.new.left + steps.new ≤ 24 * budget.old.left + steps.old + 2 }
+    ensures spends { Spends 2 budget.old steps.old budget.new steps.new }
 {
     let mut draft = Draft::new(alloc, budget.left);
     let room = room_at(budget.depth);

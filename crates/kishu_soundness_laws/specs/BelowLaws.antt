@@ -1,5 +1,5 @@
 -- What is below a number is below a greater one, and parts of what is below it are.
-use Rattle.std.specs.Prelude.{ℕ, zero, suc, ◌≤◌, List, [], ◌∷◌, ◌++◌, slice_get, Option, Some, None}
+use Rattle.std.specs.Prelude.{ℕ, zero, suc, ◌≤◌, List, [], ◌∷◌, ◌++◌, map, slice_get, Option, Some, None}
 use Rattle.std.proofs.Common.{arith}
 use Rattle.kishu_meaning.specs.moments.Moment.{Thrown, fresh, thrown_object}
 use Rattle.kishu_meaning.specs.values.Values.{Value, node, Node}
@@ -13,6 +13,10 @@ below_later k l h v p = tt
 pub each_later : {A : Type 0} (P Q : A → Type 0) → ((a : A) → P a → Q a) → (as' : List A) → Each P as' → Each Q as'
 each_later P Q h [] p = tt
 each_later P Q h (a ∷ as') p = (h a p.0, each_later P Q h as' p.1)
+
+pub each_map : {A B : Type 0} (P : B → Type 0) (f : A → B) → ((a : A) → P (f a)) → (as' : List A) → Each P (map f as')
+each_map P f h [] = tt
+each_map P f h (a ∷ as') = (h a, each_map P f h as')
 
 pub all_later : (k l : ℕ) → k ≤ l → (vs : List Value) → AllBelow k vs → AllBelow l vs
 all_later k l h = each_later (Below k) (Below l) (below_later k l h)

@@ -5,6 +5,7 @@ use Rattle.std.specs.Cmp.Lexicographic.{bytes_decides}
 use Rattle.std.specs.Str.{IsUtf8, bytes_eq, chars}
 use Rattle.std.proofs.Common.{refl, sym, ap, ◌∙◌}
 use Rattle.std.proofs.Math.Logic.{∥∥₁_elim}
+use Rattle.kishu_language.specs.Limits.{longest_text}
 use Rattle.kishu_language.specs.declared.profile.Profile.{Profile}
 use Rattle.kishu_language.specs.trees.Tree.{Text, Statement, Definition}
 use Rattle.kishu_language.specs.trees.Tree as t
@@ -66,7 +67,7 @@ found code n (Ok (s ∷ (u ∷ ss))) h = absurd cc
 found code n (Err line) h = absurd cc
 
 -- A text that reads as a function, of which only that much is known, is its code, with as many defaults as the function has.
-pub code_of_read : (profile : Profile) (code : Text) (d : Definition) (n : ℕ) → IsUtf8 code → length code ≤ 1048576 → ∥ ReadsDef profile code d ∥₁ → n ≡ default_count d → IsCode profile code n
+pub code_of_read : (profile : Profile) (code : Text) (d : Definition) (n : ℕ) → IsUtf8 code → length code ≤ longest_text → ∥ ReadsDef profile code d ∥₁ → n ≡ default_count d → IsCode profile code n
 code_of_read profile code d n utf8 short h e =
     let count : defaults_alone code (read_chars profile (chars code)) ≡ default_count d ∷ [] = ∥∥₁_elim h (Coded-set (coded_list coded_ℕ) _ _) (told profile code d) in
     let a = found code (default_count d) (read_chars profile (chars code)) count in

@@ -7,3 +7,4 @@ pub mod Real
 pub mod Pictures
 pub mod Fitting
 pub mod HeldLaws
+pub mod Budgets

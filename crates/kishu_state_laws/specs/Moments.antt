@@ -1,12 +1,16 @@
 -- The moments of a run: what holds of each, and what holds of each two, one after the other.
 use Rattle.std.specs.Prelude.{◌≡◌, ℕ, ◌≤◌, length, Option, Some, None}
 use Rattle.std.specs.List.{AllByRecursion as Each}
-use Rattle.kishu_meaning.specs.moments.Moment.{Locals, Moment, most_steps}
+use Rattle.kishu_meaning.specs.moments.Moment.{Locals, Moment}
 use Rattle.kishu_objects.specs.State.{IsValue, AreValues, IsNode, AreNames, values_in, Grown}
 
 abbrev pub Maybe : {A : Type 0} → (A → Type 0) → Option A → Type 0
 Maybe P None = Unit {0}
 Maybe P (Some a) = P a
+
+-- A budget has at most as many steps as 64 bits hold.
+abbrev pub widest_budget : ℕ
+widest_budget = 18446744073709551615
 
 -- among k nodes: as a state, and so are the names of the function in progress, the exception that is handled and the steps that are left
 pub record IsMoment (k : ℕ) (s : Moment) : Type 0 where
@@ -15,7 +19,7 @@ pub record IsMoment (k : ℕ) (s : Moment) : Type 0 where
   pub names : AreNames k s.names
   pub locals : Maybe (λ (here : Locals). AreValues k (values_in here.values)) s.locals
   pub handled : Maybe (IsValue k) s.handled
-  pub budget : s.left ≤ most_steps
+  pub budget : s.left ≤ widest_budget
 
 abbrev pub Holds : Moment → Type 0
 Holds s = IsMoment (length s.nodes) s

@@ -1,4 +1,5 @@
 pub mod Logic
+pub mod Loops
 pub mod Lists
 pub mod Texts
 pub mod Numbers

@@ -1,10 +1,11 @@
 // What holds of every state, and that runs keep it.
 
+ghost use Rattle.kishu_language.specs.Limits.{longest_text};
 ghost use Rattle.kishu_language.specs.declared.profile.Profile.{Profile};
 ghost use Rattle.kishu_language.specs.reading.ReadText.{read_chars, ReadsDef};
 ghost use Rattle.kishu_language.specs.trees.Tree.{Definition, Expression, Statement, Statements, Text, statements};
 ghost use Rattle.kishu_meaning.specs.cells.Meaning.{acts, all_calls, cell, expr, run};
-ghost use Rattle.kishu_meaning.specs.moments.Moment.{Moment};
+ghost use Rattle.kishu_meaning.specs.moments.Moment.{Moment, most_steps};
 ghost use Rattle.kishu_meaning.specs.values.Sound.{default_count};
 ghost use Rattle.kishu_meaning.specs.values.Values.{State, empty};
 ghost use Rattle.kishu_replay.specs.Replay.{after_cells, replay};
@@ -17,13 +18,14 @@ ghost use Rattle.kishu_objects.specs.Loading.{with_picture};
 ghost use Rattle.kishu_objects.specs.Picture.{picture, whole};
 ghost use Rattle.kishu_meaning.specs.moments.Accesses.{unbind};
 ghost use Rattle.kishu_pairing_laws.specs.World.{end_of};
-ghost use Rattle.kishu_state_laws.specs.Moments.{Holds, Leads};
+ghost use Rattle.kishu_state_laws.specs.Budgets.{IsStopped, Start, run_by, run_of};
+ghost use Rattle.kishu_state_laws.specs.Moments.{Holds, Leads, widest_budget};
 ghost use Rattle.kishu_objects.specs.State.{Grown, IsCell, IsCode, IsState};
 ghost use Rattle.kishu_state_laws.specs.trees.Sound.{ExpressionSound, StatementsSound};
 ghost use Rattle.kishu_store.specs.Graph.{Commit, Graph, path};
 ghost use Rattle.kishu_store.specs.Holds.{Holds as HoldsGraph};
 ghost use Rattle.std.specs.List.{AllByRecursion};
-ghost use Rattle.std.specs.Prelude.{List, Ok, length, ℕ, ◌≡◌, ◌↔◌, ◌≤◌, ◌<◌, ◌^◌};
+ghost use Rattle.std.specs.Prelude.{List, Ok, length, ℕ, ◌+◌, ◌≡◌, ◌↔◌, ◌≤◌, ◌<◌, ◌^◌};
 ghost use Rattle.std.specs.Str.{IsUtf8, chars};
 
 /// The empty state is a state, and a run leads from a state to a state.
@@ -63,7 +65,7 @@ pub fn trees_are_sound()
 
 /// A text that reads as a function, however that is known, is the code of one with as many defaults.
 pub fn what_reads_is_code()
-    ensures { (profile : Profile) (code : Text) (d : Definition) (n : ℕ) → IsUtf8 code → length code ≤ 1048576 → ∥ ReadsDef profile code d ∥₁ → n ≡ default_count d → IsCode profile code n }
+    ensures { (profile : Profile) (code : Text) (d : Definition) (n : ℕ) → IsUtf8 code → length code ≤ longest_text → ∥ ReadsDef profile code d ∥₁ → n ≡ default_count d → IsCode profile code n }
 {}
 
 /// A state's names rise, and its names and nodes lead to nodes that are there.
@@ -88,4 +90,16 @@ pub fn states_fit()
     ensures bytes { (p : State) → IsState p → length (state_bytes p) < 2 ^ 32 → StateFits p }
     ensures picture { (s : State) (names : List (List ℕ)) → IsState s → Rise names → length (picture_bytes s names) < 2 ^ 32 → StateFits (picture s names) }
     ensures same { (s t : State) → IsState s → IsState t → length (state_bytes (whole s)) < 2 ^ 32 → length (state_bytes (whole t)) < 2 ^ 32 → (Same s t ↔ (state_bytes (whole s) ≡ state_bytes (whole t))) }
+{}
+
+/// A run is stopped exactly where it asks for a step past its budget: then its whole budget is
+/// charged, and with one step more it would take that one too. Else each larger budget gives the same
+/// run. `run_of` is the run of a cell from a state, and `run_by` the same with a budget of any size.
+pub fn budgets_stop_runs()
+    ensures budget { (c : Start) → run_by most_steps c ≡ run_of c }
+    ensures most { (c : Start) (n : ℕ) → (run_by n c).charge ≤ n }
+    ensures cells { (c : Start) → IsStopped (run_of c) → (run_of c).charge ≡ most_steps }
+    ensures whole { (c : Start) (n : ℕ) → n < widest_budget → IsStopped (run_by n c) → (run_by n c).charge ≡ n }
+    ensures further { (c : Start) (n : ℕ) → n < widest_budget → (IsStopped (run_by n c) ↔ (run_by (n + 1) c).charge ≡ n + 1) }
+    ensures larger { (c : Start) (n m : ℕ) → n ≤ m → m ≤ widest_budget → (IsStopped (run_by n c) → ⊥) → run_by m c ≡ run_by n c }
 {}

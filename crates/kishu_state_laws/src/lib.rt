@@ -7,7 +7,7 @@
 mod laws;
 
 pub use laws::{
-    cells_cannot_tell_states, cells_keep_states, no_step_is_given_back, pictures_are_states,
-    runs_keep_nodes, runs_keep_states, states_are_real, states_fit, trees_are_sound,
-    what_reads_is_code,
+    budgets_stop_runs, cells_cannot_tell_states, cells_keep_states, no_step_is_given_back,
+    pictures_are_states, runs_keep_nodes, runs_keep_states, states_are_real, states_fit,
+    trees_are_sound, what_reads_is_code,
 };

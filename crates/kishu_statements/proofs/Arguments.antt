@@ -21,8 +21,8 @@ use Rattle.kishu_language.specs.trees.Tree.{Text, Expression, Trailers, more_tra
 use Rattle.kishu_language.specs.trees.Tree as t
 use Rattle.kishu_meaning.specs.values.Values.{Value, Names, node}
 use Rattle.kishu_calls.specs.Calls.{is_sound_given, is_sound_callee}
-use Rattle.kishu_calls.specs.Rows.{plain_is, keyword_is}
-use Rattle.kishu_calls.specs.Trees.{arguments_of, argument_of, trailers_of, trailer_of}
+use Rattle.kishu_language.specs.trees.Rows.{plain_is, keyword_is}
+use Rattle.kishu_language.specs.trees.Parts.{arguments_of, argument_of, trailers_of, trailer_of}
 use Rattle.kishu_items.specs.Gathering.{dropped}
 use Rattle.kishu_items.specs.Messages.{is_plain}
 use Rattle.kishu_items.specs.Holding.{both, first, second}
@@ -62,17 +62,6 @@ with_named g x v = record { plain = g.plain; named = g.named ++ (x, v) ∷ [] }
 
 pub given_as : {vs ws : List Value} {ks ls : Names} → vs ≡ ws → ks ≡ ls → ◌≡◌ {A = Given} (record { plain = vs; named = ks }) (record { plain = ws; named = ls })
 given_as p q = λ i. record { plain = p i; named = q i }
-
-pub given_begun : (e : Ends Given) → e ≡ and_then e (λ g. give (joined nothing_given g))
-given_begun (fine g s) = refl
-given_begun (raised x s) = refl
-given_begun (stopped s) = refl
-
-pub given_whole : (g : Given) → joined g nothing_given ≡ g
-given_whole g = ap (λ (vs : List Value). record { plain = vs; named = g.named ++ [] }) (append-nil g.plain) ∙ ap (λ (ks : Names). record { plain = g.plain; named = ks }) (append-nil g.named)
-
-pub all_given : (e : Ends Given) (g : Given) (s : Moment) → e ≡ and_then (fine nothing_given s) (λ h. give (joined g h)) → e ≡ fine g s
-all_given e g s h = h ∙ ap (λ (k : Given). fine k s) (given_whole g)
 
 module _ (calls : Calls) (before : Given) (e : Expression) (es : Arguments) (s : Moment) where
   abbrev plain_from : Ends Value → Ends Given
@@ -130,9 +119,6 @@ module _ (n m : ℕ) (le : n ≤ m) (g : Given) (h : IsTrue (is_sound_given n g)
   differ : IsTrue (all_differ (map (λ k. k.0) g.named))
   differ = second (list_all (λ k. is_name k.0 && is_sound n k.1) g.named) _ (second (are_sound n g.plain) _ h)
 
-  pub given_more : IsTrue (is_sound_given m g)
-  given_more = both (are_sound m g.plain) _ plain_more (both (list_all (λ k. is_name k.0 && is_sound m k.1) g.named) _ named_more differ)
-
   pub plain_pushed : (v : Value) → IsTrue (is_sound m v) → IsTrue (is_sound_given m (with_plain g v))
   plain_pushed v k =
       both (are_sound m (g.plain ++ v ∷ [])) _ (values_pushed m g.plain v plain_more k)
@@ -154,9 +140,3 @@ module _ (ks : Names) (x : Text) (v : Value) (rest : List Text) where
 
   pub differ_now : IsTrue (all_differ (map (λ (k : Text × Value). k.0) ks ++ (x ∷ rest))) → IsTrue (all_differ (map (λ (k : Text × Value). k.0) (ks ++ (x, v) ∷ [])))
   differ_now h = front_differs (map (λ (k : Text × Value). k.0) (ks ++ (x, v) ∷ [])) rest (differ_on h)
-
--- What was found before stays sound while the heap grows.
-pub callee_more : (n m : ℕ) → n ≤ m → (f : Callee) → IsTrue (is_sound_callee n f) → IsTrue (is_sound_callee m f)
-callee_more n m le (c.function v) h = sound_more n m le v h
-callee_more n m le (c.method v x) h = both (is_plain x) _ (first (is_plain x) _ h) (sound_more n m le v (second (is_plain x) _ h))
-callee_more n m le (c.view i found) h = sound_more n m le (node i) h

@@ -20,8 +20,8 @@ use Rattle.kishu_machine.specs.Composing.{fails_on}
 use Rattle.kishu_machine.specs.Machine.{Fails, Gives}
 use Rattle.kishu_calls.specs.declared.ways.Flow as rust_flow
 use Rattle.kishu_calls.specs.Calls.{flow_of}
-use Rattle.kishu_calls.specs.StatementRows.{arm_at}
-use Rattle.kishu_calls.specs.Trees.{arms_of, statements_of}
+use Rattle.kishu_language.specs.trees.StatementRows.{arm_at}
+use Rattle.kishu_language.specs.trees.Parts.{arms_of, statements_of}
 
 pub no_arm : (arms : List rust.Arm) (i : ℕ) → length arms ≤ i → (calls : Calls) (other : Statements) (s : Moment)
     → act calls (t.choose (arms_of (drop i arms)) other) s ≡ in_block other (acts calls other) s

@@ -15,7 +15,8 @@ use Rattle.kishu_meaning.specs.moments.Moment.{Locals, Moment, Ends, fine, M, an
 use Rattle.kishu_language.specs.trees.Tree.{Text, Statement, Statements, Arm, Definition, Handler, definition_of, statement_of, statement_step, arm_step, definition_step, handler_step}
 use Rattle.kishu_meaning.specs.values.Values.{Value, Names, Node}
 use Rattle.kishu_meaning.specs.cells.Ways.{Flow}
-use Rattle.kishu_calls.specs.Trees.{statements_of}
+use Rattle.kishu_meaning.specs.values.Classes.{type_error_class}
+use Rattle.kishu_language.specs.trees.Parts.{statements_of}
 use Rattle.kishu_items.specs.Holding.{both, first, second}
 use Rattle.kishu_items.specs.Messages.{is_plain, chars-plain}
 use Rattle.kishu_machine.specs.declared.fault.Fault.{Fault}
@@ -25,7 +26,7 @@ use Rattle.kishu_machine.specs.Machine.{Fails, Gives, IsRaised}
 use Rattle.kishu_machine.specs.SoundMore.{sound_more_locals, names_in_run, locals_in_run, handled_in_run, run_of}
 use Rattle.kishu_statements.specs.Forms.{called}
 use Rattle.kishu_statements.proofs.Calling.{called_at}
-use Rattle.kishu_statements.proofs.SoundNames.{less_test}
+use Rattle.kishu_machine.specs.SoundNames.{less_test}
 
 pub title_is : (d : Def) → (definition_of d).title ≡ rc_str_bytes d.name
 unfolding definition_of statement_of
@@ -99,9 +100,9 @@ module _ {X : Type 0} (view : X → Value) (r : Result X Fault) (room : ℕ) (d 
       let h4 = subst (λ (o : Option Names). Gives view r t (enter (call (room - 1)) d o s)) be h3 in
       subst (λ (m : M Value). Gives view r t (m s)) (sym (called_at room d vs given p)) h4
 
-  pub called_refused : (title : Text) → None ≡ bound_values d vs given → title ≡ d.title → IsTrue (is_name d.title) → IsRaised r 23 (chars title ++ codes "() got bad arguments") → Gives view r s (called room d vs given s)
+  pub called_refused : (title : Text) → None ≡ bound_values d vs given → title ≡ d.title → IsTrue (is_name d.title) → IsRaised r type_error_class (chars title ++ codes "() got bad arguments") → Gives view r s (called room d vs given s)
   called_refused title be te name h =
       let h1 = raised_by view r 23 (chars title ++ codes "() got bad arguments") s h in
-      let h2 = subst (λ (x : Text). Gives view r s (raise 23 (x ++ codes "() got bad arguments") s)) (ap chars te ∙ name_plain d.title name) h1 in
+      let h2 = subst (λ (x : Text). Gives view r s (raise type_error_class (x ++ codes "() got bad arguments") s)) (ap chars te ∙ name_plain d.title name) h1 in
       let h3 = subst (λ (o : Option Names). Gives view r s (enter (call (room - 1)) d o s)) be h2 in
       subst (λ (m : M Value). Gives view r s (m s)) (sym (called_at room d vs given p)) h3

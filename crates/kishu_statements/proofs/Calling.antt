@@ -14,7 +14,7 @@ use Rattle.kishu_items.specs.Holding.{first, second}
 use Rattle.kishu_calls.specs.Calls.{is_sound_given}
 use Rattle.kishu_language.specs.trees.Fits.{ParametersFit}
 use Rattle.kishu_statements.specs.Forms.{called}
-use Rattle.kishu_statements.proofs.SoundNames.{is_sound_found, finds_sound, binds_sound}
+use Rattle.kishu_machine.specs.SoundNames.{is_sound_found, finds_sound, binds_sound}
 
 pub called_at : (room : ℕ) (d : Definition) (vs : List Value) (given : Given) → 0 < room → called room d vs given ≡ enter (call (room - 1)) d (bound_values d vs given)
 called_at zero d vs given p = absurd (omega arith)

@@ -10,8 +10,8 @@ use Rattle.kishu_language.specs.trees.Tree as t
 use Rattle.kishu_meaning.specs.moments.Moment.{Moment, Ends, fine, and_then, give, tick, ◌>>◌}
 use Rattle.kishu_meaning.specs.cells.Ways.{Flow}
 use Rattle.kishu_meaning.specs.cells.Meaning.{act, all_calls, cell, last_act}
-use Rattle.kishu_calls.specs.StatementRows.{assign_is}
-use Rattle.kishu_calls.specs.Trees.{statements_of}
+use Rattle.kishu_language.specs.trees.StatementRows.{assign_is}
+use Rattle.kishu_language.specs.trees.Parts.{statements_of}
 use Rattle.kishu_items.specs.Gathering.{dropped}
 use Rattle.kishu_machine.specs.declared.fault.Fault.{Fault}
 use Rattle.kishu_machine.specs.Machine.{Fails}
@@ -49,9 +49,6 @@ pub list_here : (xs : List Stmt) (i : ℕ) (x : Stmt) → i < length xs → x �
 list_here xs i x h p = ap (map statement_of) (dropped xs i x h p)
 
 module _ (s : Statement) (ss : List Statement) (m : Moment) where
-  pub each_tick_fails : (f : Fault) (u : Moment) → Fails {A = Unit {0}} f u (tick m) → Fails {A = Unit {0}} f u (each (s ∷ ss) m)
-  each_tick_fails f u h = fails_on (λ _. each ss) f u (and_then (tick m) (λ _. act all_calls s)) (fails_on (λ _. act all_calls s) f u (tick m) h)
-
   module _ (m1 : Moment) (h : tick m ≡ fine tt m1) where
     ticked : each (s ∷ ss) m ≡ and_then (act all_calls s m1) (λ _. each ss)
     ticked = ap (λ (x : Ends (Unit {0})). and_then (and_then x (λ _. act all_calls s)) (λ _. each ss)) h

@@ -5,7 +5,7 @@ use Rattle.kishu_language.specs.trees.Tree.{Trailer, no_trailers, trailers as tr
 use Rattle.kishu_meaning.specs.moments.Moment.{Moment, Ends, fine, raised, stopped, M, and_then, ◌>>=◌}
 use Rattle.kishu_meaning.specs.calls.Callees.{Part, settled}
 use Rattle.kishu_meaning.specs.cells.Meaning.{Calls, trailer, trailers, place_after, place_by, count}
-use Rattle.kishu_calls.specs.Trees.{expressions_of}
+use Rattle.kishu_language.specs.trees.Parts.{expressions_of}
 use Rattle.kishu_statements.proofs.Lists.{same_behind}
 
 -- doing what is left of a chain later

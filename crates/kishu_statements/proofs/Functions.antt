@@ -210,15 +210,6 @@ module _ {X : Type 0} (view : X → Value) (r : Result X Fault) (room n : ℕ) (
   called_node (Some (exception kind vs)) f h k = absurd h
   called_node None f h k = absurd h
 
-  pub called_other : (o : Option Node) → IsTrue (not (is_function o)) → Gives view r u (not_callable {A = Value} (node n) s) → Gives view r u (call_node (call room) (node n) o given s)
-  called_other (Some (function profile code vs)) h k = absurd cc
-  called_other (Some (list vs)) h k = k
-  called_other (Some (tuple vs)) h k = k
-  called_other (Some (dict es)) h k = k
-  called_other (Some (object as')) h k = k
-  called_other (Some (exception kind vs)) h k = k
-  called_other None h k = k
-
 -- ---- the code of a function that is made
 
 pub defined_code : (profile : Profile) (code : Text) (d : Definition) → IsTrue (is_name d.title) → ParametersFit d.parameters → StatementsFit d.body → of_statements d.body < 1048576

@@ -17,7 +17,7 @@ use Rattle.kishu_machine.specs.Composing.{fails_on}
 use Rattle.kishu_machine.specs.Machine.{Fails, Gives}
 use Rattle.kishu_calls.specs.declared.ways.Flow as rust_flow
 use Rattle.kishu_calls.specs.Calls.{flow_of}
-use Rattle.kishu_calls.specs.Trees.{handler_of, handlers_of, statements_of}
+use Rattle.kishu_language.specs.trees.Parts.{handler_of, handlers_of, statements_of}
 
 handler_at : (h : rust.Handler) → handler_of h ≡ record { class = tree_value h.class; caught = text_of h.name; body = statements_of h.body.items }
 unfolding handler_of statement_of

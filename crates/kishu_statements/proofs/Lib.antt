@@ -16,9 +16,7 @@ mod Looping
 mod Nested
 mod Places
 mod Trailing
-mod Raised
 mod Remaining
 mod Rests
-mod SoundNames
 mod Turns
 mod Walked

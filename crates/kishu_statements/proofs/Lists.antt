@@ -3,7 +3,7 @@ use Rattle.std.proofs.Common.{◌≡◌, ◌∙◌, refl, ap, sym, arith, ℕ, �
 use Rattle.kishu_meaning.specs.declared.value.Value as rust
 use Rattle.kishu_language.specs.declared.tree.Link.{Link}
 use Rattle.kishu_language.specs.trees.Tree as tree
-use Rattle.kishu_calls.specs.Trees.{links_of, link_of}
+use Rattle.kishu_language.specs.trees.Parts.{links_of, link_of}
 use Rattle.std.specs.Prelude.{true, false, if◌then◌else◌}
 use Rattle.kishu_language.specs.declared.tree.Comparison.{Comparison}
 use Rattle.kishu_language.specs.trees.Tree.{Expression, Expressions, Links, more_expressions, no_links, more_links}

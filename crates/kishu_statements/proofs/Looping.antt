@@ -12,7 +12,7 @@ use Rattle.kishu_meaning.specs.comparing.Comparing.{compare}
 use Rattle.kishu_meaning.specs.calls.Operators.{truth, operate}
 use Rattle.kishu_meaning.specs.cells.Meaning.{Calls, expr, pairs, first_that, operands}
 use Rattle.kishu_meaning.specs.moments.Moment.{Moment, Ends, fine, raised, stopped, M, give, and_then, deeper, tick, ◌>>=◌}
-use Rattle.kishu_calls.specs.Trees.{expressions_of}
+use Rattle.kishu_language.specs.trees.Parts.{expressions_of}
 use Rattle.kishu_machine.specs.declared.fault.Fault.{Fault}
 use Rattle.kishu_machine.specs.Composing.{fails_on}
 use Rattle.kishu_machine.specs.declared.machine.Machine.{Machine}

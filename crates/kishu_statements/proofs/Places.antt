@@ -10,7 +10,7 @@ use Rattle.kishu_language.specs.trees.Fits.{TrailerFits, TrailersFit}
 use Rattle.kishu_meaning.specs.moments.Moment.{Moment, Ends, fine, and_then, ◌>>=◌}
 use Rattle.kishu_meaning.specs.calls.Callees.{settled}
 use Rattle.kishu_meaning.specs.cells.Meaning.{Calls, expr, part, trailers, place, place_after, place_by, no_place, nodes_before_last}
-use Rattle.kishu_calls.specs.Trees.{trailer_of, trailers_of}
+use Rattle.kishu_language.specs.trees.Parts.{trailer_of, trailers_of}
 use Rattle.kishu_statements.proofs.Lists.{same_behind}
 use Rattle.kishu_statements.proofs.Chains.{in_turn, place_is}
 

@@ -21,7 +21,7 @@ use Rattle.kishu_meaning.specs.values.Values.{Value, value_of}
 use Rattle.kishu_meaning.specs.declared.value.Value as rust
 use Rattle.kishu_meaning.specs.moments.Moment.{Moment, Ends, fine, raised, stopped, M, and_then, give, tick, deeper, ◌>>=◌}
 use Rattle.kishu_meaning.specs.cells.Meaning.{Calls, expr, store, store_each, defaults, nodes, nodes_before_last}
-use Rattle.kishu_calls.specs.Trees.{expressions_of, trailers_of}
+use Rattle.kishu_language.specs.trees.Parts.{expressions_of, trailers_of}
 use Rattle.kishu_items.specs.Gathering.{dropped}
 use Rattle.kishu_machine.specs.declared.fault.Fault.{Fault}
 use Rattle.kishu_machine.specs.Machine.{Fails, Gives}
@@ -30,13 +30,6 @@ use Rattle.kishu_statements.proofs.Lists.{behind}
 use Rattle.kishu_statements.proofs.Chains.{count_is}
 
 -- ---- trailers
-
-pub nodes_rest : (ts : List rust_trailer.Trailer) (s : Moment) → nodes_before_last (trailers_of ts) s ≡ nodes (trailers_of (drop 1 ts)) s
-nodes_rest [] s = refl
-nodes_rest (t ∷ ts) s = refl
-
-pub nodes_none : (ts : List rust_trailer.Trailer) (i : ℕ) (s : Moment) → length ts ≤ i → nodes (trailers_of (drop i ts)) s ≡ fine tt s
-nodes_none ts i s h = ap (λ (us : List rust_trailer.Trailer). nodes (trailers_of us) s) (drop_all i ts h)
 
 nodes_on : (ts : List rust_trailer.Trailer) (i : ℕ) (s u : Moment) → i < length ts → tick s ≡ fine tt u → nodes (trailers_of (drop i ts)) s ≡ nodes (trailers_of (drop (suc i) ts)) u
 nodes_on [] i s u h g = absurd (omega (arith, h))
@@ -160,30 +153,9 @@ module _ (ps : List (RcStr Global × Option Expr)) (i : ℕ) (p : RcStr Global �
   pub parameters_fit : ParametersFit (map parameter_of (drop i ps)) → OptionalFits (tree_value p.1) × ParametersFit (map parameter_of (drop (i + 1) ps))
   parameters_fit f = let found = subst (λ (x : List Parameter). ParametersFit x) parameters_next f in (found.1, found.2)
 
-  pub parameters_count : with_default (map parameter_of (drop i ps)) ≡ (if is_some (tree_value p.1) then 1 else 0) + with_default (map parameter_of (drop (i + 1) ps))
-  parameters_count = ap with_default parameters_next
-
 module _ (calls : Calls) (x : Text) (e : Expression) (ps : List Parameter) (before : List Value) (s : Moment) where
   pub defaults_on : (v : Value) (t : Moment) → deeper (expr calls e) s ≡ fine v t → and_then (defaults calls ((x, Some e) ∷ ps) s) (λ vs. give (before ++ vs)) ≡ and_then (defaults calls ps t) (λ vs. give ((before ++ v ∷ []) ++ vs))
   defaults_on v t h = ap (λ (y : Ends Value). and_then (and_then y (λ w s1. and_then (defaults calls ps s1) (λ vs. give (w ∷ vs)))) (λ vs. give (before ++ vs))) h ∙ behind before v (defaults calls ps t)
-
-  pub defaults_fail : (f : Fault) (t : Moment) → Fails f t (deeper (expr calls e) s) → Fails f t (and_then (defaults calls ((x, Some e) ∷ ps) s) (λ vs. give (before ++ vs)))
-  defaults_fail f t h = fails_on (λ vs. give (before ++ vs)) f t (defaults calls ((x, Some e) ∷ ps) s) (fails_on (λ v. defaults calls ps >>= λ vs. give (v ∷ vs)) f t (deeper (expr calls e) s) h)
-
--- nothing before the first
-pub none_before : {A : Type 0} (e : Ends (List A)) → e ≡ and_then e (λ xs. give ([] ++ xs))
-none_before (fine xs s) = refl
-none_before (raised x s) = refl
-none_before (stopped s) = refl
-
--- nothing behind the last
-pub defaults_end : (calls : Calls) (ps : List (RcStr Global × Option Expr)) (i : ℕ) (before : List Value) (s : Moment) → length ps ≤ i → and_then (defaults calls (map parameter_of (drop i ps)) s) (λ vs. give (before ++ vs)) ≡ fine before s
-defaults_end calls ps i before s h =
-    ap (λ (x : List (RcStr Global × Option Expr)). and_then (defaults calls (map parameter_of x) s) (λ vs. give (before ++ vs))) (drop_all i ps h)
-    ∙ ap (λ (x : List Value). fine x s) (append-nil before)
-
-pub defaults_left : (ps : List (RcStr Global × Option Expr)) (i : ℕ) → length ps ≤ i → with_default (map parameter_of (drop i ps)) ≡ 0
-defaults_left ps i h = ap (λ (x : List (RcStr Global × Option Expr)). with_default (map parameter_of x)) (drop_all i ps h)
 
 module _ (ps : List (RcStr Global × Option Expr)) (i : ℕ) (p : RcStr Global × Option Expr) (h : i < length ps) (is : p ≡ get_or ps i p) where
   module _ (none : p.1 ≡ None) where
@@ -200,12 +172,6 @@ module _ (ps : List (RcStr Global × Option Expr)) (i : ℕ) (p : RcStr Global �
     with_next : map parameter_of (drop i ps) ≡ (rc_str_bytes p.0, Some (expression_of e)) ∷ map parameter_of (drop (i + 1) ps)
     with_next = parameters_next ps i p h is ∙ ap (λ (o : Option Expr). (rc_str_bytes p.0, tree_value o) ∷ map parameter_of (drop (i + 1) ps)) some
 
-    pub default_low : of_expression (expression_of e) ≤ of_parameters (map parameter_of (drop i ps))
-    default_low = subst (λ (o : Option Expr). of_optional (tree_value o) ≤ of_parameters (map parameter_of (drop i ps))) some (parameters_low ps i p h is).0
-
-    pub default_fits : ParametersFit (map parameter_of (drop i ps)) → ExpressionFits (expression_of e)
-    default_fits f = subst (λ (o : Option Expr). OptionalFits (tree_value o)) some (parameters_fit ps i p h is f).0
-
     pub with_count : with_default (map parameter_of (drop i ps)) ≡ 1 + with_default (map parameter_of (drop (i + 1) ps))
     with_count = ap with_default with_next
 
@@ -215,6 +181,3 @@ module _ (ps : List (RcStr Global × Option Expr)) (i : ℕ) (p : RcStr Global �
 
       pub with_value : (v : Value) → deeper (expr calls (expression_of e)) s ≡ fine v t → and_then (defaults calls (map parameter_of (drop i ps)) s) after_these ≡ and_then (defaults calls (map parameter_of (drop (i + 1) ps)) t) (λ vs. give ((before ++ v ∷ []) ++ vs))
       with_value v g = ap (λ (x : List Parameter). and_then (defaults calls x s) after_these) with_next ∙ defaults_on calls (rc_str_bytes p.0) (expression_of e) (map parameter_of (drop (i + 1) ps)) before s v t g
-
-      pub with_fault : (f : Fault) → Fails f t (deeper (expr calls (expression_of e)) s) → Fails f t (and_then (defaults calls (map parameter_of (drop i ps)) s) after_these)
-      with_fault f g = subst (λ (x : List Parameter). Fails f t (and_then (defaults calls x s) after_these)) (sym with_next) (defaults_fail calls (rc_str_bytes p.0) (expression_of e) (map parameter_of (drop (i + 1) ps)) before s f t g)

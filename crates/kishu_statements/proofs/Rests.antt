@@ -9,8 +9,8 @@ use Rattle.kishu_language.specs.declared.tree.Pair.{Pair}
 use Rattle.kishu_language.specs.declared.tree.Argument.TheFolds.{fold-roll-Pair}
 use Rattle.kishu_language.specs.declared.tree.Argument.TheViews.{roll-Pair}
 use Rattle.kishu_language.specs.trees.Tree.{Expression, Trailer, Argument, expression_of, more_expressions, more_operands, more_links, more_pairs, argument_step, expression_step, trailer_step, link_step, operand_step, pair_step}
-use Rattle.kishu_calls.specs.Rows.{link_at, operand_at}
-use Rattle.kishu_calls.specs.Trees.{expressions_of, operands_of, links_of, pairs_of, pair_of}
+use Rattle.kishu_language.specs.trees.Rows.{link_at, operand_at}
+use Rattle.kishu_language.specs.trees.Parts.{expressions_of, operands_of, links_of, pairs_of, pair_of}
 use Rattle.kishu_items.specs.Gathering.{dropped}
 
 pub expressions_here : (xs : List Expr) (i : ℕ) (x : Expr) → i < length xs → x ≡ get_or xs i x → expressions_of (drop i xs) ≡ more_expressions (expression_of x) (expressions_of (drop (i + 1) xs))

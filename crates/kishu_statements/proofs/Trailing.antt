@@ -10,7 +10,7 @@ use Rattle.kishu_language.specs.trees.Tree.{Expression, Trailer, Trailers, no_tr
 use Rattle.kishu_meaning.specs.values.Values.{Value}
 use Rattle.kishu_calls.specs.declared.parts.Part as rust_part
 use Rattle.kishu_calls.specs.Calls.{OwesReads, Owing, is_sound_part, owed, part_of}
-use Rattle.kishu_calls.specs.Trees.{trailer_of, trailers_of}
+use Rattle.kishu_language.specs.trees.Parts.{trailer_of, trailers_of}
 use Rattle.kishu_machine.specs.declared.fault.Fault.{Fault}
 use Rattle.kishu_machine.specs.declared.machine.Machine.{Machine}
 use Rattle.kishu_machine.specs.Composing.{fails_on, gives_on}

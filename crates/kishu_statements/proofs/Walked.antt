@@ -40,15 +40,9 @@ module _ (calls : Calls) (x : Text) (ps : List Parameter) (body : Statements) (c
     made : act calls (tree.define x ps body code) s ≡ and_then (and_then (new_function code vs s1) (assign x)) (λ _. give onward)
     made = ap (λ (y : Ends (List Value)). and_then y after) h
 
-    pub def_make_fails : (f : Fault) (t : Moment) → Fails f t (make (function s1.profile code vs) s1) → Fails f t (act calls (tree.define x ps body code) s)
-    def_make_fails f t k = subst (λ (y : Ends Flow). Fails f t y) (sym made) (fails_on (λ (_ : Unit {0}). give onward) f t (and_then (new_function code vs s1) (assign x)) (fails_on (assign x) f t (new_function code vs s1) k))
-
     module _ (v : Value) (s2 : Moment) (k : make (function s1.profile code vs) s1 ≡ fine v s2) where
       bound : act calls (tree.define x ps body code) s ≡ and_then (assign x v s2) (λ _. give onward)
       bound = made ∙ ap (λ (y : Ends Value). and_then (and_then y (assign x)) (λ _. give onward)) k
-
-      pub def_assign_fails : (f : Fault) (t : Moment) → Fails f t (assign x v s2) → Fails f t (act calls (tree.define x ps body code) s)
-      def_assign_fails f t j = subst (λ (y : Ends Flow). Fails f t y) (sym bound) (fails_on (λ (_ : Unit {0}). give onward) f t (assign x v s2) j)
 
       pub def_ends : (s3 : Moment) → assign x v s2 ≡ fine tt s3 → act calls (tree.define x ps body code) s ≡ fine onward s3
       def_ends s3 j = bound ∙ ap (λ (y : Ends (Unit {0})). and_then y (λ _. give onward)) j

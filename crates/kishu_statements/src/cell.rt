@@ -1,13 +1,15 @@
 // Cells.
-ghost use Rattle.std.specs.Prelude.{MatchOption, [], length, map, true, ◌<◌, ◌^◌, ◌≡◌};
-ghost use Rattle.kishu_language.specs.trees.Height.{of_statement, of_statements};
+ghost use Rattle.std.specs.Prelude.{MatchOption, [], map, ◌<◌, ◌≡◌};
+ghost use Rattle.kishu_language.specs.trees.Height.{of_statement};
 ghost use Rattle.kishu_meaning.specs.cells.Meaning.{cell, last_act, shown_text};
 ghost use Rattle.kishu_language.specs.trees.Tree.{expression_of, statement_of};
 ghost use Rattle.kishu_meaning.specs.values.Values.{value_of};
-ghost use Rattle.kishu_calls.specs.Trees.{statements_of};
-ghost use Rattle.kishu_language.specs.trees.Fits.{StatementFits, StatementsFit};
+ghost use Rattle.kishu_language.specs.trees.Fits.{StatementFits};
 ghost use Rattle.kishu_statements.specs.Forms.{each, silent_act};
-ghost use Rattle.kishu_machine.specs.Machine.{Gives, GrownBy, HasRoom, HasRoomBy, IsSound, ReadsBy, moment_of, shown_of};
+ghost use Rattle.kishu_machine.specs.Machine.{Gives, GrownBy, HasRoom, HasRoomBy, ReadsBy, moment_of, shown_of};
+ghost use Rattle.kishu_machine.specs.Clauses.{SoundEnd};
+ghost use Rattle.kishu_statements.specs.Handed.{FitBlock, LowBlock};
+ghost use Rattle.kishu_language.specs.Limits.{height_limit};
 ghost use Rattle.kishu_language.specs.trees.Tree as t;
 
 use crate::expressions::evaluate;
@@ -27,7 +29,7 @@ fn shown_value<L: Ledger>(
     steps: &mut Steps<L>,
 ) -> Result<Option<String>, Fault>
     ensures gives { Gives shown_of result (moment_of machine.new) (shown_text (value_of value.now) (moment_of machine.old)) }
-    ensures sound { IsSound (λ _. true) (length machine.new.heap) result }
+    ensures sound { SoundEnd machine.new.heap result }
     ensures kept { GrownBy 0 machine.old steps.old machine.new steps.new }
     ensures reads { ReadsBy 8 machine.old steps.old machine.new steps.new }
 {
@@ -44,11 +46,11 @@ fn run_last_statement<L: Ledger>(
     statement: &Stmt,
     steps: &mut Steps<L>,
 ) -> Result<Option<String>, Fault>
-    requires small { of_statement (statement_of statement.now) < 2 ^ 20 }
+    requires small { of_statement (statement_of statement.now) < height_limit }
     requires fits { StatementFits (statement_of statement.now) }
     requires room { HasRoomBy 4 machine.old }
     ensures gives { Gives shown_of result (moment_of machine.new) (last_act (statement_of statement.now) (moment_of machine.old)) }
-    ensures sound { IsSound (λ _. true) (length machine.new.heap) result }
+    ensures sound { SoundEnd machine.new.heap result }
     ensures kept { GrownBy 3 machine.old steps.old machine.new steps.new }
     ensures reads { ReadsBy 16 machine.old steps.old machine.new steps.new }
 {
@@ -61,7 +63,7 @@ fn run_last_statement<L: Ledger>(
 }
 
 // The expression that a statement is, where it is one.
-#[tactic(auto, using(kishu_calls::specs::StatementRows::statement_rows))]
+#[tactic(auto, using(kishu_language::specs::trees::StatementRows::statement_rows))]
 fn shown_expression(statement: &Stmt) -> Option<&Expr>
     ensures { MatchOption result (last_act (statement_of statement.now) ≡ silent_act (statement_of statement.now)) (λ e. statement_of statement.now ≡ t.assign [] (expression_of e.now)) }
 {
@@ -98,11 +100,11 @@ pub fn run_statements<L: Ledger>(
     statements: &[Stmt],
     steps: &mut Steps<L>,
 ) -> Result<Option<String>, Fault>
-    requires small { of_statements (statements_of statements.now) < 2 ^ 20 }
-    requires fits { StatementsFit (statements_of statements.now) }
+    requires small { LowBlock statements.now }
+    requires fits { FitBlock statements.now }
     requires room { HasRoom machine.old }
     ensures gives { Gives shown_of result (moment_of machine.new) (cell (map statement_of statements.now) (moment_of machine.old)) }
-    ensures sound { IsSound (λ _. true) (length machine.new.heap) result }
+    ensures sound { SoundEnd machine.new.heap result }
     ensures kept { GrownBy 0 machine.old steps.old machine.new steps.new }
     ensures reads { ReadsBy 0 machine.old steps.old machine.new steps.new }
 {
@@ -120,11 +122,11 @@ fn run_each<L: Ledger>(
     statements: &[Stmt],
     steps: &mut Steps<L>,
 ) -> Result<(), Fault>
-    requires small { of_statements (statements_of statements.now) < 2 ^ 20 }
-    requires fits { StatementsFit (statements_of statements.now) }
+    requires small { LowBlock statements.now }
+    requires fits { FitBlock statements.now }
     requires room { HasRoom machine.old }
     ensures gives { Gives (λ u. u) result (moment_of machine.new) (each (map statement_of statements.now) (moment_of machine.old)) }
-    ensures sound { IsSound (λ _. true) (length machine.new.heap) result }
+    ensures sound { SoundEnd machine.new.heap result }
     ensures kept { GrownBy 0 machine.old steps.old machine.new steps.new }
     ensures reads { ReadsBy 0 machine.old steps.old machine.new steps.new }
 {

@@ -1,16 +1,15 @@
 // Displays of lists, dicts and tuples (Python Language Reference 3, "Displays for lists, sets and dictionaries").
-ghost use Rattle.std.specs.Prelude.{IfOk, IsTrue, length, map, [], ◌*◌, ◌+◌, ◌<◌, ◌^◌, ◌≡◌, ◌≤◌};
+ghost use Rattle.std.specs.Prelude.{IfOk, IsTrue, length, map, [], ◌*◌, ◌+◌, ◌≡◌, ◌≤◌};
 ghost use Rattle.std.specs.List.{list_all};
-ghost use Rattle.kishu_language.specs.trees.Height.{of_expressions, of_pairs};
 ghost use Rattle.kishu_meaning.specs.cells.Meaning.{call, expr, inner_values, new_dict, values, with_pairs};
-ghost use Rattle.kishu_meaning.specs.moments.Moment.{tick};
-ghost use Rattle.kishu_meaning.specs.values.Sound.{are_sound, is_sound};
+ghost use Rattle.kishu_meaning.specs.values.Sound.{is_sound};
 ghost use Rattle.kishu_meaning.specs.values.Values.{value_of};
-ghost use Rattle.kishu_calls.specs.Trees.{expressions_of, pairs_of};
+ghost use Rattle.kishu_language.specs.trees.Parts.{expressions_of, pairs_of};
 ghost use Rattle.kishu_heap.specs.Cells.{entries_of};
-ghost use Rattle.kishu_language.specs.trees.Fits.{ExpressionsFit, PairsFit};
 ghost use Rattle.kishu_machine.specs.Lists.{are_sound_pairs, value_pairs};
 ghost use Rattle.kishu_machine.specs.Machine.{Gives, GrownBy, HasRoom, HasRoomBy, IsSound, LeavesReads, ReadsBy, moment_of};
+ghost use Rattle.kishu_machine.specs.Clauses.{SoundValue, SoundValues};
+ghost use Rattle.kishu_statements.specs.Handed.{FitExpressions, FitPairs, LowExpressions, LowPairs};
 ghost use Rattle.kishu_meaning.specs.cells.Meaning as m;
 ghost use Rattle.kishu_language.specs.trees.Tree as t;
 
@@ -30,19 +29,19 @@ use std::sync::ledger::Ledger;
 pub(crate) fn tuple_value<L: Ledger>(
     machine: &mut Machine,
     items: &[Expr],
-    room: u32,
+    calls_left: u32,
     steps: &mut Steps<L>,
 ) -> Result<Value, Fault>
-    requires small_items { of_expressions (expressions_of items.now) < 2 ^ 20 }
-    requires fit_items { ExpressionsFit (expressions_of items.now) }
+    requires small_items { LowExpressions items.now }
+    requires fit_items { FitExpressions items.now }
     requires room { HasRoom machine.old }
-    ensures gives { Gives value_of result (moment_of machine.new) (expr (call room) (t.tuple (expressions_of items.now)) (moment_of machine.old)) }
-    ensures sound { IsSound (λ v. is_sound (length machine.new.heap) (value_of v)) (length machine.new.heap) result }
+    ensures gives { Gives value_of result (moment_of machine.new) (expr (call calls_left) (t.tuple (expressions_of items.now)) (moment_of machine.old)) }
+    ensures sound { SoundValue machine.new.heap result }
     ensures kept { GrownBy 0 machine.old steps.old machine.new steps.new }
     ensures reads { LeavesReads 64 machine.old steps.old result machine.new steps.new }
 {
     tick(machine, steps)?;
-    let values = values_of(machine, items, room, steps)?;
+    let values = values_of(machine, items, calls_left, steps)?;
     new_tuple(machine, values)
 }
 
@@ -51,20 +50,20 @@ pub(crate) fn tuple_value<L: Ledger>(
 fn values_of<L: Ledger>(
     machine: &mut Machine,
     items: &[Expr],
-    room: u32,
+    calls_left: u32,
     steps: &mut Steps<L>,
 ) -> Result<Vec<Value>, Fault>
-    requires small_items { of_expressions (expressions_of items.now) < 2 ^ 20 }
-    requires fit_items { ExpressionsFit (expressions_of items.now) }
+    requires small_items { LowExpressions items.now }
+    requires fit_items { FitExpressions items.now }
     requires room { HasRoom machine.old }
-    ensures gives { Gives (λ v. map value_of v.items) result (moment_of machine.new) (values (call room) (expressions_of items.now) (moment_of machine.old)) }
-    ensures sound { IsSound (λ v. are_sound (length machine.new.heap) (map value_of v.items)) (length machine.new.heap) result }
+    ensures gives { Gives (λ v. map value_of v.items) result (moment_of machine.new) (values (call calls_left) (expressions_of items.now) (moment_of machine.old)) }
+    ensures sound { SoundValues machine.new.heap result }
     ensures kept { GrownBy 0 machine.old steps.old machine.new steps.new }
     ensures reads { ReadsBy 0 machine.old steps.old machine.new steps.new }
 {
     let mut values = Vec::new(machine.alloc);
     for item in items {
-        values.push(evaluate(machine, item, room, steps)?)?;
+        values.push(evaluate(machine, item, calls_left, steps)?)?;
     }
     Ok(values)
 }
@@ -74,19 +73,19 @@ fn values_of<L: Ledger>(
 pub(crate) fn list_value<L: Ledger>(
     machine: &mut Machine,
     items: &[Expr],
-    room: u32,
+    calls_left: u32,
     steps: &mut Steps<L>,
 ) -> Result<Value, Fault>
-    requires small_items { of_expressions (expressions_of items.now) < 2 ^ 20 }
-    requires fit_items { ExpressionsFit (expressions_of items.now) }
+    requires small_items { LowExpressions items.now }
+    requires fit_items { FitExpressions items.now }
     requires room { HasRoom machine.old }
-    ensures gives { Gives value_of result (moment_of machine.new) (expr (call room) (t.list (expressions_of items.now)) (moment_of machine.old)) }
-    ensures sound { IsSound (λ v. is_sound (length machine.new.heap) (value_of v)) (length machine.new.heap) result }
+    ensures gives { Gives value_of result (moment_of machine.new) (expr (call calls_left) (t.list (expressions_of items.now)) (moment_of machine.old)) }
+    ensures sound { SoundValue machine.new.heap result }
     ensures kept { GrownBy 0 machine.old steps.old machine.new steps.new }
     ensures reads { LeavesReads 64 machine.old steps.old result machine.new steps.new }
 {
     tick(machine, steps)?;
-    let values = inner_values(machine, items, room, steps)?;
+    let values = inner_values(machine, items, calls_left, steps)?;
     new_list(machine, values)
 }
 
@@ -96,20 +95,20 @@ pub(crate) fn list_value<L: Ledger>(
 fn inner_values<L: Ledger>(
     machine: &mut Machine,
     items: &[Expr],
-    room: u32,
+    calls_left: u32,
     steps: &mut Steps<L>,
 ) -> Result<Vec<Value>, Fault>
-    requires small_items { of_expressions (expressions_of items.now) < 2 ^ 20 }
-    requires fit_items { ExpressionsFit (expressions_of items.now) }
+    requires small_items { LowExpressions items.now }
+    requires fit_items { FitExpressions items.now }
     requires room { HasRoom machine.old }
-    ensures gives { Gives (λ v. map value_of v.items) result (moment_of machine.new) (inner_values (call room) (expressions_of items.now) (moment_of machine.old)) }
-    ensures sound { IsSound (λ v. are_sound (length machine.new.heap) (map value_of v.items)) (length machine.new.heap) result }
+    ensures gives { Gives (λ v. map value_of v.items) result (moment_of machine.new) (inner_values (call calls_left) (expressions_of items.now) (moment_of machine.old)) }
+    ensures sound { SoundValues machine.new.heap result }
     ensures kept { GrownBy 0 machine.old steps.old machine.new steps.new }
     ensures reads { ReadsBy 0 machine.old steps.old machine.new steps.new }
 {
     let mut values = Vec::new(machine.alloc);
     for item in items {
-        values.push(deeper_value(machine, item, room, steps)?)?;
+        values.push(deeper_value(machine, item, calls_left, steps)?)?;
     }
     Ok(values)
 }
@@ -119,19 +118,19 @@ fn inner_values<L: Ledger>(
 pub(crate) fn dict_value<L: Ledger>(
     machine: &mut Machine,
     pairs: &[Pair],
-    room: u32,
+    calls_left: u32,
     steps: &mut Steps<L>,
 ) -> Result<Value, Fault>
-    requires small { of_pairs (pairs_of pairs.now) < 2 ^ 20 }
-    requires fits { PairsFit (pairs_of pairs.now) }
+    requires small { LowPairs pairs.now }
+    requires fits { FitPairs pairs.now }
     requires room { HasRoom machine.old }
-    ensures gives { Gives value_of result (moment_of machine.new) (expr (call room) (t.dict (pairs_of pairs.now)) (moment_of machine.old)) }
-    ensures sound { IsSound (λ v. is_sound (length machine.new.heap) (value_of v)) (length machine.new.heap) result }
+    ensures gives { Gives value_of result (moment_of machine.new) (expr (call calls_left) (t.dict (pairs_of pairs.now)) (moment_of machine.old)) }
+    ensures sound { SoundValue machine.new.heap result }
     ensures kept { GrownBy 0 machine.old steps.old machine.new steps.new }
     ensures reads { LeavesReads 64 machine.old steps.old result machine.new steps.new }
 {
     tick(machine, steps)?;
-    let entries = pair_values(machine, pairs, room, steps)?;
+    let entries = pair_values(machine, pairs, calls_left, steps)?;
     new_dict(machine, entries, steps)
 }
 
@@ -141,13 +140,13 @@ pub(crate) fn dict_value<L: Ledger>(
 fn pair_values<L: Ledger>(
     machine: &mut Machine,
     pairs: &[Pair],
-    room: u32,
+    calls_left: u32,
     steps: &mut Steps<L>,
 ) -> Result<Vec<(Value, Value)>, Fault>
-    requires small { of_pairs (pairs_of pairs.now) < 2 ^ 20 }
-    requires fits { PairsFit (pairs_of pairs.now) }
+    requires small { LowPairs pairs.now }
+    requires fits { FitPairs pairs.now }
     requires room { HasRoom machine.old }
-    ensures gives { Gives value_pairs result (moment_of machine.new) (m.pairs (call room) (pairs_of pairs.now) (moment_of machine.old)) }
+    ensures gives { Gives value_pairs result (moment_of machine.new) (m.pairs (call calls_left) (pairs_of pairs.now) (moment_of machine.old)) }
     ensures sound { IsSound (λ v. are_sound_pairs (length machine.new.heap) (value_pairs v)) (length machine.new.heap) result }
     ensures kept { GrownBy 0 machine.old steps.old machine.new steps.new }
     ensures reads { ReadsBy 0 machine.old steps.old machine.new steps.new }
@@ -155,8 +154,8 @@ fn pair_values<L: Ledger>(
 {
     let mut entries = Vec::new(machine.alloc);
     for pair in pairs {
-        let key = deeper_value(machine, &pair.key, room, steps)?;
-        let value = deeper_value(machine, &pair.value, room, steps)?;
+        let key = deeper_value(machine, &pair.key, calls_left, steps)?;
+        let value = deeper_value(machine, &pair.value, calls_left, steps)?;
         entries.push((key, value))?;
     }
     Ok(entries)
@@ -172,7 +171,7 @@ fn new_dict<L: Ledger>(
     requires room { HasRoomBy 1 machine.old }
     requires sound_pairs { IsTrue (are_sound_pairs (length machine.old.heap) (value_pairs pairs)) }
     ensures gives { Gives value_of result (moment_of machine.new) (new_dict (value_pairs pairs) (moment_of machine.old)) }
-    ensures sound { IsSound (λ v. is_sound (length machine.new.heap) (value_of v)) (length machine.new.heap) result }
+    ensures sound { SoundValue machine.new.heap result }
     ensures kept { GrownBy 1 machine.old steps.old machine.new steps.new }
     ensures reads { ReadsBy (4 * length pairs.items) machine.old steps.old machine.new steps.new }
 {

@@ -1,16 +1,15 @@
 // Expressions.
-ghost use Rattle.std.specs.Prelude.{IsTrue, length, true, ◌*◌, ◌+◌, ◌<◌, ◌^◌};
+ghost use Rattle.std.specs.Prelude.{◌*◌, ◌+◌};
 ghost use Rattle.std.specs.Rc.{rc_str_bytes};
 ghost use Rattle.std.specs.Str.{chars};
-ghost use Rattle.kishu_language.specs.trees.Height.{of_expression, of_expressions};
 ghost use Rattle.kishu_meaning.specs.cells.Meaning.{call, expr, first_that};
 ghost use Rattle.kishu_meaning.specs.moments.Moment.{deeper, give, read, tick, ◌>>◌ as ◌▹◌};
-ghost use Rattle.kishu_meaning.specs.values.Sound.{is_sound};
 ghost use Rattle.kishu_language.specs.trees.Tree.{expression_of};
 ghost use Rattle.kishu_meaning.specs.values.Values.{value_of};
-ghost use Rattle.kishu_calls.specs.Trees.{expressions_of};
-ghost use Rattle.kishu_language.specs.trees.Fits.{ExpressionFits, ExpressionsFit};
-ghost use Rattle.kishu_machine.specs.Machine.{Gives, GrownBy, HasRoom, IsSound, LeavesReads, moment_of};
+ghost use Rattle.kishu_language.specs.trees.Parts.{expressions_of};
+ghost use Rattle.kishu_machine.specs.Machine.{Gives, GrownBy, HasRoom, LeavesReads, moment_of};
+ghost use Rattle.kishu_machine.specs.Clauses.{IsSoundIn, SoundValue};
+ghost use Rattle.kishu_statements.specs.Handed.{FitExpression, FitExpressions, LowExpression, LowExpressions};
 ghost use Rattle.kishu_language.specs.trees.Tree as t;
 ghost use Rattle.kishu_meaning.specs.values.Values as model;
 
@@ -25,22 +24,22 @@ use kishu_meaning::{Steps, Value};
 use std::rc::RcStr;
 use std::sync::ledger::Ledger;
 
-/// The value of an expression (Python Language Reference 3, "Expressions"). `room` is how many calls
+/// The value of an expression (Python Language Reference 3, "Expressions"). `calls_left` is how many calls
 /// may still be entered.
 #[cycle(run)]
 #[inline(never)]
-#[tactic(auto, using(kishu_calls::specs::Rows::tree_rows))]
+#[tactic(auto, using(kishu_language::specs::trees::Rows::tree_rows))]
 pub(crate) fn evaluate<L: Ledger>(
     machine: &mut Machine,
     e: &Expr,
-    room: u32,
+    calls_left: u32,
     steps: &mut Steps<L>,
 ) -> Result<Value, Fault>
-    requires small_e { of_expression (expression_of e.now) < 2 ^ 20 }
-    requires fit_e { ExpressionFits (expression_of e.now) }
+    requires small_e { LowExpression e.now }
+    requires fit_e { FitExpression e.now }
     requires room { HasRoom machine.old }
-    ensures gives { Gives value_of result (moment_of machine.new) (expr (call room) (expression_of e.now) (moment_of machine.old)) }
-    ensures sound { IsSound (λ v. is_sound (length machine.new.heap) (value_of v)) (length machine.new.heap) result }
+    ensures gives { Gives value_of result (moment_of machine.new) (expr (call calls_left) (expression_of e.now) (moment_of machine.old)) }
+    ensures sound { SoundValue machine.new.heap result }
     ensures kept { GrownBy 0 machine.old steps.old machine.new steps.new }
     ensures reads { LeavesReads 64 machine.old steps.old result machine.new steps.new }
 {
@@ -51,22 +50,24 @@ pub(crate) fn evaluate<L: Ledger>(
         Expr::None => none_value(machine, steps),
         Expr::True => truth_value(machine, true, steps),
         Expr::False => truth_value(machine, false, steps),
-        Expr::Paren(e) => deeper_value(machine, e, room, steps),
-        Expr::Tuple(items) => tuple_value(machine, items, room, steps),
-        Expr::List(items) => list_value(machine, items, room, steps),
-        Expr::Dict(pairs) => dict_value(machine, pairs, room, steps),
+        Expr::Paren(e) => deeper_value(machine, e, calls_left, steps),
+        Expr::Tuple(items) => tuple_value(machine, items, calls_left, steps),
+        Expr::List(items) => list_value(machine, items, calls_left, steps),
+        Expr::Dict(pairs) => dict_value(machine, pairs, calls_left, steps),
         Expr::Conditional { value, test, other } => {
-            chosen_value(machine, value, test, other, room, steps)
+            chosen_value(machine, value, test, other, calls_left, steps)
         }
-        Expr::Or(operands) => deciding_value(machine, true, operands, room, steps),
-        Expr::And(operands) => deciding_value(machine, false, operands, room, steps),
-        Expr::Not(e) => negated_value(machine, e, room, steps),
-        Expr::Signed(sign, e) => value_with_sign(machine, *sign, e, room, steps),
-        Expr::Power(base, exponent) => power_value(machine, base, exponent, room, steps),
-        Expr::Sum(first, operands) => combined_value(machine, first, operands, room, steps),
-        Expr::Product(first, operands) => combined_value(machine, first, operands, room, steps),
-        Expr::Compared(first, links) => compared_value(machine, first, links, room, steps),
-        Expr::Primary(atom, trailers) => primary_value(machine, atom, trailers, room, steps),
+        Expr::Or(operands) => deciding_value(machine, true, operands, calls_left, steps),
+        Expr::And(operands) => deciding_value(machine, false, operands, calls_left, steps),
+        Expr::Not(e) => negated_value(machine, e, calls_left, steps),
+        Expr::Signed(sign, e) => value_with_sign(machine, *sign, e, calls_left, steps),
+        Expr::Power(base, exponent) => power_value(machine, base, exponent, calls_left, steps),
+        Expr::Sum(first, operands) => combined_value(machine, first, operands, calls_left, steps),
+        Expr::Product(first, operands) => combined_value(
+            machine, first, operands, calls_left, steps,
+        ),
+        Expr::Compared(first, links) => compared_value(machine, first, links, calls_left, steps),
+        Expr::Primary(atom, trailers) => primary_value(machine, atom, trailers, calls_left, steps),
     }
 }
 
@@ -77,7 +78,7 @@ fn name_value<L: Ledger>(
     steps: &mut Steps<L>,
 ) -> Result<Value, Fault>
     ensures gives { Gives value_of result (moment_of machine.new) ((tick ▹ read name.now) (moment_of machine.old)) }
-    ensures sound { IsSound (λ v. is_sound (length machine.new.heap) (value_of v)) (length machine.new.heap) result }
+    ensures sound { SoundValue machine.new.heap result }
     ensures kept { GrownBy 0 machine.old steps.old machine.new steps.new }
     ensures reads { LeavesReads 64 machine.old steps.old result machine.new steps.new }
 {
@@ -92,7 +93,7 @@ fn integer<L: Ledger>(
     steps: &mut Steps<L>,
 ) -> Result<Value, Fault>
     ensures gives { Gives value_of result (moment_of machine.new) ((tick ▹ give (model.integer number)) (moment_of machine.old)) }
-    ensures sound { IsSound (λ v. is_sound (length machine.new.heap) (value_of v)) (length machine.new.heap) result }
+    ensures sound { SoundValue machine.new.heap result }
     ensures kept { GrownBy 0 machine.old steps.old machine.new steps.new }
     ensures reads { LeavesReads 64 machine.old steps.old result machine.new steps.new }
 {
@@ -106,7 +107,7 @@ fn truth_value<L: Ledger>(
     steps: &mut Steps<L>,
 ) -> Result<Value, Fault>
     ensures gives { Gives value_of result (moment_of machine.new) ((tick ▹ give (model.bool holds)) (moment_of machine.old)) }
-    ensures sound { IsSound (λ v. is_sound (length machine.new.heap) (value_of v)) (length machine.new.heap) result }
+    ensures sound { SoundValue machine.new.heap result }
     ensures kept { GrownBy 0 machine.old steps.old machine.new steps.new }
     ensures reads { LeavesReads 64 machine.old steps.old result machine.new steps.new }
 {
@@ -116,7 +117,7 @@ fn truth_value<L: Ledger>(
 #[inline(never)]
 fn none_value<L: Ledger>(machine: &mut Machine, steps: &mut Steps<L>) -> Result<Value, Fault>
     ensures gives { Gives value_of result (moment_of machine.new) ((tick ▹ give model.none) (moment_of machine.old)) }
-    ensures sound { IsSound (λ v. is_sound (length machine.new.heap) (value_of v)) (length machine.new.heap) result }
+    ensures sound { SoundValue machine.new.heap result }
     ensures kept { GrownBy 0 machine.old steps.old machine.new steps.new }
     ensures reads { LeavesReads 64 machine.old steps.old result machine.new steps.new }
 {
@@ -128,9 +129,9 @@ fn constant<L: Ledger>(
     value: Value,
     steps: &mut Steps<L>,
 ) -> Result<Value, Fault>
-    requires sound_value { IsTrue (is_sound (length machine.old.heap) (value_of value)) }
+    requires sound_value { IsSoundIn machine.old.heap value }
     ensures gives { Gives value_of result (moment_of machine.new) ((tick ▹ give (value_of value)) (moment_of machine.old)) }
-    ensures sound { IsSound (λ v. is_sound (length machine.new.heap) (value_of v)) (length machine.new.heap) result }
+    ensures sound { SoundValue machine.new.heap result }
     ensures kept { GrownBy 0 machine.old steps.old machine.new steps.new }
     ensures reads { LeavesReads 64 machine.old steps.old result machine.new steps.new }
 {
@@ -145,7 +146,7 @@ fn text_value<L: Ledger>(
     steps: &mut Steps<L>,
 ) -> Result<Value, Fault>
     ensures gives { Gives value_of result (moment_of machine.new) ((tick ▹ give (model.text (chars (rc_str_bytes text.now)))) (moment_of machine.old)) }
-    ensures sound { IsSound (λ v. is_sound (length machine.new.heap) (value_of v)) (length machine.new.heap) result }
+    ensures sound { SoundValue machine.new.heap result }
     ensures kept { GrownBy 0 machine.old steps.old machine.new steps.new }
     ensures reads { LeavesReads 64 machine.old steps.old result machine.new steps.new }
 {
@@ -159,14 +160,14 @@ fn text_value<L: Ledger>(
 pub(crate) fn deeper_value<L: Ledger>(
     machine: &mut Machine,
     e: &Expr,
-    room: u32,
+    calls_left: u32,
     steps: &mut Steps<L>,
 ) -> Result<Value, Fault>
-    requires small_e { of_expression (expression_of e.now) < 2 ^ 20 }
-    requires fit_e { ExpressionFits (expression_of e.now) }
+    requires small_e { LowExpression e.now }
+    requires fit_e { FitExpression e.now }
     requires room { HasRoom machine.old }
-    ensures gives { Gives value_of result (moment_of machine.new) (deeper (expr (call room) (expression_of e.now)) (moment_of machine.old)) }
-    ensures sound { IsSound (λ v. is_sound (length machine.new.heap) (value_of v)) (length machine.new.heap) result }
+    ensures gives { Gives value_of result (moment_of machine.new) (deeper (expr (call calls_left) (expression_of e.now)) (moment_of machine.old)) }
+    ensures sound { SoundValue machine.new.heap result }
     ensures kept { GrownBy 0 machine.old steps.old machine.new steps.new }
     ensures reads { LeavesReads 64 machine.old steps.old result machine.new steps.new }
 {
@@ -175,7 +176,7 @@ pub(crate) fn deeper_value<L: Ledger>(
         return too_deep(machine.alloc);
     }
     machine.budget.depth = depth + 1;
-    let result = evaluate(machine, e, room, steps);
+    let result = evaluate(machine, e, calls_left, steps);
     machine.budget.depth = depth;
     result
 }
@@ -189,30 +190,30 @@ fn chosen_value<L: Ledger>(
     value: &Expr,
     test: &Expr,
     other: &Expr,
-    room: u32,
+    calls_left: u32,
     steps: &mut Steps<L>,
 ) -> Result<Value, Fault>
-    requires small_value { of_expression (expression_of value.now) < 2 ^ 20 }
-    requires fit_value { ExpressionFits (expression_of value.now) }
-    requires small_test { of_expression (expression_of test.now) < 2 ^ 20 }
-    requires fit_test { ExpressionFits (expression_of test.now) }
-    requires small_other { of_expression (expression_of other.now) < 2 ^ 20 }
-    requires fit_other { ExpressionFits (expression_of other.now) }
+    requires small_value { LowExpression value.now }
+    requires fit_value { FitExpression value.now }
+    requires small_test { LowExpression test.now }
+    requires fit_test { FitExpression test.now }
+    requires small_other { LowExpression other.now }
+    requires fit_other { FitExpression other.now }
     requires room { HasRoom machine.old }
-    ensures gives { Gives value_of result (moment_of machine.new) (expr (call room) (t.conditional (expression_of value.now) (expression_of test.now) (expression_of other.now)) (moment_of machine.old)) }
-    ensures sound { IsSound (λ v. is_sound (length machine.new.heap) (value_of v)) (length machine.new.heap) result }
+    ensures gives { Gives value_of result (moment_of machine.new) (expr (call calls_left) (t.conditional (expression_of value.now) (expression_of test.now) (expression_of other.now)) (moment_of machine.old)) }
+    ensures sound { SoundValue machine.new.heap result }
     ensures kept { GrownBy 0 machine.old steps.old machine.new steps.new }
     ensures reads { LeavesReads 64 machine.old steps.old result machine.new steps.new }
 {
     tick(machine, steps)?;
-    let decision = match evaluate(machine, test, room, steps) {
+    let decision = match evaluate(machine, test, calls_left, steps) {
         Ok(decision) => decision,
         Err(fault) => return Err(fault),
     };
     if truth(machine, &decision, steps) {
-        return evaluate(machine, value, room, steps);
+        return evaluate(machine, value, calls_left, steps);
     }
-    deeper_value(machine, other, room, steps)
+    deeper_value(machine, other, calls_left, steps)
 }
 
 // The operand that decides: the first of this truth, or the last.
@@ -222,20 +223,20 @@ fn deciding_value<L: Ledger>(
     machine: &mut Machine,
     which: bool,
     operands: &[Expr],
-    room: u32,
+    calls_left: u32,
     steps: &mut Steps<L>,
 ) -> Result<Value, Fault>
-    requires small_operands { of_expressions (expressions_of operands.now) < 2 ^ 20 }
-    requires fit_operands { ExpressionsFit (expressions_of operands.now) }
+    requires small_operands { LowExpressions operands.now }
+    requires fit_operands { FitExpressions operands.now }
     requires room { HasRoom machine.old }
-    ensures gives { Gives value_of result (moment_of machine.new) ((tick ▹ first_that (call room) which (expressions_of operands.now)) (moment_of machine.old)) }
-    ensures sound { IsSound (λ v. is_sound (length machine.new.heap) (value_of v)) (length machine.new.heap) result }
+    ensures gives { Gives value_of result (moment_of machine.new) ((tick ▹ first_that (call calls_left) which (expressions_of operands.now)) (moment_of machine.old)) }
+    ensures sound { SoundValue machine.new.heap result }
     ensures kept { GrownBy 0 machine.old steps.old machine.new steps.new }
     ensures reads { LeavesReads 64 machine.old steps.old result machine.new steps.new }
 {
     tick(machine, steps)?;
     for i in 0..operands.len() {
-        let value = match evaluate(machine, &operands[i], room, steps) {
+        let value = match evaluate(machine, &operands[i], calls_left, steps) {
             Ok(value) => value,
             Err(fault) => return Err(fault),
         };

@@ -1,17 +1,17 @@
 // Attributes, subscripts, slices and calls behind a value (Python Language Reference 3, "Primaries").
-ghost use Rattle.std.specs.Prelude.{IsTrue, OnOk, length, true, ◌*◌, ◌+◌, ◌<◌, ◌^◌, ◌≡◌};
-ghost use Rattle.kishu_language.specs.trees.Height.{of_arguments, of_bound, of_expression, of_trailers};
-ghost use Rattle.kishu_meaning.specs.cells.Meaning.{apply, bound_value, call, expr, nodes, part};
-ghost use Rattle.kishu_meaning.specs.moments.Moment.{deeper, give, tick, ◌>>=◌ as ◌⊳◌, ◌>>◌ as ◌▹◌};
+ghost use Rattle.std.specs.Prelude.{IsTrue, OnOk, length, ◌*◌, ◌+◌, ◌≡◌};
+ghost use Rattle.kishu_meaning.specs.cells.Meaning.{bound_value, call, expr, nodes, part};
+ghost use Rattle.kishu_meaning.specs.moments.Moment.{deeper, give, ◌>>=◌ as ◌⊳◌, ◌>>◌ as ◌▹◌};
 ghost use Rattle.kishu_language.specs.grammar.Refusals.{all_differ};
-ghost use Rattle.kishu_meaning.specs.values.Sound.{is_sound};
 ghost use Rattle.kishu_language.specs.trees.Tree.{expression_of, value_of as tree_value};
 ghost use Rattle.kishu_meaning.specs.values.Values.{value_of};
-ghost use Rattle.kishu_calls.specs.Calls.{OwesReads, Owing, is_sound_part, owed, part_of};
-ghost use Rattle.kishu_calls.specs.Trees.{arguments_of, trailers_of};
-ghost use Rattle.kishu_language.specs.trees.Fits.{ArgumentsFit, BoundFits, ExpressionFits, TrailersFit, keywords};
+ghost use Rattle.kishu_calls.specs.Calls.{OwesReads, Owing, owed, part_of, SoundPart, IsSoundPart};
+ghost use Rattle.kishu_language.specs.trees.Parts.{arguments_of, trailers_of};
+ghost use Rattle.kishu_language.specs.trees.Fits.{keywords};
 ghost use Rattle.kishu_statements.specs.Forms.{LeavesPart, slice_part};
-ghost use Rattle.kishu_machine.specs.Machine.{Gives, GrownBy, HasRoom, HasRoomBy, IsSound, LeavesReads, ReadsBy, moment_of};
+ghost use Rattle.kishu_machine.specs.Machine.{Gives, GrownBy, HasRoom, HasRoomBy, LeavesReads, ReadsBy, moment_of};
+ghost use Rattle.kishu_machine.specs.Clauses.{IsSoundIn, SoundEnd, SoundValue};
+ghost use Rattle.kishu_statements.specs.Handed.{FitArguments, FitBound, FitExpression, FitTrailers, LowArguments, LowBound, LowExpression, LowTrailers};
 ghost use Rattle.kishu_meaning.specs.calls.Callees as c;
 ghost use Rattle.kishu_meaning.specs.cells.Meaning as m;
 ghost use Rattle.kishu_language.specs.trees.Tree as t;
@@ -34,7 +34,7 @@ fn take_nodes<L: Ledger>(
     steps: &mut Steps<L>,
 ) -> Result<(), Fault>
     ensures gives { Gives (λ u. u) result (moment_of machine.new) (nodes (trailers_of trailers.now) (moment_of machine.old)) }
-    ensures sound { IsSound (λ _. true) (length machine.new.heap) result }
+    ensures sound { SoundEnd machine.new.heap result }
     ensures kept { GrownBy 0 machine.old steps.old machine.new steps.new }
     ensures counted { steps.new + machine.new.budget.left ≡ steps.old + machine.old.budget.left }
     ensures taken { OnOk result (machine.new.budget.left + length trailers.now ≡ machine.old.budget.left) }
@@ -53,21 +53,21 @@ pub(crate) fn primary_value<L: Ledger>(
     machine: &mut Machine,
     atom: &Expr,
     trailers: &[Trailer],
-    room: u32,
+    calls_left: u32,
     steps: &mut Steps<L>,
 ) -> Result<Value, Fault>
-    requires small_atom { of_expression (expression_of atom.now) < 2 ^ 20 }
-    requires fit_atom { ExpressionFits (expression_of atom.now) }
-    requires small_trailers { of_trailers (trailers_of trailers.now) < 2 ^ 20 }
-    requires fit_trailers { TrailersFit (trailers_of trailers.now) }
+    requires small_atom { LowExpression atom.now }
+    requires fit_atom { FitExpression atom.now }
+    requires small_trailers { LowTrailers trailers.now }
+    requires fit_trailers { FitTrailers trailers.now }
     requires room { HasRoom machine.old }
-    ensures gives { Gives value_of result (moment_of machine.new) (expr (call room) (t.primary (expression_of atom.now) (trailers_of trailers.now)) (moment_of machine.old)) }
-    ensures sound { IsSound (λ v. is_sound (length machine.new.heap) (value_of v)) (length machine.new.heap) result }
+    ensures gives { Gives value_of result (moment_of machine.new) (expr (call calls_left) (t.primary (expression_of atom.now) (trailers_of trailers.now)) (moment_of machine.old)) }
+    ensures sound { SoundValue machine.new.heap result }
     ensures kept { GrownBy 0 machine.old steps.old machine.new steps.new }
     ensures reads { LeavesReads 64 machine.old steps.old result machine.new steps.new }
 {
     take_nodes(machine, trailers, steps)?;
-    match part_behind(machine, atom, trailers, room, steps) {
+    match part_behind(machine, atom, trailers, calls_left, steps) {
         Ok(part) => settled(machine, part, steps),
         Err(fault) => Err(fault),
     }
@@ -79,56 +79,58 @@ fn primary_part<L: Ledger>(
     machine: &mut Machine,
     atom: &Expr,
     trailers: &[Trailer],
-    room: u32,
+    calls_left: u32,
     steps: &mut Steps<L>,
 ) -> Result<Part, Fault>
-    requires small_atom { of_expression (expression_of atom.now) < 2 ^ 20 }
-    requires fit_atom { ExpressionFits (expression_of atom.now) }
-    requires small_trailers { of_trailers (trailers_of trailers.now) < 2 ^ 20 }
-    requires fit_trailers { TrailersFit (trailers_of trailers.now) }
+    requires small_atom { LowExpression atom.now }
+    requires fit_atom { FitExpression atom.now }
+    requires small_trailers { LowTrailers trailers.now }
+    requires fit_trailers { FitTrailers trailers.now }
     requires room { HasRoom machine.old }
-    ensures gives { Gives part_of result (moment_of machine.new) ((nodes (trailers_of trailers.now) ▹ part (call room) (expression_of atom.now) (expr (call room) (expression_of atom.now)) ⊳ λ p. m.trailers (call room) p (trailers_of trailers.now)) (moment_of machine.old)) }
-    ensures sound { IsSound (λ v. is_sound_part (length machine.new.heap) (part_of v)) (length machine.new.heap) result }
+    ensures gives { Gives part_of result (moment_of machine.new) ((nodes (trailers_of trailers.now) ▹ part (call calls_left) (expression_of atom.now) (expr (call calls_left) (expression_of atom.now)) ⊳ λ p. m.trailers (call calls_left) p (trailers_of trailers.now)) (moment_of machine.old)) }
+    ensures sound { SoundPart machine.new.heap result }
     ensures kept { GrownBy 0 machine.old steps.old machine.new steps.new }
     ensures reads { LeavesPart 0 machine.old steps.old result machine.new steps.new }
     ensures owes { Owing 0 machine.old result machine.new }
 {
     take_nodes(machine, trailers, steps)?;
-    part_behind(machine, atom, trailers, room, steps)
+    part_behind(machine, atom, trailers, calls_left, steps)
 }
 
 /// What the trailers behind an atom make of it, whose steps were taken.
 #[cycle(run)]
 #[inline(never)]
-#[tactic(auto, using(kishu_calls::specs::Rows::tree_rows))]
+#[tactic(auto, using(kishu_language::specs::trees::Rows::tree_rows))]
 pub(crate) fn part_behind<L: Ledger>(
     machine: &mut Machine,
     atom: &Expr,
     trailers: &[Trailer],
-    room: u32,
+    calls_left: u32,
     steps: &mut Steps<L>,
 ) -> Result<Part, Fault>
-    requires small_atom { of_expression (expression_of atom.now) < 2 ^ 20 }
-    requires fit_atom { ExpressionFits (expression_of atom.now) }
-    requires small_trailers { of_trailers (trailers_of trailers.now) < 2 ^ 20 }
-    requires fit_trailers { TrailersFit (trailers_of trailers.now) }
+    requires small_atom { LowExpression atom.now }
+    requires fit_atom { FitExpression atom.now }
+    requires small_trailers { LowTrailers trailers.now }
+    requires fit_trailers { FitTrailers trailers.now }
     requires room { HasRoomBy (length trailers.now) machine.old }
-    ensures gives { Gives part_of result (moment_of machine.new) ((part (call room) (expression_of atom.now) (expr (call room) (expression_of atom.now)) ⊳ λ p. m.trailers (call room) p (trailers_of trailers.now)) (moment_of machine.old)) }
-    ensures sound { IsSound (λ v. is_sound_part (length machine.new.heap) (part_of v)) (length machine.new.heap) result }
+    ensures gives { Gives part_of result (moment_of machine.new) ((part (call calls_left) (expression_of atom.now) (expr (call calls_left) (expression_of atom.now)) ⊳ λ p. m.trailers (call calls_left) p (trailers_of trailers.now)) (moment_of machine.old)) }
+    ensures sound { SoundPart machine.new.heap result }
     ensures kept { GrownBy (length trailers.now) machine.old steps.old machine.new steps.new }
     ensures reads { LeavesPart (120 * length trailers.now) machine.old steps.old result machine.new steps.new }
     ensures owes { Owing (length trailers.now) machine.old result machine.new }
 {
-    let mut found = part(machine, atom, room, steps);
+    let mut found = part(machine, atom, calls_left, steps);
     for trailer in trailers {
         match found {
             Ok(part) => {
                 found = match trailer {
                     Trailer::Attribute(name) => dotted_part(machine, part, name, steps),
-                    Trailer::Call(arguments) => called_part(machine, part, arguments, room, steps),
-                    Trailer::Index(index) => item_part(machine, part, index, room, steps),
+                    Trailer::Call(arguments) => called_part(
+                        machine, part, arguments, calls_left, steps,
+                    ),
+                    Trailer::Index(index) => item_part(machine, part, index, calls_left, steps),
                     Trailer::Slice { start, stop, step } => {
-                        sliced_part(machine, part, start, stop, step, room, steps)
+                        sliced_part(machine, part, start, stop, step, calls_left, steps)
                     }
                 }
             }
@@ -141,43 +143,43 @@ pub(crate) fn part_behind<L: Ledger>(
 /// A primary, in parentheses too, may be what a call or a walk asks for; all else is its value.
 #[cycle(run)]
 #[inline(never)]
-#[tactic(auto, using(kishu_calls::specs::Rows::tree_rows))]
+#[tactic(auto, using(kishu_language::specs::trees::Rows::tree_rows))]
 pub(crate) fn part<L: Ledger>(
     machine: &mut Machine,
     e: &Expr,
-    room: u32,
+    calls_left: u32,
     steps: &mut Steps<L>,
 ) -> Result<Part, Fault>
-    requires small_e { of_expression (expression_of e.now) < 2 ^ 20 }
-    requires fit_e { ExpressionFits (expression_of e.now) }
+    requires small_e { LowExpression e.now }
+    requires fit_e { FitExpression e.now }
     requires room { HasRoom machine.old }
-    ensures gives { Gives part_of result (moment_of machine.new) (part (call room) (expression_of e.now) (expr (call room) (expression_of e.now)) (moment_of machine.old)) }
-    ensures sound { IsSound (λ v. is_sound_part (length machine.new.heap) (part_of v)) (length machine.new.heap) result }
+    ensures gives { Gives part_of result (moment_of machine.new) (part (call calls_left) (expression_of e.now) (expr (call calls_left) (expression_of e.now)) (moment_of machine.old)) }
+    ensures sound { SoundPart machine.new.heap result }
     ensures kept { GrownBy 0 machine.old steps.old machine.new steps.new }
     ensures reads { LeavesPart 0 machine.old steps.old result machine.new steps.new }
     ensures owes { Owing 0 machine.old result machine.new }
 {
     match e {
-        Expr::Paren(inner) => deeper_part(machine, inner, room, steps),
-        Expr::Primary(atom, trailers) => primary_part(machine, atom, trailers, room, steps),
-        Expr::Name(_) => whole_part(machine, e, room, steps),
-        Expr::Int(_) => whole_part(machine, e, room, steps),
-        Expr::Text(_) => whole_part(machine, e, room, steps),
-        Expr::None => whole_part(machine, e, room, steps),
-        Expr::True => whole_part(machine, e, room, steps),
-        Expr::False => whole_part(machine, e, room, steps),
-        Expr::Tuple(_) => whole_part(machine, e, room, steps),
-        Expr::List(_) => whole_part(machine, e, room, steps),
-        Expr::Dict(_) => whole_part(machine, e, room, steps),
-        Expr::Conditional { .. } => whole_part(machine, e, room, steps),
-        Expr::Or(_) => whole_part(machine, e, room, steps),
-        Expr::And(_) => whole_part(machine, e, room, steps),
-        Expr::Not(_) => whole_part(machine, e, room, steps),
-        Expr::Signed(_, _) => whole_part(machine, e, room, steps),
-        Expr::Power(_, _) => whole_part(machine, e, room, steps),
-        Expr::Sum(_, _) => whole_part(machine, e, room, steps),
-        Expr::Product(_, _) => whole_part(machine, e, room, steps),
-        Expr::Compared(_, _) => whole_part(machine, e, room, steps),
+        Expr::Paren(inner) => deeper_part(machine, inner, calls_left, steps),
+        Expr::Primary(atom, trailers) => primary_part(machine, atom, trailers, calls_left, steps),
+        Expr::Name(_) => whole_part(machine, e, calls_left, steps),
+        Expr::Int(_) => whole_part(machine, e, calls_left, steps),
+        Expr::Text(_) => whole_part(machine, e, calls_left, steps),
+        Expr::None => whole_part(machine, e, calls_left, steps),
+        Expr::True => whole_part(machine, e, calls_left, steps),
+        Expr::False => whole_part(machine, e, calls_left, steps),
+        Expr::Tuple(_) => whole_part(machine, e, calls_left, steps),
+        Expr::List(_) => whole_part(machine, e, calls_left, steps),
+        Expr::Dict(_) => whole_part(machine, e, calls_left, steps),
+        Expr::Conditional { .. } => whole_part(machine, e, calls_left, steps),
+        Expr::Or(_) => whole_part(machine, e, calls_left, steps),
+        Expr::And(_) => whole_part(machine, e, calls_left, steps),
+        Expr::Not(_) => whole_part(machine, e, calls_left, steps),
+        Expr::Signed(_, _) => whole_part(machine, e, calls_left, steps),
+        Expr::Power(_, _) => whole_part(machine, e, calls_left, steps),
+        Expr::Sum(_, _) => whole_part(machine, e, calls_left, steps),
+        Expr::Product(_, _) => whole_part(machine, e, calls_left, steps),
+        Expr::Compared(_, _) => whole_part(machine, e, calls_left, steps),
     }
 }
 
@@ -186,19 +188,19 @@ pub(crate) fn part<L: Ledger>(
 fn whole_part<L: Ledger>(
     machine: &mut Machine,
     e: &Expr,
-    room: u32,
+    calls_left: u32,
     steps: &mut Steps<L>,
 ) -> Result<Part, Fault>
-    requires small_e { of_expression (expression_of e.now) < 2 ^ 20 }
-    requires fit_e { ExpressionFits (expression_of e.now) }
+    requires small_e { LowExpression e.now }
+    requires fit_e { FitExpression e.now }
     requires room { HasRoom machine.old }
-    ensures gives { Gives part_of result (moment_of machine.new) ((expr (call room) (expression_of e.now) ⊳ λ v. give (c.whole v)) (moment_of machine.old)) }
-    ensures sound { IsSound (λ v. is_sound_part (length machine.new.heap) (part_of v)) (length machine.new.heap) result }
+    ensures gives { Gives part_of result (moment_of machine.new) ((expr (call calls_left) (expression_of e.now) ⊳ λ v. give (c.whole v)) (moment_of machine.old)) }
+    ensures sound { SoundPart machine.new.heap result }
     ensures kept { GrownBy 0 machine.old steps.old machine.new steps.new }
     ensures reads { LeavesPart 0 machine.old steps.old result machine.new steps.new }
     ensures owes { Owing 0 machine.old result machine.new }
 {
-    Ok(Part::Whole(evaluate(machine, e, room, steps)?))
+    Ok(Part::Whole(evaluate(machine, e, calls_left, steps)?))
 }
 
 #[cycle(run)]
@@ -206,14 +208,14 @@ fn whole_part<L: Ledger>(
 fn deeper_part<L: Ledger>(
     machine: &mut Machine,
     e: &Expr,
-    room: u32,
+    calls_left: u32,
     steps: &mut Steps<L>,
 ) -> Result<Part, Fault>
-    requires small_e { of_expression (expression_of e.now) < 2 ^ 20 }
-    requires fit_e { ExpressionFits (expression_of e.now) }
+    requires small_e { LowExpression e.now }
+    requires fit_e { FitExpression e.now }
     requires room { HasRoom machine.old }
-    ensures gives { Gives part_of result (moment_of machine.new) (deeper (part (call room) (expression_of e.now) (expr (call room) (expression_of e.now))) (moment_of machine.old)) }
-    ensures sound { IsSound (λ v. is_sound_part (length machine.new.heap) (part_of v)) (length machine.new.heap) result }
+    ensures gives { Gives part_of result (moment_of machine.new) (deeper (part (call calls_left) (expression_of e.now) (expr (call calls_left) (expression_of e.now))) (moment_of machine.old)) }
+    ensures sound { SoundPart machine.new.heap result }
     ensures kept { GrownBy 0 machine.old steps.old machine.new steps.new }
     ensures reads { LeavesPart 0 machine.old steps.old result machine.new steps.new }
     ensures owes { Owing 0 machine.old result machine.new }
@@ -223,7 +225,7 @@ fn deeper_part<L: Ledger>(
         return too_deep(machine.alloc);
     }
     machine.budget.depth = depth + 1;
-    let result = part(machine, e, room, steps);
+    let result = part(machine, e, calls_left, steps);
     machine.budget.depth = depth;
     result
 }
@@ -236,19 +238,19 @@ fn sliced_part<L: Ledger>(
     start: &Option<Expr>,
     stop: &Option<Expr>,
     step: &Option<Expr>,
-    room: u32,
+    calls_left: u32,
     steps: &mut Steps<L>,
 ) -> Result<Part, Fault>
-    requires sound_part { IsTrue (is_sound_part (length machine.old.heap) (part_of part)) }
-    requires small_start { of_bound (t.bound_of (tree_value start.now)) < 2 ^ 20 }
-    requires fit_start { BoundFits (t.bound_of (tree_value start.now)) }
-    requires small_stop { of_bound (t.bound_of (tree_value stop.now)) < 2 ^ 20 }
-    requires fit_stop { BoundFits (t.bound_of (tree_value stop.now)) }
-    requires small_step { of_bound (t.bound_of (tree_value step.now)) < 2 ^ 20 }
-    requires fit_step { BoundFits (t.bound_of (tree_value step.now)) }
+    requires sound_part { IsSoundPart machine.old.heap part }
+    requires small_start { LowBound start.now }
+    requires fit_start { FitBound start.now }
+    requires small_stop { LowBound stop.now }
+    requires fit_stop { FitBound stop.now }
+    requires small_step { LowBound step.now }
+    requires fit_step { FitBound step.now }
     requires room { HasRoomBy (1 + owed (part_of part)) machine.old }
-    ensures gives { Gives part_of result (moment_of machine.new) ((c.settled (part_of part) ⊳ λ v. slice_part (call room) v (t.bound_of (tree_value start.now)) (t.bound_of (tree_value stop.now)) (t.bound_of (tree_value step.now))) (moment_of machine.old)) }
-    ensures sound { IsSound (λ v. is_sound_part (length machine.new.heap) (part_of v)) (length machine.new.heap) result }
+    ensures gives { Gives part_of result (moment_of machine.new) ((c.settled (part_of part) ⊳ λ v. slice_part (call calls_left) v (t.bound_of (tree_value start.now)) (t.bound_of (tree_value stop.now)) (t.bound_of (tree_value step.now))) (moment_of machine.old)) }
+    ensures sound { SoundPart machine.new.heap result }
     ensures kept { GrownBy (1 + owed (part_of part)) machine.old steps.old machine.new steps.new }
     ensures reads { OwesReads (16 + 8 * owed (part_of part)) machine.old steps.old result machine.new steps.new }
     ensures owes { Owing (1 + owed (part_of part)) machine.old result machine.new }
@@ -257,7 +259,7 @@ fn sliced_part<L: Ledger>(
         Ok(value) => value,
         Err(fault) => return Err(fault),
     };
-    slice_part(machine, &value, start, stop, step, room, steps)
+    slice_part(machine, &value, start, stop, step, calls_left, steps)
 }
 
 // A callee, or a method, is found before the arguments are evaluated.
@@ -267,16 +269,16 @@ fn called_part<L: Ledger>(
     machine: &mut Machine,
     part: Part,
     arguments: &[Argument],
-    room: u32,
+    calls_left: u32,
     steps: &mut Steps<L>,
 ) -> Result<Part, Fault>
-    requires sound_part { IsTrue (is_sound_part (length machine.old.heap) (part_of part)) }
-    requires small { of_arguments (arguments_of arguments.now) < 2 ^ 20 }
-    requires fits { ArgumentsFit (arguments_of arguments.now) }
+    requires sound_part { IsSoundPart machine.old.heap part }
+    requires small { LowArguments arguments.now }
+    requires fits { FitArguments arguments.now }
     requires differ { IsTrue (all_differ (keywords (arguments_of arguments.now))) }
     requires room { HasRoomBy (1 + owed (part_of part)) machine.old }
-    ensures gives { Gives part_of result (moment_of machine.new) (m.trailer (call room) (part_of part) (t.call (arguments_of arguments.now)) (moment_of machine.old)) }
-    ensures sound { IsSound (λ v. is_sound_part (length machine.new.heap) (part_of v)) (length machine.new.heap) result }
+    ensures gives { Gives part_of result (moment_of machine.new) (m.trailer (call calls_left) (part_of part) (t.call (arguments_of arguments.now)) (moment_of machine.old)) }
+    ensures sound { SoundPart machine.new.heap result }
     ensures kept { GrownBy (1 + owed (part_of part)) machine.old steps.old machine.new steps.new }
     ensures reads { OwesReads 104 machine.old steps.old result machine.new steps.new }
     ensures owes { Owing (1 + owed (part_of part)) machine.old result machine.new }
@@ -285,8 +287,8 @@ fn called_part<L: Ledger>(
         Ok(found) => found,
         Err(fault) => return Err(fault),
     };
-    match arguments_given(machine, arguments, room, steps) {
-        Ok(given) => apply(machine, found, given, room, steps),
+    match arguments_given(machine, arguments, calls_left, steps) {
+        Ok(given) => apply(machine, found, given, calls_left, steps),
         Err(fault) => Err(fault),
     }
 }
@@ -297,15 +299,15 @@ fn item_part<L: Ledger>(
     machine: &mut Machine,
     part: Part,
     index: &Expr,
-    room: u32,
+    calls_left: u32,
     steps: &mut Steps<L>,
 ) -> Result<Part, Fault>
-    requires sound_part { IsTrue (is_sound_part (length machine.old.heap) (part_of part)) }
-    requires small_index { of_expression (expression_of index.now) < 2 ^ 20 }
-    requires fit_index { ExpressionFits (expression_of index.now) }
+    requires sound_part { IsSoundPart machine.old.heap part }
+    requires small_index { LowExpression index.now }
+    requires fit_index { FitExpression index.now }
     requires room { HasRoomBy (1 + owed (part_of part)) machine.old }
-    ensures gives { Gives part_of result (moment_of machine.new) (m.trailer (call room) (part_of part) (t.index (expression_of index.now)) (moment_of machine.old)) }
-    ensures sound { IsSound (λ v. is_sound_part (length machine.new.heap) (part_of v)) (length machine.new.heap) result }
+    ensures gives { Gives part_of result (moment_of machine.new) (m.trailer (call calls_left) (part_of part) (t.index (expression_of index.now)) (moment_of machine.old)) }
+    ensures sound { SoundPart machine.new.heap result }
     ensures kept { GrownBy (1 + owed (part_of part)) machine.old steps.old machine.new steps.new }
     ensures reads { OwesReads (16 + 8 * owed (part_of part)) machine.old steps.old result machine.new steps.new }
     ensures owes { Owing (1 + owed (part_of part)) machine.old result machine.new }
@@ -314,7 +316,7 @@ fn item_part<L: Ledger>(
         Ok(value) => value,
         Err(fault) => return Err(fault),
     };
-    match deeper_value(machine, index, room, steps) {
+    match deeper_value(machine, index, calls_left, steps) {
         Ok(index) => match item(machine, &value, &index, steps) {
             Ok(found) => Ok(Part::Whole(found)),
             Err(fault) => Err(fault),
@@ -329,19 +331,19 @@ fn item_part<L: Ledger>(
 fn bound_value<L: Ledger>(
     machine: &mut Machine,
     bound: &Option<Expr>,
-    room: u32,
+    calls_left: u32,
     steps: &mut Steps<L>,
 ) -> Result<Value, Fault>
-    requires small { of_bound (t.bound_of (tree_value bound.now)) < 2 ^ 20 }
-    requires fits { BoundFits (t.bound_of (tree_value bound.now)) }
+    requires small { LowBound bound.now }
+    requires fits { FitBound bound.now }
     requires room { HasRoom machine.old }
-    ensures gives { Gives value_of result (moment_of machine.new) (bound_value (call room) (t.bound_of (tree_value bound.now)) (moment_of machine.old)) }
-    ensures sound { IsSound (λ v. is_sound (length machine.new.heap) (value_of v)) (length machine.new.heap) result }
+    ensures gives { Gives value_of result (moment_of machine.new) (bound_value (call calls_left) (t.bound_of (tree_value bound.now)) (moment_of machine.old)) }
+    ensures sound { SoundValue machine.new.heap result }
     ensures kept { GrownBy 0 machine.old steps.old machine.new steps.new }
     ensures reads { ReadsBy 0 machine.old steps.old machine.new steps.new }
 {
     match bound {
-        Some(e) => deeper_value(machine, e, room, steps),
+        Some(e) => deeper_value(machine, e, calls_left, steps),
         None => Ok(Value::None),
     }
 }
@@ -354,32 +356,32 @@ fn slice_part<L: Ledger>(
     start: &Option<Expr>,
     stop: &Option<Expr>,
     step: &Option<Expr>,
-    room: u32,
+    calls_left: u32,
     steps: &mut Steps<L>,
 ) -> Result<Part, Fault>
-    requires sound_value { IsTrue (is_sound (length machine.old.heap) (value_of value.now)) }
-    requires small_start { of_bound (t.bound_of (tree_value start.now)) < 2 ^ 20 }
-    requires fit_start { BoundFits (t.bound_of (tree_value start.now)) }
-    requires small_stop { of_bound (t.bound_of (tree_value stop.now)) < 2 ^ 20 }
-    requires fit_stop { BoundFits (t.bound_of (tree_value stop.now)) }
-    requires small_step { of_bound (t.bound_of (tree_value step.now)) < 2 ^ 20 }
-    requires fit_step { BoundFits (t.bound_of (tree_value step.now)) }
+    requires sound_value { IsSoundIn machine.old.heap value.now }
+    requires small_start { LowBound start.now }
+    requires fit_start { FitBound start.now }
+    requires small_stop { LowBound stop.now }
+    requires fit_stop { FitBound stop.now }
+    requires small_step { LowBound step.now }
+    requires fit_step { FitBound step.now }
     requires room { HasRoomBy 1 machine.old }
-    ensures gives { Gives part_of result (moment_of machine.new) (slice_part (call room) (value_of value.now) (t.bound_of (tree_value start.now)) (t.bound_of (tree_value stop.now)) (t.bound_of (tree_value step.now)) (moment_of machine.old)) }
-    ensures sound { IsSound (λ v. is_sound_part (length machine.new.heap) (part_of v)) (length machine.new.heap) result }
+    ensures gives { Gives part_of result (moment_of machine.new) (slice_part (call calls_left) (value_of value.now) (t.bound_of (tree_value start.now)) (t.bound_of (tree_value stop.now)) (t.bound_of (tree_value step.now)) (moment_of machine.old)) }
+    ensures sound { SoundPart machine.new.heap result }
     ensures kept { GrownBy 1 machine.old steps.old machine.new steps.new }
     ensures reads { OwesReads 16 machine.old steps.old result machine.new steps.new }
     ensures owes { Owing 1 machine.old result machine.new }
 {
-    let start = match bound_value(machine, start, room, steps) {
+    let start = match bound_value(machine, start, calls_left, steps) {
         Ok(start) => start,
         Err(fault) => return Err(fault),
     };
-    let stop = match bound_value(machine, stop, room, steps) {
+    let stop = match bound_value(machine, stop, calls_left, steps) {
         Ok(stop) => stop,
         Err(fault) => return Err(fault),
     };
-    let step = match bound_value(machine, step, room, steps) {
+    let step = match bound_value(machine, step, calls_left, steps) {
         Ok(step) => step,
         Err(fault) => return Err(fault),
     };

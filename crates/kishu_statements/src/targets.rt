@@ -1,20 +1,22 @@
 // Places and targets (Python Language Reference 3, "Assignment statements").
-ghost use Rattle.std.specs.Prelude.{IsTrue, OnOk, length, map, true, ◌*◌, ◌+◌, ◌<◌, ◌^◌, ◌≡◌, ◌≤◌};
+ghost use Rattle.std.specs.Prelude.{IsTrue, OnOk, length, map, ◌*◌, ◌+◌, ◌<◌, ◌≡◌, ◌≤◌};
 ghost use Rattle.std.specs.List.{list_all};
 ghost use Rattle.kishu_statements.specs.Forms.{PlaceReads};
 ghost use Rattle.kishu_language.specs.grammar.Targets.{is_target, are_targets};
 ghost use Rattle.kishu_meaning.specs.calls.Callees.{settled};
-ghost use Rattle.kishu_language.specs.trees.Height.{of_expression, of_expressions, of_list, of_trailer, of_trailers};
+ghost use Rattle.kishu_language.specs.trees.Height.{of_trailer};
 ghost use Rattle.kishu_meaning.specs.cells.Meaning.{call, nodes_before_last, place, place_by, store, store_all, store_each, store_in};
 ghost use Rattle.kishu_meaning.specs.moments.Moment.{deeper, ◌>>=◌ as ◌⊳◌};
-ghost use Rattle.kishu_meaning.specs.values.Sound.{are_sound, is_sound};
 ghost use Rattle.kishu_language.specs.trees.Tree.{expression_of};
 ghost use Rattle.kishu_meaning.specs.values.Values.{value_of};
-ghost use Rattle.kishu_access.specs.Access.{is_sound_place, place_of};
-ghost use Rattle.kishu_calls.specs.Calls.{is_sound_part, owed, part_of};
-ghost use Rattle.kishu_calls.specs.Trees.{expressions_of, trailer_of, trailers_of};
-ghost use Rattle.kishu_language.specs.trees.Fits.{ExpressionFits, ExpressionsFit, ListFits, TrailerFits, TrailersFit};
-ghost use Rattle.kishu_machine.specs.Machine.{Gives, GrownBy, HasRoom, HasRoomBy, IsSound, ReadsBy, moment_of};
+ghost use Rattle.kishu_access.specs.Access.{place_of, SoundPlace};
+ghost use Rattle.kishu_calls.specs.Calls.{owed, part_of, IsSoundPart};
+ghost use Rattle.kishu_language.specs.trees.Parts.{expressions_of, trailer_of, trailers_of};
+ghost use Rattle.kishu_language.specs.trees.Fits.{TrailerFits};
+ghost use Rattle.kishu_machine.specs.Machine.{Gives, GrownBy, HasRoom, HasRoomBy, ReadsBy, moment_of};
+ghost use Rattle.kishu_machine.specs.Clauses.{AreSoundIn, IsSoundIn, SoundEnd};
+ghost use Rattle.kishu_statements.specs.Handed.{FitExpression, FitExpressions, FitTargets, FitTrailers, LowExpression, LowExpressions, LowTargets, LowTrailers};
+ghost use Rattle.kishu_language.specs.Limits.{height_limit};
 ghost use Rattle.kishu_language.specs.trees.Tree as t;
 
 use crate::expressions::deeper_value;
@@ -31,24 +33,24 @@ use std::sync::ledger::Ledger;
 /// The place that an expression is: its container is evaluated, and then the index.
 #[cycle(run)]
 #[inline(never)]
-#[tactic(auto, using(kishu_calls::specs::Rows::tree_rows))]
+#[tactic(auto, using(kishu_language::specs::trees::Rows::tree_rows))]
 pub(crate) fn place_at<L: Ledger>(
     machine: &mut Machine,
     e: &Expr,
-    room: u32,
+    calls_left: u32,
     steps: &mut Steps<L>,
 ) -> Result<Place, Fault>
-    requires small_e { of_expression (expression_of e.now) < 2 ^ 20 }
-    requires fit_e { ExpressionFits (expression_of e.now) }
+    requires small_e { LowExpression e.now }
+    requires fit_e { FitExpression e.now }
     requires room { HasRoom machine.old }
-    ensures gives { Gives place_of result (moment_of machine.new) (place (call room) (expression_of e.now) (moment_of machine.old)) }
-    ensures sound { IsSound (λ v. is_sound_place (length machine.new.heap) (place_of v)) (length machine.new.heap) result }
+    ensures gives { Gives place_of result (moment_of machine.new) (place (call calls_left) (expression_of e.now) (moment_of machine.old)) }
+    ensures sound { SoundPlace machine.new.heap result }
     ensures kept { GrownBy 0 machine.old steps.old machine.new steps.new }
     ensures reads { PlaceReads 0 machine.old steps.old result machine.new steps.new }
 {
     match e {
         Expr::Name(name) => Ok(Place::Named(name.clone()?)),
-        Expr::Primary(atom, trailers) => primary_place(machine, atom, trailers, room, steps),
+        Expr::Primary(atom, trailers) => primary_place(machine, atom, trailers, calls_left, steps),
         Expr::Int(_) => Err(Fault::Stopped),
         Expr::Text(_) => Err(Fault::Stopped),
         Expr::None => Err(Fault::Stopped),
@@ -77,7 +79,7 @@ fn take_container_nodes<L: Ledger>(
     steps: &mut Steps<L>,
 ) -> Result<(), Fault>
     ensures gives { Gives (λ u. u) result (moment_of machine.new) (nodes_before_last (trailers_of trailers.now) (moment_of machine.old)) }
-    ensures sound { IsSound (λ _. true) (length machine.new.heap) result }
+    ensures sound { SoundEnd machine.new.heap result }
     ensures kept { GrownBy 0 machine.old steps.old machine.new steps.new }
     ensures counted { steps.new + machine.new.budget.left ≡ steps.old + machine.old.budget.left }
     ensures taken { OnOk result (machine.new.budget.left + length trailers.now ≤ machine.old.budget.left + 1) }
@@ -95,45 +97,45 @@ fn primary_place<L: Ledger>(
     machine: &mut Machine,
     atom: &Expr,
     trailers: &[Trailer],
-    room: u32,
+    calls_left: u32,
     steps: &mut Steps<L>,
 ) -> Result<Place, Fault>
-    requires small_atom { of_expression (expression_of atom.now) < 2 ^ 20 }
-    requires fit_atom { ExpressionFits (expression_of atom.now) }
-    requires small_trailers { of_trailers (trailers_of trailers.now) < 2 ^ 20 }
-    requires fit_trailers { TrailersFit (trailers_of trailers.now) }
+    requires small_atom { LowExpression atom.now }
+    requires fit_atom { FitExpression atom.now }
+    requires small_trailers { LowTrailers trailers.now }
+    requires fit_trailers { FitTrailers trailers.now }
     requires room { HasRoom machine.old }
-    ensures gives { Gives place_of result (moment_of machine.new) (place (call room) (t.primary (expression_of atom.now) (trailers_of trailers.now)) (moment_of machine.old)) }
-    ensures sound { IsSound (λ v. is_sound_place (length machine.new.heap) (place_of v)) (length machine.new.heap) result }
+    ensures gives { Gives place_of result (moment_of machine.new) (place (call calls_left) (t.primary (expression_of atom.now) (trailers_of trailers.now)) (moment_of machine.old)) }
+    ensures sound { SoundPlace machine.new.heap result }
     ensures kept { GrownBy 0 machine.old steps.old machine.new steps.new }
     ensures reads { PlaceReads 0 machine.old steps.old result machine.new steps.new }
 {
     take_container_nodes(machine, trailers, steps)?;
     let Some((last, before)) = trailers.split_last() else {
-        let _part = part_behind(machine, atom, &[], room, steps)?;
+        let _part = part_behind(machine, atom, &[], calls_left, steps)?;
         return Err(Fault::Stopped);
     };
-    let part = part_behind(machine, atom, before, room, steps)?;
-    last_place(machine, part, last, room, steps)
+    let part = part_behind(machine, atom, before, calls_left, steps)?;
+    last_place(machine, part, last, calls_left, steps)
 }
 
 // What is done with a container last.
 #[cycle(run)]
 #[inline(never)]
-#[tactic(auto, using(kishu_calls::specs::Rows::tree_rows))]
+#[tactic(auto, using(kishu_language::specs::trees::Rows::tree_rows))]
 fn last_place<L: Ledger>(
     machine: &mut Machine,
     part: Part,
     last: &Trailer,
-    room: u32,
+    calls_left: u32,
     steps: &mut Steps<L>,
 ) -> Result<Place, Fault>
-    requires sound_part { IsTrue (is_sound_part (length machine.old.heap) (part_of part)) }
-    requires small { of_trailer (trailer_of last.now) < 2 ^ 20 }
+    requires sound_part { IsSoundPart machine.old.heap part }
+    requires small { of_trailer (trailer_of last.now) < height_limit }
     requires fits { TrailerFits (trailer_of last.now) }
     requires room { HasRoomBy (owed (part_of part)) machine.old }
-    ensures gives { Gives place_of result (moment_of machine.new) ((settled (part_of part) ⊳ λ v. place_by (call room) v (trailer_of last.now)) (moment_of machine.old)) }
-    ensures sound { IsSound (λ v. is_sound_place (length machine.new.heap) (place_of v)) (length machine.new.heap) result }
+    ensures gives { Gives place_of result (moment_of machine.new) ((settled (part_of part) ⊳ λ v. place_by (call calls_left) v (trailer_of last.now)) (moment_of machine.old)) }
+    ensures sound { SoundPlace machine.new.heap result }
     ensures kept { GrownBy (owed (part_of part)) machine.old steps.old machine.new steps.new }
     ensures reads { PlaceReads (24 + 8 * owed (part_of part)) machine.old steps.old result machine.new steps.new }
 {
@@ -141,7 +143,7 @@ fn last_place<L: Ledger>(
     match last {
         Trailer::Attribute(name) => Ok(Place::Attribute(value, name.clone()?)),
         Trailer::Index(index) => {
-            let index = deeper_value(machine, index, room, steps)?;
+            let index = deeper_value(machine, index, calls_left, steps)?;
             Ok(Place::Item(value, index))
         }
         Trailer::Call(_) => Err(Fault::Stopped),
@@ -154,31 +156,31 @@ fn last_place<L: Ledger>(
 /// Puts a value into a target. A pattern takes the items first.
 #[cycle(run)]
 #[inline(never)]
-#[tactic(auto, using(kishu_calls::specs::Rows::tree_rows))]
+#[tactic(auto, using(kishu_language::specs::trees::Rows::tree_rows))]
 pub(crate) fn store<L: Ledger>(
     machine: &mut Machine,
     target: &Expr,
     value: &Value,
-    room: u32,
+    calls_left: u32,
     steps: &mut Steps<L>,
 ) -> Result<(), Fault>
-    requires small_target { of_expression (expression_of target.now) < 2 ^ 20 }
-    requires fit_target { ExpressionFits (expression_of target.now) }
-    requires sound_value { IsTrue (is_sound (length machine.old.heap) (value_of value.now)) }
+    requires small_target { LowExpression target.now }
+    requires fit_target { FitExpression target.now }
+    requires sound_value { IsSoundIn machine.old.heap value.now }
     requires room { HasRoom machine.old }
     requires target { IsTrue (is_target (expression_of target.now)) }
-    ensures gives { Gives (λ u. u) result (moment_of machine.new) (store (call room) (expression_of target.now) (value_of value.now) (moment_of machine.old)) }
-    ensures sound { IsSound (λ _. true) (length machine.new.heap) result }
+    ensures gives { Gives (λ u. u) result (moment_of machine.new) (store (call calls_left) (expression_of target.now) (value_of value.now) (moment_of machine.old)) }
+    ensures sound { SoundEnd machine.new.heap result }
     ensures kept { GrownBy 0 machine.old steps.old machine.new steps.new }
     ensures reads { ReadsBy 24 machine.old steps.old machine.new steps.new }
     ensures stored { OnOk result (ReadsBy 0 machine.old steps.old machine.new steps.new) }
 {
     match target {
-        Expr::Name(_) => store_place(machine, target, value, room, steps),
-        Expr::Primary(_, _) => store_place(machine, target, value, room, steps),
-        Expr::Paren(inner) => store_deeper(machine, inner, value, room, steps),
-        Expr::Tuple(targets) => store_pattern(machine, targets, value, room, steps),
-        Expr::List(targets) => store_deeper_pattern(machine, targets, value, room, steps),
+        Expr::Name(_) => store_place(machine, target, value, calls_left, steps),
+        Expr::Primary(_, _) => store_place(machine, target, value, calls_left, steps),
+        Expr::Paren(inner) => store_deeper(machine, inner, value, calls_left, steps),
+        Expr::Tuple(targets) => store_pattern(machine, targets, value, calls_left, steps),
+        Expr::List(targets) => store_deeper_pattern(machine, targets, value, calls_left, steps),
         Expr::Int(_) => Err(Fault::Stopped),
         Expr::Text(_) => Err(Fault::Stopped),
         Expr::None => Err(Fault::Stopped),
@@ -203,20 +205,20 @@ fn store_place<L: Ledger>(
     machine: &mut Machine,
     target: &Expr,
     value: &Value,
-    room: u32,
+    calls_left: u32,
     steps: &mut Steps<L>,
 ) -> Result<(), Fault>
-    requires small_target { of_expression (expression_of target.now) < 2 ^ 20 }
-    requires fit_target { ExpressionFits (expression_of target.now) }
-    requires sound_value { IsTrue (is_sound (length machine.old.heap) (value_of value.now)) }
+    requires small_target { LowExpression target.now }
+    requires fit_target { FitExpression target.now }
+    requires sound_value { IsSoundIn machine.old.heap value.now }
     requires room { HasRoom machine.old }
-    ensures gives { Gives (λ u. u) result (moment_of machine.new) ((place (call room) (expression_of target.now) ⊳ λ p. store_in p (value_of value.now)) (moment_of machine.old)) }
-    ensures sound { IsSound (λ _. true) (length machine.new.heap) result }
+    ensures gives { Gives (λ u. u) result (moment_of machine.new) ((place (call calls_left) (expression_of target.now) ⊳ λ p. store_in p (value_of value.now)) (moment_of machine.old)) }
+    ensures sound { SoundEnd machine.new.heap result }
     ensures kept { GrownBy 0 machine.old steps.old machine.new steps.new }
     ensures reads { ReadsBy 24 machine.old steps.old machine.new steps.new }
     ensures stored { OnOk result (ReadsBy 0 machine.old steps.old machine.new steps.new) }
 {
-    let found = place_at(machine, target, room, steps)?;
+    let found = place_at(machine, target, calls_left, steps)?;
     store_in(machine, &found, value.copied()?, steps)
 }
 
@@ -226,16 +228,16 @@ fn store_deeper<L: Ledger>(
     machine: &mut Machine,
     target: &Expr,
     value: &Value,
-    room: u32,
+    calls_left: u32,
     steps: &mut Steps<L>,
 ) -> Result<(), Fault>
-    requires small_target { of_expression (expression_of target.now) < 2 ^ 20 }
-    requires fit_target { ExpressionFits (expression_of target.now) }
-    requires sound_value { IsTrue (is_sound (length machine.old.heap) (value_of value.now)) }
+    requires small_target { LowExpression target.now }
+    requires fit_target { FitExpression target.now }
+    requires sound_value { IsSoundIn machine.old.heap value.now }
     requires room { HasRoom machine.old }
     requires target { IsTrue (is_target (expression_of target.now)) }
-    ensures gives { Gives (λ u. u) result (moment_of machine.new) (deeper (store (call room) (expression_of target.now) (value_of value.now)) (moment_of machine.old)) }
-    ensures sound { IsSound (λ _. true) (length machine.new.heap) result }
+    ensures gives { Gives (λ u. u) result (moment_of machine.new) (deeper (store (call calls_left) (expression_of target.now) (value_of value.now)) (moment_of machine.old)) }
+    ensures sound { SoundEnd machine.new.heap result }
     ensures kept { GrownBy 0 machine.old steps.old machine.new steps.new }
     ensures reads { ReadsBy 24 machine.old steps.old machine.new steps.new }
     ensures stored { OnOk result (ReadsBy 0 machine.old steps.old machine.new steps.new) }
@@ -245,7 +247,7 @@ fn store_deeper<L: Ledger>(
         return too_deep(machine.alloc);
     }
     machine.budget.depth = depth + 1;
-    let result = store(machine, target, value, room, steps);
+    let result = store(machine, target, value, calls_left, steps);
     machine.budget.depth = depth;
     result
 }
@@ -256,22 +258,22 @@ fn store_pattern<L: Ledger>(
     machine: &mut Machine,
     targets: &[Expr],
     value: &Value,
-    room: u32,
+    calls_left: u32,
     steps: &mut Steps<L>,
 ) -> Result<(), Fault>
-    requires small_targets { of_expressions (expressions_of targets.now) < 2 ^ 20 }
-    requires fit_targets { ExpressionsFit (expressions_of targets.now) }
-    requires sound_value { IsTrue (is_sound (length machine.old.heap) (value_of value.now)) }
+    requires small_targets { LowExpressions targets.now }
+    requires fit_targets { FitExpressions targets.now }
+    requires sound_value { IsSoundIn machine.old.heap value.now }
     requires room { HasRoom machine.old }
     requires targets { IsTrue (are_targets (expressions_of targets.now)) }
-    ensures gives { Gives (λ u. u) result (moment_of machine.new) (store (call room) (t.tuple (expressions_of targets.now)) (value_of value.now) (moment_of machine.old)) }
-    ensures sound { IsSound (λ _. true) (length machine.new.heap) result }
+    ensures gives { Gives (λ u. u) result (moment_of machine.new) (store (call calls_left) (t.tuple (expressions_of targets.now)) (value_of value.now) (moment_of machine.old)) }
+    ensures sound { SoundEnd machine.new.heap result }
     ensures kept { GrownBy 0 machine.old steps.old machine.new steps.new }
     ensures reads { ReadsBy 24 machine.old steps.old machine.new steps.new }
     ensures stored { OnOk result (ReadsBy 0 machine.old steps.old machine.new steps.new) }
 {
     let items = unpacked(machine, targets.len(), value, steps)?;
-    store_each(machine, targets, items.as_slice(), room, steps)
+    store_each(machine, targets, items.as_slice(), calls_left, steps)
 }
 
 #[cycle(run)]
@@ -280,16 +282,16 @@ fn store_deeper_pattern<L: Ledger>(
     machine: &mut Machine,
     targets: &[Expr],
     value: &Value,
-    room: u32,
+    calls_left: u32,
     steps: &mut Steps<L>,
 ) -> Result<(), Fault>
-    requires small_targets { of_expressions (expressions_of targets.now) < 2 ^ 20 }
-    requires fit_targets { ExpressionsFit (expressions_of targets.now) }
-    requires sound_value { IsTrue (is_sound (length machine.old.heap) (value_of value.now)) }
+    requires small_targets { LowExpressions targets.now }
+    requires fit_targets { FitExpressions targets.now }
+    requires sound_value { IsSoundIn machine.old.heap value.now }
     requires room { HasRoom machine.old }
     requires targets { IsTrue (are_targets (expressions_of targets.now)) }
-    ensures gives { Gives (λ u. u) result (moment_of machine.new) (store (call room) (t.list (expressions_of targets.now)) (value_of value.now) (moment_of machine.old)) }
-    ensures sound { IsSound (λ _. true) (length machine.new.heap) result }
+    ensures gives { Gives (λ u. u) result (moment_of machine.new) (store (call calls_left) (t.list (expressions_of targets.now)) (value_of value.now) (moment_of machine.old)) }
+    ensures sound { SoundEnd machine.new.heap result }
     ensures kept { GrownBy 0 machine.old steps.old machine.new steps.new }
     ensures reads { ReadsBy 24 machine.old steps.old machine.new steps.new }
     ensures stored { OnOk result (ReadsBy 0 machine.old steps.old machine.new steps.new) }
@@ -299,7 +301,7 @@ fn store_deeper_pattern<L: Ledger>(
         return too_deep(machine.alloc);
     }
     machine.budget.depth = depth + 1;
-    let result = store_pattern(machine, targets, value, room, steps);
+    let result = store_pattern(machine, targets, value, calls_left, steps);
     machine.budget.depth = depth;
     result
 }
@@ -311,23 +313,23 @@ fn store_each<L: Ledger>(
     machine: &mut Machine,
     targets: &[Expr],
     items: &[Value],
-    room: u32,
+    calls_left: u32,
     steps: &mut Steps<L>,
 ) -> Result<(), Fault>
-    requires small_targets { of_expressions (expressions_of targets.now) < 2 ^ 20 }
-    requires fit_targets { ExpressionsFit (expressions_of targets.now) }
-    requires sound_items { IsTrue (are_sound (length machine.old.heap) (map value_of items.now)) }
+    requires small_targets { LowExpressions targets.now }
+    requires fit_targets { FitExpressions targets.now }
+    requires sound_items { AreSoundIn machine.old.heap items.now }
     requires room { HasRoom machine.old }
     requires targets { IsTrue (list_all is_target (map expression_of targets.now)) }
-    ensures gives { Gives (λ u. u) result (moment_of machine.new) (store_each (call room) (expressions_of targets.now) (map value_of items.now) (moment_of machine.old)) }
-    ensures sound { IsSound (λ _. true) (length machine.new.heap) result }
+    ensures gives { Gives (λ u. u) result (moment_of machine.new) (store_each (call calls_left) (expressions_of targets.now) (map value_of items.now) (moment_of machine.old)) }
+    ensures sound { SoundEnd machine.new.heap result }
     ensures kept { GrownBy 0 machine.old steps.old machine.new steps.new }
     ensures reads { ReadsBy 24 machine.old steps.old machine.new steps.new }
     ensures stored { OnOk result (ReadsBy 0 machine.old steps.old machine.new steps.new) }
 {
     for i in 0..targets.len() {
         if i < items.len() {
-            store(machine, &targets[i], &items[i], room, steps)?;
+            store(machine, &targets[i], &items[i], calls_left, steps)?;
         }
     }
     Ok(())
@@ -340,22 +342,22 @@ pub(crate) fn store_all<L: Ledger>(
     machine: &mut Machine,
     targets: &[Expr],
     value: &Value,
-    room: u32,
+    calls_left: u32,
     steps: &mut Steps<L>,
 ) -> Result<(), Fault>
-    requires small { of_list (map expression_of targets.now) < 2 ^ 20 }
-    requires fits { ListFits (map expression_of targets.now) }
-    requires sound_value { IsTrue (is_sound (length machine.old.heap) (value_of value.now)) }
+    requires small { LowTargets targets.now }
+    requires fits { FitTargets targets.now }
+    requires sound_value { IsSoundIn machine.old.heap value.now }
     requires room { HasRoom machine.old }
     requires targets { IsTrue (list_all is_target (map expression_of targets.now)) }
-    ensures gives { Gives (λ u. u) result (moment_of machine.new) (store_all (call room) (map expression_of targets.now) (value_of value.now) (moment_of machine.old)) }
-    ensures sound { IsSound (λ _. true) (length machine.new.heap) result }
+    ensures gives { Gives (λ u. u) result (moment_of machine.new) (store_all (call calls_left) (map expression_of targets.now) (value_of value.now) (moment_of machine.old)) }
+    ensures sound { SoundEnd machine.new.heap result }
     ensures kept { GrownBy 0 machine.old steps.old machine.new steps.new }
     ensures reads { ReadsBy 24 machine.old steps.old machine.new steps.new }
     ensures stored { OnOk result (ReadsBy 0 machine.old steps.old machine.new steps.new) }
 {
     for target in targets {
-        store(machine, target, value, room, steps)?;
+        store(machine, target, value, calls_left, steps)?;
     }
     Ok(())
 }

@@ -1,15 +1,16 @@
 // Exceptions that are raised, caught and passed on (Python Language Reference 3, "The try statement").
-ghost use Rattle.std.specs.Prelude.{IsTrue, Some, length, true, ◌<◌, ◌^◌, ◌≡◌};
-ghost use Rattle.kishu_language.specs.trees.Height.{of_handlers, of_optional, of_statements};
+ghost use Rattle.std.specs.Prelude.{IsTrue, Some, length, ◌<◌, ◌≡◌};
 ghost use Rattle.kishu_meaning.specs.cells.Meaning.{act, acts, call, in_block, is_for};
-ghost use Rattle.kishu_meaning.specs.moments.Moment.{Ends, assign, give, ◌>>◌ as ◌▹◌};
+ghost use Rattle.kishu_meaning.specs.moments.Moment.{Ends, give, ◌>>◌ as ◌▹◌};
 ghost use Rattle.kishu_language.specs.trees.Tree.{text_of, value_of as tree_value};
 ghost use Rattle.kishu_meaning.specs.values.Values.{class, node};
 ghost use Rattle.kishu_meaning.specs.cells.Ways.{and_last, attempt, forget_caught, handle, handling, onward};
-ghost use Rattle.kishu_calls.specs.Calls.{flow_of, is_sound_flow, is_sound_way};
-ghost use Rattle.kishu_calls.specs.Trees.{handlers_of, statements_of};
-ghost use Rattle.kishu_language.specs.trees.Fits.{HandlersFit, OptionalFits, StatementsFit, TitleFits};
-ghost use Rattle.kishu_machine.specs.Machine.{Gives, GrownBy, HasRoom, HasRoomBy, IsSound, ReadsBy, is_sound_thrown, moment_of, thrown_of};
+ghost use Rattle.kishu_calls.specs.Calls.{flow_of, is_sound_way, SoundFlow};
+ghost use Rattle.kishu_language.specs.trees.Parts.{handlers_of, statements_of};
+ghost use Rattle.kishu_language.specs.trees.Fits.{TitleFits};
+ghost use Rattle.kishu_machine.specs.Machine.{Gives, GrownBy, HasRoom, HasRoomBy, ReadsBy, moment_of, thrown_of};
+ghost use Rattle.kishu_machine.specs.Clauses.{IsSoundThrown, SoundEnd};
+ghost use Rattle.kishu_statements.specs.Handed.{FitBlock, FitHandlers, FitOptional, LowBlock, LowHandlers, LowOptional};
 ghost use Rattle.kishu_meaning.specs.cells.Meaning as m;
 ghost use Rattle.kishu_language.specs.trees.Tree as t;
 ghost use Rattle.kishu_meaning.specs.cells.Ways as w;
@@ -35,25 +36,25 @@ pub(crate) fn run_try<L: Ledger>(
     handlers: &[Handler],
     other: &[Stmt],
     last: &[Stmt],
-    room: u32,
+    calls_left: u32,
     steps: &mut Steps<L>,
 ) -> Result<Flow, Fault>
-    requires small_body { of_statements (statements_of body.now) < 2 ^ 20 }
-    requires fit_body { StatementsFit (statements_of body.now) }
-    requires small_handlers { of_handlers (handlers_of handlers.now) < 2 ^ 20 }
-    requires fit_handlers { HandlersFit (handlers_of handlers.now) }
-    requires small_other { of_statements (statements_of other.now) < 2 ^ 20 }
-    requires fit_other { StatementsFit (statements_of other.now) }
-    requires small_last { of_statements (statements_of last.now) < 2 ^ 20 }
-    requires fit_last { StatementsFit (statements_of last.now) }
+    requires small_body { LowBlock body.now }
+    requires fit_body { FitBlock body.now }
+    requires small_handlers { LowHandlers handlers.now }
+    requires fit_handlers { FitHandlers handlers.now }
+    requires small_other { LowBlock other.now }
+    requires fit_other { FitBlock other.now }
+    requires small_last { LowBlock last.now }
+    requires fit_last { FitBlock last.now }
     requires room { HasRoomBy 4 machine.old }
-    ensures gives { Gives flow_of result (moment_of machine.new) (act (call room) (t.try (statements_of body.now) (handlers_of handlers.now) (statements_of other.now) (statements_of last.now)) (moment_of machine.old)) }
-    ensures sound { IsSound (λ v. is_sound_flow (length machine.new.heap) (flow_of v)) (length machine.new.heap) result }
+    ensures gives { Gives flow_of result (moment_of machine.new) (act (call calls_left) (t.try (statements_of body.now) (handlers_of handlers.now) (statements_of other.now) (statements_of last.now)) (moment_of machine.old)) }
+    ensures sound { SoundFlow machine.new.heap result }
     ensures kept { GrownBy 3 machine.old steps.old machine.new steps.new }
     ensures reads { ReadsBy 0 machine.old steps.old machine.new steps.new }
 {
-    let way = run_attempt(machine, body, handlers, other, room, steps);
-    run_last(machine, way, last, room, steps)
+    let way = run_attempt(machine, body, handlers, other, calls_left, steps);
+    run_last(machine, way, last, calls_left, steps)
 }
 
 // The handlers are for what the body raises, and the block of `else` for where it ends plainly.
@@ -64,27 +65,27 @@ fn run_attempt<L: Ledger>(
     body: &[Stmt],
     handlers: &[Handler],
     other: &[Stmt],
-    room: u32,
+    calls_left: u32,
     steps: &mut Steps<L>,
 ) -> Result<Flow, Fault>
-    requires small_body { of_statements (statements_of body.now) < 2 ^ 20 }
-    requires fit_body { StatementsFit (statements_of body.now) }
-    requires small_handlers { of_handlers (handlers_of handlers.now) < 2 ^ 20 }
-    requires fit_handlers { HandlersFit (handlers_of handlers.now) }
-    requires small_other { of_statements (statements_of other.now) < 2 ^ 20 }
-    requires fit_other { StatementsFit (statements_of other.now) }
+    requires small_body { LowBlock body.now }
+    requires fit_body { FitBlock body.now }
+    requires small_handlers { LowHandlers handlers.now }
+    requires fit_handlers { FitHandlers handlers.now }
+    requires small_other { LowBlock other.now }
+    requires fit_other { FitBlock other.now }
     requires room { HasRoomBy 1 machine.old }
-    ensures gives { Gives flow_of result (moment_of machine.new) (attempt (in_block (statements_of body.now) (acts (call room) (statements_of body.now))) (m.handlers (call room) (handlers_of handlers.now)) (in_block (statements_of other.now) (acts (call room) (statements_of other.now))) (moment_of machine.old)) }
-    ensures sound { IsSound (λ v. is_sound_flow (length machine.new.heap) (flow_of v)) (length machine.new.heap) result }
+    ensures gives { Gives flow_of result (moment_of machine.new) (attempt (in_block (statements_of body.now) (acts (call calls_left) (statements_of body.now))) (m.handlers (call calls_left) (handlers_of handlers.now)) (in_block (statements_of other.now) (acts (call calls_left) (statements_of other.now))) (moment_of machine.old)) }
+    ensures sound { SoundFlow machine.new.heap result }
     ensures kept { GrownBy 1 machine.old steps.old machine.new steps.new }
     ensures reads { ReadsBy 0 machine.old steps.old machine.new steps.new }
 {
-    match block(machine, body, room, steps) {
-        Ok(Flow::Onward) => block(machine, other, room, steps),
+    match block(machine, body, calls_left, steps) {
+        Ok(Flow::Onward) => block(machine, other, calls_left, steps),
         Ok(Flow::Broke) => Ok(Flow::Broke),
         Ok(Flow::Continued) => Ok(Flow::Continued),
         Ok(Flow::Returned(value)) => Ok(Flow::Returned(value)),
-        Err(Fault::Raised(thrown)) => run_handlers(machine, handlers, thrown, room, steps),
+        Err(Fault::Raised(thrown)) => run_handlers(machine, handlers, thrown, calls_left, steps),
         Err(Fault::Stopped) => Err(Fault::Stopped),
         Err(Fault::NoMemory) => Err(Fault::NoMemory),
     }
@@ -93,26 +94,33 @@ fn run_attempt<L: Ledger>(
 // The handlers are tried in order.
 #[cycle(run)]
 #[inline(never)]
-#[tactic(auto, using(kishu_calls::specs::StatementRows::statement_rows))]
+#[tactic(auto, using(kishu_language::specs::trees::StatementRows::statement_rows))]
 fn run_handlers<L: Ledger>(
     machine: &mut Machine,
     handlers: &[Handler],
     thrown: Thrown,
-    room: u32,
+    calls_left: u32,
     steps: &mut Steps<L>,
 ) -> Result<Flow, Fault>
-    requires small { of_handlers (handlers_of handlers.now) < 2 ^ 20 }
-    requires fits { HandlersFit (handlers_of handlers.now) }
-    requires sound_thrown { IsTrue (is_sound_thrown (length machine.old.heap) (thrown_of thrown)) }
+    requires small { LowHandlers handlers.now }
+    requires fits { FitHandlers handlers.now }
+    requires sound_thrown { IsSoundThrown machine.old.heap thrown }
     requires room { HasRoomBy 1 machine.old }
-    ensures gives { Gives flow_of result (moment_of machine.new) (m.handlers (call room) (handlers_of handlers.now) (thrown_of thrown) (moment_of machine.old)) }
-    ensures sound { IsSound (λ v. is_sound_flow (length machine.new.heap) (flow_of v)) (length machine.new.heap) result }
+    ensures gives { Gives flow_of result (moment_of machine.new) (m.handlers (call calls_left) (handlers_of handlers.now) (thrown_of thrown) (moment_of machine.old)) }
+    ensures sound { SoundFlow machine.new.heap result }
     ensures kept { GrownBy 1 machine.old steps.old machine.new steps.new }
     ensures reads { ReadsBy 0 machine.old steps.old machine.new steps.new }
 {
     for handler in handlers {
-        if is_for(machine, &handler.class, &thrown, room, steps)? {
-            return handle(machine, &handler.name, &handler.body, thrown, room, steps);
+        if is_for(machine, &handler.class, &thrown, calls_left, steps)? {
+            return handle(
+                machine,
+                &handler.name,
+                &handler.body,
+                thrown,
+                calls_left,
+                steps,
+            );
         }
     }
     Err(Fault::Raised(thrown))
@@ -125,20 +133,20 @@ fn is_for<L: Ledger>(
     machine: &mut Machine,
     class: &Option<Expr>,
     thrown: &Thrown,
-    room: u32,
+    calls_left: u32,
     steps: &mut Steps<L>,
 ) -> Result<bool, Fault>
-    requires small_class { of_optional (tree_value class.now) < 2 ^ 20 }
-    requires fit_class { OptionalFits (tree_value class.now) }
+    requires small_class { LowOptional class.now }
+    requires fit_class { FitOptional class.now }
     requires room { HasRoom machine.old }
-    ensures gives { Gives (λ b. b) result (moment_of machine.new) (is_for (call room) (tree_value class.now) (thrown_of thrown.now) (moment_of machine.old)) }
-    ensures sound { IsSound (λ _. true) (length machine.new.heap) result }
+    ensures gives { Gives (λ b. b) result (moment_of machine.new) (is_for (call calls_left) (tree_value class.now) (thrown_of thrown.now) (moment_of machine.old)) }
+    ensures sound { SoundEnd machine.new.heap result }
     ensures kept { GrownBy 0 machine.old steps.old machine.new steps.new }
     ensures reads { ReadsBy 0 machine.old steps.old machine.new steps.new }
 {
     match class {
         Some(e) => {
-            let classes = evaluate(machine, e, room, steps)?;
+            let classes = evaluate(machine, e, calls_left, steps)?;
             is_caught(machine, thrown, &classes, steps)
         }
         None => Ok(true),
@@ -153,25 +161,25 @@ fn handle<L: Ledger>(
     name: &Option<RcStr>,
     body: &[Stmt],
     thrown: Thrown,
-    room: u32,
+    calls_left: u32,
     steps: &mut Steps<L>,
 ) -> Result<Flow, Fault>
     requires fit_name { TitleFits (text_of name.now) }
-    requires small_body { of_statements (statements_of body.now) < 2 ^ 20 }
-    requires fit_body { StatementsFit (statements_of body.now) }
-    requires sound_thrown { IsTrue (is_sound_thrown (length machine.old.heap) (thrown_of thrown)) }
+    requires small_body { LowBlock body.now }
+    requires fit_body { FitBlock body.now }
+    requires sound_thrown { IsSoundThrown machine.old.heap thrown }
     requires room { HasRoomBy 1 machine.old }
-    ensures gives { Gives flow_of result (moment_of machine.new) (handle (text_of name.now) (in_block (statements_of body.now) (acts (call room) (statements_of body.now))) (thrown_of thrown) (moment_of machine.old)) }
-    ensures sound { IsSound (λ v. is_sound_flow (length machine.new.heap) (flow_of v)) (length machine.new.heap) result }
+    ensures gives { Gives flow_of result (moment_of machine.new) (handle (text_of name.now) (in_block (statements_of body.now) (acts (call calls_left) (statements_of body.now))) (thrown_of thrown) (moment_of machine.old)) }
+    ensures sound { SoundFlow machine.new.heap result }
     ensures kept { GrownBy 1 machine.old steps.old machine.new steps.new }
     ensures reads { ReadsBy 0 machine.old steps.old machine.new steps.new }
 {
     let id = object_of(machine, thrown)?;
     let Some(name) = name else {
-        return handling(machine, id, body, room, steps);
+        return handling(machine, id, body, calls_left, steps);
     };
     assign(machine, name, Value::Node(id))?;
-    let way = handling(machine, id, body, room, steps);
+    let way = handling(machine, id, body, calls_left, steps);
     forgotten(machine, way, name.as_str())
 }
 
@@ -180,7 +188,7 @@ fn handle<L: Ledger>(
 fn forgotten(machine: &mut Machine, way: Result<Flow, Fault>, name: &str) -> Result<Flow, Fault>
     requires sound_way { IsTrue (is_sound_way (length machine.old.heap) way) }
     ensures gives { (e : Ends w.Flow) → Gives flow_of way (moment_of machine.old) e → Gives flow_of result (moment_of machine.new) (and_last e (forget_caught (Some name.now) ▹ give onward)) }
-    ensures sound { IsSound (λ v. is_sound_flow (length machine.new.heap) (flow_of v)) (length machine.new.heap) result }
+    ensures sound { SoundFlow machine.new.heap result }
     ensures heap { machine.new.heap ≡ machine.old.heap }
     ensures budget { machine.new.budget ≡ machine.old.budget }
 {
@@ -205,20 +213,20 @@ fn handling<L: Ledger>(
     machine: &mut Machine,
     id: NodeId,
     body: &[Stmt],
-    room: u32,
+    calls_left: u32,
     steps: &mut Steps<L>,
 ) -> Result<Flow, Fault>
     requires id { id.0 < length machine.old.heap }
-    requires small_body { of_statements (statements_of body.now) < 2 ^ 20 }
-    requires fit_body { StatementsFit (statements_of body.now) }
+    requires small_body { LowBlock body.now }
+    requires fit_body { FitBlock body.now }
     requires room { HasRoom machine.old }
-    ensures gives { Gives flow_of result (moment_of machine.new) (handling (node id.0) (in_block (statements_of body.now) (acts (call room) (statements_of body.now))) (moment_of machine.old)) }
-    ensures sound { IsSound (λ v. is_sound_flow (length machine.new.heap) (flow_of v)) (length machine.new.heap) result }
+    ensures gives { Gives flow_of result (moment_of machine.new) (handling (node id.0) (in_block (statements_of body.now) (acts (call calls_left) (statements_of body.now))) (moment_of machine.old)) }
+    ensures sound { SoundFlow machine.new.heap result }
     ensures kept { GrownBy 0 machine.old steps.old machine.new steps.new }
     ensures reads { ReadsBy 0 machine.old steps.old machine.new steps.new }
 {
     let outer = mem::replace(&mut machine.handled, Some(Value::Node(id)));
-    let way = block(machine, body, room, steps);
+    let way = block(machine, body, calls_left, steps);
     machine.handled = outer;
     way
 }
@@ -229,21 +237,21 @@ pub(crate) fn run_finally<L: Ledger>(
     machine: &mut Machine,
     body: &[Stmt],
     last: &[Stmt],
-    room: u32,
+    calls_left: u32,
     steps: &mut Steps<L>,
 ) -> Result<Flow, Fault>
-    requires small_body { of_statements (statements_of body.now) < 2 ^ 20 }
-    requires fit_body { StatementsFit (statements_of body.now) }
-    requires small_last { of_statements (statements_of last.now) < 2 ^ 20 }
-    requires fit_last { StatementsFit (statements_of last.now) }
+    requires small_body { LowBlock body.now }
+    requires fit_body { FitBlock body.now }
+    requires small_last { LowBlock last.now }
+    requires fit_last { FitBlock last.now }
     requires room { HasRoomBy 4 machine.old }
-    ensures gives { Gives flow_of result (moment_of machine.new) (act (call room) (t.finally (statements_of body.now) (statements_of last.now)) (moment_of machine.old)) }
-    ensures sound { IsSound (λ v. is_sound_flow (length machine.new.heap) (flow_of v)) (length machine.new.heap) result }
+    ensures gives { Gives flow_of result (moment_of machine.new) (act (call calls_left) (t.finally (statements_of body.now) (statements_of last.now)) (moment_of machine.old)) }
+    ensures sound { SoundFlow machine.new.heap result }
     ensures kept { GrownBy 3 machine.old steps.old machine.new steps.new }
     ensures reads { ReadsBy 0 machine.old steps.old machine.new steps.new }
 {
-    let way = block(machine, body, room, steps);
-    run_last(machine, way, last, room, steps)
+    let way = block(machine, body, calls_left, steps);
+    run_last(machine, way, last, calls_left, steps)
 }
 
 // The last block runs on each way out, but for a spent budget; where it leaves by itself, that takes
@@ -254,15 +262,15 @@ fn run_last<L: Ledger>(
     machine: &mut Machine,
     way: Result<Flow, Fault>,
     last: &[Stmt],
-    room: u32,
+    calls_left: u32,
     steps: &mut Steps<L>,
 ) -> Result<Flow, Fault>
-    requires small_last { of_statements (statements_of last.now) < 2 ^ 20 }
-    requires fit_last { StatementsFit (statements_of last.now) }
+    requires small_last { LowBlock last.now }
+    requires fit_last { FitBlock last.now }
     requires room { HasRoom machine.old }
     requires sound_way { IsTrue (is_sound_way (length machine.old.heap) way) }
-    ensures gives { (e : Ends w.Flow) → Gives flow_of way (moment_of machine.old) e → Gives flow_of result (moment_of machine.new) (and_last e (in_block (statements_of last.now) (acts (call room) (statements_of last.now)))) }
-    ensures sound { IsSound (λ v. is_sound_flow (length machine.new.heap) (flow_of v)) (length machine.new.heap) result }
+    ensures gives { (e : Ends w.Flow) → Gives flow_of way (moment_of machine.old) e → Gives flow_of result (moment_of machine.new) (and_last e (in_block (statements_of last.now) (acts (call calls_left) (statements_of last.now)))) }
+    ensures sound { SoundFlow machine.new.heap result }
     ensures kept { GrownBy 0 machine.old steps.old machine.new steps.new }
     ensures reads { ReadsBy 0 machine.old steps.old machine.new steps.new }
 {
@@ -272,7 +280,7 @@ fn run_last<L: Ledger>(
     if let Err(Fault::NoMemory) = &way {
         return way;
     }
-    match block(machine, last, room, steps)? {
+    match block(machine, last, calls_left, steps)? {
         Flow::Onward => way,
         Flow::Broke => Ok(Flow::Broke),
         Flow::Continued => Ok(Flow::Continued),

@@ -22,8 +22,8 @@ pub fn at(text: &str, i: usize) -> Option<char>
     text.chars().nth(i)
 }
 
-// The place that stands `step` behind a place.
-fn next_place(place: usize, step: i128) -> usize
+/// The place that stands `step` behind a place.
+pub fn next_place(place: usize, step: i128) -> usize
     requires on { pos 0 ≤ℤ (pos place +ℤ step) }
     requires within { (pos place +ℤ step) <ℤ pos (2 ^ 64) }
     ensures { pos result ≡ pos place +ℤ step }

@@ -10,7 +10,7 @@ mod repr;
 mod search;
 mod space;
 
-pub use index::{at, count, slice};
+pub use index::{at, count, next_place, slice};
 pub use ordering::order;
 pub use repr::quote;
 pub use search::{find, occurrences, replace, split};

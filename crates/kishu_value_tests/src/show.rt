@@ -21,10 +21,6 @@ const FULL: Budget = Budget {
     depth: 0,
 };
 
-const KEY_ERROR: ClassId = ClassId(16);
-
-const VALUE_ERROR: ClassId = ClassId(24);
-
 #[derive(Clone, Copy)]
 enum Call {
     Repr,
@@ -101,12 +97,12 @@ fn plain_values(rt: HostRuntime) -> Result<(), Fail> {
             "range(0, 9, 3) 14"
         ),
         (
-            Value::Builtin(Builtin(6)),
+            Value::Builtin(Builtin::LEN),
             "<built-in function len> 23",
             "<built-in function len> 23"
         ),
         (
-            Value::Class(KEY_ERROR),
+            Value::Class(ClassId::KEY_ERROR),
             "<class 'KeyError'> 18",
             "<class 'KeyError'> 18"
         ),
@@ -164,11 +160,14 @@ fn exceptions(alloc: Global, heap: &mut Heap) -> Result<(), AllocError>
     let x = Value::Text(RcStr::from_str(alloc, "x")?);
     let also_x = Value::Text(RcStr::from_str(alloc, "x")?);
     let k = Value::Text(RcStr::from_str(alloc, "k")?);
-    let empty = Node::Exception(VALUE_ERROR, Vec::new(alloc));
-    let one = Node::Exception(VALUE_ERROR, vec![in alloc; x]?);
-    let two = Node::Exception(VALUE_ERROR, vec![in alloc; also_x, Value::Int(1)]?);
-    let key = Node::Exception(KEY_ERROR, vec![in alloc; k]?);
-    let around = Node::Exception(VALUE_ERROR, vec![in alloc; Value::Node(NodeId(3))]?);
+    let empty = Node::Exception(ClassId::VALUE_ERROR, Vec::new(alloc));
+    let one = Node::Exception(ClassId::VALUE_ERROR, vec![in alloc; x]?);
+    let two = Node::Exception(ClassId::VALUE_ERROR, vec![in alloc; also_x, Value::Int(1)]?);
+    let key = Node::Exception(ClassId::KEY_ERROR, vec![in alloc; k]?);
+    let around = Node::Exception(
+        ClassId::VALUE_ERROR,
+        vec![in alloc; Value::Node(NodeId(3))]?,
+    );
     heap.make_all(vec![in alloc; empty, one, two, key, around]?)
 }
 
@@ -199,8 +198,14 @@ fn loops(alloc: Global, heap: &mut Heap) -> Result<(), AllocError>
     requires { length heap.old ≡ 0 }
 {
     let list = Node::List(vec![in alloc; Value::Node(NodeId(1))]?);
-    let inner = Node::Exception(VALUE_ERROR, vec![in alloc; Value::Node(NodeId(0))]?);
-    let itself = Node::Exception(VALUE_ERROR, vec![in alloc; Value::Node(NodeId(2))]?);
+    let inner = Node::Exception(
+        ClassId::VALUE_ERROR,
+        vec![in alloc; Value::Node(NodeId(0))]?,
+    );
+    let itself = Node::Exception(
+        ClassId::VALUE_ERROR,
+        vec![in alloc; Value::Node(NodeId(2))]?,
+    );
     heap.make_all(vec![in alloc; list, inner, itself]?)
 }
 

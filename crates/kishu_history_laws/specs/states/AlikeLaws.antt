@@ -8,11 +8,12 @@ use Rattle.std.specs.Cmp.Lexicographic.{pointwise}
 use Rattle.std.proofs.Common.{refl, ap}
 use Rattle.std.proofs.lemmas.Bool.Decides.{Decides-eqb, Decides-int_eq}
 use Rattle.std.proofs.lemmas.Slice.Eq.{bytes_eq-Decides, slice_eq-Decides}
-use Rattle.kishu_language.specs.declared.profile.Profile.TheVariants.{One}
+use Rattle.kishu_language.specs.declared.profile.Profile.{Profile}
+use Rattle.kishu_language.specs.declared.profile.Profile.TheVariants.{One, Two}
 use Rattle.kishu_meaning.specs.values.Keys.{KeyPart, Key, single}
 use Rattle.kishu_meaning.specs.values.Keys as k
 use Rattle.kishu_meaning.specs.values.Values.{Value, none, bool, integer, text, range, builtin, class, node, Node, list, tuple, dict, object, function, exception, State}
-use Rattle.kishu_history.specs.Alike.{is_value, is_part, is_key, is_node, is_state}
+use Rattle.kishu_history.specs.Alike.{is_value, is_profile, is_part, is_key, is_node, is_state}
 
 pub not_true : false ≡ true → ⊥
 not_true e = cc
@@ -57,6 +58,11 @@ part_decides (k.integer a) (k.integer b) = by_one k.integer (int_eq a b) a b (De
 part_decides (k.text a) (k.text b) = by_one k.text (bytes_eq a b) a b (bytes_eq-Decides a b) (λ e. cc)
 part_decides p q = neither p q (λ e. cc)
 
+profile_decides : (p q : Profile) → Decides (is_profile p q) (p ≡ q)
+profile_decides One One = ((λ e. refl), (λ e. refl))
+profile_decides Two Two = ((λ e. refl), (λ e. refl))
+profile_decides p q = neither p q (λ e. cc)
+
 pub all_decide : {A : Type 0} (test : A → A → Bool) → ((a b : A) → Decides (test a b) (a ≡ b)) → (xs ys : List A) → Decides (pointwise test xs ys) (xs ≡ ys)
 all_decide test h xs ys = slice_eq-Decides h xs ys (pointwise test xs ys) refl
 
@@ -71,6 +77,9 @@ pair_decides f g h k p q = by_two (f p.0 q.0) (g p.1 q.1) (h p.0 q.0) (k p.1 q.1
 values_decide : (vs ws : List Value) → Decides (pointwise is_value vs ws) (vs ≡ ws)
 values_decide = all_decide is_value value_decides
 
+code_decides : (a b : List ℕ) (vs ws : List Value) → Decides (bytes_eq a b && pointwise is_value vs ws) ((a ≡ b) × (vs ≡ ws))
+code_decides a b vs ws = by_two {R = (a ≡ b) × (vs ≡ ws)} (bytes_eq a b) (pointwise is_value vs ws) (bytes_eq-Decides a b) (values_decide vs ws) (λ d e. (d, e)) (λ r. r.0) (λ r. r.1)
+
 entry_decides : (e f : Key × Value) → Decides (is_key e.0 f.0 && is_value e.1 f.1) (e ≡ f)
 entry_decides = pair_decides is_key is_value key_decides value_decides
 
@@ -82,7 +91,8 @@ node_decides (list vs) (list ws) = by_one list _ vs ws (values_decide vs ws) (λ
 node_decides (tuple vs) (tuple ws) = by_one tuple _ vs ws (values_decide vs ws) (λ e. cc)
 node_decides (dict es) (dict fs) = by_one dict _ es fs (all_decide _ entry_decides es fs) (λ e. cc)
 node_decides (object es) (object fs) = by_one object _ es fs (all_decide _ name_decides es fs) (λ e. cc)
-node_decides (function One a vs) (function One b ws) = by_two (bytes_eq a b) (pointwise is_value vs ws) (bytes_eq-Decides a b) (values_decide vs ws) (λ p q. cc) (λ e. cc) (λ e. cc)
+node_decides (function p a vs) (function q b ws) =
+    by_two (is_profile p q) (bytes_eq a b && pointwise is_value vs ws) (profile_decides p q) (code_decides a b vs ws) (λ d e. let g = e.0 in let h = e.1 in cc) (λ e. cc) (λ e. let g : a ≡ b = cc in let h : vs ≡ ws = cc in (g, h))
 node_decides (exception a vs) (exception b ws) = by_two (a == b) (pointwise is_value vs ws) (Decides-eqb a b) (values_decide vs ws) (λ p q. cc) (λ e. cc) (λ e. cc)
 node_decides n m = neither n m (λ e. cc)
 

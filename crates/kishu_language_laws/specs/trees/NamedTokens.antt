@@ -3,7 +3,6 @@ use Rattle.std.proofs.Common.{◌≡◌, ℕ, zero, suc, List, [], ◌∷◌, �
 use Rattle.std.specs.Prelude.{Ok}
 use Rattle.std.specs.Str.{chars}
 use Rattle.kishu_language.specs.declared.profile.Profile.{Profile}
-use Rattle.kishu_language.specs.declared.profile.Profile.TheVariants.{One}
 use Rattle.kishu_language.specs.declared.token.Mark.{Mark}
 use Rattle.kishu_language.specs.tokens.PlainLines.{plain_lines}
 use Rattle.kishu_language.specs.tokens.Names.{is_name}
@@ -98,4 +97,4 @@ pub layout_named : (cs : List ℕ) (ts : Tokens) → layout cs ≡ Ok ts → All
 layout_named cs ts h = emitted_named (emits_of cs ts h) (text_named cs)
 
 pub tokens_named : (profile : Profile) (text : Text) (ts : Tokens) → tokens profile text ≡ Ok ts → AllNamed ts
-tokens_named One text ts h = layout_named (plain_lines (chars text)) ts h
+tokens_named profile text ts h = layout_named (plain_lines (chars text)) ts h

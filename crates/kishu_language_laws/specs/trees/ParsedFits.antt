@@ -3,7 +3,6 @@ use Rattle.std.specs.Prelude.{◌≤◌, List, [], ◌∷◌, length}
 use Rattle.std.specs.Str.{IsUtf8}
 use Rattle.std.proofs.Common.{arith}
 use Rattle.kishu_language.specs.declared.profile.Profile.{Profile}
-use Rattle.kishu_language.specs.declared.profile.Profile.TheVariants.{One}
 use Rattle.kishu_language.specs.trees.Tree.{Text, Statement, Definition, statements}
 use Rattle.kishu_language.specs.grammar.Parse.{plain_text, Parse, ParseDef}
 use Rattle.kishu_language.specs.trees.Fits.{CodeFits, StatementsFit, IsCodeOf}
@@ -21,7 +20,7 @@ pub parsed_fits : (profile : Profile) (text : Text) (tree : List Statement) → 
 parsed_fits profile text tree h = all_named tree ((programs (plain_text text)).leads h.0 [] tree (tokens_named profile text h.0 h.1) h.2).1
 
 code_reads : (profile other : Profile) (code : Text) (d : Definition) → ParseDef profile code d → ParseDef other code d
-code_reads One One code d h = h
+code_reads p q code d h = h
 
 code_fits : (profile : Profile) (code : Text) (d : Definition) → length code ≤ 1048576 → ParseDef profile code d → CodeFits code d
 code_fits profile code d small h = (small, λ other. ∣ read_only other code (t.define d.title d.parameters d.body code ∷ []) (code_reads profile other code d h) ∣₁)

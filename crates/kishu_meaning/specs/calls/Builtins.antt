@@ -7,9 +7,13 @@ use Rattle.kishu_language.specs.declared.tree.Operator.TheVariants as operators
 use Rattle.kishu_language.specs.declared.tree.Comparison.{Comparison}
 use Rattle.kishu_language.specs.declared.tree.Comparison.TheVariants as comparisons
 use Rattle.kishu_meaning.specs.values.Numbers.{number_read}
-use Rattle.kishu_meaning.specs.values.Classes.{is_within}
+use Rattle.kishu_meaning.specs.values.BuiltinNames as builtins
+use Rattle.kishu_meaning.specs.values.BuiltinNames.{BuiltinFunction, all_builtins}
+use Rattle.kishu_meaning.specs.values.Classes.{bool_class, dict_class, int_class, list_class, namespace_class, range_class, str_class, tuple_class, is_within}
+use Rattle.kishu_meaning.specs.values.PlainClasses as plain
+use Rattle.kishu_meaning.specs.values.PlainClasses.{PlainClass, plain_classes}
 use Rattle.kishu_meaning.specs.values.Values.{Value, bool, integer, text, range, class, node, Node, list, tuple, dict, object, exception}
-use Rattle.kishu_meaning.specs.moments.Moment.{M, ◌>>=◌, ◌>>◌, give, or_else, spend, tick, stopped, make, node_now}
+use Rattle.kishu_meaning.specs.moments.Moment.{M, ◌>>=◌, ◌>>◌, give, or_else, exhausted, spend, tick, make, node_now}
 use Rattle.kishu_meaning.specs.comparing.Equal.{number_in, range_length}
 use Rattle.kishu_meaning.specs.calls.Operators.{bad_arguments, value_error, truth, whole, operate, new_list, new_tuple}
 use Rattle.kishu_meaning.specs.comparing.Comparing.{compare}
@@ -47,7 +51,7 @@ and_next None end f = end
 
 -- the first truth of this kind decides
 abbrev pub decided : Bool → ℕ → Walk → ℕ → M Value
-decided which zero walk k = λ s. stopped s
+decided which zero walk k = exhausted
 decided which (suc n) walk k = item_for walk k >>= λ found. and_next found (give (bool (not which))) (λ v. truth v >>= λ b. if beq b which then give (bool which) else decided which n walk (suc k))
 
 abbrev pub decide : Bool → Value → M Value
@@ -55,7 +59,7 @@ decide which v = walk_of v >>= λ walk. λ s. decided which (suc s.left) walk 0 
 
 -- all items in turn
 abbrev pub folded : {A : Type 0} → (A → Value → M A) → ℕ → Walk → ℕ → A → M A
-folded f zero walk k a = λ s. stopped s
+folded f zero walk k a = exhausted
 folded f (suc n) walk k a = item_for walk k >>= λ found. and_next found (give a) (λ v. f a v >>= λ b. folded f n walk (suc k) b)
 
 abbrev pub fold : {A : Type 0} → (A → Value → M A) → A → Walk → M A
@@ -119,19 +123,19 @@ length_of _ = bad_arguments (codes "len")
 -- ---- classes of values
 
 abbrev pub node_is_of : ℕ → Option Node → Bool
-node_is_of n (Some (dict es)) = n == 1
-node_is_of n (Some (list vs)) = n == 3
-node_is_of n (Some (object as')) = n == 5
-node_is_of n (Some (tuple vs)) = n == 7
+node_is_of n (Some (dict es)) = n == dict_class
+node_is_of n (Some (list vs)) = n == list_class
+node_is_of n (Some (object as')) = n == namespace_class
+node_is_of n (Some (tuple vs)) = n == tuple_class
 node_is_of n (Some (exception kind vs)) = is_within kind n
 node_is_of n _ = false
 
 -- A bool is an int too; None, functions and classes are of none of the classes.
 abbrev pub is_of : Value → Option Node → ℕ → Bool
-is_of (bool b) found n = n == 0 || n == 2
-is_of (integer z) found n = n == 2
-is_of (range start stop step) found n = n == 4
-is_of (text cs) found n = n == 6
+is_of (bool b) found n = n == bool_class || n == int_class
+is_of (integer z) found n = n == int_class
+is_of (range start stop step) found n = n == range_class
+is_of (text cs) found n = n == str_class
 is_of (node i) found n = node_is_of n found
 is_of _ found n = false
 
@@ -159,25 +163,26 @@ is_instance v c = node_now c >>= is_of_tuple v
 abbrev pub sorted : Value → M Value
 sorted v = count_of v >>= λ n. spend (sort_steps n) >> items_of v >>= λ vs. or_else (bad_arguments (codes "sorted")) (in_order vs) >>= new_list
 
--- ---- the builtin functions, in the order of their numbers; `print` is called with keywords too
+-- ---- the builtin functions; `print` is called with keywords too
+
+abbrev pub builtin_call : Call → BuiltinFunction → Call
+builtin_call print builtins.abs = of_number (codes "abs") (λ z. whole (pos (unsigned_abs z)))
+builtin_call print builtins.all = of_one (codes "all") (decide false)
+builtin_call print builtins.any = of_one (codes "any") (decide true)
+builtin_call print builtins.chr = of_number (codes "chr") character
+builtin_call print builtins.divmod = of_two (codes "divmod") divided_by
+builtin_call print builtins.isinstance = of_two (codes "isinstance") is_instance
+builtin_call print builtins.len = of_one (codes "len") length_of
+builtin_call print builtins.max = best (codes "max") comparisons.Greater
+builtin_call print builtins.min = best (codes "min") comparisons.Less
+builtin_call print builtins.ord = of_one (codes "ord") code_point
+builtin_call print builtins.print = print
+builtin_call print builtins.repr = of_one (codes "repr") (λ v. repr_of v >>= λ cs. give (text cs))
+builtin_call print builtins.sorted = of_one (codes "sorted") sorted
+builtin_call print builtins.sum = of_one (codes "sum") (λ v. walk_of v >>= fold added (integer (pos 0)))
 
 abbrev pub builtin_calls : Call → List Call
-builtin_calls print =
-    of_number (codes "abs") (λ z. whole (pos (unsigned_abs z)))
-    ∷ of_one (codes "all") (decide false)
-    ∷ of_one (codes "any") (decide true)
-    ∷ of_number (codes "chr") character
-    ∷ of_two (codes "divmod") divided_by
-    ∷ of_two (codes "isinstance") is_instance
-    ∷ of_one (codes "len") length_of
-    ∷ best (codes "max") comparisons.Greater
-    ∷ best (codes "min") comparisons.Less
-    ∷ of_one (codes "ord") code_point
-    ∷ print
-    ∷ of_one (codes "repr") (λ v. repr_of v >>= λ cs. give (text cs))
-    ∷ of_one (codes "sorted") sorted
-    ∷ of_one (codes "sum") (λ v. walk_of v >>= fold added (integer (pos 0)))
-    ∷ []
+builtin_calls print = map (builtin_call print) all_builtins
 
 -- ---- the classes but those of exceptions, in the same way
 
@@ -217,14 +222,15 @@ range_from (Some start ∷ Some stop ∷ []) = give (range start stop (pos 1))
 range_from (Some start ∷ Some stop ∷ Some step ∷ []) = checked_range start stop step
 range_from _ = bad_arguments (codes "range")
 
+abbrev pub class_call : Call → PlainClass → Call
+class_call namespace plain.bool = of_none_or_one (codes "bool") (give (bool false)) (λ v. truth v >>= λ b. give (bool b))
+class_call namespace plain.dict = of_none_or_one (codes "dict") (make (dict [])) (λ v. node_now v >>= copied_dict)
+class_call namespace plain.int = of_none_or_one (codes "int") (give (integer (pos 0))) number_from
+class_call namespace plain.list = of_none_or_one (codes "list") (new_list []) (λ v. all_items v >>= new_list)
+class_call namespace plain.range = λ vs. range_from (map number_in vs)
+class_call namespace plain.namespace = namespace
+class_call namespace plain.str = of_none_or_one (codes "str") (give (text [])) (λ v. show v >>= λ cs. give (text cs))
+class_call namespace plain.tuple = of_none_or_one (codes "tuple") (new_tuple []) (λ v. node_now v >>= tuple_of v)
+
 abbrev pub class_calls : Call → List Call
-class_calls namespace =
-    of_none_or_one (codes "bool") (give (bool false)) (λ v. truth v >>= λ b. give (bool b))
-    ∷ of_none_or_one (codes "dict") (make (dict [])) (λ v. node_now v >>= copied_dict)
-    ∷ of_none_or_one (codes "int") (give (integer (pos 0))) number_from
-    ∷ of_none_or_one (codes "list") (new_list []) (λ v. all_items v >>= new_list)
-    ∷ (λ vs. range_from (map number_in vs))
-    ∷ namespace
-    ∷ of_none_or_one (codes "str") (give (text [])) (λ v. show v >>= λ cs. give (text cs))
-    ∷ of_none_or_one (codes "tuple") (new_tuple []) (λ v. node_now v >>= tuple_of v)
-    ∷ []
+class_calls namespace = map (class_call namespace) plain_classes

@@ -5,11 +5,13 @@ use Rattle.kishu_language.specs.tokens.Lines.{line_feed}
 use Rattle.kishu_meaning.specs.values.Texts.{joined}
 use Rattle.kishu_language.specs.trees.Tree.{Arguments, no_arguments, more_arguments}
 use Rattle.kishu_meaning.specs.values.Values.{Value, none, text, node, Node, dict, object, exception}
-use Rattle.kishu_meaning.specs.moments.Moment.{M, ◌>>=◌, ◌>>◌, give, later, spend, look, make, node_now, put_out}
+use Rattle.kishu_meaning.specs.moments.Moment.{M, ◌>>=◌, ◌>>◌, give, spend, look, make, node_now, put_out}
 use Rattle.kishu_meaning.specs.calls.Operators.{in_quotes, kind_of, type_error, bad_arguments}
 use Rattle.kishu_meaning.specs.comparing.Show.{builtin_name, class_name, show_all}
 use Rattle.kishu_meaning.specs.values.Sound.{is_exception_class}
-use Rattle.kishu_meaning.specs.values.Classes.{namespace_number}
+use Rattle.kishu_meaning.specs.values.BuiltinNames as builtins
+use Rattle.kishu_meaning.specs.values.BuiltinNames.{builtin_number}
+use Rattle.kishu_meaning.specs.values.Classes.{namespace_class}
 use Rattle.kishu_meaning.specs.calls.Builtins.{Call, builtin_calls, class_calls}
 use Rattle.kishu_meaning.specs.values.Kinds.{no_attribute}
 use Rattle.kishu_meaning.specs.calls.Methods.{has_method}
@@ -38,7 +40,7 @@ by_plain name (k ∷ ks) m = bad_arguments name
 -- ---- `print`
 
 abbrev pub print_number : ℕ
-print_number = 10
+print_number = builtin_number builtins.print
 
 -- The texts of the values, between them the separator, and the end: put out when it is made whole.
 abbrev pub print : List ℕ → List ℕ → List Value → M Value
@@ -56,10 +58,10 @@ print_by (k ∷ ks) separator end vs = bad_arguments (codes "print")
 
 -- ---- builtin functions and classes
 
--- the call that stands at a number's place
+-- the call that stands at a number's place, and where none stands a TypeError
 abbrev pub or_no_call : Option Call → Call
 or_no_call (Some f) vs = f vs
-or_no_call None vs = later
+or_no_call None vs = bad_arguments []
 
 abbrev pub print_plain : Call
 print_plain = print (codes " ") (line_feed ∷ [])
@@ -69,7 +71,7 @@ call_builtin n given = if n == print_number then print_by given.named (codes " "
 
 -- a new object with the keywords as its attributes
 abbrev pub new_object : Given → M Value
-new_object given = if length given.plain == 0 then make (object given.named) else bad_arguments (class_name namespace_number)
+new_object given = if length given.plain == 0 then make (object given.named) else bad_arguments (class_name namespace_class)
 
 abbrev pub empty_object : Call
 empty_object vs = new_object (record { plain = vs; named = [] })
@@ -77,7 +79,7 @@ empty_object vs = new_object (record { plain = vs; named = [] })
 -- An exception has its arguments.
 abbrev pub construct : ℕ → Given → M Value
 construct n given =
-    if n == namespace_number then new_object given
+    if n == namespace_class then new_object given
     else by_plain (class_name n) given.named (if is_exception_class n then make (exception n given.plain) else or_no_call (slice_get (class_calls empty_object) n) given.plain)
 
 abbrev pub not_callable : {A : Type 0} → Value → M A

@@ -6,6 +6,7 @@ use Rattle.kishu_language.specs.declared.tree.Operator.{Operator}
 use Rattle.kishu_language.specs.declared.tree.Operator.TheVariants as operators
 use Rattle.kishu_language.specs.declared.tree.Sign.{Sign}
 use Rattle.kishu_language.specs.declared.tree.Sign.TheVariants as signs
+use Rattle.kishu_meaning.specs.values.Classes.{overflow_error_class, zero_division_error_class}
 use Rattle.kishu_meaning.specs.values.Numbers.{is_whole, floor_quotient, floor_remainder, power}
 use Rattle.kishu_meaning.specs.values.Values.{Value, none, bool, integer, text, range, builtin, class, node, Node, list, tuple, dict, object, function, exception}
 pub use Rattle.kishu_meaning.specs.values.Keys.{number_of_bool}
@@ -58,10 +59,10 @@ truth (node i) = node_now (node i) >>= λ found. give (is_full_at found)
 -- ---- whole numbers
 
 abbrev pub whole : ℤ → M Value
-whole z = if is_whole z then give (integer z) else raise 10 (codes "whole number too large")
+whole z = if is_whole z then give (integer z) else raise overflow_error_class (codes "whole number too large")
 
 abbrev pub divided : ℤ → ℤ → M Value
-divided b z = if int_eq b (pos 0) then raise 11 (codes "division by zero") else whole z
+divided b z = if int_eq b (pos 0) then raise zero_division_error_class (codes "division by zero") else whole z
 
 abbrev pub raised_to : ℤ → ℤ → M Value
 raised_to a (pos n) = whole (power a n)

@@ -12,10 +12,10 @@ use Rattle.kishu_language.specs.trees.Tree.{no_expressions, more_expressions, no
 use Rattle.kishu_language.specs.trees.Tree as t
 use Rattle.kishu_language.specs.reading.ReadText.{read_chars}
 use Rattle.kishu_meaning.specs.values.Keys.{Key, is_one}
-use Rattle.kishu_meaning.specs.values.Classes.{assertion_error_class, namespace_number}
+use Rattle.kishu_meaning.specs.values.Classes.{assertion_error_class, namespace_class, syntax_error_class}
 use Rattle.kishu_meaning.specs.values.Values.{Value, none, bool, integer, text, builtin, class, node, Node, dict, function, Names, State, Output, stream, shown, fault, Ran}
 use Rattle.kishu_meaning.specs.values.Nodes.{with_entry}
-use Rattle.kishu_meaning.specs.moments.Moment.{Moment, Thrown, fresh, Ends, fine, raised, stopped, M, ◌>>=◌, ◌>>◌, give, throw, raise_with, tick, most_steps, most_depth, recursion_error, deeper, read, assign, delete, make, node_now}
+use Rattle.kishu_meaning.specs.moments.Moment.{Moment, Thrown, fresh, Ends, fine, raised, stopped, M, ◌>>=◌, ◌>>◌, give, throw, raise, raise_with, tick, most_steps, most_depth, recursion_error, deeper, read, assign, delete, make, node_now}
 use Rattle.kishu_meaning.specs.calls.Operators.{truth, operate, signed_value, list_from, new_list, new_tuple, bad_arguments}
 use Rattle.kishu_meaning.specs.comparing.Comparing.{compare}
 use Rattle.kishu_meaning.specs.comparing.Show.{class_name}
@@ -73,9 +73,9 @@ delete_place (named x) = delete x
 delete_place (attribute_of v x) = delete_attribute v x
 delete_place (item_of v i) = delete_item v i
 
--- what no tree has there
+-- what the tree of no text has there
 abbrev pub no_place : {A : Type 0} → M A
-no_place s = stopped s
+no_place = raise syntax_error_class (codes "invalid syntax")
 
 -- `+=` extends a list in place.
 abbrev pub add_to : Value → Value → Option (List Value) → M Value
@@ -285,7 +285,7 @@ module _ (calls : Calls) where
     act (t.assert e message) = expr e >>= λ v. truth v >>= λ b. if b then give onward else failed message
     act (t.delete es) = delete_all es >> give onward
     act (t.global xs) = give onward
-    act (t.import x) = assign (or_class_name x) (class namespace_number) >> give onward
+    act (t.import x) = assign (or_class_name x) (class namespace_class) >> give onward
     act (t.update e operator operand) = update e operator operand >> give onward
     act (t.assign es e) = expr e >>= λ v. store_all es v >> give onward
     act (t.choose as' other) = arms as' (in_block other (acts other))

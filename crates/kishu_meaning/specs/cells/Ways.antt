@@ -4,7 +4,7 @@ use Rattle.std.specs.List.{list_any, list_all}
 use Rattle.kishu_language.specs.tokens.Names.{is_among}
 use Rattle.kishu_meaning.specs.values.Classes.{any_exception, is_within}
 use Rattle.kishu_meaning.specs.values.Values.{Value, class, node, Node, exception}
-use Rattle.kishu_meaning.specs.moments.Moment.{Locals, Thrown, fresh, thrown_object, Ends, fine, raised, stopped, M, ◌>>=◌, ◌>>◌, give, throw, tick, look, make, node_now, access, assign}
+use Rattle.kishu_meaning.specs.moments.Moment.{Locals, Thrown, fresh, thrown_object, Ends, fine, raised, stopped, M, ◌>>=◌, ◌>>◌, give, throw, exhausted, tick, look, make, node_now, access, assign}
 use Rattle.kishu_meaning.specs.moments.Accesses.{unbind}
 use Rattle.kishu_meaning.specs.calls.Operators.{type_error, truth, tuple_from}
 use Rattle.kishu_meaning.specs.values.Sound.{is_exception_class}
@@ -34,7 +34,7 @@ turn_on broke m = give onward
 turn_on (returned v) m = give (returned v)
 
 abbrev pub turns : ℕ → M Value → M Flow → M Flow
-turns zero test body = λ s. stopped s
+turns zero test body = exhausted
 turns (suc n) test body = test >>= λ v. truth v >>= λ b. if b then (tick >> body >>= λ f. turn_on f (turns n test body)) else give onward
 
 abbrev pub repeat : M Value → M Flow → M Flow
@@ -47,7 +47,7 @@ with_item None turn = give broke
 
 -- the turns from the k-th on
 abbrev pub walk_on : ℕ → Walk → ℕ → (Value → M Flow) → M Flow
-walk_on zero walk k turn = λ s. stopped s
+walk_on zero walk k turn = exhausted
 walk_on (suc n) walk k turn = item_for walk k >>= λ found. with_item found turn >>= λ f. turn_on f (walk_on n walk (suc k) turn)
 
 abbrev pub walk_along : Walk → (Value → M Flow) → M Flow

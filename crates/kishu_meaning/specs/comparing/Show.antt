@@ -6,6 +6,7 @@ use Rattle.std.specs.List.{list_any}
 use Rattle.std.specs.Str.{chars}
 use Rattle.kishu_language.specs.declared.profile.Profile.{Profile}
 use Rattle.kishu_meaning.specs.values.BuiltinNames.{builtin_names, class_names}
+use Rattle.kishu_meaning.specs.values.Classes.{key_error_class}
 use Rattle.kishu_meaning.specs.values.Texts.{quoted, joined}
 use Rattle.kishu_language.specs.trees.Tree.{Text, Statement}
 use Rattle.kishu_language.specs.trees.Tree as t
@@ -154,7 +155,7 @@ repr_of v = λ s. counted (repr_in s.nodes s.depth v) s
 -- ---- str
 
 abbrev pub key_error : ℕ
-key_error = 16
+key_error = key_error_class
 
 -- A text is itself; all else is its repr, but for exceptions.
 abbrev pub show_by : (ℕ → Count (List ℕ)) → Value → Count (List ℕ)
@@ -164,7 +165,7 @@ show_by nodes v = repr_by nodes v
 module _ (reprs shows : ℕ → Count (List ℕ)) where
   -- A KeyError shows its argument's repr.
   abbrev pub argument_text : ℕ → Value → Count (List ℕ)
-  argument_text kind v = if kind == key_error then repr_by reprs v else show_by shows v
+  argument_text kind v = if kind == key_error_class then repr_by reprs v else show_by shows v
 
   -- Without arguments it is empty, one argument is shown itself after a step, and more are shown as a tuple of them.
   abbrev pub exception_text : ℕ → List Value → Count (List ℕ)

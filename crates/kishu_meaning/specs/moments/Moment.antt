@@ -4,6 +4,7 @@ use Rattle.std.specs.Str.{chars}
 use Rattle.kishu_language.specs.declared.profile.Profile.{Profile}
 use Rattle.kishu_language.specs.tokens.Names.{is_among, place_among}
 use Rattle.kishu_meaning.specs.values.BuiltinNames.{builtin_names, class_names}
+use Rattle.kishu_meaning.specs.values.Classes.{name_error_class, recursion_error_class, unbound_local_error_class}
 use Rattle.kishu_meaning.specs.values.Values.{Value, text, builtin, class, node, Node, Names, find, bind}
 use Rattle.kishu_meaning.specs.values.Nodes.{changed}
 use Rattle.kishu_meaning.specs.moments.Accesses.{unbind, with_access}
@@ -80,9 +81,12 @@ abbrev pub or_else : {A : Type 0} → M A → Option A → M A
 or_else other (Some a) = give a
 or_else other None = other
 
--- What no cell has yet.
+-- what is behind the last turn that the budget has steps for; no run comes there
+abbrev pub exhausted : {A : Type 0} → M A
+exhausted s = stopped (record s { left = 0 })
+
 abbrev pub later : {A : Type 0} → M A
-later s = stopped s
+later = exhausted
 
 -- ---- the budget and the depth
 
@@ -106,7 +110,7 @@ back_at n (raised x s) = raised x (record s { depth = n })
 back_at n (stopped s) = stopped (record s { depth = n })
 
 abbrev pub recursion_error : {A : Type 0} → M A
-recursion_error = raise 21 (codes "depth limit reached")
+recursion_error = raise recursion_error_class (codes "depth limit reached")
 
 -- one level deeper
 abbrev pub deeper : {A : Type 0} → M A → M A
@@ -118,10 +122,10 @@ abbrev pub access : List ℕ → M (Unit {0})
 access x s = fine tt (record s { accessed = with_access x s.accessed })
 
 abbrev pub name_error : {A : Type 0} → List ℕ → M A
-name_error x = raise 17 (codes "name '" ++ chars x ++ codes "' is not defined")
+name_error x = raise name_error_class (codes "name '" ++ chars x ++ codes "' is not defined")
 
 abbrev pub unbound_local : {A : Type 0} → List ℕ → M A
-unbound_local x = raise 18 (codes "local name '" ++ chars x ++ codes "' has no value")
+unbound_local x = raise unbound_local_error_class (codes "local name '" ++ chars x ++ codes "' has no value")
 
 abbrev pub or_class : List ℕ → Option ℕ → M Value
 or_class x (Some n) = give (class n)

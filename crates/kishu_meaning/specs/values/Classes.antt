@@ -1,8 +1,29 @@
 -- The classes by their numbers, and which lie below which (Library Reference, "Built-in Exceptions": "Exception hierarchy").
 use Rattle.std.specs.Prelude.{ℕ, ◌==◌, Bool, ◌||◌, if◌then◌else◌}
 
-abbrev pub namespace_number : ℕ
-namespace_number = 5
+abbrev pub bool_class : ℕ
+bool_class = 0
+
+abbrev pub dict_class : ℕ
+dict_class = 1
+
+abbrev pub int_class : ℕ
+int_class = 2
+
+abbrev pub list_class : ℕ
+list_class = 3
+
+abbrev pub range_class : ℕ
+range_class = 4
+
+abbrev pub namespace_class : ℕ
+namespace_class = 5
+
+abbrev pub str_class : ℕ
+str_class = 6
+
+abbrev pub tuple_class : ℕ
+tuple_class = 7
 
 abbrev pub any_exception : ℕ
 any_exception = 8
@@ -45,6 +66,18 @@ not_implemented_error_class = 20
 
 abbrev pub recursion_error_class : ℕ
 recursion_error_class = 21
+
+abbrev pub syntax_error_class : ℕ
+syntax_error_class = 22
+
+abbrev pub type_error_class : ℕ
+type_error_class = 23
+
+abbrev pub value_error_class : ℕ
+value_error_class = 24
+
+abbrev pub namespace_number : ℕ
+namespace_number = namespace_class
 
 -- the class above a class of exceptions; that of all of them is its own
 abbrev pub class_above : ℕ → ℕ

@@ -1,8 +1,9 @@
 -- The kinds of values by their names, and the exceptions that tell them (Python Language Reference 3, "The standard type hierarchy"; Library Reference, "Built-in Exceptions").
 use Rattle.std.specs.Prelude.{ℕ, List, [], ◌++◌, codes, Option, Some, None, slice_get}
 use Rattle.std.specs.Str.{chars}
+use Rattle.kishu_meaning.specs.values.Classes.{attribute_error_class, index_error_class, key_error_class, type_error_class, value_error_class}
 use Rattle.kishu_meaning.specs.values.Values.{Value, none, bool, integer, text, range, builtin, class, node, Node, list, tuple, dict, object, function, exception}
-use Rattle.kishu_meaning.specs.comparing.Show.{class_name, key_error}
+use Rattle.kishu_meaning.specs.comparing.Show.{class_name}
 use Rattle.kishu_meaning.specs.moments.Moment.{M, ◌>>=◌, raise, raise_with, look}
 
 -- An exception's kind is its class.
@@ -39,17 +40,17 @@ abbrev pub kind_of : Value → M (List ℕ)
 kind_of v = look (λ ns. kind_in ns v)
 
 abbrev pub type_error : {A : Type 0} → List ℕ → M A
-type_error message = raise 23 message
+type_error message = raise type_error_class message
 
 abbrev pub value_error : {A : Type 0} → List ℕ → M A
-value_error message = raise 24 message
+value_error message = raise value_error_class message
 
 abbrev pub index_error : {A : Type 0} → List ℕ → M A
-index_error message = raise 15 message
+index_error message = raise index_error_class message
 
 -- a KeyError, whose argument is the key itself
 abbrev pub no_key : {A : Type 0} → Value → M A
-no_key v = raise_with key_error v
+no_key v = raise_with key_error_class v
 
 abbrev pub not_iterable : {A : Type 0} → Value → M A
 not_iterable v = kind_of v >>= λ k. type_error (in_quotes k ++ codes " object is not iterable")
@@ -61,7 +62,7 @@ abbrev pub unhashable : {A : Type 0} → Value → M A
 unhashable v = kind_of v >>= λ k. type_error (codes "unhashable key: " ++ in_quotes k)
 
 abbrev pub no_attribute : {A : Type 0} → Value → List ℕ → M A
-no_attribute v name = kind_of v >>= λ k. raise 13 (in_quotes k ++ codes " object has no attribute '" ++ chars name ++ codes "'")
+no_attribute v name = kind_of v >>= λ k. raise attribute_error_class (in_quotes k ++ codes " object has no attribute '" ++ chars name ++ codes "'")
 
 -- by the name of what was called
 abbrev pub bad_arguments : {A : Type 0} → List ℕ → M A

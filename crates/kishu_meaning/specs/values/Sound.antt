@@ -4,17 +4,19 @@ use Rattle.std.specs.List.{list_all}
 use Rattle.std.specs.Ordering.{int_eq}
 use Rattle.kishu_language.specs.tokens.Names.{is_name}
 use Rattle.kishu_language.specs.trees.Tree.{Parameter, Definition}
+use Rattle.kishu_meaning.specs.values.BuiltinNames.{all_builtins, all_classes}
+use Rattle.kishu_meaning.specs.values.Classes.{any_exception}
 use Rattle.kishu_meaning.specs.values.Values.{Value, none, bool, integer, text, range, builtin, class, node, Node, list, tuple, dict, object, function, exception, Names}
 
 abbrev pub builtins : ℕ
-builtins = 14
+builtins = length all_builtins
 
 abbrev pub classes : ℕ
-classes = 25
+classes = length all_classes
 
 -- the first class of exceptions
 abbrev pub first_exception : ℕ
-first_exception = 8
+first_exception = any_exception
 
 abbrev pub is_valid : Value → Bool
 is_valid none = true

@@ -7,7 +7,7 @@ use Rattle.std.proofs.Common.{subst, ap, refl, ◌∙◌}
 use Rattle.kishu_language.specs.declared.tree.Comparison.{Comparison}
 use Rattle.kishu_language.specs.declared.tree.Comparison.TheVariants as comparisons
 use Rattle.kishu_language.specs.declared.tree.Operator.TheVariants as operators
-use Rattle.kishu_meaning.specs.calls.Builtins.{Call, of_one, of_two, by_number, of_number, and_next, decided, decide, folded, fold, better, or_empty_argument, best_of, best, added, character, is_character, code_point, quotient_and_remainder, divided_by, node_length, length_of, node_is_of, is_of, is_of_class, class_in, is_of_one, is_of_tuple, is_instance, sorted, builtin_calls, of_none_or_one, copied_dict, or_no_number, number_from, tuple_of, range_from, class_calls, all_items}
+use Rattle.kishu_meaning.specs.calls.Builtins.{Call, of_one, of_two, by_number, of_number, and_next, decided, decide, folded, fold, better, or_empty_argument, best_of, best, added, character, is_character, code_point, quotient_and_remainder, divided_by, node_length, length_of, node_is_of, is_of, is_of_class, class_in, is_of_one, is_of_tuple, is_instance, sorted, builtin_call, builtin_calls, of_none_or_one, copied_dict, or_no_number, number_from, tuple_of, range_from, class_call, class_calls, all_items}
 use Rattle.kishu_meaning.specs.calls.Operators.{whole, truth, new_list, new_tuple}
 use Rattle.kishu_meaning.specs.comparing.Equal.{number_in, range_length}
 use Rattle.kishu_meaning.specs.comparing.Show.{repr_of, show}
@@ -15,11 +15,15 @@ use Rattle.kishu_meaning.specs.items.Sorting.{sort_steps}
 use Rattle.kishu_meaning.specs.items.Walks.{Walk, walk_of}
 use Rattle.kishu_meaning.specs.moments.Moment.{M, node_now, give, ◌>>=◌, make}
 use Rattle.kishu_meaning.specs.values.Kinds.{bad_arguments}
+use Rattle.kishu_meaning.specs.values.BuiltinNames as builtins
+use Rattle.kishu_meaning.specs.values.BuiltinNames.{BuiltinFunction, all_builtins}
+use Rattle.kishu_meaning.specs.values.PlainClasses as plains
+use Rattle.kishu_meaning.specs.values.PlainClasses.{PlainClass, plain_classes}
 use Rattle.kishu_meaning.specs.values.Numbers.{number_read}
 use Rattle.kishu_meaning.specs.values.Values.{Value, integer, text, node, Node, range, class, bool, dict}
 use Rattle.kishu_pairing_laws.specs.World.{World, SameValues, GoQuietly, SameValue, nil, cons, BothOrNeither, neither, both, plain, IsPlain, paired, SameNode, lists, tuples, dicts, objects, functions, exceptions, Is, Zip}
-use Rattle.kishu_pairing_laws.specs.moments.Steps.{then_quiet, tick_quiet, stop_quiet, bind_quiet, give_quiet, bind_is, cond_quiet, raise_quiet, spend_quiet, or_else_quiet, spend_is, by_left_quiet}
-use Rattle.kishu_pairing_laws.specs.values.Lists.{zip_length, zip_equal}
+use Rattle.kishu_pairing_laws.specs.moments.Steps.{then_quiet, tick_quiet, exhausted_quiet, bind_quiet, give_quiet, bind_is, cond_quiet, raise_quiet, spend_quiet, or_else_quiet, spend_is, by_left_quiet}
+use Rattle.kishu_pairing_laws.specs.values.Lists.{zip_each, zip_length, zip_equal}
 use Rattle.kishu_pairing_laws.specs.moments.Heap.{node_now_quiet, make_quiet}
 use Rattle.kishu_pairing_laws.specs.values.Kinds.{bad_arguments_quiet}
 use Rattle.kishu_pairing_laws.specs.comparing.Equal.{number_same}
@@ -64,7 +68,7 @@ module _ (W : World) where
   next_quiet (both vw) mn h = then_quiet W (tick_quiet W) (h _ _ vw)
 
   decided_quiet : (which : Bool) (n : ℕ) {u v : Walk} (k : ℕ) → SameWalk W u v → GoQuietly W (SameValue W) (decided which n u k) (decided which n v k)
-  decided_quiet which zero k uv = stop_quiet W
+  decided_quiet which zero k uv = exhausted_quiet W
   decided_quiet which (suc n) k uv = bind_quiet W (item_for_quiet W k uv) (λ o p op. next_quiet op (give_quiet W (plain _ tt)) (λ v w vw. bind_is W (truth_quiet W vw) (λ b. cond_quiet W (beq b which) (give_quiet W (plain _ tt)) (decided_quiet which n (suc k) uv))))
 
   decide_quiet : (which : Bool) (v w : Value) → SameValue W v w → GoQuietly W (SameValue W) (decide which v) (decide which w)
@@ -72,7 +76,7 @@ module _ (W : World) where
 
   module _ {A : Type 0} (R : A → A → Type 0) (f g : A → Value → M A) (fg : (a b : A) (v w : Value) → R a b → SameValue W v w → GoQuietly W R (f a v) (g b w)) where
     folded_quiet : (n : ℕ) {u v : Walk} (k : ℕ) (a b : A) → SameWalk W u v → R a b → GoQuietly W R (folded f n u k a) (folded g n v k b)
-    folded_quiet zero k a b uv ab = stop_quiet W
+    folded_quiet zero k a b uv ab = exhausted_quiet W
     folded_quiet (suc n) k a b uv ab = bind_quiet W (item_for_quiet W k uv) (λ o p op. next_quiet op (give_quiet W ab) (λ v w vw. bind_quiet W (fg a b v w ab vw) (λ c d cd. folded_quiet n (suc k) c d uv cd)))
 
     fold_quiet : (a b : A) (u v : Walk) → R a b → SameWalk W u v → GoQuietly W R (fold f a u) (fold g b v)
@@ -213,23 +217,24 @@ module _ (W : World) where
   text_of : {m n : M (List ℕ)} → GoQuietly W Is m n → GoQuietly W (SameValue W) (m >>= λ cs. give (text cs)) (n >>= λ cs. give (text cs))
   text_of mn = bind_is W mn (λ cs. give_quiet W (plain _ tt))
 
+  builtin_same : (f g : Call) → SameCall f g → (which : BuiltinFunction) → SameCall (builtin_call f which) (builtin_call g which)
+  builtin_same f g fg builtins.abs = number_call (codes "abs") (λ z. whole (pos (unsigned_abs z))) (λ z. whole_quiet W (pos (unsigned_abs z)))
+  builtin_same f g fg builtins.all = one_quiet (codes "all") (decide false) (decide false) (decide_quiet false)
+  builtin_same f g fg builtins.any = one_quiet (codes "any") (decide true) (decide true) (decide_quiet true)
+  builtin_same f g fg builtins.chr = number_call (codes "chr") character character_quiet
+  builtin_same f g fg builtins.divmod = two_quiet (codes "divmod") divided_by divided_by divided_by_quiet
+  builtin_same f g fg builtins.isinstance = two_quiet (codes "isinstance") is_instance is_instance instance_quiet
+  builtin_same f g fg builtins.len = one_quiet (codes "len") length_of length_of length_of_quiet
+  builtin_same f g fg builtins.max = best_quiet (codes "max") comparisons.Greater
+  builtin_same f g fg builtins.min = best_quiet (codes "min") comparisons.Less
+  builtin_same f g fg builtins.ord = one_quiet (codes "ord") code_point code_point code_point_quiet
+  builtin_same f g fg builtins.print = fg
+  builtin_same f g fg builtins.repr = one_quiet (codes "repr") (λ v. repr_of v >>= λ cs. give (text cs)) (λ v. repr_of v >>= λ cs. give (text cs)) (λ v w vw. text_of (repr_quiet W vw))
+  builtin_same f g fg builtins.sorted = one_quiet (codes "sorted") sorted sorted sorted_quiet
+  builtin_same f g fg builtins.sum = one_quiet (codes "sum") (λ v. walk_of v >>= fold added (integer (pos 0))) (λ v. walk_of v >>= fold added (integer (pos 0))) (λ v w vw. bind_quiet W (walk_of_quiet W vw) (λ a b ab. fold_quiet (SameValue W) added added added_quiet (integer (pos 0)) (integer (pos 0)) a b (plain _ tt) ab))
+
   pub builtin_calls_same : (f g : Call) → SameCall f g → Zip SameCall (builtin_calls f) (builtin_calls g)
-  builtin_calls_same f g fg =
-      cons (number_call (codes "abs") (λ z. whole (pos (unsigned_abs z))) (λ z. whole_quiet W (pos (unsigned_abs z))))
-      (cons (one_quiet (codes "all") (decide false) (decide false) (decide_quiet false))
-      (cons (one_quiet (codes "any") (decide true) (decide true) (decide_quiet true))
-      (cons (number_call (codes "chr") character character_quiet)
-      (cons (two_quiet (codes "divmod") divided_by divided_by divided_by_quiet)
-      (cons (two_quiet (codes "isinstance") is_instance is_instance instance_quiet)
-      (cons (one_quiet (codes "len") length_of length_of length_of_quiet)
-      (cons (best_quiet (codes "max") comparisons.Greater)
-      (cons (best_quiet (codes "min") comparisons.Less)
-      (cons (one_quiet (codes "ord") code_point code_point code_point_quiet)
-      (cons fg
-      (cons (one_quiet (codes "repr") (λ v. repr_of v >>= λ cs. give (text cs)) (λ v. repr_of v >>= λ cs. give (text cs)) (λ v w vw. text_of (repr_quiet W vw)))
-      (cons (one_quiet (codes "sorted") sorted sorted sorted_quiet)
-      (cons (one_quiet (codes "sum") (λ v. walk_of v >>= fold added (integer (pos 0))) (λ v. walk_of v >>= fold added (integer (pos 0))) (λ v w vw. bind_quiet W (walk_of_quiet W vw) (λ a b ab. fold_quiet (SameValue W) added added added_quiet (integer (pos 0)) (integer (pos 0)) a b (plain _ tt) ab)))
-      nil)))))))))))))
+  builtin_calls_same f g fg = zip_each SameCall (builtin_call f) (builtin_call g) (builtin_same f g fg) all_builtins
 
   -- ---- classes
 
@@ -280,14 +285,15 @@ module _ (W : World) where
   range_call : SameCall (λ vs. range_from (map number_in vs)) (λ vs. range_from (map number_in vs))
   range_call vs ws z = subst (λ os. GoQuietly W (SameValue W) (range_from (map number_in vs)) (range_from os)) (zip_equal number_in number_in (λ a b ab. number_same W ab) z) (range_from_quiet (map number_in vs))
 
+  class_same : (f g : Call) → SameCall f g → (which : PlainClass) → SameCall (class_call f which) (class_call g which)
+  class_same f g fg plains.bool = none_or_one_quiet (codes "bool") (give (bool false)) (give (bool false)) (λ v. truth v >>= λ b. give (bool b)) (λ v. truth v >>= λ b. give (bool b)) (give_quiet W (plain _ tt)) (λ v w vw. bind_is W (truth_quiet W vw) (λ b. give_quiet W (plain _ tt)))
+  class_same f g fg plains.dict = none_or_one_quiet (codes "dict") (make (dict [])) (make (dict [])) (λ v. node_now v >>= copied_dict) (λ v. node_now v >>= copied_dict) (make_quiet W (dicts nil)) (λ v w vw. bind_quiet W (node_now_quiet W vw) (λ o p op. copied_quiet op))
+  class_same f g fg plains.int = none_or_one_quiet (codes "int") (give (integer (pos 0))) (give (integer (pos 0))) number_from number_from (give_quiet W (plain _ tt)) number_from_quiet
+  class_same f g fg plains.list = none_or_one_quiet (codes "list") (new_list []) (new_list []) (λ v. all_items v >>= new_list) (λ v. all_items v >>= new_list) (new_list_quiet W nil) (λ v w vw. bind_quiet W (walked_quiet W vw) (λ vs ws z. new_list_quiet W z))
+  class_same f g fg plains.range = range_call
+  class_same f g fg plains.namespace = fg
+  class_same f g fg plains.str = none_or_one_quiet (codes "str") (give (text [])) (give (text [])) (λ v. show v >>= λ cs. give (text cs)) (λ v. show v >>= λ cs. give (text cs)) (give_quiet W (plain _ tt)) (λ v w vw. text_of (show_quiet W vw))
+  class_same f g fg plains.tuple = none_or_one_quiet (codes "tuple") (new_tuple []) (new_tuple []) (λ v. node_now v >>= tuple_of v) (λ v. node_now v >>= tuple_of v) (new_tuple_quiet W nil) (λ v w vw. bind_quiet W (node_now_quiet W vw) (λ o p op. tuple_of_quiet vw op))
+
   pub class_calls_same : (f g : Call) → SameCall f g → Zip SameCall (class_calls f) (class_calls g)
-  class_calls_same f g fg =
-      cons (none_or_one_quiet (codes "bool") (give (bool false)) (give (bool false)) (λ v. truth v >>= λ b. give (bool b)) (λ v. truth v >>= λ b. give (bool b)) (give_quiet W (plain _ tt)) (λ v w vw. bind_is W (truth_quiet W vw) (λ b. give_quiet W (plain _ tt))))
-      (cons (none_or_one_quiet (codes "dict") (make (dict [])) (make (dict [])) (λ v. node_now v >>= copied_dict) (λ v. node_now v >>= copied_dict) (make_quiet W (dicts nil)) (λ v w vw. bind_quiet W (node_now_quiet W vw) (λ o p op. copied_quiet op)))
-      (cons (none_or_one_quiet (codes "int") (give (integer (pos 0))) (give (integer (pos 0))) number_from number_from (give_quiet W (plain _ tt)) number_from_quiet)
-      (cons (none_or_one_quiet (codes "list") (new_list []) (new_list []) (λ v. all_items v >>= new_list) (λ v. all_items v >>= new_list) (new_list_quiet W nil) (λ v w vw. bind_quiet W (walked_quiet W vw) (λ vs ws z. new_list_quiet W z)))
-      (cons range_call
-      (cons fg
-      (cons (none_or_one_quiet (codes "str") (give (text [])) (give (text [])) (λ v. show v >>= λ cs. give (text cs)) (λ v. show v >>= λ cs. give (text cs)) (give_quiet W (plain _ tt)) (λ v w vw. text_of (show_quiet W vw)))
-      (cons (none_or_one_quiet (codes "tuple") (new_tuple []) (new_tuple []) (λ v. node_now v >>= tuple_of v) (λ v. node_now v >>= tuple_of v) (new_tuple_quiet W nil) (λ v w vw. bind_quiet W (node_now_quiet W vw) (λ o p op. tuple_of_quiet vw op)))
-      nil)))))))
+  class_calls_same f g fg = zip_each SameCall (class_call f) (class_call g) (class_same f g fg) plain_classes

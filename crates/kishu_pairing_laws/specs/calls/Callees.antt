@@ -10,13 +10,13 @@ use Rattle.kishu_meaning.specs.calls.Callees.{Given, Part, whole as whole_part, 
 use Rattle.kishu_meaning.specs.comparing.Show.{builtin_name, class_name}
 use Rattle.kishu_meaning.specs.items.Walks.{View, view_name}
 use Rattle.kishu_meaning.specs.moments.Moment.{M, make}
-use Rattle.kishu_meaning.specs.values.Classes.{namespace_number}
+use Rattle.kishu_meaning.specs.values.Classes.{namespace_class}
 use Rattle.kishu_meaning.specs.values.Kinds.{bad_arguments, in_quotes}
 use Rattle.kishu_meaning.specs.values.Sound.{is_exception_class}
 use Rattle.kishu_meaning.specs.values.Texts.{joined}
 use Rattle.kishu_meaning.specs.values.Values.{Value, none, text, node, object, Node}
 use Rattle.kishu_pairing_laws.specs.World.{World, plain, SameValues, SameEntries, SameValue, Paired, GoQuietly, nil, cons, paired, BothOrNeither, neither, both, objects, exceptions, SameNode, lists, tuples, dicts, functions, IsPlain}
-use Rattle.kishu_pairing_laws.specs.moments.Steps.{bind_is, then_quiet, spend_quiet, put_out_quiet, give_quiet, cond_quiet, stop_quiet, bind_quiet}
+use Rattle.kishu_pairing_laws.specs.moments.Steps.{bind_is, then_quiet, spend_quiet, put_out_quiet, give_quiet, cond_quiet, bind_quiet}
 use Rattle.kishu_pairing_laws.specs.values.Lists.{zip_get, zip_length}
 use Rattle.kishu_pairing_laws.specs.moments.Heap.{make_quiet, node_now_quiet}
 use Rattle.kishu_pairing_laws.specs.values.Kinds.{bad_arguments_quiet, by_kind, no_attribute_quiet}
@@ -65,7 +65,7 @@ module _ (W : World) where
   -- ---- builtin functions and classes
 
   no_call_quiet : {o p : Option Call} {vs ws : List Value} → BothOrNeither (SameCall W) o p → SameValues W vs ws → GoQuietly W (SameValue W) (or_no_call o vs) (or_no_call p ws)
-  no_call_quiet neither z = stop_quiet W
+  no_call_quiet neither z = bad_arguments_quiet W []
   no_call_quiet (both h) z = h _ _ z
 
   pub call_builtin_quiet : (n : ℕ) {g h : Given} → SameGiven W g h → GoQuietly W (SameValue W) (call_builtin n g) (call_builtin n h)
@@ -74,15 +74,15 @@ module _ (W : World) where
 
   new_object_quiet : {g h : Given} → SameGiven W g h → GoQuietly W (SameValue W) (new_object g) (new_object h)
   new_object_quiet {g = g} {h = h} gh =
-      subst (λ n. GoQuietly W (SameValue W) (new_object g) (if n == 0 then make (object h.named) else bad_arguments (class_name namespace_number))) (zip_length gh.plain)
-      (cond_quiet W (length g.plain == 0) (make_quiet W (objects gh.named)) (bad_arguments_quiet W (class_name namespace_number)))
+      subst (λ n. GoQuietly W (SameValue W) (new_object g) (if n == 0 then make (object h.named) else bad_arguments (class_name namespace_class))) (zip_length gh.plain)
+      (cond_quiet W (length g.plain == 0) (make_quiet W (objects gh.named)) (bad_arguments_quiet W (class_name namespace_class)))
 
   pub construct_quiet : (n : ℕ) {g h : Given} → SameGiven W g h → GoQuietly W (SameValue W) (construct n g) (construct n h)
-  construct_quiet n gh = cond_quiet W (n == namespace_number) (new_object_quiet gh)
+  construct_quiet n gh = cond_quiet W (n == namespace_class) (new_object_quiet gh)
       (by_plain_quiet (class_name n) gh.named (cond_quiet W (is_exception_class n) (make_quiet W (exceptions n gh.plain)) (no_call_quiet (zip_get n (class_calls_same W empty_object empty_object (λ vs ws z. new_object_quiet (record { plain = z; named = nil })))) gh.plain)))
 
   pub not_callable_quiet : {A B : Type 0} {R : A → B → Type 0} {v w : Value} → SameValue W v w → GoQuietly W R (not_callable v) (not_callable w)
-  not_callable_quiet vw = by_kind W 23 (λ k. in_quotes k ++ codes " object is not callable") vw
+  not_callable_quiet vw = by_kind W _ (λ k. in_quotes k ++ codes " object is not callable") vw
 
   -- ---- before the call
 

@@ -8,6 +8,7 @@ use Rattle.kishu_language.specs.declared.tree.Sign.{Sign}
 use Rattle.kishu_meaning.specs.calls.Operators.{is_full, is_full_at, truth, new_list, new_tuple, bad_operands, bad_operand, whole, divided, raised_to, arithmetic, both as both_of, often, times, sum_of_nodes, operator_sign, sum_of, node_times, value_times, product_of, on_sequences, on_numbers, operate, signed_in, signed_number, sign_text, signed_value}
 use Rattle.kishu_meaning.specs.comparing.Equal.{by_both, number_in}
 use Rattle.kishu_meaning.specs.moments.Moment.{M, spend, node_now, ◌>>=◌}
+use Rattle.kishu_meaning.specs.values.Classes.{type_error_class}
 use Rattle.kishu_meaning.specs.values.Kinds.{in_quotes}
 use Rattle.kishu_meaning.specs.values.Numbers.{is_whole, power, floor_quotient, floor_remainder}
 use Rattle.kishu_meaning.specs.values.Values.{Node, Value, node, text}
@@ -53,10 +54,10 @@ module _ (W : World) where
 module _ (W : World) where
   module _ {A B : Type 0} {R : A → B → Type 0} where
     pub bad_operands_quiet : {v w x y : Value} (sign : List ℕ) → SameValue W v w → SameValue W x y → GoQuietly W R (bad_operands sign v x) (bad_operands sign w y)
-    bad_operands_quiet sign vw xy = bind_is W (kind_quiet W vw) (λ k. by_kind W 23 (λ l. codes "bad operand types for " ++ sign ++ codes ": " ++ in_quotes k ++ codes " and " ++ in_quotes l) xy)
+    bad_operands_quiet sign vw xy = bind_is W (kind_quiet W vw) (λ k. by_kind W type_error_class (λ l. codes "bad operand types for " ++ sign ++ codes ": " ++ in_quotes k ++ codes " and " ++ in_quotes l) xy)
 
     bad_operand_quiet : {v w : Value} (sign : List ℕ) → SameValue W v w → GoQuietly W R (bad_operand sign v) (bad_operand sign w)
-    bad_operand_quiet sign vw = by_kind W 23 (λ k. codes "bad operand type for " ++ sign ++ codes ": " ++ in_quotes k) vw
+    bad_operand_quiet sign vw = by_kind W _ (λ k. codes "bad operand type for " ++ sign ++ codes ": " ++ in_quotes k) vw
 
   -- ---- numbers
 

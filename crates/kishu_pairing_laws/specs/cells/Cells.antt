@@ -12,12 +12,12 @@ use Rattle.kishu_meaning.specs.cells.Ways.{Flow}
 use Rattle.kishu_meaning.specs.moments.Moment.{most_depth}
 use Rattle.kishu_meaning.specs.values.Values.{none, Names, Value}
 use Rattle.kishu_pairing_laws.specs.World.{World, SameValue, plain, BothOrNeither, SameEntries, GoAlike, both, neither, SameValues, Is}
-use Rattle.kishu_pairing_laws.specs.moments.Steps.{bind_alike, deeper_alike, give_grows, quiet, give_quiet, stop_quiet, raise_quiet, then_alike, tick_alike}
+use Rattle.kishu_pairing_laws.specs.moments.Steps.{bind_alike, deeper_alike, give_grows, quiet, give_quiet, raise_quiet, then_alike, tick_alike}
 use Rattle.kishu_pairing_laws.specs.values.Kinds.{bad_arguments_quiet}
 use Rattle.kishu_pairing_laws.specs.calls.Callees.{SameGiven}
 use Rattle.kishu_pairing_laws.specs.cells.Ways.{SameFlow, both_onward, both_broke, both_continued, both_returned}
 use Rattle.kishu_pairing_laws.specs.calls.Functions.{frame_alike, bound_same}
-use Rattle.kishu_pairing_laws.specs.cells.Parts.{shown_text_quiet}
+use Rattle.kishu_pairing_laws.specs.cells.Parts.{no_place_quiet, shown_text_quiet}
 use Rattle.kishu_pairing_laws.specs.growing.Parts.{shown_grows}
 use Rattle.kishu_pairing_laws.specs.growing.Expressions.{CallsGrow}
 use Rattle.kishu_pairing_laws.specs.growing.Cells.{call_grows, all_grow, cell_grows}
@@ -40,11 +40,11 @@ module _ (W : World) where
 
     enter_code_alike : (calls : Calls) (grow : CallsGrow calls) (alike : CallsAlike W calls) (o : Option Definition) {vs ws : List Value} {g h : Given} → SameValues W vs ws → SameGiven W g h → GoAlike W (SameValue W) (enter_code calls vs g o) (enter_code calls ws h o)
     enter_code_alike calls grow alike (Some d) z gh = enter_alike calls grow alike d (bound_same W d z gh)
-    enter_code_alike calls grow alike None z gh = quiet W (stop_quiet W)
+    enter_code_alike calls grow alike None z gh = quiet W (no_place_quiet W)
 
     pub call_alike : (n : ℕ) → CallsAlike W (call n)
     unfolding call
-    call_alike zero profile code vs ws g h z gh = quiet W (raise_quiet W 21 (codes "depth limit reached"))
+    call_alike zero profile code vs ws g h z gh = quiet W (raise_quiet W _ (codes "depth limit reached"))
     call_alike (suc n) profile code vs ws g h z gh = enter_code_alike (call n) (call_grows n) (call_alike n) (function_in (read_chars profile (chars code))) z gh
 
     pub all_alike : CallsAlike W all_calls

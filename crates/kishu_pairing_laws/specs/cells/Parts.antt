@@ -4,13 +4,13 @@ use Rattle.std.proofs.Common.{subst, refl}
 use Rattle.kishu_language.specs.declared.tree.Operator.{Operator}
 use Rattle.kishu_language.specs.declared.tree.Operator.TheVariants as operators
 use Rattle.kishu_language.specs.trees.Tree.{Trailers, no_trailers, more_trailers}
-use Rattle.kishu_meaning.specs.cells.Meaning.{Place, named, attribute_of, item_of, nodes, with_pairs, new_dict, add_to, updated, new_function, shown_text}
+use Rattle.kishu_meaning.specs.cells.Meaning.{Place, named, attribute_of, item_of, no_place, nodes, with_pairs, new_dict, add_to, updated, new_function, shown_text}
 use Rattle.kishu_meaning.specs.comparing.Show.{repr_of}
 use Rattle.kishu_meaning.specs.moments.Moment.{make, give, ◌>>=◌}
 use Rattle.kishu_meaning.specs.values.Keys.{Key, is_one}
 use Rattle.kishu_meaning.specs.values.Values.{Value, node, none, bool, integer, text, range, builtin, class, function}
 use Rattle.kishu_pairing_laws.specs.World.{World, SameValue, GoQuietly, Any, Zip, SameEntries, nil, cons, dicts, IsPlain, BothOrNeither, SameValues, plain, paired, neither, both, functions, Is}
-use Rattle.kishu_pairing_laws.specs.moments.Steps.{give_quiet, then_quiet, tick_quiet, bind_is, bind_quiet, asking_quiet}
+use Rattle.kishu_pairing_laws.specs.moments.Steps.{give_quiet, raise_quiet, then_quiet, tick_quiet, bind_is, bind_quiet, asking_quiet}
 use Rattle.kishu_pairing_laws.specs.values.Lists.{entries_with}
 use Rattle.kishu_pairing_laws.specs.moments.Heap.{make_quiet, node_now_quiet}
 use Rattle.kishu_pairing_laws.specs.values.Nodes.{list_there}
@@ -28,6 +28,9 @@ pub data SamePlace (W : World) : Place → Place → Type 0 where
   item_places : {v w i j : Value} → SameValue W v w → SameValue W i j → SamePlace W (item_of v i) (item_of w j)
 
 module _ (W : World) where
+  pub no_place_quiet : {A B : Type 0} {R : A → B → Type 0} → GoQuietly W R (no_place {A = A}) (no_place {A = B})
+  no_place_quiet = raise_quiet W _ _
+
   pub nodes_quiet : (ts : Trailers) → GoQuietly W Any (nodes ts) (nodes ts)
   nodes_quiet no_trailers = give_quiet W tt
   nodes_quiet (more_trailers first ts) = then_quiet W (tick_quiet W) (nodes_quiet ts)

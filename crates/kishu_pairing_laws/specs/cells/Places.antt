@@ -7,13 +7,13 @@ use Rattle.kishu_meaning.specs.calls.Callees.{Part}
 use Rattle.kishu_meaning.specs.cells.Meaning.{Place, read_place, store_in, delete_place, Calls, place_by, place_after, nodes_before_last, place, store, count, store_each, store_all, delete_all, update}
 use Rattle.kishu_meaning.specs.values.Values.{Value}
 use Rattle.kishu_pairing_laws.specs.World.{World, GoAlike, SameValue, Any, GoQuietly, SameValues, cons, nil}
-use Rattle.kishu_pairing_laws.specs.moments.Steps.{quiet, give_quiet, bind_alike, deeper_alike, give_grows, stop_quiet, bind_first, then_alike, then_grows, bind_grows, tick_alike, then_quiet, tick_quiet}
+use Rattle.kishu_pairing_laws.specs.moments.Steps.{quiet, give_quiet, bind_alike, deeper_alike, give_grows, bind_first, then_alike, then_grows, bind_grows, tick_alike, then_quiet, tick_quiet}
 use Rattle.kishu_pairing_laws.specs.items.Subscripts.{attribute_quiet, item_quiet, store_attribute_quiet, store_item_quiet, delete_attribute_quiet, delete_item_quiet}
 use Rattle.kishu_pairing_laws.specs.items.Walks.{unpacked_quiet}
 use Rattle.kishu_pairing_laws.specs.calls.Callees.{SamePart, settled_quiet}
 use Rattle.kishu_pairing_laws.specs.moments.Names.{read_alike, assign_alike, delete_alike}
 use Rattle.kishu_pairing_laws.specs.growing.Parts.{tick_grows, updated_grows}
-use Rattle.kishu_pairing_laws.specs.cells.Parts.{SamePlace, named_places, attribute_places, item_places, nodes_quiet, updated_quiet}
+use Rattle.kishu_pairing_laws.specs.cells.Parts.{SamePlace, named_places, attribute_places, item_places, no_place_quiet, nodes_quiet, updated_quiet}
 use Rattle.kishu_pairing_laws.specs.growing.Expressions.{CallsGrow, expr_grows}
 use Rattle.kishu_pairing_laws.specs.growing.Places.{place_after_grows, store_in_grows, store_each_grows, store_all_grows, delete_place_grows, delete_all_grows, read_place_grows}
 use Rattle.kishu_pairing_laws.specs.cells.Expressions.{CallsAlike, expr_alike, trailer_alike, part_alike}
@@ -38,11 +38,11 @@ module _ (W : World) (sorted : W.Sorted) where
     place_by_alike : {v w : Value} → SameValue W v w → (last : Trailer) → GoAlike W (SamePlace W) (place_by calls v last) (place_by calls w last)
     place_by_alike vw (t.attribute x) = quiet W (give_quiet W (attribute_places x vw))
     place_by_alike vw (t.index e) = bind_alike W (deeper_alike W (expr_alike W sorted calls grow alike e)) (λ i. give_grows _) (λ i j ij. quiet W (give_quiet W (item_places vw ij)))
-    place_by_alike vw (t.call es) = quiet W (stop_quiet W)
-    place_by_alike vw (t.slice start stop step) = quiet W (stop_quiet W)
+    place_by_alike vw (t.call es) = quiet W (no_place_quiet W)
+    place_by_alike vw (t.slice start stop step) = quiet W (no_place_quiet W)
 
     place_after_alike : {p q : Part} → SamePart W p q → (ts : Trailers) → GoAlike W (SamePlace W) (place_after calls p ts) (place_after calls q ts)
-    place_after_alike pq no_trailers = quiet W (stop_quiet W)
+    place_after_alike pq no_trailers = quiet W (no_place_quiet W)
     place_after_alike pq (more_trailers last no_trailers) = bind_first W (settled_quiet W pq) (λ v w vw. place_by_alike vw last)
     place_after_alike pq (more_trailers first (more_trailers next ts)) = bind_alike W (trailer_alike W sorted calls grow alike pq first) (λ q. place_after_grows calls grow q (more_trailers next ts)) (λ p q pq. place_after_alike pq (more_trailers next ts))
 
@@ -53,7 +53,7 @@ module _ (W : World) (sorted : W.Sorted) where
     pub place_alike : (e : Expression) → GoAlike W (SamePlace W) (place calls e) (place calls e)
     place_alike (t.name x) = quiet W (give_quiet W (named_places x))
     place_alike (t.primary e ts) = bind_alike W (bind_first W (nodes_before_quiet ts) (λ _ _ _. part_alike W sorted calls grow alike e (expr_alike W sorted calls grow alike e))) (λ p. place_after_grows calls grow p ts) (λ p q pq. place_after_alike pq ts)
-    place_alike e = quiet W (stop_quiet W)
+    place_alike e = quiet W (no_place_quiet W)
 
     mutual
       pub store_alike : (e : Expression) {v w : Value} → SameValue W v w → GoAlike W Any (store calls e v) (store calls e w)
@@ -62,7 +62,7 @@ module _ (W : World) (sorted : W.Sorted) where
       store_alike (t.list es) vw = deeper_alike W (bind_first W (unpacked_quiet W (count es) vw) (λ vs ws z. store_each_alike es z))
       store_alike (t.name x) vw = assign_alike W x vw
       store_alike (t.primary e ts) {v = v} vw = bind_alike W (place_alike (t.primary e ts)) (λ p. store_in_grows p v) (λ p q pq. store_in_alike pq vw)
-      store_alike e vw = quiet W (stop_quiet W)
+      store_alike e vw = quiet W (no_place_quiet W)
 
       pub store_each_alike : (es : Expressions) {vs ws : List Value} → SameValues W vs ws → GoAlike W Any (store_each calls es vs) (store_each calls es ws)
       store_each_alike (more_expressions e es) (cons {as' = vs} vw z) = then_alike W (store_alike e vw) (store_each_grows calls grow es vs) (store_each_alike es z)

@@ -7,7 +7,7 @@ use Rattle.kishu_meaning.specs.moments.Moment.{Thrown, Moment, M, Ends}
 use Rattle.kishu_meaning.specs.values.Values.{Value}
 use Rattle.kishu_objects.specs.Lists.{In}
 use Rattle.kishu_pairing_laws.specs.World.{Grows, World, SameValue, SameThrown, BothOrNeither, neither, both, SameMoment, GoAlike, SameEnds, Within, both_fine, both_raised, both_stopped, Any}
-use Rattle.kishu_pairing_laws.specs.moments.Steps.{cond_grows, give_quiet, throw_quiet, give_grows, tick_quiet, bind_grows, throw_grows, quiet, bind_alike, stop_quiet, by_left_alike, choose_alike}
+use Rattle.kishu_pairing_laws.specs.moments.Steps.{cond_grows, give_quiet, throw_quiet, give_grows, tick_quiet, bind_grows, throw_grows, quiet, bind_alike, exhausted_quiet, by_left_alike, choose_alike}
 use Rattle.kishu_pairing_laws.specs.calls.Operators.{truth_quiet}
 use Rattle.kishu_pairing_laws.specs.items.Walks.{item_for_quiet, SameWalk}
 use Rattle.kishu_pairing_laws.specs.moments.Names.{assign_alike, forget_alike}
@@ -41,7 +41,7 @@ module _ (W : World) where
   unless_alike (both_returned vw) h = quiet W (give_quiet W (both_returned vw))
 
   turns_alike : (n : ℕ) {test test' : M Value} {body body' : M Flow} → GoAlike W (SameValue W) test test' → GoAlike W (SameFlow W) body body' → Grows test → Grows body → GoAlike W (SameFlow W) (turns n test body) (turns n test' body')
-  turns_alike zero h k gt gb = quiet W (stop_quiet W)
+  turns_alike zero h k gt gb = quiet W (exhausted_quiet W)
   turns_alike (suc n) h k gt gb =
       bind_alike W h (λ v. bind_grows (truth_grows v) (λ b. cond_grows b (bind_grows (bind_grows tick_grows (λ _. gb)) (λ f. turn_on_grows f (turns_grows n gt gb))) (give_grows _))) (λ v w vw.
       choose_alike W (quiet W (truth_quiet W vw)) (bind_grows (bind_grows tick_grows (λ _. gb)) (λ f. turn_on_grows f (turns_grows n gt gb))) (give_grows _)
@@ -56,7 +56,7 @@ module _ (W : World) where
   with_item_alike neither gf fg = quiet W (give_quiet W both_broke)
 
   walk_on_alike : (n : ℕ) {u v : Walk} (k : ℕ) {f g : Value → M Flow} → SameWalk W u v → ((v : Value) → Grows (f v)) → ((v w : Value) → SameValue W v w → GoAlike W (SameFlow W) (f v) (g w)) → GoAlike W (SameFlow W) (walk_on n u k f) (walk_on n v k g)
-  walk_on_alike zero k uv gf fg = quiet W (stop_quiet W)
+  walk_on_alike zero k uv gf fg = quiet W (exhausted_quiet W)
   walk_on_alike (suc n) {u = u} k uv gf fg =
       bind_alike W (quiet W (item_for_quiet W k uv)) (λ o. bind_grows (with_item_grows o gf) (λ f. turn_on_grows f (walk_on_grows n u (suc k) gf))) (λ o p op.
       bind_alike W (with_item_alike op gf fg) (λ f. turn_on_grows f (walk_on_grows n u (suc k) gf)) (λ f g ff. turn_on_alike ff (walk_on_alike n (suc k) uv gf fg)))

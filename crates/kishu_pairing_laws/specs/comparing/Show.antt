@@ -5,7 +5,8 @@ use Rattle.std.specs.Str.{chars}
 use Rattle.std.proofs.Common.{refl, ap, ◌∙◌}
 use Rattle.kishu_language.specs.trees.Tree.{Text}
 use Rattle.kishu_meaning.specs.comparing.Equal.{room_at}
-use Rattle.kishu_meaning.specs.comparing.Show.{◌⊕◌, further, listed, tuple_end, repr_by, entry_repr, made, key_text, attribute_repr, tuple_repr, contents_repr, class_name, show_by, again, repr_at, repr_nodes, repr_of, repr_in, argument_text, key_error, exception_text, show_at, show_nodes, show_in, show, show_all_in, show_all, show_thrown, thrown_in}
+use Rattle.kishu_meaning.specs.values.Classes.{key_error_class}
+use Rattle.kishu_meaning.specs.comparing.Show.{◌⊕◌, further, listed, tuple_end, repr_by, entry_repr, made, key_text, attribute_repr, tuple_repr, contents_repr, class_name, show_by, again, repr_at, repr_nodes, repr_of, repr_in, argument_text, exception_text, show_at, show_nodes, show_in, show, show_all_in, show_all, show_thrown, thrown_in}
 use Rattle.kishu_meaning.specs.moments.Counting.{Count}
 use Rattle.kishu_meaning.specs.moments.Moment.{Moment, Thrown, most_depth}
 use Rattle.kishu_meaning.specs.values.Keys.{Key}
@@ -93,7 +94,7 @@ module _ (W : World) where
 
   module _ {f g f' g' : ℕ → Count (List ℕ)} (fg : (i j : ℕ) → Paired W i j → f i ≡ g j) (fg' : (i j : ℕ) → Paired W i j → f' i ≡ g' j) where
     argument_is : (kind : ℕ) {v w : Value} → SameValue W v w → argument_text f f' kind v ≡ argument_text g g' kind w
-    argument_is kind vw = count_if (kind == key_error) (repr_is fg vw) (show_is fg' vw)
+    argument_is kind vw = count_if (kind == key_error_class) (repr_is fg vw) (show_is fg' vw)
 
     exception_is : (kind : ℕ) {vs ws : List Value} → SameValues W vs ws → exception_text f f' kind vs ≡ exception_text g g' kind ws
     exception_is kind nil = refl

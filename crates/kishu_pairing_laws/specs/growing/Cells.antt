@@ -11,7 +11,7 @@ use Rattle.kishu_meaning.specs.moments.Moment.{most_depth}
 use Rattle.kishu_meaning.specs.values.Values.{Names, Value}
 use Rattle.kishu_pairing_laws.specs.World.{Grows}
 use Rattle.kishu_pairing_laws.specs.moments.Steps.{bind_grows, deeper_grows, give_grows, throw_grows, then_grows}
-use Rattle.kishu_pairing_laws.specs.growing.Parts.{stop_grows, tick_grows, shown_grows}
+use Rattle.kishu_pairing_laws.specs.growing.Parts.{no_place_grows, tick_grows, shown_grows}
 use Rattle.kishu_pairing_laws.specs.calls.Functions.{frame_grows}
 use Rattle.kishu_pairing_laws.specs.growing.Expressions.{CallsGrow, expr_grows}
 use Rattle.kishu_pairing_laws.specs.growing.Statements.{in_block_grows, acts_grows, act_grows}
@@ -23,7 +23,7 @@ module _ (calls : Calls) (grow : CallsGrow calls) where
 
   pub enter_code_grows : (vs : List Value) (given : Given) (o : Option Definition) → Grows (enter_code calls vs given o)
   enter_code_grows vs given (Some d) = enter_grows d (bound_values d vs given)
-  enter_code_grows vs given None = stop_grows
+  enter_code_grows vs given None = no_place_grows
 
 pub call_grows : (n : ℕ) → CallsGrow (call n)
 unfolding call

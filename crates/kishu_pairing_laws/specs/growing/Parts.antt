@@ -7,12 +7,12 @@ use Rattle.kishu_language.specs.trees.Tree.{Trailers, Arguments}
 use Rattle.kishu_meaning.specs.calls.Callees.{Part, settled, callee, Given, call_builtin, construct, not_callable}
 use Rattle.kishu_meaning.specs.calls.Methods.{call_method}
 use Rattle.kishu_meaning.specs.calls.Operators.{new_list, new_tuple, operate, signed_value, truth}
-use Rattle.kishu_meaning.specs.cells.Meaning.{nodes, new_dict, new_function, updated, shown_text}
+use Rattle.kishu_meaning.specs.cells.Meaning.{no_place, nodes, new_dict, new_function, updated, shown_text}
 use Rattle.kishu_meaning.specs.cells.Ways.{throw_value, throw_again, is_caught}
 use Rattle.kishu_meaning.specs.comparing.Comparing.{compare}
 use Rattle.kishu_meaning.specs.items.Subscripts.{item, slice, attribute, store_item, store_attribute, delete_item, delete_attribute}
 use Rattle.kishu_meaning.specs.items.Walks.{unpacked, walk_of, View, walk_view}
-use Rattle.kishu_meaning.specs.moments.Moment.{node_now, Thrown, tick, stopped}
+use Rattle.kishu_meaning.specs.moments.Moment.{node_now, Thrown, exhausted, tick}
 use Rattle.kishu_meaning.specs.values.Values.{Value}
 use Rattle.kishu_pairing_laws.specs.World.{Grows, Zip, nil, cons, Any}
 use Rattle.kishu_pairing_laws.specs.moments.Heap.{node_now_quiet}
@@ -33,8 +33,11 @@ tick_grows = quiet_grows (tick_quiet itself)
 pub truth_grows : (v : Value) → Grows (truth v)
 truth_grows v = quiet_grows (truth_quiet itself (one_value v))
 
-pub stop_grows : {A : Type 0} → Grows {A = A} (λ s. stopped s)
-stop_grows = record { grows = λ s x h. h }
+pub exhausted_grows : {A : Type 0} → Grows {A = A} exhausted
+exhausted_grows = record { grows = λ s x h. h }
+
+pub no_place_grows : {A : Type 0} → Grows {A = A} no_place
+no_place_grows = record { grows = λ s x h. h }
 
 pub nodes_grows : (ts : Trailers) → Grows (nodes ts)
 nodes_grows ts = quiet_grows (nodes_quiet itself ts)

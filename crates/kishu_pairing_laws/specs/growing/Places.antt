@@ -9,7 +9,7 @@ use Rattle.kishu_meaning.specs.values.Values.{Value}
 use Rattle.kishu_pairing_laws.specs.World.{Grows}
 use Rattle.kishu_pairing_laws.specs.moments.Steps.{give_grows, bind_grows, deeper_grows, then_grows}
 use Rattle.kishu_pairing_laws.specs.moments.Names.{read_grows, assign_grows, delete_grows}
-use Rattle.kishu_pairing_laws.specs.growing.Parts.{stop_grows, tick_grows, attribute_grows, item_grows, store_attribute_grows, store_item_grows, delete_attribute_grows, delete_item_grows, settled_grows, nodes_grows, unpacked_grows, updated_grows}
+use Rattle.kishu_pairing_laws.specs.growing.Parts.{no_place_grows, tick_grows, attribute_grows, item_grows, store_attribute_grows, store_item_grows, delete_attribute_grows, delete_item_grows, settled_grows, nodes_grows, unpacked_grows, updated_grows}
 use Rattle.kishu_pairing_laws.specs.growing.Expressions.{CallsGrow, expr_grows, trailer_grows, part_grows}
 
 pub read_place_grows : (p : Place) → Grows (read_place p)
@@ -31,11 +31,11 @@ module _ (calls : Calls) (grow : CallsGrow calls) where
   pub place_by_grows : (v : Value) (last : Trailer) → Grows (place_by calls v last)
   place_by_grows v (t.attribute x) = give_grows _
   place_by_grows v (t.index e) = bind_grows (deeper_grows (expr_grows calls grow e)) (λ i. give_grows _)
-  place_by_grows v (t.call es) = stop_grows
-  place_by_grows v (t.slice start stop step) = stop_grows
+  place_by_grows v (t.call es) = no_place_grows
+  place_by_grows v (t.slice start stop step) = no_place_grows
 
   pub place_after_grows : (p : Part) (ts : Trailers) → Grows (place_after calls p ts)
-  place_after_grows p no_trailers = stop_grows
+  place_after_grows p no_trailers = no_place_grows
   place_after_grows p (more_trailers last no_trailers) = bind_grows (settled_grows p) (λ v. place_by_grows v last)
   place_after_grows p (more_trailers first (more_trailers next ts)) = bind_grows (trailer_grows calls grow p first) (λ q. place_after_grows q (more_trailers next ts))
 
@@ -46,7 +46,7 @@ module _ (calls : Calls) (grow : CallsGrow calls) where
   pub place_grows : (e : Expression) → Grows (place calls e)
   place_grows (t.name x) = give_grows _
   place_grows (t.primary e ts) = bind_grows (then_grows (nodes_before_grows ts) (part_grows calls grow e (expr_grows calls grow e))) (λ p. place_after_grows p ts)
-  place_grows e = stop_grows
+  place_grows e = no_place_grows
 
   mutual
     pub store_grows : (e : Expression) (v : Value) → Grows (store calls e v)
@@ -55,7 +55,7 @@ module _ (calls : Calls) (grow : CallsGrow calls) where
     store_grows (t.list es) v = deeper_grows (bind_grows (unpacked_grows (count es) v) (store_each_grows es))
     store_grows (t.name x) v = bind_grows (place_grows (t.name x)) (λ p. store_in_grows p v)
     store_grows (t.primary e ts) v = bind_grows (place_grows (t.primary e ts)) (λ p. store_in_grows p v)
-    store_grows e v = stop_grows
+    store_grows e v = no_place_grows
 
     pub store_each_grows : (es : Expressions) (vs : List Value) → Grows (store_each calls es vs)
     store_each_grows (more_expressions e es) (v ∷ vs) = then_grows (store_grows e v) (store_each_grows es vs)

@@ -14,7 +14,7 @@ use Rattle.kishu_pairing_laws.specs.items.Walks.{item_for_quiet, one_walk}
 use Rattle.kishu_pairing_laws.specs.moments.Accesses.{access_keeps}
 use Rattle.kishu_pairing_laws.specs.moments.Names.{assign_grows}
 use Rattle.kishu_pairing_laws.specs.cells.Raising.{object_of_quiet}
-use Rattle.kishu_pairing_laws.specs.growing.Parts.{stop_grows, tick_grows, truth_grows}
+use Rattle.kishu_pairing_laws.specs.growing.Parts.{exhausted_grows, tick_grows, truth_grows}
 
 forget_in_grows : (x : List ℕ) (o : Option Locals) → Grows (forget_in x o)
 forget_in_grows x None = record { grows = λ s y h. access_keeps y x s.accessed h }
@@ -42,7 +42,7 @@ unless_grows continued h = give_grows _
 unless_grows (returned v) h = give_grows _
 
 pub turns_grows : (n : ℕ) {test : M Value} {body : M Flow} → Grows test → Grows body → Grows (turns n test body)
-turns_grows zero h k = stop_grows
+turns_grows zero h k = exhausted_grows
 turns_grows (suc n) h k = bind_grows h (λ v. bind_grows (truth_grows v) (λ b. cond_grows b (bind_grows (bind_grows tick_grows (λ _. k)) (λ f. turn_on_grows f (turns_grows n h k))) (give_grows _)))
 
 pub repeat_grows : {test : M Value} {body : M Flow} → Grows test → Grows body → Grows (repeat test body)
@@ -56,7 +56,7 @@ pub item_for_grows : (u : Walk) (k : ℕ) → Grows (item_for u k)
 item_for_grows u k = quiet_grows (item_for_quiet itself k (one_walk u))
 
 pub walk_on_grows : (n : ℕ) (u : Walk) (k : ℕ) {turn : Value → M Flow} → ((v : Value) → Grows (turn v)) → Grows (walk_on n u k turn)
-walk_on_grows zero u k h = stop_grows
+walk_on_grows zero u k h = exhausted_grows
 walk_on_grows (suc n) u k h = bind_grows (item_for_grows u k) (λ o. bind_grows (with_item_grows o h) (λ f. turn_on_grows f (walk_on_grows n u (suc k) h)))
 
 pub walk_along_grows : (u : Walk) {turn : Value → M Flow} → ((v : Value) → Grows (turn v)) → Grows (walk_along u turn)

@@ -33,4 +33,4 @@ module _ (W : World) where
   taken_quiet z vw = bind_is W (position_quiet (zip_length z) vw) (λ k. or_else_quiet W out_of_range_quiet (zip_get k z))
 
   pub not_subscriptable_quiet : {A B : Type 0} {R : A → B → Type 0} {v w : Value} → SameValue W v w → GoQuietly W R (not_subscriptable v) (not_subscriptable w)
-  not_subscriptable_quiet vw = by_kind W 23 (λ k. in_quotes k ++ codes " object is not subscriptable") vw
+  not_subscriptable_quiet vw = by_kind W _ (λ k. in_quotes k ++ codes " object is not subscriptable") vw

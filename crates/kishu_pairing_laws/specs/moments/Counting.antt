@@ -26,7 +26,7 @@ by_both_is (both {a = x} {b = y} m) (both {a = x'} {b = y'} n) h e = h x y x' y'
 module _ (W : World) where
   ended_alike : {A : Type 0} (r : Counted A) {s t : Moment} → SameMoment W s t → SameEnds W Is (ended_in s r) (ended_in t r)
   ended_alike (answer a n) st = both_fine refl (spent_alike W n st)
-  ended_alike (too_deep n) st = both_raised (both_fresh 21 (cons (plain _ tt) nil)) (spent_alike W n st)
+  ended_alike (too_deep n) st = both_raised (both_fresh _ (cons (plain _ tt) nil)) (spent_alike W n st)
   ended_alike (spent n) st = both_stopped (spent_alike W n st)
 
   ended_stays : {A : Type 0} (r : Counted A) (s : Moment) → (end_of (ended_in s r)).accessed ≡ s.accessed

@@ -1,7 +1,7 @@
 -- How computations that go alike are put together.
 use Rattle.std.specs.Prelude.{List, ℕ, Bool, cond, true, false, ◌≡◌, Option, if◌then◌else◌, nat_le, ◌-◌, ◌++◌, nat_lt, suc, codes}
 use Rattle.std.proofs.Common.{◌∙◌, subst, refl, ap}
-use Rattle.kishu_meaning.specs.moments.Moment.{Ends, M, and_then, fine, raised, stopped, ◌>>=◌, give, Thrown, throw, Moment, ◌>>◌, raise, look, or_else, spend, tick, back_at, put_out, most_depth, recursion_error, deeper}
+use Rattle.kishu_meaning.specs.moments.Moment.{Ends, M, and_then, fine, raised, stopped, ◌>>=◌, give, Thrown, throw, Moment, ◌>>◌, raise, look, or_else, exhausted, spend, tick, back_at, put_out, most_depth, recursion_error, deeper}
 use Rattle.kishu_meaning.specs.values.Values.{text, Node}
 use Rattle.kishu_objects.specs.Lists.{In}
 use Rattle.kishu_soundness_laws.specs.moments.Steps.{spend_by}
@@ -93,9 +93,6 @@ module _ (W : World) where
   pub raise_is : {A B : Type 0} {R : A → B → Type 0} (kind : ℕ) {cs ds : List ℕ} → cs ≡ ds → GoQuietly W R (raise kind cs) (raise kind ds)
   raise_is {R = R} kind {cs = cs} e = subst (λ ds. GoQuietly W R (raise kind cs) (raise kind ds)) e (raise_quiet kind cs)
 
-  pub stop_quiet : {A B : Type 0} {R : A → B → Type 0} → GoQuietly W {A = A} {B = B} R (λ s. stopped s) (λ s. stopped s)
-  stop_quiet = record { go = λ s t st. both_stopped st; stays = λ s t st. refl }
-
   pub cond_quiet : {A B : Type 0} {R : A → B → Type 0} (b : Bool) {m m' : M A} {n n' : M B} → GoQuietly W R m n → GoQuietly W R m' n' → GoQuietly W R (cond b m m') (cond b n n')
   cond_quiet true h k = h
   cond_quiet false h k = k
@@ -122,6 +119,9 @@ module _ (W : World) where
 
   pub spent_alike : (n : ℕ) {s t : Moment} → SameMoment W s t → SameMoment W (record s { left = n }) (record t { left = n })
   spent_alike n st = record { profile = st.profile; names = st.names; heaps = st.heaps; accessed = st.accessed; locals = st.locals; handled = st.handled; left = refl; depth = st.depth; out = st.out }
+
+  pub exhausted_quiet : {A B : Type 0} {R : A → B → Type 0} → GoQuietly W {A = A} {B = B} R exhausted exhausted
+  exhausted_quiet = record { go = λ s t st. both_stopped (spent_alike 0 st); stays = λ s t st. refl }
 
   spend_ends : (b : Bool) (n : ℕ) {s t : Moment} → SameMoment W s t → SameEnds W Any (spend_by b n s) (spend_by b n t)
   spend_ends true n st = both_fine tt (spent_alike n st)
@@ -163,7 +163,7 @@ module _ (W : World) where
 
   level_ends : {A B : Type 0} {R : A → B → Type 0} (b : Bool) (d : ℕ) {s t : Moment} {e : Ends A} {e' : Ends B} → SameMoment W s t → SameEnds W R e e' → SameEnds W R (cond b (back_at d e) (recursion_error s)) (cond b (back_at d e') (recursion_error t))
   level_ends {R = R} true d st h = back_ends R d h
-  level_ends false d st h = both_raised (both_fresh 21 (cons (plain (text (codes "depth limit reached")) tt) nil)) st
+  level_ends false d st h = both_raised (both_fresh _ (cons (plain (text (codes "depth limit reached")) tt) nil)) st
 
   level_stays : {A : Type 0} (b : Bool) (d : ℕ) (s : Moment) (e : Ends A) → (end_of e).accessed ≡ s.accessed → (end_of (cond b (back_at d e) (recursion_error s))).accessed ≡ s.accessed
   level_stays true d s (fine a r) h = h
@@ -196,7 +196,7 @@ module _ (W : World) where
   level_alike : {A B : Type 0} {R : A → B → Type 0} {m : M A} {n : M B} (b : Bool) (d : ℕ) {s t : Moment} → GoAlike W R m n → SameMoment W s t → Within W (cond b (back_at d (m (record s { depth = suc d }))) (recursion_error s)) →
       SameEnds W R (cond b (back_at d (m (record s { depth = suc d }))) (recursion_error s)) (cond b (back_at d (n (record t { depth = suc d }))) (recursion_error t))
   level_alike {R = R} {m = m} true d {s = s} mn st w = back_ends W R d (mn.go _ _ (depth_alike W (suc d) st) (level_within d s true (m (record s { depth = suc d })) refl w))
-  level_alike false d mn st w = both_raised (both_fresh 21 (cons (plain (text (codes "depth limit reached")) tt) nil)) st
+  level_alike false d mn st w = both_raised (both_fresh _ (cons (plain (text (codes "depth limit reached")) tt) nil)) st
 
   pub deeper_alike : {A B : Type 0} {R : A → B → Type 0} {m : M A} {n : M B} → GoAlike W R m n → GoAlike W R (deeper m) (deeper n)
   deeper_alike {R = R} {m = m} {n = n} mn = record {

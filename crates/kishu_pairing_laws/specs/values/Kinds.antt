@@ -41,7 +41,7 @@ module _ (W : World) where
     by_kind kind message vw = bind_is W (kind_quiet vw) (λ k. raise_quiet W kind (message k))
 
     pub no_key_quiet : {v w : Value} → SameValue W v w → GoQuietly W R (no_key v) (no_key w)
-    no_key_quiet vw = throw_quiet W (both_fresh 16 (cons vw nil))
+    no_key_quiet vw = throw_quiet W (both_fresh _ (cons vw nil))
 
     pub not_iterable_quiet : {v w : Value} → SameValue W v w → GoQuietly W R (not_iterable v) (not_iterable w)
     not_iterable_quiet vw = by_kind 23 (λ k. in_quotes k ++ codes " object is not iterable") vw
@@ -57,4 +57,4 @@ module _ (W : World) where
 
 module _ (W : World) where
   pub bad_arguments_quiet : {A B : Type 0} {R : A → B → Type 0} (name : List ℕ) → GoQuietly W R (bad_arguments name) (bad_arguments name)
-  bad_arguments_quiet name = raise_quiet W 23 (name ++ codes "() got bad arguments")
+  bad_arguments_quiet name = raise_quiet W _ (name ++ codes "() got bad arguments")

@@ -87,6 +87,10 @@ module _ {A B : Type 0} {R : A → B → Type 0} where
   opt_conds true h k = h
   opt_conds false h k = k
 
+pub zip_each : {A C D : Type 0} (S : C → D → Type 0) (f : A → C) (g : A → D) → ((a : A) → S (f a) (g a)) → (as' : List A) → Zip S (map f as') (map g as')
+zip_each S f g h [] = nil
+zip_each S f g h (a ∷ as') = cons (h a) (zip_each S f g h as')
+
 pub zip_map : {A B C D : Type 0} {R : A → B → Type 0} (S : C → D → Type 0) (f : A → C) (g : B → D) → ((a : A) (b : B) → R a b → S (f a) (g b)) → {as' : List A} {bs : List B} → Zip R as' bs → Zip S (map f as') (map g bs)
 zip_map S f g h nil = nil
 zip_map S f g h (cons {a = a} {b = b} r z) = cons (h a b r) (zip_map S f g h z)

@@ -6,18 +6,22 @@ use Rattle.std.specs.Ordering.{int_eq}
 use Rattle.kishu_language.specs.declared.tree.Comparison.{Comparison}
 use Rattle.kishu_language.specs.declared.tree.Comparison.TheVariants as comparisons
 use Rattle.kishu_language.specs.declared.tree.Operator.TheVariants as operators
-use Rattle.kishu_meaning.specs.calls.Builtins.{Call, of_one, of_two, by_number, of_number, and_next, decided, decide, folded, fold, better, or_empty_argument, best_of, best, added, character, is_character, code_point, divided_by, node_length, length_of, is_of_one, class_in, is_of_class, is_of_tuple, is_instance, sorted, builtin_calls, of_none_or_one, copied_dict, or_no_number, number_from, tuple_of, all_items, range_from, class_calls}
+use Rattle.kishu_meaning.specs.calls.Builtins.{Call, of_one, of_two, by_number, of_number, and_next, decided, decide, folded, fold, better, or_empty_argument, best_of, best, added, character, is_character, code_point, divided_by, node_length, length_of, is_of_one, class_in, is_of_class, is_of_tuple, is_instance, sorted, builtin_call, builtin_calls, of_none_or_one, copied_dict, or_no_number, number_from, tuple_of, all_items, range_from, class_call, class_calls}
 use Rattle.kishu_meaning.specs.calls.Operators.{whole, new_tuple, truth, new_list}
 use Rattle.kishu_meaning.specs.comparing.Equal.{number_in, range_length}
 use Rattle.kishu_meaning.specs.comparing.Show.{repr_of, repr_in, show, show_in}
 use Rattle.kishu_meaning.specs.items.Sorting.{sort_steps, in_order}
 use Rattle.kishu_meaning.specs.items.Walks.{Walk, along_tuple, walk_of}
 use Rattle.kishu_meaning.specs.moments.Moment.{M, give, node_now, ◌>>=◌, make}
+use Rattle.kishu_meaning.specs.values.BuiltinNames as builtins
+use Rattle.kishu_meaning.specs.values.BuiltinNames.{BuiltinFunction, all_builtins}
+use Rattle.kishu_meaning.specs.values.PlainClasses as plains
+use Rattle.kishu_meaning.specs.values.PlainClasses.{PlainClass, plain_classes}
 use Rattle.kishu_meaning.specs.values.Numbers.{number_read}
 use Rattle.kishu_meaning.specs.values.Values.{Value, bool, integer, text, tuple, Node, list, dict, range, node, class}
 use Rattle.kishu_soundness_laws.specs.Below.{AllBelow, Below, Any, Each, Maybe, NodeBelow}
-use Rattle.kishu_soundness_laws.specs.BelowLaws.{maybe_later, below_later, all_later}
-use Rattle.kishu_soundness_laws.specs.moments.Steps.{IsSafe, then_safe, tick_safe, stop_safe, bind_safe, value_safe, plain_safe, if_safe, by_left_safe, give_safe, raise_safe, node_now_safe, spend_safe, or_else_safe, counted_safe}
+use Rattle.kishu_soundness_laws.specs.BelowLaws.{each_map, maybe_later, below_later, all_later}
+use Rattle.kishu_soundness_laws.specs.moments.Steps.{IsSafe, then_safe, tick_safe, exhausted_safe, bind_safe, value_safe, plain_safe, if_safe, by_left_safe, give_safe, raise_safe, node_now_safe, spend_safe, or_else_safe, counted_safe}
 use Rattle.kishu_soundness_laws.specs.moments.Heap.{make_safe}
 use Rattle.kishu_soundness_laws.specs.values.Nodes.{MaybeBelow}
 use Rattle.kishu_soundness_laws.specs.values.Kinds.{bad_arguments_safe}
@@ -55,7 +59,7 @@ next_safe (Some v) p h g = then_safe tick_safe (g v p)
 next_safe None p h g = h
 
 decided_safe : (k : ℕ) (which : Bool) (m : ℕ) (u : Walk) (i : ℕ) → WalkBelow k u → IsSafe k Below (decided which m u i)
-decided_safe k which zero u i h = stop_safe
+decided_safe k which zero u i h = exhausted_safe
 decided_safe k which (suc m) u i h = bind_safe (item_for_safe u i h) (λ l le o q. next_safe o q (value_safe (bool (not which)) tt) (λ v p. plain_safe (truth_safe v) (λ b. if_safe (beq b which) (value_safe (bool which) tt) (decided_safe l which m u (suc i) (walk_later k l le u h)))))
 
 decide_safe : (which : Bool) (k : ℕ) (v : Value) → Below k v → IsSafe k Below (decide which v)
@@ -63,7 +67,7 @@ decide_safe which k v p = bind_safe (walk_of_safe v) (λ l le u q. by_left_safe 
 
 module _ {A : Type 0} (Q : ℕ → A → Type 0) (later : (k l : ℕ) → k ≤ l → (a : A) → Q k a → Q l a) (f : A → Value → M A) (h : (k : ℕ) (a : A) (v : Value) → Q k a → Below k v → IsSafe k Q (f a v)) where
   folded_safe : (k m : ℕ) (u : Walk) (i : ℕ) (a : A) → WalkBelow k u → Q k a → IsSafe k Q (folded f m u i a)
-  folded_safe k zero u i a p q = stop_safe
+  folded_safe k zero u i a p q = exhausted_safe
   folded_safe k (suc m) u i a p q = bind_safe (item_for_safe u i p) (λ l le o r. next_safe o r (give_safe Q (λ l' le'. later l l' le' a (later k l le a q))) (λ v w. bind_safe (h l a v (later k l le a q) w) (λ l' le' b t. folded_safe l' m u (suc i) b (walk_later l l' le' u (walk_later k l le u p)) t)))
 
   fold_safe : (k : ℕ) (a : A) (u : Walk) → WalkBelow k u → Q k a → IsSafe k Q (fold f a u)
@@ -82,7 +86,7 @@ better_safe comparison k (Some w) v p q = plain_safe (compare_safe comparison v 
 
 or_empty_safe : {k : ℕ} (o : Option Value) → MaybeBelow k o → IsSafe k Below (or_empty_argument o)
 or_empty_safe (Some v) p = value_safe v p
-or_empty_safe None p = raise_safe 24 (codes "empty argument")
+or_empty_safe None p = raise_safe _ (codes "empty argument")
 
 best_of_safe : (k : ℕ) (comparison : Comparison) (u : Walk) → WalkBelow k u → IsSafe k Below (best_of comparison u)
 best_of_safe k comparison u p = bind_safe (fold_safe MaybeBelow opt_later (better comparison) (better_safe comparison) k None u p tt) (λ l le o q. or_empty_safe o q)
@@ -96,8 +100,8 @@ added_safe : (k : ℕ) (a v : Value) → Below k a → Below k v → IsSafe k Be
 added_safe k a v p q = by_number_safe k (codes "sum") (number_in v) _ (λ z. operate_safe operators.Add a (integer z))
 
 character_safe : (k : ℕ) (z : ℤ) → IsSafe k Below (character z)
-character_safe k (pos m) = if_safe (is_character m) (value_safe (text (m ∷ [])) tt) (raise_safe 24 (codes "not a character"))
-character_safe k (negsuc m) = raise_safe 24 (codes "not a character")
+character_safe k (pos m) = if_safe (is_character m) (value_safe (text (m ∷ [])) tt) (raise_safe _ (codes "not a character"))
+character_safe k (negsuc m) = raise_safe _ (codes "not a character")
 
 code_point_safe : (k : ℕ) (v : Value) → Below k v → IsSafe k Below (code_point v)
 code_point_safe k (text (c ∷ [])) p = value_safe (integer (pos c)) tt
@@ -138,50 +142,24 @@ sorted_safe k v p = plain_safe (count_of_safe v) (λ m. bind_safe (then_safe (sp
 text_of_safe : {k : ℕ} {m : M (List ℕ)} → IsSafe k Any m → IsSafe k Below (m >>= λ cs. give (text cs))
 text_of_safe h = plain_safe h (λ cs. value_safe (text cs) tt)
 
+builtin_safe : (f : Call) → CallIsSafe f → (which : BuiltinFunction) → CallIsSafe (builtin_call f which)
+builtin_safe f h builtins.abs = number_safe (codes "abs") (λ z. whole (pos (unsigned_abs z))) (λ k z. whole_safe (pos (unsigned_abs z)))
+builtin_safe f h builtins.all = one_safe (codes "all") (decide false) (decide_safe false)
+builtin_safe f h builtins.any = one_safe (codes "any") (decide true) (decide_safe true)
+builtin_safe f h builtins.chr = number_safe (codes "chr") character character_safe
+builtin_safe f h builtins.divmod = two_safe (codes "divmod") divided_by divided_by_safe
+builtin_safe f h builtins.isinstance = two_safe (codes "isinstance") is_instance instance_safe
+builtin_safe f h builtins.len = one_safe (codes "len") length_of length_of_safe
+builtin_safe f h builtins.max = best_safe (codes "max") comparisons.Greater
+builtin_safe f h builtins.min = best_safe (codes "min") comparisons.Less
+builtin_safe f h builtins.ord = one_safe (codes "ord") code_point code_point_safe
+builtin_safe f h builtins.print = h
+builtin_safe f h builtins.repr = one_safe (codes "repr") (λ v. repr_of v >>= λ cs. give (text cs)) (λ k v p. text_of_safe (counted_safe (λ s. repr_in s.nodes s.depth v)))
+builtin_safe f h builtins.sorted = one_safe (codes "sorted") sorted sorted_safe
+builtin_safe f h builtins.sum = one_safe (codes "sum") (λ v. walk_of v >>= fold added (integer (pos 0))) (λ k v p. bind_safe (walk_of_safe v) (λ l le u q. fold_safe Below below_later added added_safe l (integer (pos 0)) u q tt))
+
 pub builtins_safe : (f : Call) → CallIsSafe f → Each CallIsSafe (builtin_calls f)
-builtins_safe f h = (
-  number_safe (codes "abs") (λ z. whole (pos (unsigned_abs z))) (λ k z. whole_safe (pos (unsigned_abs z))),
-  (
-    one_safe (codes "all") (decide false) (decide_safe false),
-    (
-      one_safe (codes "any") (decide true) (decide_safe true),
-      (
-        number_safe (codes "chr") character character_safe,
-        (
-          two_safe (codes "divmod") divided_by divided_by_safe,
-          (
-            two_safe (codes "isinstance") is_instance instance_safe,
-            (
-              one_safe (codes "len") length_of length_of_safe,
-              (
-                best_safe (codes "max") comparisons.Greater,
-                (
-                  best_safe (codes "min") comparisons.Less,
-                  (
-                    one_safe (codes "ord") code_point code_point_safe,
-                    (
-                      h,
-                      (
-                        one_safe (codes "repr") (λ v. repr_of v >>= λ cs. give (text cs)) (λ k v p. text_of_safe (counted_safe (λ s. repr_in s.nodes s.depth v))),
-                        (
-                          one_safe (codes "sorted") sorted sorted_safe,
-                          (
-                            one_safe (codes "sum") (λ v. walk_of v >>= fold added (integer (pos 0))) (λ k v p. bind_safe (walk_of_safe v) (λ l le u q. fold_safe Below below_later added added_safe l (integer (pos 0)) u q tt)),
-                            tt,
-                          ),
-                        ),
-                      ),
-                    ),
-                  ),
-                ),
-              ),
-            ),
-          ),
-        ),
-      ),
-    ),
-  ),
-)
+builtins_safe f h = each_map CallIsSafe (builtin_call f) (builtin_safe f h) all_builtins
 
 -- ---- classes
 
@@ -196,7 +174,7 @@ copied_safe o h = bad_arguments_safe (codes "dict")
 
 no_number_safe : {k : ℕ} (o : Option ℤ) → IsSafe k Below (or_no_number o)
 no_number_safe (Some z) = value_safe (integer z) tt
-no_number_safe None = raise_safe 24 (codes "not a whole number")
+no_number_safe None = raise_safe _ (codes "not a whole number")
 
 number_from_safe : (k : ℕ) (v : Value) → Below k v → IsSafe k Below (number_from v)
 number_from_safe k (text cs) p = then_safe (spend_safe (length cs)) (no_number_safe (number_read cs))
@@ -214,32 +192,18 @@ tuple_of_safe v o p = tuple_rest v
 range_from_safe : {k : ℕ} (os : List (Option ℤ)) → IsSafe k Below (range_from os)
 range_from_safe (Some c ∷ []) = value_safe (range (pos 0) c (pos 1)) tt
 range_from_safe (Some a ∷ (Some b ∷ [])) = value_safe (range a b (pos 1)) tt
-range_from_safe (Some a ∷ (Some b ∷ (Some c ∷ []))) = if_safe (int_eq c (pos 0)) (raise_safe 24 (codes "step is zero")) (value_safe (range a b c) tt)
+range_from_safe (Some a ∷ (Some b ∷ (Some c ∷ []))) = if_safe (int_eq c (pos 0)) (raise_safe _ (codes "step is zero")) (value_safe (range a b c) tt)
 range_from_safe os = bad_arguments_safe (codes "range")
 
+class_safe : (f : Call) → CallIsSafe f → (which : PlainClass) → CallIsSafe (class_call f which)
+class_safe f h plains.bool = none_or_one_safe (codes "bool") (give (bool false)) (λ v. truth v >>= λ b. give (bool b)) (λ k. value_safe (bool false) tt) (λ k v p. plain_safe (truth_safe v) (λ b. value_safe (bool b) tt))
+class_safe f h plains.dict = none_or_one_safe (codes "dict") (make (dict [])) (λ v. node_now v >>= copied_dict) (λ k. make_safe (dict []) tt) (λ k v p. bind_safe (node_now_safe v) (λ l le o q. copied_safe o q))
+class_safe f h plains.int = none_or_one_safe (codes "int") (give (integer (pos 0))) number_from (λ k. value_safe (integer (pos 0)) tt) number_from_safe
+class_safe f h plains.list = none_or_one_safe (codes "list") (new_list []) (λ v. all_items v >>= new_list) (λ k. make_safe (list []) tt) (λ k v p. bind_safe (walked_safe v) (λ l le vs q. make_safe (list vs) q))
+class_safe f h plains.range = λ k vs a. range_from_safe (map number_in vs)
+class_safe f h plains.namespace = h
+class_safe f h plains.str = none_or_one_safe (codes "str") (give (text [])) (λ v. show v >>= λ cs. give (text cs)) (λ k. value_safe (text []) tt) (λ k v p. text_of_safe (counted_safe (λ s. show_in s.nodes s.depth v)))
+class_safe f h plains.tuple = none_or_one_safe (codes "tuple") (new_tuple []) (λ v. node_now v >>= tuple_of v) (λ k. make_safe (tuple []) tt) (λ k v p. bind_safe (node_now_safe v) (λ l le o q. tuple_of_safe v o (below_later k l le v p)))
+
 pub classes_safe : (f : Call) → CallIsSafe f → Each CallIsSafe (class_calls f)
-classes_safe f h = (
-  none_or_one_safe (codes "bool") (give (bool false)) (λ v. truth v >>= λ b. give (bool b)) (λ k. value_safe (bool false) tt) (λ k v p. plain_safe (truth_safe v) (λ b. value_safe (bool b) tt)),
-  (
-    none_or_one_safe (codes "dict") (make (dict [])) (λ v. node_now v >>= copied_dict) (λ k. make_safe (dict []) tt) (λ k v p. bind_safe (node_now_safe v) (λ l le o q. copied_safe o q)),
-    (
-      none_or_one_safe (codes "int") (give (integer (pos 0))) number_from (λ k. value_safe (integer (pos 0)) tt) number_from_safe,
-      (
-        none_or_one_safe (codes "list") (new_list []) (λ v. all_items v >>= new_list) (λ k. make_safe (list []) tt) (λ k v p. bind_safe (walked_safe v) (λ l le vs q. make_safe (list vs) q)),
-        (
-          (λ k vs a. range_from_safe (map number_in vs)),
-          (
-            h,
-            (
-              none_or_one_safe (codes "str") (give (text [])) (λ v. show v >>= λ cs. give (text cs)) (λ k. value_safe (text []) tt) (λ k v p. text_of_safe (counted_safe (λ s. show_in s.nodes s.depth v))),
-              (
-                none_or_one_safe (codes "tuple") (new_tuple []) (λ v. node_now v >>= tuple_of v) (λ k. make_safe (tuple []) tt) (λ k v p. bind_safe (node_now_safe v) (λ l le o q. tuple_of_safe v o (below_later k l le v p))),
-                tt,
-              ),
-            ),
-          ),
-        ),
-      ),
-    ),
-  ),
-)
+classes_safe f h = each_map CallIsSafe (class_call f) (class_safe f h) plain_classes

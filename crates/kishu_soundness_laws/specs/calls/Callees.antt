@@ -9,14 +9,14 @@ use Rattle.kishu_meaning.specs.calls.Methods.{has_method}
 use Rattle.kishu_meaning.specs.comparing.Show.{show_all_in, builtin_name, class_name}
 use Rattle.kishu_meaning.specs.items.Walks.{view_name, View}
 use Rattle.kishu_meaning.specs.moments.Moment.{give, M}
-use Rattle.kishu_meaning.specs.values.Classes.{namespace_number}
+use Rattle.kishu_meaning.specs.values.Classes.{namespace_class}
 use Rattle.kishu_meaning.specs.values.Kinds.{in_quotes}
 use Rattle.kishu_meaning.specs.values.Sound.{is_exception_class}
 use Rattle.kishu_meaning.specs.values.Texts.{joined}
 use Rattle.kishu_meaning.specs.values.Values.{Value, none, text, object, exception, node, Node, dict}
 use Rattle.kishu_soundness_laws.specs.Below.{AllBelow, EntriesBelow, Below, Maybe, values_in}
 use Rattle.kishu_soundness_laws.specs.BelowLaws.{below_later, each_get, all_later}
-use Rattle.kishu_soundness_laws.specs.moments.Steps.{IsSafe, give_safe, plain_safe, counted_safe, then_safe, spend_safe, out_safe, value_safe, if_safe, stop_safe, look_any, bind_safe, node_now_safe}
+use Rattle.kishu_soundness_laws.specs.moments.Steps.{IsSafe, give_safe, plain_safe, counted_safe, then_safe, spend_safe, out_safe, value_safe, if_safe, look_any, bind_safe, node_now_safe}
 use Rattle.kishu_soundness_laws.specs.moments.Heap.{make_safe}
 use Rattle.kishu_soundness_laws.specs.values.Kinds.{bad_arguments_safe, kind_raise, no_attribute_safe}
 use Rattle.kishu_soundness_laws.specs.items.Subscripts.{attribute_safe}
@@ -66,21 +66,21 @@ print_by_safe (x ∷ ks) separator end vs = bad_arguments_safe (codes "print")
 
 no_call_safe : {k : ℕ} (o : Option Call) (vs : List Value) → Maybe CallIsSafe o → AllBelow k vs → IsSafe k Below (or_no_call o vs)
 no_call_safe {k = k} (Some f) vs h a = h k vs a
-no_call_safe None vs h a = stop_safe
+no_call_safe None vs h a = bad_arguments_safe []
 
 pub call_builtin_safe : {k : ℕ} (m : ℕ) (g : Given) → GivenBelow k g → IsSafe k Below (call_builtin m g)
 call_builtin_safe m g h = if_safe (m == print_number) (print_by_safe g.named (codes " ") (line_feed ∷ []) g.plain)
     (by_plain_safe (builtin_name m) g.named (no_call_safe (slice_get (builtin_calls print_plain) m) g.plain (each_get CallIsSafe (builtin_calls print_plain) m (builtins_safe print_plain (λ k vs a. print_safe (codes " ") (line_feed ∷ []) vs))) h.plain))
 
 new_object_safe : {k : ℕ} (g : Given) → EntriesBelow k g.named → IsSafe k Below (new_object g)
-new_object_safe g h = if_safe (length g.plain == 0) (make_safe (object g.named) h) (bad_arguments_safe (class_name namespace_number))
+new_object_safe g h = if_safe (length g.plain == 0) (make_safe (object g.named) h) (bad_arguments_safe (class_name namespace_class))
 
 pub construct_safe : {k : ℕ} (m : ℕ) (g : Given) → GivenBelow k g → IsSafe k Below (construct m g)
-construct_safe m g h = if_safe (m == namespace_number) (new_object_safe g h.named)
+construct_safe m g h = if_safe (m == namespace_class) (new_object_safe g h.named)
     (by_plain_safe (class_name m) g.named (if_safe (is_exception_class m) (make_safe (exception m g.plain) h.plain) (no_call_safe (slice_get (class_calls empty_object) m) g.plain (each_get CallIsSafe (class_calls empty_object) m (classes_safe empty_object (λ k vs a. new_object_safe (record { plain = vs; named = [] }) tt))) h.plain)))
 
 pub not_callable_safe : {A : Type 0} {k : ℕ} {Q : ℕ → A → Type 0} (v : Value) → IsSafe k Q (not_callable v)
-not_callable_safe v = kind_raise v 23 (λ c. in_quotes c ++ codes " object is not callable")
+not_callable_safe v = kind_raise v _ (λ c. in_quotes c ++ codes " object is not callable")
 
 pub settled_safe : {k : ℕ} (p : Part) → PartBelow k p → IsSafe k Below (settled p)
 settled_safe (whole_part v) h = value_safe v h

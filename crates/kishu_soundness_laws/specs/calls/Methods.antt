@@ -41,7 +41,7 @@ module _ {k : ℕ} where
   dict_change i f h = changing_safe i (on_dict f) (λ l le m q. on_dict_below l f (h l le) m q)
 
   place_equal_safe : (x : Value) (vs : List Value) → IsSafe k Any (place_of_equal x vs)
-  place_equal_safe x vs = plain_safe (counted_safe (λ s. place_from s.nodes s.depth x 0 vs)) (λ o. any_else_safe o (raise_safe 24 (codes "value not found")))
+  place_equal_safe x vs = plain_safe (counted_safe (λ s. place_from s.nodes s.depth x 0 vs)) (λ o. any_else_safe o (raise_safe _ (codes "value not found")))
 
   place_number_safe : (x : Value) (vs : List Value) → IsSafe k Below (place_number x vs)
   place_number_safe x vs = plain_safe (place_equal_safe x vs) (λ p. value_safe (number p) tt)
@@ -50,7 +50,7 @@ module _ {k : ℕ} where
   count_number_safe x vs = plain_safe (counted_safe (λ s. count_from s.nodes s.depth x 0 vs)) (λ c. value_safe (number c) tt)
 
   last_item_safe : (vs : List Value) → AllBelow k vs → IsSafe k Below (last_item vs)
-  last_item_safe vs h = or_else_safe Below (last_of vs) (raise_safe 15 (codes "pop from empty list")) (λ l le. each_last (Below l) vs (all_later k l le vs h))
+  last_item_safe vs h = or_else_safe Below (last_of vs) (raise_safe _ (codes "pop from empty list")) (λ l le. each_last (Below l) vs (all_later k l le vs h))
 
   take_out_safe : (i : ℕ) (vs : List Value) (p : ℕ) → AllBelow k vs → IsSafe k Below (take_out i vs p)
   take_out_safe i vs p h = then_safe (then_safe (spend_safe (length vs)) (change_safe i (without_place p) (λ l le m q. on_list_below l (λ xs. without_item xs p) (λ xs r. each_append (Below l) (take p xs) (drop (suc p) xs) (each_take (Below l) p xs r) (each_drop (Below l) (suc p) xs r)) m q))) (value_safe (slice_index_or vs p none) (each_index (Below k) vs p none tt h))
@@ -134,7 +134,7 @@ module _ {k : ℕ} where
   made_safe cs = then_safe (spend_safe (length cs)) (value_safe (text cs) tt)
 
   cutting_safe : (part : List ℕ) → IsSafe k Any (is_cutting part)
-  cutting_safe part = if_safe (is_nonempty part) any_safe (raise_safe 24 (codes "empty separator"))
+  cutting_safe part = if_safe (is_nonempty part) any_safe (raise_safe _ (codes "empty separator"))
 
   search_safe : (part cs : List ℕ) → IsSafe k Any (search part cs)
   search_safe part cs = spend_safe (length cs * max 1 (length part))

@@ -25,7 +25,7 @@ module _ {A : Type 0} {k : ℕ} {Q : ℕ → A → Type 0} where
   bad_operands_safe sign v w = plain_safe (look_any (λ ns. kind_in ns v)) (λ c. kind_raise w 23 (λ l. codes "bad operand types for " ++ sign ++ codes ": " ++ in_quotes c ++ codes " and " ++ in_quotes l))
 
   pub bad_operand_safe : (sign : List ℕ) (v : Value) → IsSafe k Q (bad_operand sign v)
-  bad_operand_safe sign v = kind_raise v 23 (λ c. codes "bad operand type for " ++ sign ++ codes ": " ++ in_quotes c)
+  bad_operand_safe sign v = kind_raise v _ (λ c. codes "bad operand type for " ++ sign ++ codes ": " ++ in_quotes c)
 
 abbrev MakesBelow : (List Value → M Value) → Type 0
 MakesBelow new = (l : ℕ) (vs : List Value) → AllBelow l vs → IsSafe l Below (new vs)
@@ -39,14 +39,14 @@ module _ {k : ℕ} where
   -- ---- operators
 
   pub whole_safe : (z : ℤ) → IsSafe k Below (whole z)
-  whole_safe z = if_safe (is_whole z) (value_safe (integer z) tt) (raise_safe 10 (codes "whole number too large"))
+  whole_safe z = if_safe (is_whole z) (value_safe (integer z) tt) (raise_safe _ (codes "whole number too large"))
 
   divided_safe : (b z : ℤ) → IsSafe k Below (divided b z)
-  divided_safe b z = if_safe (int_eq b (pos 0)) (raise_safe 11 (codes "division by zero")) (whole_safe z)
+  divided_safe b z = if_safe (int_eq b (pos 0)) (raise_safe _ (codes "division by zero")) (whole_safe z)
 
   power_safe : (a b : ℤ) → IsSafe k Below (raised_to a b)
   power_safe a (pos n) = whole_safe (power a n)
-  power_safe a (negsuc n) = raise_safe 24 (codes "negative power")
+  power_safe a (negsuc n) = raise_safe _ (codes "negative power")
 
   arithmetic_safe : (operator : Operator) (a b : ℤ) → IsSafe k Below (arithmetic operator a b)
   arithmetic_safe operators.Add a b = whole_safe (a +ℤ b)

@@ -13,12 +13,12 @@ use Rattle.kishu_meaning.specs.cells.Ways.{Flow, returned, onward, broke, contin
 use Rattle.kishu_meaning.specs.moments.Moment.{most_depth, give, ◌>>◌, Moment, Thrown, Ends}
 use Rattle.kishu_meaning.specs.values.Values.{Names, Value, State}
 use Rattle.kishu_soundness_laws.specs.Below.{Below, AllBelow, Any, StateBelow, Each, NodeBelow, EntriesBelow}
-use Rattle.kishu_soundness_laws.specs.moments.Steps.{IsSafe, bind_safe, deeper_safe, value_safe, stop_safe, raise_safe, then_safe, any_safe, tick_safe, IsGood, EndsSafe, ends_fine, ends_raised, ends_stopped}
+use Rattle.kishu_soundness_laws.specs.moments.Steps.{IsSafe, bind_safe, deeper_safe, value_safe, raise_safe, then_safe, any_safe, tick_safe, IsGood, EndsSafe, ends_fine, ends_raised, ends_stopped}
 use Rattle.kishu_soundness_laws.specs.values.Kinds.{bad_arguments_safe}
 use Rattle.kishu_soundness_laws.specs.calls.Callees.{GivenBelow}
 use Rattle.kishu_soundness_laws.specs.cells.Ways.{FlowBelow}
 use Rattle.kishu_soundness_laws.specs.calls.Functions.{NamesMaybe, frame_safe, bound_names}
-use Rattle.kishu_soundness_laws.specs.cells.Parts.{shown_safe}
+use Rattle.kishu_soundness_laws.specs.cells.Parts.{no_place_safe, shown_safe}
 use Rattle.kishu_soundness_laws.specs.cells.Expressions.{CallsAreSafe, expr_safe}
 use Rattle.kishu_soundness_laws.specs.cells.Statements.{in_block_safe, acts_safe, act_safe}
 use Rattle.kishu_soundness_laws.specs.comparing.Show.{show_thrown_safe}
@@ -35,11 +35,11 @@ enter_safe calls safe k d None h = bad_arguments_safe d.title
 
 enter_code_safe : (calls : Calls) (safe : CallsAreSafe calls) (k : ℕ) (vs : List Value) (g : Given) (o : Option Definition) → AllBelow k vs → GivenBelow k g → IsSafe k Below (enter_code calls vs g o)
 enter_code_safe calls safe k vs g (Some d) h e = enter_safe calls safe k d (bound_values d vs g) (bound_names k d vs g h e)
-enter_code_safe calls safe k vs g None h e = stop_safe
+enter_code_safe calls safe k vs g None h e = no_place_safe
 
 call_safe : (n : ℕ) → CallsAreSafe (call n)
 unfolding call
-call_safe zero k profile code vs g h e = raise_safe 21 (codes "depth limit reached")
+call_safe zero k profile code vs g h e = raise_safe _ (codes "depth limit reached")
 call_safe (suc n) k profile code vs g h e = enter_code_safe (call n) (call_safe n) k vs g (function_in (read_chars profile (chars code))) h e
 
 all_safe : CallsAreSafe all_calls

@@ -4,7 +4,7 @@ use Rattle.kishu_language.specs.declared.tree.Operator.{Operator}
 use Rattle.kishu_language.specs.declared.tree.Operator.TheVariants as operators
 use Rattle.kishu_language.specs.trees.Tree.{Trailers, no_trailers, more_trailers}
 use Rattle.kishu_meaning.specs.calls.Operators.{list_from}
-use Rattle.kishu_meaning.specs.cells.Meaning.{nodes, with_pairs, new_dict, add_to, updated, new_function, shown_text}
+use Rattle.kishu_meaning.specs.cells.Meaning.{no_place, nodes, with_pairs, new_dict, add_to, updated, new_function, shown_text}
 use Rattle.kishu_meaning.specs.comparing.Show.{repr_of, repr_in}
 use Rattle.kishu_meaning.specs.moments.Moment.{make, give, ◌>>=◌}
 use Rattle.kishu_meaning.specs.values.Keys.{Key, is_one}
@@ -12,7 +12,7 @@ use Rattle.kishu_meaning.specs.values.Nodes.{with_entry}
 use Rattle.kishu_meaning.specs.values.Values.{Value, dict, node, function, none}
 use Rattle.kishu_soundness_laws.specs.Below.{Any, EntriesBelow, Each, Below, values_in, AllBelow, EntriesAt}
 use Rattle.kishu_soundness_laws.specs.BelowLaws.{below_later, all_later}
-use Rattle.kishu_soundness_laws.specs.moments.Steps.{IsSafe, any_safe, then_safe, tick_safe, give_safe, plain_safe, bind_safe, value_safe, node_now_safe, asking_safe, counted_safe}
+use Rattle.kishu_soundness_laws.specs.moments.Steps.{IsSafe, raise_safe, any_safe, then_safe, tick_safe, give_safe, plain_safe, bind_safe, value_safe, node_now_safe, asking_safe, counted_safe}
 use Rattle.kishu_soundness_laws.specs.moments.Heap.{make_safe}
 use Rattle.kishu_soundness_laws.specs.values.Lists.{with_below}
 use Rattle.kishu_soundness_laws.specs.items.KeyOf.{key_safe}
@@ -20,6 +20,9 @@ use Rattle.kishu_soundness_laws.specs.calls.Operators.{operate_safe}
 use Rattle.kishu_soundness_laws.specs.items.Sequences.{extended_safe}
 
 -- ---- the small parts of the forms
+
+pub no_place_safe : {A : Type 0} {k : ℕ} {Q : ℕ → A → Type 0} → IsSafe k Q no_place
+no_place_safe = raise_safe _ _
 
 pub nodes_safe : {k : ℕ} (ts : Trailers) → IsSafe k Any (nodes ts)
 nodes_safe no_trailers = any_safe

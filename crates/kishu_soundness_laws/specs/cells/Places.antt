@@ -9,12 +9,12 @@ use Rattle.kishu_meaning.specs.moments.Moment.{give}
 use Rattle.kishu_meaning.specs.values.Values.{Value}
 use Rattle.kishu_soundness_laws.specs.Below.{Below, Any, AllBelow}
 use Rattle.kishu_soundness_laws.specs.BelowLaws.{below_later}
-use Rattle.kishu_soundness_laws.specs.moments.Steps.{IsSafe, give_safe, bind_safe, deeper_safe, stop_safe, any_safe, then_safe, tick_safe}
+use Rattle.kishu_soundness_laws.specs.moments.Steps.{IsSafe, give_safe, bind_safe, deeper_safe, any_safe, then_safe, tick_safe}
 use Rattle.kishu_soundness_laws.specs.items.Subscripts.{attribute_safe, item_safe, store_attribute_safe, store_item_safe, delete_attribute_safe, delete_item_safe}
 use Rattle.kishu_soundness_laws.specs.items.Walks.{unpacked_safe}
 use Rattle.kishu_soundness_laws.specs.calls.Callees.{PartBelow, settled_safe}
 use Rattle.kishu_soundness_laws.specs.moments.Names.{read_safe, assign_safe, delete_safe}
-use Rattle.kishu_soundness_laws.specs.cells.Parts.{nodes_safe, updated_safe}
+use Rattle.kishu_soundness_laws.specs.cells.Parts.{no_place_safe, nodes_safe, updated_safe}
 use Rattle.kishu_soundness_laws.specs.cells.Expressions.{CallsAreSafe, expr_safe, trailer_safe, part_safe}
 
 abbrev PlaceBelow : ℕ → Place → Type 0
@@ -49,11 +49,11 @@ module _ (calls : Calls) (safe : CallsAreSafe calls) where
   place_by_safe : (k : ℕ) (v : Value) → Below k v → (last : Trailer) → IsSafe k PlaceBelow (place_by calls v last)
   place_by_safe k v p (t.attribute x) = give_place_safe (attribute_of v x) p
   place_by_safe k v p (t.index e) = bind_safe (deeper_safe (expr_safe calls safe k e)) (λ l le i q. give_place_safe (item_of v i) (below_later k l le v p, q))
-  place_by_safe k v p (t.call es) = stop_safe
-  place_by_safe k v p (t.slice start stop step) = stop_safe
+  place_by_safe k v p (t.call es) = no_place_safe
+  place_by_safe k v p (t.slice start stop step) = no_place_safe
 
   place_after_safe : (k : ℕ) (p : Part) → PartBelow k p → (ts : Trailers) → IsSafe k PlaceBelow (place_after calls p ts)
-  place_after_safe k p h no_trailers = stop_safe
+  place_after_safe k p h no_trailers = no_place_safe
   place_after_safe k p h (more_trailers last no_trailers) = bind_safe (settled_safe p h) (λ l le v q. place_by_safe l v q last)
   place_after_safe k p h (more_trailers first (more_trailers next ts)) = bind_safe (trailer_safe calls safe k p h first) (λ l le p' q. place_after_safe l p' q (more_trailers next ts))
 
@@ -64,7 +64,7 @@ module _ (calls : Calls) (safe : CallsAreSafe calls) where
   place_safe : (k : ℕ) (e : Expression) → IsSafe k PlaceBelow (place calls e)
   place_safe k (t.name x) = give_place_safe (named x) tt
   place_safe k (t.primary e ts) = bind_safe (then_safe (before_safe ts) (part_safe calls safe k e (expr_safe calls safe k e))) (λ l le p q. place_after_safe l p q ts)
-  place_safe k e = stop_safe
+  place_safe k e = no_place_safe
 
   mutual
     pub store_safe : (k : ℕ) (e : Expression) (v : Value) → Below k v → IsSafe k Any (store calls e v)
@@ -73,7 +73,7 @@ module _ (calls : Calls) (safe : CallsAreSafe calls) where
     store_safe k (t.list es) v p = deeper_safe (bind_safe (unpacked_safe (count es) v) (λ l le vs q. store_each_safe l es vs q))
     store_safe k (t.name x) v p = assign_safe x v p
     store_safe k (t.primary e ts) v p = bind_safe (place_safe k (t.primary e ts)) (λ l le x q. store_in_safe x v (below_later k l le v p))
-    store_safe k e v p = stop_safe
+    store_safe k e v p = no_place_safe
 
     store_each_safe : (k : ℕ) (es : Expressions) (vs : List Value) → AllBelow k vs → IsSafe k Any (store_each calls es vs)
     store_each_safe k (more_expressions e es) (v ∷ vs) h = then_safe (store_safe k e v h.0) (store_each_safe k es vs h.1)

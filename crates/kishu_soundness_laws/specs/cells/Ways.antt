@@ -11,7 +11,7 @@ use Rattle.kishu_meaning.specs.values.Sound.{is_exception_class}
 use Rattle.kishu_meaning.specs.values.Values.{exception, node, Value, class}
 use Rattle.kishu_soundness_laws.specs.Below.{Any, Maybe, EntriesBelow, values_in, Below, ThrownBelow}
 use Rattle.kishu_soundness_laws.specs.BelowLaws.{all_later, below_later, thrown_later, maybe_later}
-use Rattle.kishu_soundness_laws.specs.moments.Steps.{IsSafe, ends_fine, if_safe, asking_safe, give_safe, value_safe, raise_safe, bind_safe, node_now_safe, throw_safe, any_safe, plain_safe, look_any, stop_safe, then_safe, tick_safe, safe_later, by_left_safe, EndsSafe, ends_raised, ends_stopped, IsGood, ends_later}
+use Rattle.kishu_soundness_laws.specs.moments.Steps.{IsSafe, ends_fine, if_safe, asking_safe, give_safe, value_safe, raise_safe, bind_safe, node_now_safe, throw_safe, any_safe, plain_safe, look_any, exhausted_safe, then_safe, tick_safe, safe_later, by_left_safe, EndsSafe, ends_raised, ends_stopped, IsGood, ends_later}
 use Rattle.kishu_soundness_laws.specs.moments.Heap.{make_safe}
 use Rattle.kishu_soundness_laws.specs.values.Nodes.{MaybeBelow}
 use Rattle.kishu_soundness_laws.specs.calls.Operators.{truth_safe}
@@ -51,7 +51,7 @@ object_of_safe (fresh kind vs) h = make_safe (exception kind vs) h
 object_of_safe (thrown_object i) h = value_safe (node i) h
 
 no_exception_safe : {A : Type 0} {k : ℕ} {Q : ℕ → A → Type 0} → IsSafe k Q no_exception
-no_exception_safe = raise_safe 23 (codes "exceptions must be exception classes or objects")
+no_exception_safe = raise_safe _ (codes "exceptions must be exception classes or objects")
 
 throw_object_safe : {A : Type 0} {k : ℕ} {Q : ℕ → A → Type 0} (v : Value) → Below k v → IsSafe k Q (throw_object v)
 throw_object_safe {k = k} (node i) h = bind_safe (node_now_safe (node i)) (λ l le o q. if_safe (is_exception o) (throw_safe (thrown_object i) (below_later k l le (node i) h)) no_exception_safe)
@@ -107,7 +107,7 @@ unless_safe continued h e = give_flow_safe continued tt
 unless_safe (returned v) h e = give_flow_safe (returned v) h
 
 turns_safe : {k : ℕ} (m : ℕ) {test : M Value} {body : M Flow} → IsSafe k Below test → IsSafe k FlowBelow body → IsSafe k FlowBelow (turns m test body)
-turns_safe zero h e = stop_safe
+turns_safe zero h e = exhausted_safe
 turns_safe (suc m) h e = bind_safe h (λ l le v q. plain_safe (truth_safe v) (λ b. if_safe b (bind_safe (then_safe tick_safe (safe_later le e)) (λ l' le' f r. turn_on_safe f r (safe_later le' (safe_later le (turns_safe m h e))))) onward_safe))
 
 pub repeat_safe : {k : ℕ} {test : M Value} {body : M Flow} → IsSafe k Below test → IsSafe k FlowBelow body → IsSafe k FlowBelow (repeat test body)
@@ -122,7 +122,7 @@ abbrev TurnSafe : ℕ → (Value → M Flow) → Type 0
 TurnSafe k turn = (l : ℕ) → k ≤ l → (v : Value) → Below l v → IsSafe l FlowBelow (turn v)
 
 walk_on_safe : (k m : ℕ) (u : Walk) (i : ℕ) {turn : Value → M Flow} → WalkBelow k u → TurnSafe k turn → IsSafe k FlowBelow (walk_on m u i turn)
-walk_on_safe k zero u i p h = stop_safe
+walk_on_safe k zero u i p h = exhausted_safe
 walk_on_safe k (suc m) u i p h = bind_safe (item_for_safe u i p) (λ l le o q. bind_safe (with_item_safe o q (h l le)) (λ l' le' f r. turn_on_safe f r (safe_later le' (safe_later le (walk_on_safe k m u (suc i) p h)))))
 
 pub walk_along_safe : (k : ℕ) (u : Walk) {turn : Value → M Flow} → WalkBelow k u → TurnSafe k turn → IsSafe k FlowBelow (walk_along u turn)

@@ -21,23 +21,23 @@ use Rattle.kishu_soundness_laws.specs.items.KeyOf.{key_safe}
 
 module _ {A : Type 0} {k : ℕ} {Q : ℕ → A → Type 0} where
   pub not_subscriptable_safe : (v : Value) → IsSafe k Q (not_subscriptable v)
-  not_subscriptable_safe v = kind_raise v 23 (λ c. in_quotes c ++ codes " object is not subscriptable")
+  not_subscriptable_safe v = kind_raise v _ (λ c. in_quotes c ++ codes " object is not subscriptable")
 
 module _ {k : ℕ} where
   pub index_safe : (v : Value) → IsSafe k Any (index_of v)
   index_safe v = any_else_safe (number_in v) (bad_index_safe v)
 
   pub place_of_safe : (n : ℕ) (z : ℤ) → IsSafe k Any (place_of n z)
-  place_of_safe n z = any_else_safe (place_in n z) (raise_safe 15 (codes "index out of range"))
+  place_of_safe n z = any_else_safe (place_in n z) (raise_safe _ (codes "index out of range"))
 
   pub position_safe : (n : ℕ) (v : Value) → IsSafe k Any (position n v)
   position_safe n v = plain_safe (index_safe v) (λ z. place_of_safe n z)
 
   pub taken_safe : (vs : List Value) (v : Value) → AllBelow k vs → IsSafe k Below (taken vs v)
-  taken_safe vs v h = plain_safe (position_safe (length vs) v) (λ i. or_else_safe Below (slice_get vs i) (raise_safe 15 (codes "index out of range")) (λ l le. each_get (Below l) vs i (all_later k l le vs h)))
+  taken_safe vs v h = plain_safe (position_safe (length vs) v) (λ i. or_else_safe Below (slice_get vs i) (raise_safe _ (codes "index out of range")) (λ l le. each_get (Below l) vs i (all_later k l le vs h)))
 
   pub taken_any : {A : Type 0} (as' : List A) (v : Value) → IsSafe k Any (taken as' v)
-  taken_any as' v = plain_safe (position_safe (length as') v) (λ i. any_else_safe (slice_get as' i) (raise_safe 15 (codes "index out of range")))
+  taken_any as' v = plain_safe (position_safe (length as') v) (λ i. any_else_safe (slice_get as' i) (raise_safe _ (codes "index out of range")))
 
   node_item_safe : (v i : Value) (o : Option Node) → Below k i → Maybe (NodeBelow k) o → IsSafe k Below (node_item v i o)
   node_item_safe v i (Some (list vs)) p h = taken_safe vs i h
@@ -54,7 +54,7 @@ module _ {k : ℕ} where
 
   step_safe : (o : Option ℤ) → IsSafe k Any (step_from o)
   step_safe None = any_safe
-  step_safe (Some z) = if_safe (int_eq z (pos 0)) (raise_safe 24 (codes "step is zero")) any_safe
+  step_safe (Some z) = if_safe (int_eq z (pos 0)) (raise_safe _ (codes "step is zero")) any_safe
 
   slice_places_safe : (n : ℕ) (a b c : Value) → IsSafe k Any (slice_places n a b c)
   slice_places_safe n a b c = plain_safe (bound_of_safe a) (λ x. plain_safe (bound_of_safe b) (λ y. plain_safe (plain_safe (bound_of_safe c) (λ o. step_safe o)) (λ z. any_safe)))

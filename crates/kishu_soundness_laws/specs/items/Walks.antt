@@ -4,6 +4,7 @@ use Rattle.kishu_meaning.specs.calls.Operators.{list_from}
 use Rattle.kishu_meaning.specs.comparing.Equal.{range_length}
 use Rattle.kishu_meaning.specs.items.Walks.{Walk, along_list, along_dict, along_tuple, along_text, along_range, unpacked, node_walk, keys, walk_of, items_now, or_none_there, entries_now, View, walk_view, seen, values, items, entry_seen, item_for}
 use Rattle.kishu_meaning.specs.moments.Moment.{give}
+use Rattle.kishu_meaning.specs.values.Classes.{runtime_error_class}
 use Rattle.kishu_meaning.specs.values.Keys.{Key}
 use Rattle.kishu_meaning.specs.values.Nodes.{dict_in}
 use Rattle.kishu_meaning.specs.values.Values.{Value, Node, list, tuple, dict, node, text, range, integer}
@@ -78,7 +79,7 @@ range_item k false z = tt
 
 pub item_for_safe : {k : ℕ} (u : Walk) (i : ℕ) → WalkBelow k u → IsSafe k MaybeBelow (item_for u i)
 item_for_safe (along_list n) i h = bind_safe (items_now_safe n) (λ l le vs q. opt_safe (slice_get vs i) (each_get (Below l) vs i q))
-item_for_safe (along_dict n start view) i h = bind_safe (entries_now_safe n) (λ l le es q. if_safe (length es == start) (entry_seen_safe view (slice_get es i) (entry_get l es i q)) (raise_safe 19 (codes "dictionary changed size during iteration")))
+item_for_safe (along_dict n start view) i h = bind_safe (entries_now_safe n) (λ l le es q. if_safe (length es == start) (entry_seen_safe view (slice_get es i) (entry_get l es i q)) (raise_safe runtime_error_class (codes "dictionary changed size during iteration")))
 item_for_safe (along_tuple vs) i h = opt_safe (slice_get vs i) (each_get (Below _) vs i h)
 item_for_safe {k = k} (along_text cs) i h = opt_safe _ (text_item k (slice_get cs i))
 item_for_safe {k = k} (along_range a b c) i h = opt_safe _ (range_item k (nat_lt i (range_length a b c)) (a +ℤ pos i *ℤ c))

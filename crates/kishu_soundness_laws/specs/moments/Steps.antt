@@ -2,7 +2,7 @@
 use Rattle.std.specs.Prelude.{ℕ, length, ◌≡◌, ◌≤◌, List, Bool, true, false, if◌then◌else◌, Option, None, Some, nat_le, ◌-◌, nat_lt, suc}
 use Rattle.std.proofs.Common.{arith}
 use Rattle.kishu_meaning.specs.moments.Counting.{Counted, ended_in, answer, too_deep, spent, Count, counted}
-use Rattle.kishu_meaning.specs.moments.Moment.{Moment, Locals, Ends, fine, Thrown, raised, stopped, M, and_then, ◌>>=◌, ◌>>◌, give, throw, raise, or_else, look, node_at, node_now, spend, tick, put_out, back_at, recursion_error, deeper, most_depth}
+use Rattle.kishu_meaning.specs.moments.Moment.{Moment, Locals, Ends, fine, Thrown, raised, stopped, M, and_then, ◌>>=◌, ◌>>◌, give, throw, raise, or_else, look, node_at, node_now, exhausted, spend, tick, put_out, back_at, recursion_error, deeper, most_depth}
 use Rattle.kishu_meaning.specs.values.Values.{Value, Node, node}
 use Rattle.kishu_soundness_laws.specs.Below.{Each, NodeBelow, EntriesBelow, Maybe, Below, ThrownBelow, Any, AllBelow}
 use Rattle.kishu_soundness_laws.specs.BelowLaws.{below_later, all_later, thrown_later, each_get}
@@ -66,8 +66,8 @@ throw_safe {k = k} x h = record { go = λ l le s g. ends_raised l (omega arith) 
 pub raise_safe : {A : Type 0} {k : ℕ} {Q : ℕ → A → Type 0} (kind : ℕ) (message : List ℕ) → IsSafe k Q (raise kind message)
 raise_safe kind message = record { go = λ l le s g. ends_raised l (omega arith) (tt, tt) g }
 
-pub stop_safe : {A : Type 0} {k : ℕ} {Q : ℕ → A → Type 0} → IsSafe k Q (λ s. stopped s)
-stop_safe = record { go = λ l le s g. ends_stopped l (omega arith) g }
+pub exhausted_safe : {A : Type 0} {k : ℕ} {Q : ℕ → A → Type 0} → IsSafe k Q exhausted
+exhausted_safe = record { go = λ l le s g. ends_stopped l (omega arith) (record { many = g.many; nodes = g.nodes; names = g.names; locals = g.locals; handled = g.handled }) }
 
 pub if_safe : {A : Type 0} {k : ℕ} {Q : ℕ → A → Type 0} (b : Bool) {m n : M A} → IsSafe k Q m → IsSafe k Q n → IsSafe k Q (if b then m else n)
 if_safe true h g = h

@@ -15,16 +15,16 @@ module _ {A : Type 0} {k : ℕ} {Q : ℕ → A → Type 0} where
   no_key_safe v h = throw_safe _ (h, tt)
 
   pub not_iterable_safe : (v : Value) → IsSafe k Q (not_iterable v)
-  not_iterable_safe v = kind_raise v 23 (λ c. in_quotes c ++ codes " object is not iterable")
+  not_iterable_safe v = kind_raise v _ (λ c. in_quotes c ++ codes " object is not iterable")
 
   pub bad_index_safe : (v : Value) → IsSafe k Q (bad_index v)
-  bad_index_safe v = kind_raise v 23 (λ c. codes "bad index type: " ++ in_quotes c)
+  bad_index_safe v = kind_raise v _ (λ c. codes "bad index type: " ++ in_quotes c)
 
   pub unhashable_safe : (v : Value) → IsSafe k Q (unhashable v)
-  unhashable_safe v = kind_raise v 23 (λ c. codes "unhashable key: " ++ in_quotes c)
+  unhashable_safe v = kind_raise v _ (λ c. codes "unhashable key: " ++ in_quotes c)
 
   pub no_attribute_safe : (v : Value) (x : List ℕ) → IsSafe k Q (no_attribute v x)
-  no_attribute_safe v x = kind_raise v 13 (λ c. in_quotes c ++ codes " object has no attribute '" ++ chars x ++ codes "'")
+  no_attribute_safe v x = kind_raise v _ (λ c. in_quotes c ++ codes " object has no attribute '" ++ chars x ++ codes "'")
 
   pub bad_arguments_safe : (name : List ℕ) → IsSafe k Q (bad_arguments name)
-  bad_arguments_safe name = raise_safe 23 (name ++ codes "() got bad arguments")
+  bad_arguments_safe name = raise_safe _ (name ++ codes "() got bad arguments")

@@ -4,7 +4,7 @@ use Rattle.std.proofs.Common.{refl, arith}
 use Rattle.kishu_language.specs.tokens.Names.{reserved_words}
 use Rattle.kishu_language.specs.trees.Tree.{Text, Expression, Parameter, Statement, Statements, Arms, Handlers, simple_namespace, no_statements, more_statements, no_arms, more_arms, no_handlers, more_handlers}
 use Rattle.kishu_language.specs.trees.Tree as t
-use Rattle.kishu_meaning.specs.values.Classes.{assertion_error_class, namespace_number}
+use Rattle.kishu_meaning.specs.values.Classes.{assertion_error_class, namespace_class}
 use Rattle.kishu_meaning.specs.values.Sound.{with_default}
 use Rattle.kishu_meaning.specs.values.Values.{Value, none, class}
 use Rattle.kishu_meaning.specs.moments.Moment.{Thrown, fresh, M}
@@ -84,7 +84,7 @@ module _ (calls : Calls) (cs : CallsSafe calls) where
     act_s k (t.assert e message) h = bind_s (expr_s calls cs k e h.0) (λ l le v q. plain_s (truth_s v) (λ b. if_s b onward_s (failed_s l message h.1)))
     act_s k (t.delete es) h = then_s (delete_all_s calls cs k es h) onward_s
     act_s k (t.global xs) h = onward_s
-    act_s k (t.import x) h = then_s (assign_s (or_class_name x) (class namespace_number) (imported_name x h) (omega arith)) onward_s
+    act_s k (t.import x) h = then_s (assign_s (or_class_name x) (class namespace_class) (imported_name x h) (omega arith)) onward_s
     act_s k (t.update e operator operand) h = then_s (update_s calls cs k e operator operand h.0 h.1) onward_s
     act_s k (t.assign es e) h = bind_s (expr_s calls cs k e h.1) (λ l le v q. then_s (store_all_s calls cs l es v h.0 q) onward_s)
     act_s k (t.choose as' other) h = arms_s k as' h.0 (in_block_s other (acts_s k other h.1))

@@ -5,7 +5,7 @@ use Rattle.std.proofs.Common.{refl}
 use Rattle.kishu_language.specs.tokens.Lines.{line_feed}
 use Rattle.kishu_language.specs.tokens.Names.{reserved_words}
 use Rattle.kishu_language.specs.trees.Tree.{Arguments}
-use Rattle.kishu_meaning.specs.values.Classes.{namespace_number}
+use Rattle.kishu_meaning.specs.values.Classes.{namespace_class}
 use Rattle.kishu_meaning.specs.values.Kinds.{in_quotes}
 use Rattle.kishu_meaning.specs.values.Sound.{is_exception_class}
 use Rattle.kishu_meaning.specs.values.Texts.{joined}
@@ -17,7 +17,7 @@ use Rattle.kishu_meaning.specs.calls.Methods.{has_method}
 use Rattle.kishu_meaning.specs.calls.Builtins.{Call, builtin_calls, class_calls}
 use Rattle.kishu_meaning.specs.calls.Callees.{Given, by_plain, print, print_by, print_plain, print_number, or_no_call, call_builtin, new_object, empty_object, construct, not_callable, Part, whole as whole_part, dotted, viewed, settled, Callee, function as function_callee, method, view, view_in, method_of, dict_callee, node_callee, dotted_callee, callee}
 use Rattle.kishu_objects.specs.State.{IsValue, AreValues, IsName, values_in}
-use Rattle.kishu_state_laws.specs.keeping.Logic.{Maybe, IsText, Safe, bind_s, with_s, plain_s, then_s, give_s, value_s, stop_s, if_s, when_s, look_any, node_now_s, spend_s, out_s, make_s, value_later, values_later, each_get}
+use Rattle.kishu_state_laws.specs.keeping.Logic.{Maybe, IsText, Safe, bind_s, with_s, plain_s, then_s, give_s, value_s, if_s, when_s, look_any, node_now_s, spend_s, out_s, make_s, value_later, values_later, each_get}
 use Rattle.kishu_state_laws.specs.keeping.Lists.{AreAttributes, object_node}
 use Rattle.kishu_state_laws.specs.keeping.Texts.{scalars_append, text_in_quotes, text_class, text_builtin}
 use Rattle.kishu_state_laws.specs.keeping.Counting.{show_all_s}
@@ -76,21 +76,21 @@ print_by_s (x ∷ ks) separator end vs h = bad_arguments_s (codes "print") refl
 
 no_call_s : {k : ℕ} (o : Option Call) (vs : List Value) → Maybe CallSafe o → AreValues k vs → Safe k IsValue (or_no_call o vs)
 no_call_s {k = k} (Some f) vs h a = h k vs a
-no_call_s None vs h a = stop_s
+no_call_s None vs h a = bad_arguments_s [] refl
 
 pub call_builtin_s : {k : ℕ} (m : ℕ) (g : Given) → IsGiven k g → Safe k IsValue (call_builtin m g)
 call_builtin_s m g h = if_s (m == print_number) (print_by_s g.named (codes " ") (line_feed ∷ []) g.plain h.plain)
     (by_plain_s (builtin_name m) g.named (text_builtin m) (no_call_s (slice_get (builtin_calls print_plain) m) g.plain (each_get CallSafe (builtin_calls print_plain) m (builtins_safe print_plain (λ k vs a. print_s (codes " ") (line_feed ∷ []) vs a))) h.plain))
 
 new_object_s : {k : ℕ} (g : Given) → AreAttributes k g.named → Safe k IsValue (new_object g)
-new_object_s {k = k} g h = if_s (length g.plain == 0) (make_s (object g.named) (object_node k g.named h)) (bad_arguments_s (class_name namespace_number) (text_class namespace_number))
+new_object_s {k = k} g h = if_s (length g.plain == 0) (make_s (object g.named) (object_node k g.named h)) (bad_arguments_s (class_name namespace_class) (text_class namespace_class))
 
 pub construct_s : {k : ℕ} (m : ℕ) (g : Given) → IsGiven k g → Safe k IsValue (construct m g)
-construct_s m g h = if_s (m == namespace_number) (new_object_s g h.named)
+construct_s m g h = if_s (m == namespace_class) (new_object_s g h.named)
     (by_plain_s (class_name m) g.named (text_class m) (when_s (is_exception_class m) (λ e. make_s (exception m g.plain) (e, h.plain)) (λ e. no_call_s (slice_get (class_calls empty_object) m) g.plain (each_get CallSafe (class_calls empty_object) m (classes_safe empty_object (λ k vs a. new_object_s (record { plain = vs; named = [] }) (record { keys = record { each = tt; apart = tt }; values = tt })))) h.plain)))
 
 pub not_callable_s : {A : Type 0} {k : ℕ} {Q : ℕ → A → Type 0} (v : Value) → Safe k Q (not_callable v)
-not_callable_s v = kind_raise v 23 (λ c. in_quotes c ++ codes " object is not callable") refl (λ c q. scalars_append (in_quotes c) (codes " object is not callable") (text_in_quotes c q) refl)
+not_callable_s v = kind_raise v _ (λ c. in_quotes c ++ codes " object is not callable") refl (λ c q. scalars_append (in_quotes c) (codes " object is not callable") (text_in_quotes c q) refl)
 
 -- ---- before the call
 

@@ -8,14 +8,16 @@ use Rattle.kishu_language.specs.trees.Tree.{Text}
 use Rattle.kishu_language.specs.trees.Tree as t
 use Rattle.kishu_meaning.specs.values.Keys.{Key}
 use Rattle.kishu_meaning.specs.values.Values.{Value, none, bool, integer, text, range, builtin, class, node, Node, list, tuple, dict, object, function, exception}
-use Rattle.kishu_meaning.specs.moments.Moment.{Thrown, fresh, thrown_object, most_steps, most_depth}
+use Rattle.kishu_meaning.specs.moments.Moment.{Thrown, fresh, thrown_object, most_depth}
 use Rattle.kishu_meaning.specs.moments.Counting.{Counted, answer, too_deep, spent, Count, and_then, ◌>>=◌, ◌>>◌, give, spend, stop_deep, counted}
 use Rattle.kishu_meaning.specs.comparing.Equal.{is_same, pair_steps, pair_equal, equal_nodes, equal_in, less_in, equal, less, room_at}
-use Rattle.kishu_meaning.specs.comparing.Show.{function_name, function_text, class_name, repr_text, key_text, tuple_end, key_error, made, ◌⊕◌, further, listed, repr_by, entry_repr, attribute_repr, tuple_repr, contents_repr, again, repr_at, repr_nodes, repr_in, repr_of, show_by, argument_text, exception_text, show_at, show_nodes, show_in, show, show_all_in, show_all, thrown_in, show_thrown}
+use Rattle.kishu_meaning.specs.values.Classes.{key_error_class}
+use Rattle.kishu_meaning.specs.comparing.Show.{function_name, function_text, class_name, repr_text, key_text, tuple_end, made, ◌⊕◌, further, listed, repr_by, entry_repr, attribute_repr, tuple_repr, contents_repr, again, repr_at, repr_nodes, repr_in, repr_of, show_by, argument_text, exception_text, show_at, show_nodes, show_in, show, show_all_in, show_all, thrown_in, show_thrown}
 use Rattle.kishu_meaning.specs.items.Finding.{is_found, place_from, count_from, place_among, count_among}
 use Rattle.kishu_meaning_laws.specs.CountingLaws.{Falls, left_of, then_falls, both_fall, give_falls, spend_falls, either_falls, equal_in_falls, less_in_falls, place_falls, count_falls, show_falls, repr_falls}
-use Rattle.kishu_meaning_laws.specs.ShowLaws.{Covers, thrown_covers, name_as_read}
+use Rattle.kishu_meaning_laws.specs.ShowLaws.{thrown_covers, name_as_read}
 use Rattle.kishu_objects.specs.State.{IsValue, AreValues, IsKey, IsName, IsCode, IsNode, keys_in, values_in}
+use Rattle.kishu_state_laws.specs.Moments.{widest_budget}
 use Rattle.kishu_state_laws.specs.trees.Read.{tree_sound}
 use Rattle.kishu_state_laws.specs.keeping.Logic.{Maybe, Any, IsText, IsThrown, Safe, Answers, each_get, value_later, values_later, counted_at, counted_s}
 use Rattle.kishu_state_laws.specs.keeping.Texts.{scalars_append, text_between, text_repr, text_key, text_name, text_class, text_tuple_end, AreTexts}
@@ -161,7 +163,7 @@ module _ (k : ℕ) (ns : List Node) (g : Each (IsNode k) ns) where
 
   exception_shown : (reprs shows : ℕ → Count (List ℕ)) → ((i : ℕ) → IsShown (reprs i)) → ((i : ℕ) → IsShown (shows i)) → (kind : ℕ) (vs : List Value) → AreValues k vs → IsShown (exception_text reprs shows kind vs)
   exception_shown reprs shows h e kind [] p = nothing_shown
-  exception_shown reprs shows h e kind (v ∷ []) p = record { told = λ n. step_then (argument_text reprs shows kind v) n (nat_le 1 n) (either_shown (kind == key_error) (repr_by reprs v) (show_by shows v) (repr_shown k reprs h v p.0) (by_shown shows e v p.0)) }
+  exception_shown reprs shows h e kind (v ∷ []) p = record { told = λ n. step_then (argument_text reprs shows kind v) n (nat_le 1 n) (either_shown (kind == key_error_class) (repr_by reprs v) (show_by shows v) (repr_shown k reprs h v p.0) (by_shown shows e v p.0)) }
   exception_shown reprs shows h e kind (v ∷ (w ∷ vs)) p = tuple_shown k reprs h (v ∷ w ∷ vs) p
 
   shown_at : (exceptions : ℕ → List Value → Count (List ℕ)) (other : Count (List ℕ)) → ((kind : ℕ) (vs : List Value) → AreValues k vs → IsShown (exceptions kind vs)) → IsShown other → (o : Option Node) → Maybe (IsNode k) o → IsShown (show_at exceptions other o)
@@ -205,13 +207,8 @@ all_falls : (ns : List Node) (depth : ℕ) (vs : List Value) → Falls (show_all
 all_falls ns depth [] = give_falls []
 all_falls ns depth (v ∷ vs) = then_falls (show_in ns depth v) _ (show_falls ns depth v) (λ first. then_falls (show_all_in ns depth vs) _ (all_falls ns depth vs) (λ following. give_falls (first ∷ following)))
 
-covered_falls : (n : ℕ) (e : Counted (List ℕ)) → Covers n e → left_of e ≤ n
-covered_falls n (answer cs left) t = omega (arith, t)
-covered_falls n (too_deep left) t = t
-covered_falls n (spent left) t = omega (arith, t)
-
 thrown_falls : (ns : List Node) (depth kind : ℕ) (vs : List Value) → Falls (thrown_in ns depth kind vs)
-thrown_falls ns depth kind vs = record { falls = λ n. covered_falls n (thrown_in ns depth kind vs n) ((thrown_covers ns depth kind vs).covers n) }
+thrown_falls ns depth kind vs = (thrown_covers ns depth kind vs).counts
 
 pair_falls : (ns : List Node) (depth : ℕ) (v w : Value) → Falls (pair_equal (equal_nodes ns (room_at depth)) v w)
 pair_falls ns depth v w =
@@ -280,13 +277,13 @@ module _ (ns : List Node) (depth : ℕ) (x : Value) where
   count_few c [] n = omega arith
   count_few c (v ∷ vs) n = count_after c n vs (is_found ns depth x v n) (found_takes v n) (λ d m. count_few d vs m)
 
-place_within : (n : ℕ) (e : Counted (Option ℕ)) → n ≤ most_steps → Answers (λ o left. Maybe (λ p. p + left ≤ 0 + n) o) e → Answers (λ o left. Maybe (λ p. p ≤ most_steps) o) e
+place_within : (n : ℕ) (e : Counted (Option ℕ)) → n ≤ widest_budget → Answers (λ o left. Maybe (λ p. p + left ≤ 0 + n) o) e → Answers (λ o left. Maybe (λ p. p ≤ widest_budget) o) e
 place_within n (answer None left) p h = tt
 place_within n (answer (Some q) left) p h = omega (arith, p, h)
 place_within n (too_deep left) p h = tt
 place_within n (spent left) p h = tt
 
-count_within : (n : ℕ) (e : Counted ℕ) → n ≤ most_steps → Answers (λ d left. d + left ≤ 0 + n) e → Answers (λ d left. d ≤ most_steps) e
+count_within : (n : ℕ) (e : Counted ℕ) → n ≤ widest_budget → Answers (λ d left. d + left ≤ 0 + n) e → Answers (λ d left. d ≤ widest_budget) e
 count_within n (answer d left) p h = omega (arith, p, h)
 count_within n (too_deep left) p h = tt
 count_within n (spent left) p h = tt
@@ -295,29 +292,29 @@ count_within n (spent left) p h = tt
 
 module _ {k : ℕ} where
   pub repr_s : (v : Value) → IsValue k v → Safe k (λ l. IsText) (repr_of v)
-  repr_s v p = counted_at (λ l cs. IsText cs) (λ s. repr_in s.nodes s.depth v) (λ s. repr_falls s.nodes s.depth v) (λ l s le g. (repr_in_shown l s.nodes g.nodes s.depth v (value_later k l le v p)).told s.left)
+  repr_s v p = counted_at (λ l cs. IsText cs) (λ s. repr_in s.nodes s.depth v) (λ d s. refl) (λ s. repr_falls s.nodes s.depth v) (λ l s le g. (repr_in_shown l s.nodes g.nodes s.depth v (value_later k l le v p)).told s.left)
 
   pub show_s : (v : Value) → IsValue k v → Safe k (λ l. IsText) (show v)
-  show_s v p = counted_at (λ l cs. IsText cs) (λ s. show_in s.nodes s.depth v) (λ s. show_falls s.nodes s.depth v) (λ l s le g. (show_in_shown l s.nodes g.nodes s.depth v (value_later k l le v p)).told s.left)
+  show_s v p = counted_at (λ l cs. IsText cs) (λ s. show_in s.nodes s.depth v) (λ d s. refl) (λ s. show_falls s.nodes s.depth v) (λ l s le g. (show_in_shown l s.nodes g.nodes s.depth v (value_later k l le v p)).told s.left)
 
   pub show_all_s : (vs : List Value) → AreValues k vs → Safe k (λ l. AreTexts) (show_all vs)
-  show_all_s vs p = counted_at (λ l parts. AreTexts parts) (λ s. show_all_in s.nodes s.depth vs) (λ s. all_falls s.nodes s.depth vs) (λ l s le g. all_shown l s.nodes g.nodes s.depth vs (values_later k l le vs p) s.left)
+  show_all_s vs p = counted_at (λ l parts. AreTexts parts) (λ s. show_all_in s.nodes s.depth vs) (λ d s. refl) (λ s. all_falls s.nodes s.depth vs) (λ l s le g. all_shown l s.nodes g.nodes s.depth vs (values_later k l le vs p) s.left)
 
   pub show_thrown_s : (x : Thrown) → IsThrown k x → Safe k (λ l. IsText) (show_thrown x)
-  show_thrown_s (fresh kind vs) p = counted_at (λ l cs. IsText cs) (λ s. thrown_in s.nodes s.depth kind vs) (λ s. thrown_falls s.nodes s.depth kind vs) (λ l s le g. (thrown_in_shown l s.nodes g.nodes s.depth kind vs (values_later k l le vs p.1)).told s.left)
+  show_thrown_s (fresh kind vs) p = counted_at (λ l cs. IsText cs) (λ s. thrown_in s.nodes s.depth kind vs) (λ d s. refl) (λ s. thrown_falls s.nodes s.depth kind vs) (λ l s le g. (thrown_in_shown l s.nodes g.nodes s.depth kind vs (values_later k l le vs p.1)).told s.left)
   show_thrown_s (thrown_object i) p = show_s (node i) p
 
-  pub place_s : (x : Value) (vs : List Value) → Safe k (λ l. Maybe (λ p. p ≤ most_steps)) (place_among x vs)
-  place_s x vs = counted_at (λ l o. Maybe (λ p. p ≤ most_steps) o) (λ s. place_from s.nodes s.depth x 0 vs) (λ s. place_falls s.nodes s.depth x 0 vs) (λ l s le g. place_within s.left (place_from s.nodes s.depth x 0 vs s.left) g.budget (place_near s.nodes s.depth x 0 vs s.left))
+  pub place_s : (x : Value) (vs : List Value) → Safe k (λ l. Maybe (λ p. p ≤ widest_budget)) (place_among x vs)
+  place_s x vs = counted_at (λ l o. Maybe (λ p. p ≤ widest_budget) o) (λ s. place_from s.nodes s.depth x 0 vs) (λ d s. refl) (λ s. place_falls s.nodes s.depth x 0 vs) (λ l s le g. place_within s.left (place_from s.nodes s.depth x 0 vs s.left) g.budget (place_near s.nodes s.depth x 0 vs s.left))
 
-  pub count_s : (x : Value) (vs : List Value) → Safe k (λ l d. d ≤ most_steps) (count_among x vs)
-  count_s x vs = counted_at (λ l d. d ≤ most_steps) (λ s. count_from s.nodes s.depth x 0 vs) (λ s. count_falls s.nodes s.depth x 0 vs) (λ l s le g. count_within s.left (count_from s.nodes s.depth x 0 vs s.left) g.budget (count_few s.nodes s.depth x 0 vs s.left))
+  pub count_s : (x : Value) (vs : List Value) → Safe k (λ l d. d ≤ widest_budget) (count_among x vs)
+  count_s x vs = counted_at (λ l d. d ≤ widest_budget) (λ s. count_from s.nodes s.depth x 0 vs) (λ d s. refl) (λ s. count_falls s.nodes s.depth x 0 vs) (λ l s le g. count_within s.left (count_from s.nodes s.depth x 0 vs s.left) g.budget (count_few s.nodes s.depth x 0 vs s.left))
 
   pub equal_s : (v w : Value) → Safe k Any (equal v w)
-  equal_s v w = counted_s (λ s. equal_in s.nodes s.depth v w) (λ s. equal_in_falls s.nodes s.depth v w)
+  equal_s v w = counted_s (λ s. equal_in s.nodes s.depth v w) (λ d s. refl) (λ s. equal_in_falls s.nodes s.depth v w)
 
   pub less_s : (v w : Value) → Safe k Any (less v w)
-  less_s v w = counted_s (λ s. less_in s.nodes s.depth v w) (λ s. less_in_falls s.nodes s.depth v w)
+  less_s v w = counted_s (λ s. less_in s.nodes s.depth v w) (λ d s. refl) (λ s. less_in_falls s.nodes s.depth v w)
 
   pub pair_s : (v w : Value) → Safe k Any (λ s. counted (pair_equal (equal_nodes s.nodes (room_at s.depth)) v w) s)
-  pair_s v w = counted_s (λ s. pair_equal (equal_nodes s.nodes (room_at s.depth)) v w) (λ s. pair_falls s.nodes s.depth v w)
+  pair_s v w = counted_s (λ s. pair_equal (equal_nodes s.nodes (room_at s.depth)) v w) (λ d s. refl) (λ s. pair_falls s.nodes s.depth v w)

@@ -13,13 +13,13 @@ use Rattle.kishu_meaning.specs.calls.Callees.{nothing_given, and_plain, and_name
 use Rattle.kishu_meaning.specs.cells.Meaning.{Calls, nodes_before_last, named, attribute_of, item_of, count, expr, part, trailers, trailer, bound_value, arguments, values, inner_values, pairs, first_that, operands, links, place_by, place_after, place, store, store_each, store_all, delete_all, update}
 use Rattle.kishu_objects.specs.State.{IsValue, AreValues}
 use Rattle.kishu_state_laws.specs.trees.Sound.{ExpressionSound, ExpressionsSound, OperandsSound, LinksSound, PairsSound, TrailersSound, TrailerSound, BoundSound, ArgumentsSound, ListSound}
-use Rattle.kishu_state_laws.specs.keeping.Logic.{Any, Safe, bind_s, plain_s, then_s, give_s, any_s, value_s, list_s, stop_s, if_s, tick_s, deeper_s, make_s, value_later}
+use Rattle.kishu_state_laws.specs.keeping.Logic.{Any, Safe, bind_s, plain_s, then_s, give_s, any_s, value_s, list_s, if_s, tick_s, deeper_s, make_s, value_later}
 use Rattle.kishu_state_laws.specs.keeping.Leaves.{truth_s}
 use Rattle.kishu_state_laws.specs.keeping.Subscripts.{item_s, slice_s}
 use Rattle.kishu_state_laws.specs.keeping.Operating.{operate_s, signed_s, compare_s, unpacked_s}
 use Rattle.kishu_state_laws.specs.keeping.Callees.{IsPart, part_s, callee_later, settled_s, callee_s}
 use Rattle.kishu_state_laws.specs.keeping.Names.{read_s, assign_s}
-use Rattle.kishu_state_laws.specs.keeping.Parts.{nodes_s, ArePairs, pairs_later, new_dict_s, updated_s, IsPlace, place_give, place_later, read_place_s, store_in_s, delete_place_s, GivenBy, given_by, given_sound, CallsSafe, apply_s}
+use Rattle.kishu_state_laws.specs.keeping.Parts.{no_place_s, nodes_s, ArePairs, pairs_later, new_dict_s, updated_s, IsPlace, place_give, place_later, read_place_s, store_in_s, delete_place_s, GivenBy, given_by, given_sound, CallsSafe, apply_s}
 
 module _ (calls : Calls) (cs : CallsSafe calls) where
   mutual
@@ -101,11 +101,11 @@ module _ (calls : Calls) (cs : CallsSafe calls) where
   place_by_s : (k : ℕ) (v : Value) → IsValue k v → (last : Trailer) → TrailerSound last → Safe k IsPlace (place_by calls v last)
   place_by_s k v p (t.attribute x) h = place_give (attribute_of v x) (p, h)
   place_by_s k v p (t.index e) h = bind_s (deeper_s (expr_s k e h)) (λ l le i q. place_give (item_of v i) (value_later k l le v p, q))
-  place_by_s k v p (t.call es) h = stop_s
-  place_by_s k v p (t.slice start stop step) h = stop_s
+  place_by_s k v p (t.call es) h = no_place_s
+  place_by_s k v p (t.slice start stop step) h = no_place_s
 
   place_after_s : (k : ℕ) (p : Part) → IsPart k p → (ts : Trailers) → TrailersSound ts → Safe k IsPlace (place_after calls p ts)
-  place_after_s k p h no_trailers g = stop_s
+  place_after_s k p h no_trailers g = no_place_s
   place_after_s k p h (more_trailers last no_trailers) g = bind_s (settled_s p h) (λ l le v q. place_by_s l v q last g.0)
   place_after_s k p h (more_trailers first (more_trailers next ts)) g = bind_s (trailer_s k p h first g.0) (λ l le p' q. place_after_s l p' q (more_trailers next ts) g.1)
 
@@ -116,7 +116,7 @@ module _ (calls : Calls) (cs : CallsSafe calls) where
   pub place_s : (k : ℕ) (e : Expression) → ExpressionSound e → Safe k IsPlace (place calls e)
   place_s k (t.name x) h = place_give (named x) h
   place_s k (t.primary e ts) h = bind_s (then_s (before_s k ts) (part_safe k e h.0 (expr_s k e h.0))) (λ l le p q. place_after_s l p q ts h.1)
-  place_s k e h = stop_s
+  place_s k e h = no_place_s
 
   mutual
     pub store_s : (k : ℕ) (e : Expression) (v : Value) → ExpressionSound e → IsValue k v → Safe k Any (store calls e v)
@@ -125,7 +125,7 @@ module _ (calls : Calls) (cs : CallsSafe calls) where
     store_s k (t.list es) v h p = deeper_s (bind_s (unpacked_s (count es) v p) (λ l le vs q. store_each_s l es vs h q))
     store_s k (t.name x) v h p = assign_s x v h p
     store_s k (t.primary e ts) v h p = bind_s (place_s k (t.primary e ts) h) (λ l le x q. store_in_s x v q (value_later k l le v p))
-    store_s k e v h p = stop_s
+    store_s k e v h p = no_place_s
 
     store_each_s : (k : ℕ) (es : Expressions) (vs : List Value) → ExpressionsSound es → AreValues k vs → Safe k Any (store_each calls es vs)
     store_each_s k (more_expressions e es) (v ∷ vs) g h = then_s (store_s k e v g.0 h.0) (store_each_s k es vs g.1 h.1)

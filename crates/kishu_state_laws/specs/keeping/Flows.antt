@@ -1,17 +1,19 @@
 -- Ways out, exceptions, loops and handlers keep what holds of every state.
-use Rattle.std.specs.Prelude.{ℕ, zero, suc, ◌≤◌, List, [], ◌∷◌, codes, Option, Some, None}
-use Rattle.std.proofs.Common.{refl, arith}
+use Rattle.std.specs.Prelude.{◌≡◌, ℕ, suc, ◌+◌, ◌<◌, ◌≤◌, if◌then◌else◌, List, [], ◌∷◌, codes, Option, Some, None}
+use Rattle.std.proofs.Common.{refl, sym, subst, arith}
 use Rattle.kishu_meaning.specs.values.Sound.{is_exception_class}
 use Rattle.kishu_meaning.specs.values.Values.{Value, class, node, Node, exception}
-use Rattle.kishu_meaning.specs.moments.Moment.{Moment, Thrown, fresh, thrown_object, Ends, M, ◌>>=◌, give, node_now}
-use Rattle.kishu_meaning.specs.calls.Operators.{tuple_from}
-use Rattle.kishu_meaning.specs.items.Walks.{Walk}
+use Rattle.kishu_meaning.specs.moments.Moment.{Moment, Thrown, fresh, thrown_object, Ends, fine, raised, stopped, M, ◌>>=◌, ◌>>◌, give, throw, tick, node_now}
+use Rattle.kishu_meaning.specs.calls.Operators.{tuple_from, truth}
+use Rattle.kishu_meaning.specs.items.Walks.{Walk, item_for}
 use Rattle.kishu_meaning.specs.cells.Ways.{Flow, onward, broke, continued, returned, go_on, turn_on, turns, repeat, with_item, walk_on, walk_along, kind_of_thrown, no_exception, is_exception, object_of, throw_object, throw_value, throw_caught, throw_again, after_body, attempt, unless_left, and_last, finally, are_caught_by, caught_among, caught_by, is_caught, bind_caught, forget_caught, handled_as, handling, handle}
 use Rattle.kishu_objects.specs.State.{IsValue, IsName}
-use Rattle.kishu_state_laws.specs.keeping.Logic.{Maybe, Any, IsThrown, IsMoment, SafeEnds, fines, raiseds, stoppeds, Safe, safe_later, ends_later, bind_s, plain_s, then_s, give_s, any_s, value_s, throw_s, raise_s, stop_s, if_s, when_s, asking_s, look_any, node_now_s, tick_s, make_s, value_later, thrown_later, optional_later}
+use Rattle.kishu_pairing_laws.specs.World.{end_of}
+use Rattle.kishu_state_laws.specs.Moments.{widest_budget}
+use Rattle.kishu_state_laws.specs.keeping.Logic.{Maybe, Any, IsThrown, IsMoment, SafeEnds, fines, raiseds, stoppeds, more, more_good, WiderEnds, both_fine, both_raised, one_stopped, falls_in, Safe, safe_later, ends_later, bind_s, plain_s, then_s, give_s, any_s, value_s, throw_s, raise_s, if_s, when_s, asking_s, look_any, node_now_s, make_s, value_later, thrown_later, optional_later}
 use Rattle.kishu_state_laws.specs.keeping.Leaves.{MaybeValue, truth_s}
-use Rattle.kishu_state_laws.specs.keeping.Operating.{IsWalk, item_for_s}
-use Rattle.kishu_state_laws.specs.keeping.Calling.{by_left_s}
+use Rattle.kishu_state_laws.specs.keeping.Operating.{IsWalk, walk_later, item_for_s}
+use Rattle.kishu_state_laws.specs.keeping.Loops.{Both, both_safe, if_both, bind_both, turn_both, loop_s}
 use Rattle.kishu_state_laws.specs.keeping.Names.{assign_s, forget_s}
 
 -- ---- ways out
@@ -37,7 +39,7 @@ object_of_s (fresh kind vs) h = make_s (exception kind vs) h
 object_of_s (thrown_object i) h = value_s (node i) h
 
 no_exception_s : {A : Type 0} {k : ℕ} {Q : ℕ → A → Type 0} → Safe k Q no_exception
-no_exception_s = raise_s 23 (codes "exceptions must be exception classes or objects") refl refl
+no_exception_s = raise_s _ (codes "exceptions must be exception classes or objects") refl refl
 
 throw_object_s : {A : Type 0} {k : ℕ} {Q : ℕ → A → Type 0} (v : Value) → IsValue k v → Safe k Q (throw_object v)
 throw_object_s {k = k} (node i) h = bind_s (node_now_s (node i)) (λ l le o q. if_s (is_exception o) (throw_s (thrown_object i) (value_later k l le (node i) h)) no_exception_s)
@@ -49,7 +51,7 @@ throw_value_s (node i) h = throw_object_s (node i) h
 throw_value_s v h = no_exception_s
 
 pub throw_again_s : {A : Type 0} {k : ℕ} {Q : ℕ → A → Type 0} → Safe k Q throw_again
-throw_again_s {Q = Q} = asking_s (λ s. throw_caught s.handled) (λ l s le g. caught_s s.handled g.handled)
+throw_again_s {Q = Q} = asking_s (λ s. throw_caught s.handled) (λ d s. refl) (λ l s le g. caught_s s.handled g.handled)
   where
     caught_s : {l : ℕ} (o : Option Value) → MaybeValue l o → Safe l Q (throw_caught o)
     caught_s (Some v) h = throw_object_s v h
@@ -80,12 +82,6 @@ go_on_s broke h e = flow_s broke tt
 go_on_s continued h e = flow_s continued tt
 go_on_s (returned v) h e = flow_s (returned v) h
 
-turn_on_s : {k : ℕ} (f : Flow) {m : M Flow} → IsFlow k f → Safe k IsFlow m → Safe k IsFlow (turn_on f m)
-turn_on_s onward h e = e
-turn_on_s broke h e = onward_s
-turn_on_s continued h e = e
-turn_on_s (returned v) h e = flow_s (returned v) h
-
 unless_s : {k : ℕ} (f : Flow) {m : M Flow} → IsFlow k f → Safe k IsFlow m → Safe k IsFlow (unless_left f m)
 unless_s onward h e = e
 unless_s broke h e = flow_s broke tt
@@ -94,27 +90,36 @@ unless_s (returned v) h e = flow_s (returned v) h
 
 -- ---- loops
 
-turns_s : {k : ℕ} (m : ℕ) {test : M Value} {body : M Flow} → Safe k IsValue test → Safe k IsFlow body → Safe k IsFlow (turns m test body)
-turns_s zero h e = stop_s
-turns_s (suc m) h e = bind_s h (λ l le v q. plain_s (truth_s v) (λ b. if_s b (bind_s (then_s tick_s (safe_later le e)) (λ l' le' f r. turn_on_s f r (safe_later le' (safe_later le (turns_s m h e))))) onward_s))
+turn_on_both : {k n n' : ℕ} (f : Flow) {m m' : M Flow} → IsFlow k f → Both n n' k IsFlow m m' → Both n n' k IsFlow (turn_on f m) (turn_on f m')
+turn_on_both onward h e = e
+turn_on_both broke h e = both_safe onward_s
+turn_on_both continued h e = e
+turn_on_both (returned v) h e = both_safe (flow_s (returned v) h)
+
+abbrev turn_of : M Value → M Flow → M Flow → M Flow
+turn_of test body m = test >>= λ v. truth v >>= λ b. if b then (tick >> body >>= λ f. turn_on f m) else give onward
+
+while_both : {k n n' : ℕ} {test : M Value} {body m m' : M Flow} → Safe k IsValue test → Safe k IsFlow body → ((l : ℕ) → k ≤ l → Both n n' l IsFlow m m') → Both (suc n) (suc n') k IsFlow (turn_of test body m) (turn_of test body m')
+while_both h e rest = bind_both (both_safe h) (λ l le v q. bind_both (both_safe (truth_s v)) (λ l1 le1 b r. if_both b (turn_both (safe_later le1 (safe_later le e)) (λ l2 le2 f t. turn_on_both f t (rest l2 (omega (arith, le, le1, le2))))) (both_safe onward_s)))
 
 pub repeat_s : {k : ℕ} {test : M Value} {body : M Flow} → Safe k IsValue test → Safe k IsFlow body → Safe k IsFlow (repeat test body)
-repeat_s {test = test} {body = body} h e = by_left_s (λ m. turns m test body) (λ m. turns_s m h e)
-
-with_item_s : {k : ℕ} (o : Option Value) {turn : Value → M Flow} → MaybeValue k o → ((v : Value) → IsValue k v → Safe k IsFlow (turn v)) → Safe k IsFlow (with_item o turn)
-with_item_s (Some v) p h = then_s tick_s (h v p)
-with_item_s None p h = flow_s broke tt
+repeat_s {k = k} {test = test} {body = body} h e =
+    loop_s {I = Unit {0}} IsFlow (λ l i. k ≤ l) (λ n i. turns n test body) (λ n n' l rest i p. while_both (safe_later p h) (safe_later p e) (λ j le. rest j le tt (omega (arith, p, le)))) k tt (omega arith)
 
 -- a turn is given at each number of nodes
 abbrev TurnSafe : ℕ → (Value → M Flow) → Type 0
 TurnSafe k turn = (l : ℕ) → k ≤ l → (v : Value) → IsValue l v → Safe l IsFlow (turn v)
 
-walk_on_s : (k m : ℕ) (u : Walk) (i : ℕ) {turn : Value → M Flow} → IsWalk k u → TurnSafe k turn → Safe k IsFlow (walk_on m u i turn)
-walk_on_s k zero u i p h = stop_s
-walk_on_s k (suc m) u i p h = bind_s (item_for_s u i p) (λ l le o q. bind_s (with_item_s o q (h l le)) (λ l' le' f r. turn_on_s f r (safe_later le' (safe_later le (walk_on_s k m u (suc i) p h)))))
+with_item_both : {k n n' : ℕ} (o : Option Value) {turn : Value → M Flow} {m m' : M Flow} → MaybeValue k o → ((v : Value) → IsValue k v → Safe k IsFlow (turn v)) → ((l : ℕ) → k ≤ l → Both n n' l IsFlow m m') → Both (suc n) (suc n') k IsFlow (with_item o turn >>= λ f. turn_on f m) (with_item o turn >>= λ f. turn_on f m')
+with_item_both (Some v) q h rest = turn_both (h v q) (λ l le f t. turn_on_both f t (rest l le))
+with_item_both None q h rest = both_safe onward_s
+
+walk_both : {k n n' : ℕ} (u : Walk) (i : ℕ) {turn : Value → M Flow} {m m' : M Flow} → IsWalk k u → TurnSafe k turn → ((l : ℕ) → k ≤ l → Both n n' l IsFlow m m') → Both (suc n) (suc n') k IsFlow (item_for u i >>= λ found. with_item found turn >>= λ f. turn_on f m) (item_for u i >>= λ found. with_item found turn >>= λ f. turn_on f m')
+walk_both u i p h rest = bind_both (both_safe (item_for_s u i p)) (λ l le o q. with_item_both o q (h l le) (λ j le'. rest j (omega (arith, le, le'))))
 
 pub walk_along_s : (k : ℕ) (u : Walk) {turn : Value → M Flow} → IsWalk k u → TurnSafe k turn → Safe k IsFlow (walk_along u turn)
-walk_along_s k u {turn = turn} p h = by_left_s (λ m. walk_on m u 0 turn) (λ m. walk_on_s k m u 0 p h)
+walk_along_s k u {turn = turn} p h =
+    loop_s IsFlow (λ l i. k ≤ l) (λ n i. walk_on n u i turn) (λ n n' l rest i q. walk_both u i (walk_later k l q u p) (λ j le. h j (omega (arith, q, le))) (λ j le. rest j le (suc i) (omega (arith, q, le)))) k 0 (omega arith)
 
 -- ---- handlers
 
@@ -129,16 +134,56 @@ after_s kl (fines n {a = returned v} le after q g) h e = fines n le after q g
 after_s kl (raiseds n {x = x} {s = s} le after q g) h e = ends_later s le after ((h n (omega (arith, kl, le)) x q).go n (omega arith) s g)
 after_s kl (stoppeds n le after g) h e = stoppeds n le after g
 
+-- what ends with fewer than d steps left goes on so
+after_short : {k l d n : ℕ} {ns : List Node} {e : Ends Flow} {handler : Thrown → M Flow} {other : M Flow} → k ≤ l → SafeEnds l n ns IsFlow e → (end_of e).left < d → HandlerSafe k handler → Safe k IsFlow other → (end_of (after_body e handler other)).left < d
+after_short kl (fines n {a = onward} {s = s} le after q g) short h e = let p = falls_in (e.go n (omega (arith, kl, le)) s g) in omega (arith, p, short)
+after_short kl (fines n {a = broke} le after q g) short h e = short
+after_short kl (fines n {a = continued} le after q g) short h e = short
+after_short kl (fines n {a = returned v} le after q g) short h e = short
+after_short kl (raiseds n {x = x} {s = s} le after q g) short h e = let p = falls_in ((h n (omega (arith, kl, le)) x q).go n (omega arith) s g) in omega (arith, p, short)
+after_short kl (stoppeds n le after g) short h e = short
+
+after_wide : {k l d n n' : ℕ} {ns ns' : List Node} {e e' : Ends Flow} {handler : Thrown → M Flow} {other : M Flow} → k ≤ l → 0 < d → n + d ≤ widest_budget → WiderEnds d e e' → SafeEnds l n ns IsFlow e → SafeEnds l n' ns' IsFlow e' → HandlerSafe k handler → Safe k IsFlow other → WiderEnds d (after_body e handler other) (after_body e' handler other)
+after_wide {d = d} {n = most} kl pos fits both_fine (fines n {a = onward} {s = s} le after q g) two h e = let p : s.left ≤ most = after.0 in e.wide n (omega (arith, kl, le)) s g d pos (omega (arith, p, fits))
+after_wide kl pos fits both_fine (fines n {a = broke} le after q g) two h e = both_fine
+after_wide kl pos fits both_fine (fines n {a = continued} le after q g) two h e = both_fine
+after_wide kl pos fits both_fine (fines n {a = returned v} le after q g) two h e = both_fine
+after_wide {d = d} {n = most} kl pos fits both_raised (raiseds n {x = x} {s = s} le after q g) two h e = let p : s.left ≤ most = after.0 in (h n (omega (arith, kl, le)) x q).wide n (omega arith) s g d pos (omega (arith, p, fits))
+after_wide kl pos fits (one_stopped z short) one two h e = one_stopped z (after_short kl two short h e)
+
 pub attempt_s : {k : ℕ} {body other : M Flow} {handler : Thrown → M Flow} → Safe k IsFlow body → HandlerSafe k handler → Safe k IsFlow other → Safe k IsFlow (attempt body handler other)
-attempt_s b h e = record { go = λ l le s g. after_s le (b.go l le s g) h e }
+attempt_s b h e = record {
+  go = λ l le s g. after_s le (b.go l le s g) h e;
+  wide = λ l le s g d pos fits. after_wide le pos fits (b.wide l le s g d pos fits) (b.go l le s g) (b.go l le (more d s) (more_good d fits g)) h e;
+}
+
+-- the last block, and behind it the way out that was taken
+last_flow : {n : ℕ} (f : Flow) {last : M Flow} → IsFlow n f → Safe n IsFlow last → Safe n IsFlow (last >>= λ g. unless_left g (give f))
+last_flow {n = n} f q h = bind_s h (λ m le f' r. unless_s f' r (flow_s f (flow_later n m le f q)))
+
+last_thrown : {n : ℕ} (x : Thrown) {last : M Flow} → IsThrown n x → Safe n IsFlow last → Safe n IsFlow (last >>= λ g. unless_left g (throw x))
+last_thrown {n = n} x q h = bind_s h (λ m le f' r. unless_s f' r (throw_s x (thrown_later n m le x q)))
 
 last_s : {k l n : ℕ} {ns : List Node} {e : Ends Flow} {last : M Flow} → k ≤ l → SafeEnds l n ns IsFlow e → Safe k IsFlow last → SafeEnds l n ns IsFlow (and_last e last)
-last_s kl (fines n {a = f} {s = s} le after q g) h = ends_later s le after ((bind_s (safe_later (omega (arith, kl, le)) h) (λ m le' f' r. unless_s f' r (flow_s f (flow_later n m le' f q)))).go n (omega arith) s g)
-last_s kl (raiseds n {x = x} {s = s} le after q g) h = ends_later s le after ((bind_s (safe_later (omega (arith, kl, le)) h) (λ m le' f' r. unless_s f' r (throw_s x (thrown_later n m le' x q)))).go n (omega arith) s g)
+last_s kl (fines n {a = f} {s = s} le after q g) h = ends_later s le after ((last_flow f q (safe_later (omega (arith, kl, le)) h)).go n (omega arith) s g)
+last_s kl (raiseds n {x = x} {s = s} le after q g) h = ends_later s le after ((last_thrown x q (safe_later (omega (arith, kl, le)) h)).go n (omega arith) s g)
 last_s kl (stoppeds n le after g) h = stoppeds n le after g
 
+last_short : {k l d n : ℕ} {ns : List Node} {e : Ends Flow} {last : M Flow} → k ≤ l → SafeEnds l n ns IsFlow e → (end_of e).left < d → Safe k IsFlow last → (end_of (and_last e last)).left < d
+last_short kl (fines n {a = f} {s = s} le after q g) short h = let p = falls_in ((last_flow f q (safe_later (omega (arith, kl, le)) h)).go n (omega arith) s g) in omega (arith, p, short)
+last_short kl (raiseds n {x = x} {s = s} le after q g) short h = let p = falls_in ((last_thrown x q (safe_later (omega (arith, kl, le)) h)).go n (omega arith) s g) in omega (arith, p, short)
+last_short kl (stoppeds n le after g) short h = short
+
+last_wide : {k l d n n' : ℕ} {ns ns' : List Node} {e e' : Ends Flow} {last : M Flow} → k ≤ l → 0 < d → n + d ≤ widest_budget → WiderEnds d e e' → SafeEnds l n ns IsFlow e → SafeEnds l n' ns' IsFlow e' → Safe k IsFlow last → WiderEnds d (and_last e last) (and_last e' last)
+last_wide {d = d} {n = most} kl pos fits both_fine (fines n {a = f} {s = s} le after q g) two h = let p : s.left ≤ most = after.0 in (last_flow f q (safe_later (omega (arith, kl, le)) h)).wide n (omega arith) s g d pos (omega (arith, p, fits))
+last_wide {d = d} {n = most} kl pos fits both_raised (raiseds n {x = x} {s = s} le after q g) two h = let p : s.left ≤ most = after.0 in (last_thrown x q (safe_later (omega (arith, kl, le)) h)).wide n (omega arith) s g d pos (omega (arith, p, fits))
+last_wide kl pos fits (one_stopped z short) one two h = one_stopped z (last_short kl two short h)
+
 pub finally_s : {k : ℕ} {body last : M Flow} → Safe k IsFlow body → Safe k IsFlow last → Safe k IsFlow (finally body last)
-finally_s b h = record { go = λ l le s g. last_s le (b.go l le s g) h }
+finally_s b h = record {
+  go = λ l le s g. last_s le (b.go l le s g) h;
+  wide = λ l le s g d pos fits. last_wide le pos fits (b.wide l le s g d pos fits) (b.go l le s g) (b.go l le (more d s) (more_good d fits g)) h;
+}
 
 with_handled : {l : ℕ} {s : Moment} (o : Option Value) → MaybeValue l o → IsMoment l s → IsMoment l (record s { handled = o })
 with_handled o h g = record { many = g.many; nodes = g.nodes; names = g.names; locals = g.locals; handled = h; budget = g.budget }
@@ -148,8 +193,21 @@ handled_ends {k = k} Q o h (fines l le after q g) = fines l le after q (with_han
 handled_ends {k = k} Q o h (raiseds l le after q g) = raiseds l le after q (with_handled o (optional_later k l le o h) g)
 handled_ends {k = k} Q o h (stoppeds l le after g) = stoppeds l le after (with_handled o (optional_later k l le o h) g)
 
+handled_left : {A : Type 0} (o : Option Value) (e : Ends A) → (end_of (handled_as o e)).left ≡ (end_of e).left
+handled_left o (fine a s) = refl
+handled_left o (raised x s) = refl
+handled_left o (stopped s) = refl
+
+handled_wide : {A : Type 0} {d : ℕ} (o : Option Value) {e e' : Ends A} → WiderEnds d e e' → WiderEnds d (handled_as o e) (handled_as o e')
+handled_wide o both_fine = both_fine
+handled_wide o both_raised = both_raised
+handled_wide {d = d} o (one_stopped {e = e} z short) = one_stopped z (subst (λ (j : ℕ). j < d) (sym (handled_left o e)) short)
+
 handling_s : {k : ℕ} (v : Value) {m : M Flow} → IsValue k v → Safe k IsFlow m → Safe k IsFlow (handling v m)
-handling_s {k = k} v p h = record { go = λ l le s g. handled_ends IsFlow s.handled g.handled (h.go l le (record s { handled = Some v }) (with_handled (Some v) (value_later k l le v p) g)) }
+handling_s {k = k} v p h = record {
+  go = λ l le s g. handled_ends IsFlow s.handled g.handled (h.go l le (record s { handled = Some v }) (with_handled (Some v) (value_later k l le v p) g));
+  wide = λ l le s g d pos fits. handled_wide s.handled (h.wide l le (record s { handled = Some v }) (with_handled (Some v) (value_later k l le v p) g) d pos fits);
+}
 
 bind_caught_s : {k : ℕ} (o : Option (List ℕ)) (v : Value) → Maybe IsName o → IsValue k v → Safe k Any (bind_caught o v)
 bind_caught_s None v n p = any_s

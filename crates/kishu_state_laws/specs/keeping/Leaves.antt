@@ -3,6 +3,7 @@ use Rattle.std.specs.Prelude.{◌≡◌, ℕ, suc, ◌-◌, ◌<◌, nat_lt, ℤ
 use Rattle.std.specs.List.{AllByRecursion as Each}
 use Rattle.std.specs.Str.{chars}
 use Rattle.std.proofs.Common.{refl, arith, ltb-true}
+use Rattle.kishu_meaning.specs.values.Classes.{type_error_class}
 use Rattle.kishu_meaning.specs.values.Keys.{Key, KeyPart}
 use Rattle.kishu_meaning.specs.values.Keys as kk
 use Rattle.kishu_meaning.specs.values.Kinds.{kind_in, kind_of, in_quotes, no_key, not_iterable, bad_index, unhashable, no_attribute, bad_arguments}
@@ -34,31 +35,31 @@ module _ {A : Type 0} {k : ℕ} {Q : ℕ → A → Type 0} where
   no_key_s v h = throw_s _ (refl, (h, tt))
 
   pub not_iterable_s : (v : Value) → Safe k Q (not_iterable v)
-  not_iterable_s v = kind_raise v 23 (λ c. in_quotes c ++ codes " object is not iterable") refl (λ c q. scalars_append (in_quotes c) (codes " object is not iterable") (text_in_quotes c q) refl)
+  not_iterable_s v = kind_raise v _ (λ c. in_quotes c ++ codes " object is not iterable") refl (λ c q. scalars_append (in_quotes c) (codes " object is not iterable") (text_in_quotes c q) refl)
 
   pub bad_index_s : (v : Value) → Safe k Q (bad_index v)
-  bad_index_s v = kind_raise v 23 (λ c. codes "bad index type: " ++ in_quotes c) refl (λ c q. scalars_append (codes "bad index type: ") (in_quotes c) refl (text_in_quotes c q))
+  bad_index_s v = kind_raise v _ (λ c. codes "bad index type: " ++ in_quotes c) refl (λ c q. scalars_append (codes "bad index type: ") (in_quotes c) refl (text_in_quotes c q))
 
   pub unhashable_s : (v : Value) → Safe k Q (unhashable v)
-  unhashable_s v = kind_raise v 23 (λ c. codes "unhashable key: " ++ in_quotes c) refl (λ c q. scalars_append (codes "unhashable key: ") (in_quotes c) refl (text_in_quotes c q))
+  unhashable_s v = kind_raise v _ (λ c. codes "unhashable key: " ++ in_quotes c) refl (λ c q. scalars_append (codes "unhashable key: ") (in_quotes c) refl (text_in_quotes c q))
 
   pub no_attribute_s : (v : Value) (x : List ℕ) → IsName x → Safe k Q (no_attribute v x)
-  no_attribute_s v x n = kind_raise v 13 (λ c. in_quotes c ++ codes " object has no attribute '" ++ chars x ++ codes "'") refl (λ c q.
+  no_attribute_s v x n = kind_raise v _ (λ c. in_quotes c ++ codes " object has no attribute '" ++ chars x ++ codes "'") refl (λ c q.
       scalars_append (in_quotes c ++ codes " object has no attribute '" ++ chars x) (codes "'") (scalars_append (in_quotes c ++ codes " object has no attribute '") (chars x) (scalars_append (in_quotes c) (codes " object has no attribute '") (text_in_quotes c q) refl) (text_name x n)) refl)
 
   pub not_subscriptable_s : (v : Value) → Safe k Q (not_subscriptable v)
-  not_subscriptable_s v = kind_raise v 23 (λ c. in_quotes c ++ codes " object is not subscriptable") refl (λ c q. scalars_append (in_quotes c) (codes " object is not subscriptable") (text_in_quotes c q) refl)
+  not_subscriptable_s v = kind_raise v _ (λ c. in_quotes c ++ codes " object is not subscriptable") refl (λ c q. scalars_append (in_quotes c) (codes " object is not subscriptable") (text_in_quotes c q) refl)
 
   pub bad_arguments_s : (name : List ℕ) → IsText name → Safe k Q (bad_arguments name)
-  bad_arguments_s name h = raise_s 23 (name ++ codes "() got bad arguments") refl (scalars_append name (codes "() got bad arguments") h refl)
+  bad_arguments_s name h = raise_s _ (name ++ codes "() got bad arguments") refl (scalars_append name (codes "() got bad arguments") h refl)
 
   pub bad_operands_s : (sign : List ℕ) (v w : Value) → IsText sign → Safe k Q (bad_operands sign v w)
   bad_operands_s sign v w h =
-      with_s (look_s (λ l c. IsText c) (λ ns. kind_in ns v) (λ l s le g. text_kind s.nodes v)) (λ c p. kind_raise w 23 (λ d. codes "bad operand types for " ++ sign ++ codes ": " ++ in_quotes c ++ codes " and " ++ in_quotes d) refl (λ d q.
+      with_s (look_s (λ l c. IsText c) (λ ns. kind_in ns v) (λ l s le g. text_kind s.nodes v)) (λ c p. kind_raise w type_error_class (λ d. codes "bad operand types for " ++ sign ++ codes ": " ++ in_quotes c ++ codes " and " ++ in_quotes d) refl (λ d q.
       scalars_append (codes "bad operand types for " ++ sign ++ codes ": " ++ in_quotes c ++ codes " and ") (in_quotes d) (scalars_append (codes "bad operand types for " ++ sign ++ codes ": " ++ in_quotes c) (codes " and ") (scalars_append (codes "bad operand types for " ++ sign ++ codes ": ") (in_quotes c) (text_between (codes "bad operand types for ") sign (codes ": ") refl h refl) (text_in_quotes c p)) refl) (text_in_quotes d q)))
 
   pub bad_operand_s : (sign : List ℕ) (v : Value) → IsText sign → Safe k Q (bad_operand sign v)
-  bad_operand_s sign v h = kind_raise v 23 (λ c. codes "bad operand type for " ++ sign ++ codes ": " ++ in_quotes c) refl (λ c q.
+  bad_operand_s sign v h = kind_raise v _ (λ c. codes "bad operand type for " ++ sign ++ codes ": " ++ in_quotes c) refl (λ c q.
       scalars_append (codes "bad operand type for " ++ sign ++ codes ": ") (in_quotes c) (text_between (codes "bad operand type for ") sign (codes ": ") refl h refl) (text_in_quotes c q))
 
 -- ---- what is in a node
@@ -203,7 +204,7 @@ module _ {k : ℕ} where
   index_s v = any_else_s (number_in v) (bad_index_s v)
 
   pub place_of_s : (n : ℕ) (z : ℤ) → Safe k (λ l p. p < n) (place_of n z)
-  place_of_s n z = or_else_s (λ l p. p < n) (place_in n z) (raise_s 15 (codes "index out of range") refl refl) (λ l le. place_below n z)
+  place_of_s n z = or_else_s (λ l p. p < n) (place_in n z) (raise_s _ (codes "index out of range") refl refl) (λ l le. place_below n z)
 
   pub position_s : (n : ℕ) (v : Value) → Safe k (λ l p. p < n) (position n v)
   position_s n v = plain_s (index_s v) (λ z. place_of_s n z)

@@ -1,15 +1,17 @@
--- Computations that keep what holds of every state: the nodes keep their numbers, and no step is given back.
-use Rattle.std.specs.Prelude.{◌≡◌, ℕ, zero, suc, ◌+◌, ◌-◌, ◌<◌, ◌≤◌, Bool, true, false, IsTrue, if◌then◌else◌, nat_le, nat_lt, List, [], ◌∷◌, ◌++◌, length, Option, Some, None, slice_get}
+-- Computations that keep what holds of every state: the nodes keep their numbers, no step is given back, and with more steps to spend they go the same way, or spend more than all that there were.
+use Rattle.std.specs.Prelude.{◌≡◌, ℕ, zero, suc, ◌+◌, ◌-◌, ◌<◌, ◌≤◌, Bool, true, false, IsTrue, if◌then◌else◌, nat_le, nat_lt, List, [], ◌∷◌, ◌++◌, length, map, Option, Some, None, slice_get}
 use Rattle.std.specs.List.{AllByRecursion as Each}
 use Rattle.std.specs.Str.{all_scalars}
-use Rattle.std.proofs.Common.{refl, ap, sym, ◌∙◌, arith, length-append, leb-true}
+use Rattle.std.proofs.Common.{refl, ap, sym, subst, ◌∙◌, arith, length-append, leb-true}
+use Rattle.std.proofs.lemmas.Bool.{leb-false}
 use Rattle.kishu_meaning.specs.values.Sound.{is_exception_class}
 use Rattle.kishu_meaning.specs.values.Values.{Value, none, bool, integer, text, range, builtin, class, node, Node, list, tuple, dict, object, function, exception}
 use Rattle.kishu_meaning.specs.values.Nodes.{changed}
-use Rattle.kishu_meaning.specs.moments.Moment.{Locals, Moment, Thrown, fresh, thrown_object, Ends, fine, raised, stopped, M, and_then, ◌>>=◌, ◌>>◌, give, throw, raise, or_else, spend, tick, most_steps, most_depth, back_at, recursion_error, deeper, look, make, change, node_at, node_now, put_out}
+use Rattle.kishu_meaning.specs.moments.Moment.{Locals, Moment, Thrown, fresh, thrown_object, Ends, fine, raised, stopped, M, and_then, ◌>>=◌, ◌>>◌, give, throw, raise, or_else, spend, tick, most_depth, back_at, recursion_error, deeper, look, make, change, node_at, node_now, put_out}
 use Rattle.kishu_meaning.specs.moments.Counting.{Counted, answer, too_deep, spent, Count, ended_in, counted}
-use Rattle.kishu_meaning_laws.specs.CountingLaws.{Falls, left_of}
-pub use Rattle.kishu_state_laws.specs.Moments.{Maybe, IsMoment}
+use Rattle.kishu_meaning_laws.specs.CountLaws.{Falls, left_of, Wider, both_answer, both_deep, one_spent}
+pub use Rattle.kishu_state_laws.specs.Moments.{Maybe, IsMoment, widest_budget}
+use Rattle.kishu_pairing_laws.specs.World.{end_of}
 use Rattle.kishu_objects.specs.State.{IsValue, AreValues, IsNode, AreNames, values_in, Stays, the_same, lists, dicts, objects, Grown}
 
 -- ---- lists and options
@@ -28,6 +30,10 @@ each_later P Q h (a ∷ as') p = (h a p.0, each_later P Q h as' p.1)
 pub maybe_later : {A : Type 0} (P Q : A → Type 0) → ((a : A) → P a → Q a) → (o : Option A) → Maybe P o → Maybe Q o
 maybe_later P Q h None p = tt
 maybe_later P Q h (Some a) p = h a p
+
+pub each_map : {A B : Type 0} (P : B → Type 0) (f : A → B) → ((a : A) → P (f a)) → (as' : List A) → Each P (map f as')
+each_map P f h [] = tt
+each_map P f h (a ∷ as') = (h a, each_map P f h as')
 
 pub each_append : {A : Type 0} (P : A → Type 0) (as' bs : List A) → Each P as' → Each P bs → Each P (as' ++ bs)
 each_append P [] bs p q = q
@@ -116,7 +122,7 @@ locals_later k l h (Some here) p = values_later k l h (values_in here.values) p
 pub optional_later : (k l : ℕ) → k ≤ l → (o : Option Value) → Maybe (IsValue k) o → Maybe (IsValue l) o
 optional_later k l h o p = maybe_later (IsValue k) (IsValue l) (value_later k l h) o p
 
-pub at_left : {l : ℕ} {s : Moment} (n : ℕ) → n ≤ most_steps → IsMoment l s → IsMoment l (record s { left = n })
+pub at_left : {l : ℕ} {s : Moment} (n : ℕ) → n ≤ widest_budget → IsMoment l s → IsMoment l (record s { left = n })
 at_left n h g = record { many = g.many; nodes = g.nodes; names = g.names; locals = g.locals; handled = g.handled; budget = h }
 
 at_depth : {l : ℕ} {s : Moment} (d : ℕ) → IsMoment l s → IsMoment l (record s { depth = d })
@@ -134,12 +140,33 @@ pub data SafeEnds {A : Type 0} (k n : ℕ) (ns : List Node) (Q : ℕ → A → T
   raiseds : (l : ℕ) {x : Thrown} {s : Moment} → k ≤ l → After n ns s → IsThrown l x → IsMoment l s → SafeEnds k n ns Q (raised x s)
   stoppeds : (l : ℕ) {s : Moment} → k ≤ l → After n ns s → IsMoment l s → SafeEnds k n ns Q (stopped s)
 
+-- ---- with more steps to spend
+
+abbrev pub more : ℕ → Moment → Moment
+more d s = record s { left = s.left + d }
+
+pub more_good : {l : ℕ} {s : Moment} (d : ℕ) → s.left + d ≤ widest_budget → IsMoment l s → IsMoment l (more d s)
+more_good {s = s} d h g = at_left (s.left + d) h g
+
+-- An end, and that with d more steps to spend: the same with d more steps left, or a stop, where the other took more steps than there were.
+pub data WiderEnds {A : Type 0} (d : ℕ) : Ends A → Ends A → Type 0 where
+  both_fine : {a : A} {s : Moment} → WiderEnds d (fine a s) (fine a (more d s))
+  both_raised : {x : Thrown} {s : Moment} → WiderEnds d (raised x s) (raised x (more d s))
+  one_stopped : {s : Moment} {e : Ends A} → s.left ≡ 0 → (end_of e).left < d → WiderEnds d (stopped s) e
+
+-- No step is given back.
+pub falls_in : {A : Type 0} {k n : ℕ} {ns : List Node} {Q : ℕ → A → Type 0} {e : Ends A} → SafeEnds k n ns Q e → (end_of e).left ≤ n
+falls_in (fines l le after q g) = after.0
+falls_in (raiseds l le after q g) = after.0
+falls_in (stoppeds l le after g) = after.0
+
 -- from moments with k nodes or more
 pub record Safe {A : Type 0} (k : ℕ) (Q : ℕ → A → Type 0) (m : M A) : Type 0 where
   pub go : (l : ℕ) → k ≤ l → (s : Moment) → IsMoment l s → SafeEnds l s.left s.nodes Q (m s)
+  pub wide : (l : ℕ) → k ≤ l → (s : Moment) → IsMoment l s → (d : ℕ) → 0 < d → s.left + d ≤ widest_budget → WiderEnds d (m s) (m (more d s))
 
 pub safe_later : {A : Type 0} {k l : ℕ} {Q : ℕ → A → Type 0} {m : M A} → k ≤ l → Safe k Q m → Safe l Q m
-safe_later h m = record { go = λ n le s g. m.go n (omega (arith, h, le)) s g }
+safe_later h m = record { go = λ n le s g. m.go n (omega (arith, h, le)) s g; wide = λ n le s g. m.wide n (omega (arith, h, le)) s g }
 
 pub after_on : (n : ℕ) (ns : List Node) (s t : Moment) → After n ns s → After s.left s.nodes t → After n ns t
 after_on n ns s t g h = let p : s.left ≤ n = g.0 in let q : t.left ≤ s.left = h.0 in (omega (arith, p, q), grown_on ns s.nodes t.nodes g.1 h.1)
@@ -155,8 +182,22 @@ bind_ends Q S f kl (fines n {a = a} {s = s} le after q g) h = ends_later s le af
 bind_ends Q S f kl (raiseds n {s = s} le after q g) h = raiseds n le after q g
 bind_ends Q S f kl (stoppeds n {s = s} le after g) h = stoppeds n le after g
 
+-- what ends with fewer than d steps left goes on so
+short_ends : {A B : Type 0} {k l d n : ℕ} {ns : List Node} (Q : ℕ → A → Type 0) (S : ℕ → B → Type 0) (f : A → M B) {e : Ends A} → k ≤ l → SafeEnds l n ns Q e → (end_of e).left < d → ((n : ℕ) → k ≤ n → (a : A) → Q n a → Safe n S (f a)) → (end_of (and_then e f)).left < d
+short_ends Q S f kl (fines n {a = a} {s = s} le after q g) short h = let p = falls_in ((h n (omega (arith, kl, le)) a q).go n (omega arith) s g) in omega (arith, p, short)
+short_ends Q S f kl (raiseds n le after q g) short h = short
+short_ends Q S f kl (stoppeds n le after g) short h = short
+
+bind_wide : {A B : Type 0} {k l d n n' : ℕ} {ns ns' : List Node} (Q : ℕ → A → Type 0) (S : ℕ → B → Type 0) (f : A → M B) {e e' : Ends A} → k ≤ l → 0 < d → n + d ≤ widest_budget → WiderEnds d e e' → SafeEnds l n ns Q e → SafeEnds l n' ns' Q e' → ((n : ℕ) → k ≤ n → (a : A) → Q n a → Safe n S (f a)) → WiderEnds d (and_then e f) (and_then e' f)
+bind_wide {d = d} {n = most} Q S f kl pos fits both_fine (fines n {a = a} {s = s} le after q g) other h = let p : s.left ≤ most = after.0 in (h n (omega (arith, kl, le)) a q).wide n (omega arith) s g d pos (omega (arith, p, fits))
+bind_wide Q S f kl pos fits both_raised one other h = both_raised
+bind_wide Q S f kl pos fits (one_stopped z short) one other h = one_stopped z (short_ends Q S f kl other short h)
+
 pub bind_s : {A B : Type 0} {k : ℕ} {Q : ℕ → A → Type 0} {S : ℕ → B → Type 0} {m : M A} {f : A → M B} → Safe k Q m → ((n : ℕ) → k ≤ n → (a : A) → Q n a → Safe n S (f a)) → Safe k S (m >>= f)
-bind_s {Q = Q} {S = S} {m = m} {f = f} h g = record { go = λ l le s gs. bind_ends Q S f le (h.go l le s gs) g }
+bind_s {Q = Q} {S = S} {m = m} {f = f} h g = record {
+  go = λ l le s gs. bind_ends Q S f le (h.go l le s gs) g;
+  wide = λ l le s gs d pos fits. bind_wide Q S f le pos fits (h.wide l le s gs d pos fits) (h.go l le s gs) (h.go l le (more d s) (more_good d fits gs)) g;
+}
 
 -- a result that doesn't speak of nodes, and one of which nothing need be known
 pub with_s : {A B : Type 0} {k : ℕ} {P : A → Type 0} {S : ℕ → B → Type 0} {m : M A} {f : A → M B} → Safe k (λ l a. P a) m → ((a : A) → P a → Safe k S (f a)) → Safe k S (m >>= f)
@@ -169,7 +210,7 @@ pub then_s : {A B : Type 0} {k : ℕ} {Q : ℕ → A → Type 0} {S : ℕ → B 
 then_s h g = bind_s h (λ n le a q. safe_later le g)
 
 pub give_s : {A : Type 0} {k : ℕ} (Q : ℕ → A → Type 0) {a : A} → ((l : ℕ) → k ≤ l → Q l a) → Safe k Q (give a)
-give_s Q h = record { go = λ l le s g. fines l (omega arith) (stay s) (h l le) g }
+give_s Q h = record { go = λ l le s g. fines l (omega arith) (stay s) (h l le) g; wide = λ l le s g d pos fits. both_fine }
 
 pub any_s : {A : Type 0} {k : ℕ} {a : A} → Safe k Any (give a)
 any_s = give_s Any (λ l le. tt)
@@ -181,13 +222,10 @@ pub list_s : {k : ℕ} (vs : List Value) → AreValues k vs → Safe k AreValues
 list_s {k = k} vs h = give_s AreValues (λ l le. values_later k l le vs h)
 
 pub throw_s : {A : Type 0} {k : ℕ} {Q : ℕ → A → Type 0} (x : Thrown) → IsThrown k x → Safe k Q (throw x)
-throw_s {k = k} x h = record { go = λ l le s g. raiseds l (omega arith) (stay s) (thrown_later k l le x h) g }
+throw_s {k = k} x h = record { go = λ l le s g. raiseds l (omega arith) (stay s) (thrown_later k l le x h) g; wide = λ l le s g d pos fits. both_raised }
 
 pub raise_s : {A : Type 0} {k : ℕ} {Q : ℕ → A → Type 0} (kind : ℕ) (message : List ℕ) → IsTrue (is_exception_class kind) → IsText message → Safe k Q (raise kind message)
-raise_s kind message c t = record { go = λ l le s g. raiseds l (omega arith) (stay s) (c, (t, tt)) g }
-
-pub stop_s : {A : Type 0} {k : ℕ} {Q : ℕ → A → Type 0} → Safe k Q (λ s. stopped s)
-stop_s = record { go = λ l le s g. stoppeds l (omega arith) (stay s) g }
+raise_s kind message c t = record { go = λ l le s g. raiseds l (omega arith) (stay s) (c, (t, tt)) g; wide = λ l le s g d pos fits. both_raised }
 
 pub if_s : {A : Type 0} {k : ℕ} {Q : ℕ → A → Type 0} (b : Bool) {m n : M A} → Safe k Q m → Safe k Q n → Safe k Q (if b then m else n)
 if_s true h g = h
@@ -206,14 +244,18 @@ pub any_else_s : {A : Type 0} {k : ℕ} {m : M A} (o : Option A) → Safe k Any 
 any_else_s None h = h
 any_else_s (Some a) h = any_s
 
-pub asking_s : {A : Type 0} {k : ℕ} {Q : ℕ → A → Type 0} (f : Moment → M A) → ((l : ℕ) (s : Moment) → k ≤ l → IsMoment l s → Safe l Q (f s)) → Safe k Q (λ s. f s s)
-asking_s f h = record { go = λ l le s g. (h l s le g).go l (omega arith) s g }
+-- what depends on the moment, and not on the steps that are left
+pub asking_s : {A : Type 0} {k : ℕ} {Q : ℕ → A → Type 0} (f : Moment → M A) → ((d : ℕ) (s : Moment) → f s ≡ f (more d s)) → ((l : ℕ) (s : Moment) → k ≤ l → IsMoment l s → Safe l Q (f s)) → Safe k Q (λ s. f s s)
+asking_s f same h = record {
+  go = λ l le s g. (h l s le g).go l (omega arith) s g;
+  wide = λ l le s g d pos fits. subst (λ m. WiderEnds d (f s s) (m (more d s))) (same d s) ((h l s le g).wide l (omega arith) s g d pos fits);
+}
 
 pub look_s : {A : Type 0} {k : ℕ} (Q : ℕ → A → Type 0) (f : List Node → A) → ((l : ℕ) (s : Moment) → k ≤ l → IsMoment l s → Q l (f s.nodes)) → Safe k Q (look f)
-look_s Q f h = record { go = λ l le s g. fines l (omega arith) (stay s) (h l s le g) g }
+look_s Q f h = record { go = λ l le s g. fines l (omega arith) (stay s) (h l s le g) g; wide = λ l le s g d pos fits. both_fine }
 
 pub look_any : {A : Type 0} {k : ℕ} (f : List Node → A) → Safe k Any (look f)
-look_any f = record { go = λ l le s g. fines l (omega arith) (stay s) tt g }
+look_any f = record { go = λ l le s g. fines l (omega arith) (stay s) tt g; wide = λ l le s g d pos fits. both_fine }
 
 pub now_good : (l : ℕ) (s : Moment) (v : Value) → IsMoment l s → Maybe (IsNode l) (node_at s.nodes v)
 now_good l s (node i) g = each_get (IsNode l) s.nodes i g.nodes
@@ -226,21 +268,36 @@ now_good l s (builtin n) g = tt
 now_good l s (class n) g = tt
 
 pub node_now_s : {k : ℕ} (v : Value) → Safe k (λ l. Maybe (IsNode l)) (node_now v)
-node_now_s v = record { go = λ l le s g. fines l (omega arith) (stay s) (now_good l s v g) g }
+node_now_s v = record { go = λ l le s g. fines l (omega arith) (stay s) (now_good l s v g) g; wide = λ l le s g d pos fits. both_fine }
 
-abbrev spend_by : Bool → ℕ → M (Unit {0})
+abbrev pub spend_by : Bool → ℕ → M (Unit {0})
 spend_by b n s = if b then fine tt (record s { left = s.left - n }) else stopped (record s { left = 0 })
 
 -- What was spent was there.
-spend_ends : (b : Bool) (n l : ℕ) (s : Moment) → nat_le n s.left ≡ b → IsMoment l s → SafeEnds l s.left s.nodes (λ _ _. n ≤ most_steps) (spend_by b n s)
+spend_ends : (b : Bool) (n l : ℕ) (s : Moment) → nat_le n s.left ≡ b → IsMoment l s → SafeEnds l s.left s.nodes (λ _ _. n ≤ widest_budget) (spend_by b n s)
 spend_ends true n l s e g =
     let p = g.budget in
     let fits : n ≤ s.left = leb-true n s.left e in
     fines l (omega arith) (omega arith, grown_self s.nodes) (omega (arith, p, fits)) (at_left (s.left - n) (omega (arith, p)) g)
 spend_ends false n l s e g = stoppeds l (omega arith) (omega arith, grown_self s.nodes) (at_left 0 (omega arith) g)
 
-pub spend_s : {k : ℕ} (n : ℕ) → Safe k (λ _ _. n ≤ most_steps) (spend n)
-spend_s n = record { go = λ l le s g. spend_ends (nat_le n s.left) n l s refl g }
+spend_wide : (n d : ℕ) (s : Moment) (b c : Bool) → nat_le n s.left ≡ b → nat_le n (s.left + d) ≡ c → 0 < d → WiderEnds d (spend_by b n s) (spend_by c n (more d s))
+spend_wide n d s true true e f pos =
+    let fits : n ≤ s.left = leb-true n s.left e in
+    let rest : s.left - n + d ≡ s.left + d - n = omega (arith, fits) in
+    subst (λ (j : ℕ). WiderEnds {A = Unit {0}} d (fine tt (record s { left = s.left - n })) (fine tt (record s { left = j }))) rest both_fine
+spend_wide n d s true false e f pos =
+    let fits : n ≤ s.left = leb-true n s.left e in
+    let short : s.left + d < n = leb-false n (s.left + d) f in
+    absurd (omega (arith, fits, short))
+spend_wide n d s false true e f pos =
+    let short : s.left < n = leb-false n s.left e in
+    let fits : n ≤ s.left + d = leb-true n (s.left + d) f in
+    one_stopped refl (omega (arith, short, fits, pos))
+spend_wide n d s false false e f pos = one_stopped refl pos
+
+pub spend_s : {k : ℕ} (n : ℕ) → Safe k (λ _ _. n ≤ widest_budget) (spend n)
+spend_s n = record { go = λ l le s g. spend_ends (nat_le n s.left) n l s refl g; wide = λ l le s g d pos fits. spend_wide n d s (nat_le n s.left) (nat_le n (s.left + d)) refl refl pos }
 
 ends_so : {A : Type 0} {k n : ℕ} {ns : List Node} {Q S : ℕ → A → Type 0} {e : Ends A} → ((l : ℕ) (a : A) → Q l a → S l a) → SafeEnds k n ns Q e → SafeEnds k n ns S e
 ends_so h (fines l {a = a} le after q g) = fines l le after (h l a q) g
@@ -248,21 +305,35 @@ ends_so h (raiseds l le after q g) = raiseds l le after q g
 ends_so h (stoppeds l le after g) = stoppeds l le after g
 
 pub so_s : {A : Type 0} {k : ℕ} {Q S : ℕ → A → Type 0} {m : M A} → Safe k Q m → ((l : ℕ) (a : A) → Q l a → S l a) → Safe k S m
-so_s h q = record { go = λ l le s g. ends_so q (h.go l le s g) }
+so_s h q = record { go = λ l le s g. ends_so q (h.go l le s g); wide = λ l le s g. h.wide l le s g }
 
 pub spend_any : {k : ℕ} (n : ℕ) → Safe k Any (spend n)
 spend_any n = so_s (spend_s n) (λ l a q. tt)
 
-pub tick_s : {k : ℕ} → Safe k (λ _ _. 1 ≤ most_steps) tick
+pub tick_s : {k : ℕ} → Safe k (λ _ _. 1 ≤ widest_budget) tick
 tick_s = spend_s 1
 
 pub out_s : {k : ℕ} (cs : List ℕ) → Safe k Any (put_out cs)
-out_s cs = record { go = λ l le s g. fines l (omega arith) (stay s) tt (record { many = g.many; nodes = g.nodes; names = g.names; locals = g.locals; handled = g.handled; budget = g.budget }) }
+out_s cs = record { go = λ l le s g. fines l (omega arith) (stay s) tt (record { many = g.many; nodes = g.nodes; names = g.names; locals = g.locals; handled = g.handled; budget = g.budget }); wide = λ l le s g d pos fits. both_fine }
 
 back_ends : {A : Type 0} {k n : ℕ} {ns : List Node} (Q : ℕ → A → Type 0) (d : ℕ) {e : Ends A} → SafeEnds k n ns Q e → SafeEnds k n ns Q (back_at d e)
 back_ends Q d (fines l le after q g) = fines l le after q (at_depth d g)
 back_ends Q d (raiseds l le after q g) = raiseds l le after q (at_depth d g)
 back_ends Q d (stoppeds l le after g) = stoppeds l le after (at_depth d g)
+
+back_left : {A : Type 0} (d : ℕ) (e : Ends A) → (end_of (back_at d e)).left ≡ (end_of e).left
+back_left d (fine a s) = refl
+back_left d (raised x s) = refl
+back_left d (stopped s) = refl
+
+back_wide : {A : Type 0} {d : ℕ} (n : ℕ) {e e' : Ends A} → WiderEnds d e e' → WiderEnds d (back_at n e) (back_at n e')
+back_wide n both_fine = both_fine
+back_wide n both_raised = both_raised
+back_wide {d = d} n (one_stopped {e = e} z short) = one_stopped z (subst (λ (j : ℕ). j < d) (sym (back_left n e)) short)
+
+level_wide : {A : Type 0} {d : ℕ} (b : Bool) (n : ℕ) (s : Moment) {e e' : Ends A} → WiderEnds d e e' → WiderEnds d (if b then back_at n e else recursion_error s) (if b then back_at n e' else recursion_error (more d s))
+level_wide true n s h = back_wide n h
+level_wide false n s h = both_raised
 
 level_ends : {A : Type 0} {k : ℕ} (Q : ℕ → A → Type 0) (b : Bool) (d : ℕ) {s : Moment} {e : Ends A} → IsMoment k s → SafeEnds k s.left s.nodes Q e → SafeEnds k s.left s.nodes Q (if b then back_at d e else recursion_error s)
 level_ends Q true d g h = back_ends Q d h
@@ -271,6 +342,7 @@ level_ends {k = k} Q false d {s = s} g h = raiseds k (omega arith) (stay s) (ref
 pub deeper_s : {A : Type 0} {k : ℕ} {Q : ℕ → A → Type 0} {m : M A} → Safe k Q m → Safe k Q (deeper m)
 deeper_s {Q = Q} {m = m} h = record {
   go = λ l le s g. level_ends Q (nat_lt s.depth most_depth) s.depth g (h.go l le (record s { depth = suc s.depth }) (at_depth (suc s.depth) g));
+  wide = λ l le s g d pos fits. level_wide (nat_lt s.depth most_depth) s.depth s (h.wide l le (record s { depth = suc s.depth }) (at_depth (suc s.depth) g) d pos fits);
 }
 
 -- ---- what only counts
@@ -286,16 +358,29 @@ counted_ends Q (answer a n) l s g h q = let p = g.budget in fines l (omega arith
 counted_ends Q (too_deep n) l s g h q = let p = g.budget in raiseds l (omega arith) (h, grown_self s.nodes) (refl, (refl, tt)) (at_left n (omega (arith, p, h)) g)
 counted_ends Q (spent n) l s g h q = let p = g.budget in stoppeds l (omega arith) (h, grown_self s.nodes) (at_left n (omega (arith, p, h)) g)
 
-pub counted_at : {A : Type 0} {k : ℕ} (Q : ℕ → A → Type 0) (c : Moment → Count A) → ((s : Moment) → Falls (c s)) → ((l : ℕ) (s : Moment) → k ≤ l → IsMoment l s → Answers (λ a left. Q l a) (c s s.left)) → Safe k Q (λ s. counted (c s) s)
-counted_at Q c h q = record { go = λ l le s g. counted_ends Q (c s s.left) l s g ((h s).falls s.left) (q l s le g) }
+ended_left : {A : Type 0} (s : Moment) (r : Counted A) → (end_of (ended_in s r)).left ≡ left_of r
+ended_left s (answer a n) = refl
+ended_left s (too_deep n) = refl
+ended_left s (spent n) = refl
+
+ended_wide : {A : Type 0} {d : ℕ} (s : Moment) {r r' : Counted A} → Wider d r r' → WiderEnds d (ended_in s r) (ended_in (more d s) r')
+ended_wide s both_answer = both_fine
+ended_wide s both_deep = both_raised
+ended_wide {d = d} s (one_spent {e = r} z short) = one_stopped z (subst (λ (j : ℕ). j < d) (sym (ended_left (more d s) r)) short)
+
+pub counted_at : {A : Type 0} {k : ℕ} (Q : ℕ → A → Type 0) (c : Moment → Count A) → ((d : ℕ) (s : Moment) → c s ≡ c (more d s)) → ((s : Moment) → Falls (c s)) → ((l : ℕ) (s : Moment) → k ≤ l → IsMoment l s → Answers (λ a left. Q l a) (c s s.left)) → Safe k Q (λ s. counted (c s) s)
+counted_at Q c same h q = record {
+  go = λ l le s g. counted_ends Q (c s s.left) l s g ((h s).falls s.left) (q l s le g);
+  wide = λ l le s g d pos fits. subst (λ k. WiderEnds d (ended_in s (c s s.left)) (ended_in (more d s) (k (s.left + d)))) (same d s) (ended_wide s ((h s).wide s.left d pos));
+}
 
 whatever : {A : Type 0} (r : Counted A) → Answers (λ a left. Unit {0}) r
 whatever (answer a left) = tt
 whatever (too_deep left) = tt
 whatever (spent left) = tt
 
-pub counted_s : {A : Type 0} {k : ℕ} (c : Moment → Count A) → ((s : Moment) → Falls (c s)) → Safe k Any (λ s. counted (c s) s)
-counted_s c h = counted_at Any c h (λ l s le g. whatever (c s s.left))
+pub counted_s : {A : Type 0} {k : ℕ} (c : Moment → Count A) → ((d : ℕ) (s : Moment) → c s ≡ c (more d s)) → ((s : Moment) → Falls (c s)) → Safe k Any (λ s. counted (c s) s)
+counted_s c same h = counted_at Any c same h (λ l s le g. whatever (c s s.left))
 
 -- ---- new nodes and changed ones
 
@@ -309,6 +394,7 @@ make_s {k = k} n h = record {
     handled = optional_later l (l + 1) (omega arith) s.handled g.handled;
     budget = g.budget;
   });
+  wide = λ l le s g d pos fits. both_fine;
 }
 
 changed_length : (f : Node → Node) (i : ℕ) (ns : List Node) → length (changed f i ns) ≡ length ns
@@ -336,4 +422,5 @@ change_s i f h = record {
     handled = g.handled;
     budget = g.budget;
   });
+  wide = λ l le s g d pos fits. both_fine;
 }

@@ -11,11 +11,12 @@ use Rattle.kishu_meaning.specs.values.Values.{Value, none, bool, integer, text, 
 use Rattle.kishu_meaning.specs.values.Nodes as n
 use Rattle.kishu_meaning.specs.values.Nodes.{value_at, with_entry, without_entry, last_of, without_last, on_list, on_dict, dict_in}
 use Rattle.kishu_meaning.specs.values.Texts.{begins, first_place, occurrences, pieces, replaced, joined, words, is_nonempty}
-use Rattle.kishu_meaning.specs.moments.Moment.{M, node_at, most_steps}
+use Rattle.kishu_meaning.specs.moments.Moment.{M, node_at}
 use Rattle.kishu_meaning.specs.items.Indexes.{bound_in}
 use Rattle.kishu_meaning.specs.items.Sorting.{sorted_by, is_number, number_key, is_text, text_key, in_order, sort_steps}
 use Rattle.kishu_meaning.specs.calls.Methods.{Method, append, clear, copy, count, endswith, extend, find, get, index, insert, isdigit, join, pop, remove, replace, reverse, setdefault, sort, split, startswith, strip, update, method_name, methods_in, method_named, changing, number, place_of_equal, place_number, count_number, without_place, last_item, pop_last, take_out, pop_at, insert_at, sort_in_place, look_up, set_default, take_entry, pop_key, entries_of, with_entries, update_by, search, is_cutting, place_or_minus_one, made, new_texts, made_all, texts_in, joined_by, list_row, tuple_row, dict_row, text_row, node_row, value_row, call_method}
 use Rattle.kishu_objects.specs.State.{IsValue, AreValues, IsNode, IsKey, IsName, keys_in, values_in}
+use Rattle.kishu_state_laws.specs.Moments.{widest_budget}
 use Rattle.kishu_state_laws.specs.keeping.Logic.{Maybe, Any, IsText, Safe, Edits, bind_s, with_s, plain_s, then_s, so_s, any_s, value_s, raise_s, if_s, or_else_s, any_else_s, look_s, look_any, now_good, node_now_s, spend_s, make_s, change_s, value_later, values_later, maybe_later, each_append}
 use Rattle.kishu_state_laws.specs.keeping.Lists.{each_reverse, each_index, each_last, each_without_last, each_sorted, each_without, each_with, maybe_if, value_found, AreEntries, no_entries, entries_with, entries_without, edits_list, edits_dict}
 use Rattle.kishu_state_laws.specs.keeping.Texts.{AreTexts, text_stripped, texts_words, texts_pieces, text_joined, text_replaced}
@@ -71,8 +72,8 @@ module _ {k : ℕ} where
   dict_change : (i : ℕ) (f : List (Key × Value) → List (Key × Value)) → ((l : ℕ) → k ≤ l → (es : List (Key × Value)) → AreEntries l es → AreEntries l (f es)) → Safe k IsValue (changing i (on_dict f))
   dict_change i f h = changing_s i (on_dict f) (edits_dict f h)
 
-  place_equal_s : (x : Value) (vs : List Value) → Safe k (λ l p. p ≤ most_steps) (place_of_equal x vs)
-  place_equal_s x vs = with_s (place_s x vs) (λ o q. or_else_s (λ l p. p ≤ most_steps) o (raise_s 24 (codes "value not found") refl refl) (λ l le. q))
+  place_equal_s : (x : Value) (vs : List Value) → Safe k (λ l p. p ≤ widest_budget) (place_of_equal x vs)
+  place_equal_s x vs = with_s (place_s x vs) (λ o q. or_else_s (λ l p. p ≤ widest_budget) o (raise_s _ (codes "value not found") refl refl) (λ l le. q))
 
   place_number_s : (x : Value) (vs : List Value) → Safe k IsValue (place_number x vs)
   place_number_s x vs = with_s (place_equal_s x vs) (λ p q. value_s (number p) (whole_few p q))
@@ -81,7 +82,7 @@ module _ {k : ℕ} where
   count_number_s x vs = with_s (count_s x vs) (λ c q. value_s (number c) (whole_few c q))
 
   last_item_s : (vs : List Value) → AreValues k vs → Safe k IsValue (last_item vs)
-  last_item_s vs h = or_else_s IsValue (last_of vs) (raise_s 15 (codes "pop from empty list") refl refl) (λ l le. each_last (IsValue l) vs (values_later k l le vs h))
+  last_item_s vs h = or_else_s IsValue (last_of vs) (raise_s _ (codes "pop from empty list") refl refl) (λ l le. each_last (IsValue l) vs (values_later k l le vs h))
 
   take_out_s : (i : ℕ) (vs : List Value) (p : ℕ) → AreValues k vs → Safe k IsValue (take_out i vs p)
   take_out_s i vs p h = then_s (then_s (spend_s (length vs)) (change_s i (without_place p) (edits_list (λ xs. without_item xs p) (λ l le xs r. each_without (IsValue l) p xs r)))) (value_s (slice_index_or vs p none) (each_index (IsValue k) vs p none tt h))
@@ -180,22 +181,22 @@ texts_found k (node i ∷ vs) h = tt
 as_long : (n m : ℕ) → n ≤ n * max 1 m
 as_long n m = let p : n * 1 ≤ n * max 1 m = mul-le-mul_left n (omega arith) in omega (arith, p)
 
-place_whole : (o : Option ℕ) → Maybe (λ p. p ≤ most_steps) o → IsWhole (place_or_minus_one o)
+place_whole : (o : Option ℕ) → Maybe (λ p. p ≤ widest_budget) o → IsWhole (place_or_minus_one o)
 place_whole (Some p) h = whole_few p h
 place_whole None h = refl
 
-place_few : (n : ℕ) (o : Option ℕ) → n ≤ most_steps → Maybe (λ p. p ≤ n) o → Maybe (λ p. p ≤ most_steps) o
-place_few n o h p = maybe_later (λ q. q ≤ n) (λ q. q ≤ most_steps) (λ q r. omega (arith, h, r)) o p
+place_few : (n : ℕ) (o : Option ℕ) → n ≤ widest_budget → Maybe (λ p. p ≤ n) o → Maybe (λ p. p ≤ widest_budget) o
+place_few n o h p = maybe_later (λ q. q ≤ n) (λ q. q ≤ widest_budget) (λ q r. omega (arith, h, r)) o p
 
 module _ {k : ℕ} where
   made_s : (cs : List ℕ) → IsText cs → Safe k IsValue (made cs)
   made_s cs h = then_s (spend_s (length cs)) (value_s (text cs) h)
 
   cutting_s : (part : List ℕ) → Safe k Any (is_cutting part)
-  cutting_s part = if_s (is_nonempty part) any_s (raise_s 24 (codes "empty separator") refl refl)
+  cutting_s part = if_s (is_nonempty part) any_s (raise_s _ (codes "empty separator") refl refl)
 
   -- The searched text was paid for.
-  search_s : (part cs : List ℕ) → Safe k (λ l _. length cs ≤ most_steps) (search part cs)
+  search_s : (part cs : List ℕ) → Safe k (λ l _. length cs ≤ widest_budget) (search part cs)
   search_s part cs = so_s (spend_s (length cs * max 1 (length part))) (λ l a q. (let p = as_long (length cs) (length part) in omega (arith, p, q)))
 
   new_texts_s : (parts : List (List ℕ)) → AreTexts parts → Safe k IsValue (new_texts parts)

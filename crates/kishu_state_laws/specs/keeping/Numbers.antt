@@ -12,7 +12,7 @@ use Rattle.kishu_meaning.specs.values.White.{stripped}
 use Rattle.kishu_meaning.specs.values.Texts.{places, begins, first_place, pieces_behind, occurrences}
 use Rattle.kishu_meaning.specs.values.Values.{Value, none, bool, integer, text, range, builtin, class, node}
 use Rattle.kishu_meaning.specs.comparing.Equal.{number_in, steps_between, range_length}
-use Rattle.kishu_meaning.specs.moments.Moment.{most_steps}
+use Rattle.kishu_state_laws.specs.Moments.{widest_budget}
 use Rattle.kishu_objects.specs.State.{IsValue}
 use Rattle.kishu_state_laws.specs.keeping.Logic.{Maybe}
 
@@ -27,7 +27,7 @@ small_whole : (z : ℤ) → mag z < 2 ^ 127 → IsWhole z
 small_whole (pos n) h = grind (arith, nat_tests)
 small_whole (negsuc n) h = grind (arith, nat_tests)
 
-pub whole_few : (n : ℕ) → n ≤ most_steps → IsWhole (pos n)
+pub whole_few : (n : ℕ) → n ≤ widest_budget → IsWhole (pos n)
 whole_few n h = small_whole (pos n) (omega (arith, h))
 
 pub whole_scalar : (c : ℕ) → scalar c ≡ true → IsWhole (pos c)

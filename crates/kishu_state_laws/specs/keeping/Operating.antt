@@ -13,6 +13,7 @@ use Rattle.kishu_language.specs.declared.tree.Comparison.TheVariants as comparis
 use Rattle.kishu_meaning.specs.values.Numbers.{is_whole, power, floor_quotient, floor_remainder}
 use Rattle.kishu_meaning.specs.values.Keys.{Key}
 use Rattle.kishu_meaning.specs.values.Nodes.{dict_in}
+use Rattle.kishu_meaning.specs.values.Classes.{runtime_error_class}
 use Rattle.kishu_meaning.specs.values.Values.{Value, integer, text, range, node, Node, list, tuple, dict}
 use Rattle.kishu_meaning.specs.moments.Moment.{M, ◌>>=◌, give, node_now}
 use Rattle.kishu_meaning.specs.comparing.Equal.{number_in, range_length, by_both, pair_steps}
@@ -38,14 +39,14 @@ Makes new = (l : ℕ) (vs : List Value) → AreValues l vs → Safe l IsValue (n
 
 module _ {k : ℕ} where
   pub whole_s : (z : ℤ) → Safe k IsValue (whole z)
-  whole_s z = when_s (is_whole z) (λ e. value_s (integer z) e) (λ e. raise_s 10 (codes "whole number too large") refl refl)
+  whole_s z = when_s (is_whole z) (λ e. value_s (integer z) e) (λ e. raise_s _ (codes "whole number too large") refl refl)
 
   divided_s : (b z : ℤ) → Safe k IsValue (divided b z)
-  divided_s b z = if_s (int_eq b (pos 0)) (raise_s 11 (codes "division by zero") refl refl) (whole_s z)
+  divided_s b z = if_s (int_eq b (pos 0)) (raise_s _ (codes "division by zero") refl refl) (whole_s z)
 
   power_s : (a b : ℤ) → Safe k IsValue (raised_to a b)
   power_s a (pos n) = whole_s (power a n)
-  power_s a (negsuc n) = raise_s 24 (codes "negative power") refl refl
+  power_s a (negsuc n) = raise_s _ (codes "negative power") refl refl
 
   arithmetic_s : (operator : Operator) (a b : ℤ) → Safe k IsValue (arithmetic operator a b)
   arithmetic_s operators.Add a b = whole_s (a +ℤ b)
@@ -174,7 +175,7 @@ walk_value_s {k = k} u h = give_s IsWalk (λ l le. walk_later k l le u h)
 
 module _ {k : ℕ} where
   pub unpacked_s : (n : ℕ) (v : Value) → IsValue k v → Safe k AreValues (unpacked n v)
-  unpacked_s n v h = plain_s (count_of_s v) (λ c. then_s (spend_s c) (if_s (c == n) (items_of_s v h) (raise_s 24 (codes "cannot unpack into " ++ decimal n) refl (scalars_append (codes "cannot unpack into ") (decimal n) refl (text_decimal n)))))
+  unpacked_s n v h = plain_s (count_of_s v) (λ c. then_s (spend_s c) (if_s (c == n) (items_of_s v h) (raise_s _ (codes "cannot unpack into " ++ decimal n) refl (scalars_append (codes "cannot unpack into ") (decimal n) refl (text_decimal n)))))
 
   node_walk_s : (i : ℕ) (o : Option Node) → Maybe (IsNode k) o → Safe k IsWalk (node_walk i o)
   node_walk_s i (Some (list vs)) h = walk_value_s (along_list i) tt
@@ -230,7 +231,7 @@ range_item k false z h = tt
 
 pub item_for_s : {k : ℕ} (u : Walk) (i : ℕ) → IsWalk k u → Safe k MaybeValue (item_for u i)
 item_for_s (along_list n) i h = bind_s (items_now_s n) (λ l le vs q. opt_s (slice_get vs i) (each_get (IsValue l) vs i q))
-item_for_s (along_dict n start view) i h = bind_s (entries_now_s n) (λ l le es q. if_s (length es == start) (entry_seen_s view (slice_get es i) (entry_get l es i q.0 q.1)) (raise_s 19 (codes "dictionary changed size during iteration") refl refl))
+item_for_s (along_dict n start view) i h = bind_s (entries_now_s n) (λ l le es q. if_s (length es == start) (entry_seen_s view (slice_get es i) (entry_get l es i q.0 q.1)) (raise_s runtime_error_class (codes "dictionary changed size during iteration") refl refl))
 item_for_s (along_tuple vs) i h = opt_s (slice_get vs i) (each_get (IsValue _) vs i h)
 item_for_s {k = k} (along_text cs) i h = opt_s _ (text_item k (slice_get cs i) (each_get IsScalar cs i (each_scalar cs h)))
 item_for_s {k = k} (along_range a b c) i h = opt_s _ (range_item k (nat_lt i (range_length a b c)) (a +ℤ pos i *ℤ c) (λ e. whole_range a b c i h.0 h.1 (ltb-true i (range_length a b c) e)))

@@ -20,10 +20,10 @@ use Rattle.kishu_meaning.specs.calls.Operators.{list_from}
 use Rattle.kishu_meaning.specs.calls.Callees.{Given, nothing_given, and_plain, and_named, Part, whole, dotted, viewed, Callee, method, view}
 use Rattle.kishu_meaning.specs.calls.Callees as c
 use Rattle.kishu_meaning.specs.cells.Ways.{Flow}
-use Rattle.kishu_meaning.specs.cells.Meaning.{Calls, nodes, with_pairs, new_dict, Place, named, attribute_of, item_of, read_place, store_in, delete_place, add_to, updated, new_function, in_block, call_node, call_value, apply}
+use Rattle.kishu_meaning.specs.cells.Meaning.{Calls, no_place, nodes, with_pairs, new_dict, Place, named, attribute_of, item_of, read_place, store_in, delete_place, add_to, updated, new_function, in_block, call_node, call_value, apply}
 use Rattle.kishu_objects.specs.State.{IsValue, AreValues, IsNode, IsName, IsCode, AreApart, keys_in, values_in}
 use Rattle.kishu_state_laws.specs.trees.Sound.{ArgumentsSound, CodeSound}
-use Rattle.kishu_state_laws.specs.keeping.Logic.{Maybe, Any, Safe, bind_s, with_s, then_s, give_s, any_s, value_s, asking_s, node_now_s, tick_s, deeper_s, make_s, value_later, values_later}
+use Rattle.kishu_state_laws.specs.keeping.Logic.{Maybe, Any, Safe, bind_s, with_s, then_s, give_s, any_s, value_s, raise_s, asking_s, node_now_s, tick_s, deeper_s, make_s, value_later, values_later}
 use Rattle.kishu_state_laws.specs.keeping.Lists.{AreEntries, no_entries, entries_with, dict_node}
 use Rattle.kishu_state_laws.specs.keeping.Texts.{text_title}
 use Rattle.kishu_state_laws.specs.keeping.Leaves.{key_s, extended_s}
@@ -33,6 +33,9 @@ use Rattle.kishu_state_laws.specs.keeping.Methods.{call_method_s}
 use Rattle.kishu_state_laws.specs.keeping.Callees.{IsGiven, given_later, IsPart, part_s, IsCallee, by_plain_s, call_builtin_s, construct_s, not_callable_s}
 use Rattle.kishu_state_laws.specs.keeping.Names.{read_s, assign_s, delete_s}
 use Rattle.kishu_state_laws.specs.keeping.Flows.{IsFlow, onward_s}
+
+pub no_place_s : {A : Type 0} {k : ℕ} {Q : ℕ → A → Type 0} → Safe k Q no_place
+no_place_s = raise_s _ _ refl refl
 
 pub nodes_s : {k : ℕ} (ts : Trailers) → Safe k Any (nodes ts)
 nodes_s no_trailers = any_s
@@ -74,7 +77,7 @@ updated_s operators.Power v w p q = operate_s operators.Power v w p q
 -- ---- functions
 
 pub new_function_s : {k : ℕ} (code : Text) (ps : List Parameter) (vs : List Value) → CodeSound code ps → length vs ≡ with_default ps → AreValues k vs → Safe k IsValue (new_function code vs)
-new_function_s {k = k} code ps vs c e h = asking_s (λ s. make (function s.profile code vs)) (λ l s le g. make_s (function s.profile code vs) (subst (λ n. IsCode s.profile code n) (sym e) (c s.profile), values_later k l le vs h))
+new_function_s {k = k} code ps vs c e h = asking_s (λ s. make (function s.profile code vs)) (λ d s. refl) (λ l s le g. make_s (function s.profile code vs) (subst (λ n. IsCode s.profile code n) (sym e) (c s.profile), values_later k l le vs h))
 
 -- ---- places
 

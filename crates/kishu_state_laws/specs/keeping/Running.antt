@@ -4,6 +4,7 @@ use Rattle.std.specs.List.{AllByRecursion as Each}
 use Rattle.std.specs.List.Sorted.{IsStrictlySortedBy}
 use Rattle.std.specs.Str.{IsUtf8, chars}
 use Rattle.std.proofs.Common.{refl, sym, subst, arith}
+use Rattle.kishu_language.specs.Limits.{longest_text}
 use Rattle.kishu_language.specs.declared.profile.Profile.{Profile}
 use Rattle.kishu_language.specs.grammar.Refusals.{titles as parameter_titles}
 use Rattle.kishu_language.specs.trees.Tree.{Text, Parameter, Statement, Statements, Definition, no_statements, more_statements, statements}
@@ -79,7 +80,7 @@ enter_s calls cs k d None n b h = bad_arguments_s d.title (text_title d.title n)
 
 call_s : (n : ℕ) → CallsSafe (call n)
 unfolding call
-call_s zero k profile code vs g c h e = raise_s 21 (codes "depth limit reached") refl refl
+call_s zero k profile code vs g c h e = raise_s _ (codes "depth limit reached") refl refl
 call_s (suc n) k profile code vs g c h e =
     let d = c.function in
     let tree = tree_sound profile code c.utf8 c.short (t.define d.title d.parameters d.body code ∷ []) c.reads in
@@ -142,7 +143,7 @@ tree_follows : (profile : Profile) (o : Result (List Statement) ℕ) (s : State)
 tree_follows profile (Ok tree) s sound h = finished_follows ((cell_s (length s.nodes) tree (sound tree refl)).go (length s.nodes) (omega arith) (begun profile s) (begun_is_moment profile s h))
 tree_follows profile (Err line) s sound h = record { state = h; grown = grown_self s.nodes }
 
-pub run_follows : (profile : Profile) (source : List ℕ) (s : State) → IsUtf8 source → length source ≤ 1048576 → IsState s → Follows s.nodes (run profile source s).state
+pub run_follows : (profile : Profile) (source : List ℕ) (s : State) → IsUtf8 source → length source ≤ longest_text → IsState s → Follows s.nodes (run profile source s).state
 unfolding run
 run_follows profile source s utf8 small h = tree_follows profile (read_chars profile (chars source)) s (tree_sound profile source utf8 small) h
 

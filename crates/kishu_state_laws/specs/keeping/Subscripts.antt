@@ -21,10 +21,10 @@ module _ {k : ℕ} where
   -- ---- items
 
   taken_s : (vs : List Value) (v : Value) → AreValues k vs → Safe k IsValue (taken vs v)
-  taken_s vs v h = with_s (position_s (length vs) v) (λ i q. or_else_s IsValue (slice_get vs i) (raise_s 15 (codes "index out of range") refl refl) (λ l le. each_get (IsValue l) vs i (values_later k l le vs h)))
+  taken_s vs v h = with_s (position_s (length vs) v) (λ i q. or_else_s IsValue (slice_get vs i) (raise_s _ (codes "index out of range") refl refl) (λ l le. each_get (IsValue l) vs i (values_later k l le vs h)))
 
   taken_scalar : (cs : List ℕ) (v : Value) → IsText cs → Safe k (λ l. IsScalar) (taken cs v)
-  taken_scalar cs v h = with_s (position_s (length cs) v) (λ i q. or_else_s (λ l. IsScalar) (slice_get cs i) (raise_s 15 (codes "index out of range") refl refl) (λ l le. each_get IsScalar cs i (each_scalar cs h)))
+  taken_scalar cs v h = with_s (position_s (length cs) v) (λ i q. or_else_s (λ l. IsScalar) (slice_get cs i) (raise_s _ (codes "index out of range") refl refl) (λ l le. each_get IsScalar cs i (each_scalar cs h)))
 
   node_item_s : (v i : Value) (o : Option Node) → IsValue k i → Maybe (IsNode k) o → Safe k IsValue (node_item v i o)
   node_item_s v i (Some (list vs)) p h = taken_s vs i h
@@ -43,7 +43,7 @@ module _ {k : ℕ} where
 
   step_s : (o : Option ℤ) → Safe k Any (step_from o)
   step_s None = any_s
-  step_s (Some z) = if_s (int_eq z (pos 0)) (raise_s 24 (codes "step is zero") refl refl) any_s
+  step_s (Some z) = if_s (int_eq z (pos 0)) (raise_s _ (codes "step is zero") refl refl) any_s
 
   slice_places_s : (n : ℕ) (a b c : Value) → Safe k Any (slice_places n a b c)
   slice_places_s n a b c = plain_s (bound_of_s a) (λ x. plain_s (bound_of_s b) (λ y. plain_s (plain_s (bound_of_s c) (λ o. step_s o)) (λ z. any_s)))

@@ -4,7 +4,6 @@ use Rattle.std.proofs.lemmas.Str.{scalars-chars}
 use Rattle.std.specs.Prelude.{Ok}
 use Rattle.std.specs.Str.{IsUtf8, chars, encode_utf8_all, all_scalars}
 use Rattle.kishu_language.specs.declared.profile.Profile.{Profile}
-use Rattle.kishu_language.specs.declared.profile.Profile.TheVariants.{One}
 use Rattle.kishu_language.specs.tokens.PlainLines.{plain_lines}
 use Rattle.kishu_language.specs.tokens.Layout.{Token, layout}
 use Rattle.kishu_language.specs.tokens.Tokens.{tokens}
@@ -29,7 +28,7 @@ use Rattle.kishu_state_laws.specs.trees.Tokens.{tokens_sound}
 -- ---- the code of a function is a part of the text's plain lines
 
 tokens_are : (profile : Profile) (text : Text) → tokens profile text ≡ layout (plain_lines (chars text))
-tokens_are One text = refl
+tokens_are profile text = refl
 
 part_scalars : (cs front code back : List ℕ) → cs ≡ front ++ (code ++ back) → all_scalars cs ≡ true → all_scalars code ≡ true
 part_scalars cs front code back whole h = scalars_before code back (scalars_behind front (code ++ back) (sym (ap all_scalars whole) ∙ h))
@@ -62,7 +61,7 @@ module _ (profile : Profile) (text : Text) (utf8 : IsUtf8 text) where
 -- ---- the tree
 
 code_reads : (profile other : Profile) (code : Text) (d : Definition) → ParseDef profile code d → ParseDef other code d
-code_reads One One code d h = h
+code_reads p q code d h = h
 
 module _ (profile : Profile) (text : Text) (utf8 : IsUtf8 text) (small : length text ≤ 1048576) where
   code_sound : (tree : List Statement) → Parse profile text tree → (d : Definition) (code : Text) → InStatements (t.define d.title d.parameters d.body code) (statements tree) → CodeSound code d.parameters

@@ -9,7 +9,6 @@ use Rattle.kishu_language.specs.rules.PieceRules.{Piece}
 use Rattle.kishu_language_laws.specs.codes.CodeTexts.{scalars_behind, plain_scalars}
 use Rattle.kishu_state_laws.specs.trees.Literals.{whole_below, text_scalars}
 use Rattle.kishu_language.specs.declared.profile.Profile.{Profile}
-use Rattle.kishu_language.specs.declared.profile.Profile.TheVariants.{One}
 use Rattle.kishu_language.specs.declared.token.Mark.{Mark}
 use Rattle.kishu_language.specs.tokens.PlainLines.{plain_lines}
 use Rattle.kishu_language.specs.tokens.Names.{is_name}
@@ -116,4 +115,4 @@ layout_sound : (cs : List ℕ) (ts : Tokens) → all_scalars cs ≡ true → lay
 layout_sound cs ts s h = emitted_sound (emits_of cs ts h) (text_sound cs s)
 
 pub tokens_sound : (profile : Profile) (text : Text) (ts : Tokens) → all_scalars (chars text) ≡ true → tokens profile text ≡ Ok ts → AllSound ts
-tokens_sound One text ts s h = layout_sound (plain_lines (chars text)) ts (plain_scalars (chars text) s) h
+tokens_sound profile text ts s h = layout_sound (plain_lines (chars text)) ts (plain_scalars (chars text) s) h

@@ -27,8 +27,8 @@ use Rattle.kishu_language.specs.declared.tree.Pair.{Pair}
 use Rattle.kishu_access.specs.Access.{place_of, walk_of, is_sound_maybe}
 use Rattle.kishu_calls.specs.Calls.{given_of, named_of, is_sound_given, IsFunction, owed, part_of, flow_of}
 use Rattle.kishu_calls.specs.Forms.{is_function}
-use Rattle.kishu_calls.specs.Rows.{primary_is, attribute_is, call_is, index_is, slice_is}
-use Rattle.kishu_calls.specs.Trees.{arguments_of, operands_of, links_of, expressions_of, pairs_of, trailer_of, trailers_of, statements_of}
+use Rattle.kishu_language.specs.trees.Rows.{primary_is, attribute_is, call_is, index_is, slice_is}
+use Rattle.kishu_language.specs.trees.Parts.{arguments_of, operands_of, links_of, expressions_of, pairs_of, trailer_of, trailers_of, statements_of}
 use Rattle.kishu_statements.proofs.+run.Goals.{calls::arguments_given-in-Plain+in_ok-deeper_value-in-Plain+in_ok-push-in-Plain, calls::arguments_given-in-Keyword+in_ok-value-in-Keyword+in_ok-clone-in-Keyword+in_ok-push-in-Keyword, expressions::deciding_value-then-i-operands-via-then-i-operands, expressions::deciding_value-then-i-operands-via-else-i-operands+then-truth-which, primaries::part_behind-in-Attribute, primaries::part_behind-in-Call, primaries::part_behind-in-Index, primaries::part_behind-in-Slice, targets::store_each-then-i-items+in_ok-store, targets::store_each-else-i-items, statements::default_values-in-Some+in_ok-deeper_value+in_ok-push, statements::default_values-in_default, loops::run_turns-in-Onward, loops::run_turns-in-Continued, loops::run_while-in-Onward, loops::run_while-in-Continued}
 use Rattle.kishu_statements.proofs.Arguments.{plain_here, keyword_here, plain_on, keyword_on, plain_fails, keyword_fails, plain_pushed, named_pushed, differ_on, differ_now, with_plain, with_named, given_as}
 use Rattle.kishu_statements.proofs.Arms.{arm_fails, arms_fit, arms_low, next_arm, no_arm, this_arm}
@@ -93,7 +93,7 @@ calls::arguments_given-deeper_value-requires g falls c κs within = (
 pub calls::arguments_given-returns-in_err-deeper_value-in-Plain-clause-gives : goal.calls::arguments_given-returns-in_err-deeper_value-in-Plain-clause-gives
 calls::arguments_given-returns-in_err-deeper_value-in-Plain-clause-gives g falls c =
     let i = c.loop-argument.argument-index in
-    let calls = call c.args.room in
+    let calls = call c.args.calls_left in
     let rest = arguments_of (drop (i + 1) c.args.arguments.now) in
     let done = given_of (record { plain = c.loop-argument.plain; named = c.loop-argument.named }) in
     let s = moment_of c.loop-argument.machine in
@@ -130,7 +130,7 @@ calls::arguments_given-deeper_value-requires-in-Keyword g falls c κs within = (
 pub calls::arguments_given-returns-in_err-value-in-Keyword-clause-gives : goal.calls::arguments_given-returns-in_err-value-in-Keyword-clause-gives
 calls::arguments_given-returns-in_err-value-in-Keyword-clause-gives g falls c =
     let i = c.loop-argument.argument-index in
-    let calls = call c.args.room in
+    let calls = call c.args.calls_left in
     let rest = arguments_of (drop (i + 1) c.args.arguments.now) in
     let done = given_of (record { plain = c.loop-argument.plain; named = c.loop-argument.named }) in
     let s = moment_of c.loop-argument.machine in
@@ -145,7 +145,7 @@ calls::arguments_given-returns-in_err-value-in-Keyword-clause-gives g falls c =
 pub calls::arguments_given-loop-argument-preserved : goal.calls::arguments_given-loop-argument-preserved
 calls::arguments_given-loop-argument-preserved g falls c =
     let i = c.loop-argument.argument-index in
-    let calls = call c.args.room in
+    let calls = call c.args.calls_left in
     let rest = arguments_of (drop (i + 1) c.args.arguments.now) in
     let old = c.loop-argument in
     let new = c.match-argument in
@@ -236,40 +236,36 @@ calls::arguments_given-loop-argument-preserved g falls c =
 -- ---- call_node
 
 pub calls::call_node-called-requires : goal.calls::call_node-called-requires
-calls::call_node-called-requires g falls c κs within = (
-  omega arith,
-  (
-    search rules,
-    (
-      (let o = slice_get c.args.machine.now.heap c.args.id.0 in
-          let found : IsFunction o c.in-Some.function = search rules in
-          (function_holds o c.in-Some.function found).2),
+calls::call_node-called-requires g falls c κs within =
+    let o = slice_get c.args.machine.now.heap c.args.id.0 in
+    let found : IsFunction o c.in-Some.function = search rules in (
+      omega arith,
       (
-        (let o = slice_get c.args.machine.now.heap c.args.id.0 in
-            let found : IsFunction o c.in-Some.function = search rules in
-            (function_holds o c.in-Some.function found).0),
+        search rules,
         (
-          (let o = slice_get c.args.machine.now.heap c.args.id.0 in
-              let found : IsFunction o c.in-Some.function = search rules in
-              (function_holds o c.in-Some.function found).1),
+          ((function_holds o c.in-Some.function found).2),
           (
-            search rules,
+            ((function_holds o c.in-Some.function found).0),
             (
-              search rules,
-              search rules,
+              ((function_holds o c.in-Some.function found).1),
+              (
+                search rules,
+                (
+                  search rules,
+                  search rules,
+                ),
+              ),
             ),
           ),
         ),
       ),
-    ),
-  ),
-)
+    )
 
 pub calls::call_node-returns-in-Some-clause-gives : goal.calls::call_node-returns-in-Some-clause-gives
 calls::call_node-returns-in-Some-clause-gives g falls c =
     let o = slice_get c.args.machine.now.heap c.args.id.0 in
     let found : IsFunction o c.in-Some.function = search rules in
-    called_node value_of c.called.result c.args.room c.args.id.0 (given_of c.args.given.now) (moment_of c.args.machine.now) (moment_of c.called.new.machine) o c.in-Some.function found c.called.ensures.gives
+    called_node value_of c.called.result c.args.calls_left c.args.id.0 (given_of c.args.given.now) (moment_of c.args.machine.now) (moment_of c.called.new.machine) o c.in-Some.function found c.called.ensures.gives
 
 -- ---- called_part
 
@@ -281,37 +277,30 @@ primaries::called_part-returns-in-Ok-arguments_given-clause-reads g falls c =
 -- ---- combined_value
 
 pub operators::combined_value-evaluate-requires-in-loop-other : goal.operators::combined_value-evaluate-requires-in-loop-other
-operators::combined_value-evaluate-requires-in-loop-other g falls c κs within = (
-  (let i = c.loop-other.other-index in
-      let o = c.other-item.result in
-      let here = operands_here c.args.others.now i o (omega arith) c.other-item.is in
-      let k : of_operands (operands_of (drop i c.args.others.now)) ≡ max (of_expression (expression_of o.value)) (of_operands (operands_of (drop (i + 1) c.args.others.now))) = ap of_operands here in
-      omega arith),
-  (
-    search rules,
-    (
-      (let i = c.loop-other.other-index in
-          let o = c.other-item.result in
-          let here = operands_here c.args.others.now i o (omega arith) c.other-item.is in
-          let k : of_operands (operands_of (drop i c.args.others.now)) ≡ max (of_expression (expression_of o.value)) (of_operands (operands_of (drop (i + 1) c.args.others.now))) = ap of_operands here in
-          omega arith),
+operators::combined_value-evaluate-requires-in-loop-other g falls c κs within =
+    let i = c.loop-other.other-index in
+    let o = c.other-item.result in
+    let here = operands_here c.args.others.now i o (omega arith) c.other-item.is in
+    let k : of_operands (operands_of (drop i c.args.others.now)) ≡ max (of_expression (expression_of o.value)) (of_operands (operands_of (drop (i + 1) c.args.others.now))) = ap of_operands here in (
+      (omega arith),
       (
-        (let i = c.loop-other.other-index in
-            let o = c.other-item.result in
-            let here = operands_here c.args.others.now i o (omega arith) c.other-item.is in
-            (subst (λ (os : Operands). OperandsFit os) here c.loop-other.invariant.fits).0),
         search rules,
+        (
+          (omega arith),
+          (
+            ((subst (λ (os : Operands). OperandsFit os) here c.loop-other.invariant.fits).0),
+            search rules,
+          ),
+        ),
       ),
-    ),
-  ),
-)
+    )
 
 pub operators::combined_value-returns-in-Err-evaluate-clause-gives : goal.operators::combined_value-returns-in-Err-evaluate-clause-gives
 operators::combined_value-returns-in-Err-evaluate-clause-gives g falls c =
     let i = c.loop-other.other-index in
     let o = c.other-item.result in
     let rest = operands_of (drop (i + 1) c.args.others.now) in
-    let calls = call c.args.room in
+    let calls = call c.args.calls_left in
     let v = value_of c.loop-other.value in
     let s = moment_of c.loop-other.machine in
     let here = operands_here c.args.others.now i o (omega arith) c.other-item.is in
@@ -324,7 +313,7 @@ operators::combined_value-returns-in_err-tick-clause-gives g falls c =
     let i = c.loop-other.other-index in
     let o = c.other-item.result in
     let rest = operands_of (drop (i + 1) c.args.others.now) in
-    let calls = call c.args.room in
+    let calls = call c.args.calls_left in
     let v = value_of c.loop-other.value in
     let s = moment_of c.loop-other.machine in
     let here = operands_here c.args.others.now i o (omega arith) c.other-item.is in
@@ -336,7 +325,7 @@ operators::combined_value-returns-in-Err-operate-clause-gives g falls c =
     let i = c.loop-other.other-index in
     let o = c.other-item.result in
     let rest = operands_of (drop (i + 1) c.args.others.now) in
-    let calls = call c.args.room in
+    let calls = call c.args.calls_left in
     let v = value_of c.loop-other.value in
     let s = moment_of c.loop-other.machine in
     let here = operands_here c.args.others.now i o (omega arith) c.other-item.is in
@@ -348,7 +337,7 @@ operators::combined_value-loop-other-preserved g falls c =
     let i = c.loop-other.other-index in
     let o = c.other-item.result in
     let rest = operands_of (drop (i + 1) c.args.others.now) in
-    let calls = call c.args.room in
+    let calls = call c.args.calls_left in
     let m1 = c.loop-other.machine in
     let m2 = c.evaluate-in-loop-other.new.machine in
     let m3 = c.tick.new.machine in
@@ -371,8 +360,8 @@ operators::combined_value-loop-other-preserved g falls c =
       fits = (subst (λ (os : Operands). OperandsFit os) here c.loop-other.invariant.fits).1;
       kept =
           grown_on 0 0 c.args.machine.now m1 m4 c.args.steps.now b1 b4 c.loop-other.invariant.kept
-          (grown_on 0 0 m1 m2 m4 b1 b2 b4 right.kept (paid_on m2 m3 m4 b2 b3 b4 step.heap step.taken step.kept all.kept));
-      reads = omega (arith, c.loop-other.invariant.reads, right.reads, step.counted, step.taken, all.reads);
+          (grown_on 0 0 m1 m2 m4 b1 b2 b4 right.kept (paid_on m2 m3 m4 b2 b3 b4 step.heap step.taken step.kept all.costs.kept));
+      reads = omega (arith, c.loop-other.invariant.reads, right.reads, step.counted, step.taken, all.costs.reads);
       sound = all.sound;
     }
 
@@ -382,7 +371,7 @@ pub operators::compared_value-loop-link-init : goal.operators::compared_value-lo
 operators::compared_value-loop-link-init g falls c =
     let some : length c.args.links.now ≢ 0 = λ e. false-eqb _ 0 (sym (sym c.is_empty.ensures ∙ c.if-is_empty.false)) e in
     record {
-      told = compared_linked (call c.args.room) (expression_of c.args.first.now) c.args.links.now (value_of c.in-Ok.value) (moment_of c.args.machine.now) (moment_of c.evaluate.new.machine) (omega arith) c.in-Ok.ensures.gives;
+      told = compared_linked (call c.args.calls_left) (expression_of c.args.first.now) c.args.links.now (value_of c.in-Ok.value) (moment_of c.args.machine.now) (moment_of c.evaluate.new.machine) (omega arith) c.in-Ok.ensures.gives;
       height = omega arith;
       fits = c.requires.fit_links;
       kept = c.in-Ok.ensures.kept;
@@ -419,7 +408,7 @@ operators::compared_value-returns-in-Err-evaluate-clause-gives g falls c =
     let i = c.loop-link.link-index in
     let l = c.link-item.result in
     let rest = links_of (drop (i + 1) c.args.links.now) in
-    let calls = call c.args.room in
+    let calls = call c.args.calls_left in
     let left = value_of c.loop-link.left in
     let s = moment_of c.loop-link.machine in
     let here = links_here c.args.links.now i l (omega arith) c.link-item.is in
@@ -432,7 +421,7 @@ operators::compared_value-returns-in_err-tick-clause-gives g falls c =
     let i = c.loop-link.link-index in
     let l = c.link-item.result in
     let rest = links_of (drop (i + 1) c.args.links.now) in
-    let calls = call c.args.room in
+    let calls = call c.args.calls_left in
     let left = value_of c.loop-link.left in
     let s = moment_of c.loop-link.machine in
     let here = links_here c.args.links.now i l (omega arith) c.link-item.is in
@@ -444,7 +433,7 @@ operators::compared_value-returns-in-Err-compare-clause-gives g falls c =
     let i = c.loop-link.link-index in
     let l = c.link-item.result in
     let rest = links_of (drop (i + 1) c.args.links.now) in
-    let calls = call c.args.room in
+    let calls = call c.args.calls_left in
     let left = value_of c.loop-link.left in
     let s = moment_of c.loop-link.machine in
     let here = links_here c.args.links.now i l (omega arith) c.link-item.is in
@@ -456,7 +445,7 @@ operators::compared_value-loop-link-preserved g falls c =
     let i = c.loop-link.link-index in
     let l = c.link-item.result in
     let rest = links_of (drop (i + 1) c.args.links.now) in
-    let calls = call c.args.room in
+    let calls = call c.args.calls_left in
     let m1 = c.loop-link.machine in
     let m2 = c.evaluate-in-loop-link.new.machine in
     let m3 = c.tick.new.machine in
@@ -484,8 +473,8 @@ operators::compared_value-loop-link-preserved g falls c =
       fits = (subst (λ (ls : Links). LinksFit ls) here c.loop-link.invariant.fits).1;
       kept =
           grown_on 0 0 c.args.machine.now m1 m4 c.args.steps.now b1 b4 c.loop-link.invariant.kept
-          (grown_on 0 0 m1 m2 m4 b1 b2 b4 right.kept (grown_on 0 0 m2 m3 m4 b2 b3 b4 step.kept all.kept));
-      reads = omega (arith, c.loop-link.invariant.reads, right.reads, step.counted, step.taken, all.reads);
+          (grown_on 0 0 m1 m2 m4 b1 b2 b4 right.kept (grown_on 0 0 m2 m3 m4 b2 b3 b4 step.kept all.costs.kept));
+      reads = omega (arith, c.loop-link.invariant.reads, right.reads, step.counted, step.taken, all.costs.reads);
       sound = sound_more n2 n4 (omega (arith, same)) w right.sound;
     }
 
@@ -494,7 +483,7 @@ operators::compared_value-returns-in-Ok-false-clause-gives g falls c =
     let i = c.loop-link.link-index in
     let l = c.link-item.result in
     let rest = links_of (drop (i + 1) c.args.links.now) in
-    let calls = call c.args.room in
+    let calls = call c.args.calls_left in
     let s1 = moment_of c.loop-link.machine in
     let left = value_of c.loop-link.left in
     let w = value_of c.in-Ok-evaluate.right in
@@ -510,7 +499,7 @@ expressions::deciding_value-returns-in-Err-clause-gives g falls c =
     let i = c.loop-i.i in
     let e = c.index-operands-i.result in
     let rest = expressions_of (drop (i + 1) c.args.operands.now) in
-    let calls = call c.args.room in
+    let calls = call c.args.calls_left in
     let s = moment_of c.loop-i.machine in
     let t = moment_of c.evaluate.new.machine in
     let here = expressions_here c.args.operands.now i e (omega arith) c.index-operands-i.is in
@@ -522,7 +511,7 @@ expressions::deciding_value-returns-then-i-operands-clause-gives g falls c =
     let i = c.loop-i.i in
     let e = c.index-operands-i.result in
     let os = drop (i + 1) c.args.operands.now in
-    let calls = call c.args.room in
+    let calls = call c.args.calls_left in
     let which = c.args.which in
     let s = moment_of c.loop-i.machine in
     let t = moment_of c.evaluate.new.machine in
@@ -543,7 +532,7 @@ expressions::deciding_value-loop-i-preserved g falls c =
     let i = c.loop-i.i in
     let e = c.index-operands-i.result in
     let os = drop (i + 1) c.args.operands.now in
-    let calls = call c.args.room in
+    let calls = call c.args.calls_left in
     let which = c.args.which in
     let s = moment_of c.loop-i.machine in
     let t = moment_of c.evaluate.new.machine in
@@ -560,15 +549,15 @@ expressions::deciding_value-loop-i-preserved g falls c =
           ∙ first_open calls which (expression_of e) s v c.truth.result t os more c.in-Ok.ensures.gives c.truth.ensures.is c.if-truth-which.false;
       height = omega arith;
       fits = (subst (λ (es : Expressions). ExpressionsFit es) here c.loop-i.invariant.fits).1;
-      kept = (omega (arith, kept.0, before.0), omega (arith, kept.1, before.1), omega (arith, kept.2, before.2, c.truth.ensures.counted));
-      reads = omega (arith, c.loop-i.invariant.reads, c.in-Ok.ensures.reads, c.truth.ensures.reads);
+      kept = (omega (arith, kept.0, before.0), omega (arith, kept.1, before.1), omega (arith, kept.2, before.2, c.truth.ensures.reads.0));
+      reads = omega (arith, c.loop-i.invariant.reads, c.in-Ok.ensures.reads, c.truth.ensures.reads.1);
     }
 
 -- ---- inner_values
 
 pub displays::inner_values-loop-item-init : goal.displays::inner_values-loop-item-init
 displays::inner_values-loop-item-init g falls c = record {
-  told = rw c.new-values.ensures.items (begun (inner_values (call c.args.room) (expressions_of c.args.items.now) (moment_of c.args.machine.now)));
+  told = rw c.new-values.ensures.items (begun (inner_values (call c.args.calls_left) (expressions_of c.args.items.now) (moment_of c.args.machine.now)));
   height = omega arith;
   fits = c.requires.fit_items;
   kept = grown_none 0 c.args.machine.now c.args.steps.now;
@@ -600,7 +589,7 @@ displays::inner_values-loop-item-preserved g falls c =
     let e = expression_of c.item-item.result in
     let v = c.in_ok-deeper_value.field-0 in
     let done = c.loop-item.values.items in
-    let calls = call c.args.room in
+    let calls = call c.args.calls_left in
     let s = moment_of c.loop-item.machine in
     let t = moment_of c.deeper_value.new.machine in
     let kept = c.in_ok-deeper_value.ensures.kept in
@@ -622,7 +611,7 @@ displays::inner_values-loop-item-preserved g falls c =
 pub displays::inner_values-returns-clause-gives : goal.displays::inner_values-returns-clause-gives
 displays::inner_values-returns-clause-gives g falls c =
     let done = map value_of c.loop-item.values.items in
-    let calls = call c.args.room in
+    let calls = call c.args.calls_left in
     let s = moment_of c.loop-item.machine in
     all_made (inner_values calls (expressions_of c.args.items.now) (moment_of c.args.machine.now)) done s
     (c.loop-item.invariant.told ∙ ap (λ (es : List Expr). and_then (inner_values calls (expressions_of es) s) (λ vs. give (done ++ vs))) (drop_all c.loop-item.item-index c.args.items.now (omega arith)))
@@ -635,7 +624,7 @@ pair_seen (p ∷ ps) v w = ap (λ (qs : List (Value × Value)). (value_of p.0, v
 
 pub displays::pair_values-loop-pair-init : goal.displays::pair_values-loop-pair-init
 displays::pair_values-loop-pair-init g falls c = record {
-  told = rw c.new-entries.ensures.items (begun (pairs (call c.args.room) (pairs_of c.args.pairs.now) (moment_of c.args.machine.now)));
+  told = rw c.new-entries.ensures.items (begun (pairs (call c.args.calls_left) (pairs_of c.args.pairs.now) (moment_of c.args.machine.now)));
   height = omega arith;
   fits = c.requires.fits;
   kept = grown_none 0 c.args.machine.now c.args.steps.now;
@@ -644,56 +633,42 @@ displays::pair_values-loop-pair-init g falls c = record {
 }
 
 pub displays::pair_values-deeper_value-requires : goal.displays::pair_values-deeper_value-requires
-displays::pair_values-deeper_value-requires g falls c κs within = (
-  (let i = c.loop-pair.pair-index in
-      let p = c.pair-item.result in
-      let here = pairs_here c.args.pairs.now i p (omega arith) c.pair-item.is in
-      let k : of_pairs (pairs_of (drop i c.args.pairs.now)) ≡ max (of_expression (expression_of p.key)) (max (of_expression (expression_of p.value)) (of_pairs (pairs_of (drop (i + 1) c.args.pairs.now)))) = ap of_pairs here in
-      omega arith),
-  (
-    search rules,
-    (
-      (let i = c.loop-pair.pair-index in
-          let p = c.pair-item.result in
-          let here = pairs_here c.args.pairs.now i p (omega arith) c.pair-item.is in
-          let k : of_pairs (pairs_of (drop i c.args.pairs.now)) ≡ max (of_expression (expression_of p.key)) (max (of_expression (expression_of p.value)) (of_pairs (pairs_of (drop (i + 1) c.args.pairs.now)))) = ap of_pairs here in
-          omega arith),
+displays::pair_values-deeper_value-requires g falls c κs within =
+    let i = c.loop-pair.pair-index in
+    let p = c.pair-item.result in
+    let here = pairs_here c.args.pairs.now i p (omega arith) c.pair-item.is in
+    let k : of_pairs (pairs_of (drop i c.args.pairs.now)) ≡ max (of_expression (expression_of p.key)) (max (of_expression (expression_of p.value)) (of_pairs (pairs_of (drop (i + 1) c.args.pairs.now)))) = ap of_pairs here in (
+      (omega arith),
       (
-        (let i = c.loop-pair.pair-index in
-            let p = c.pair-item.result in
-            let here = pairs_here c.args.pairs.now i p (omega arith) c.pair-item.is in
-            (subst (λ (ps : Pairs). PairsFit ps) here c.loop-pair.invariant.fits).0),
         search rules,
+        (
+          (omega arith),
+          (
+            ((subst (λ (ps : Pairs). PairsFit ps) here c.loop-pair.invariant.fits).0),
+            search rules,
+          ),
+        ),
       ),
-    ),
-  ),
-)
+    )
 
 pub displays::pair_values-deeper_value-requires-in-loop-pair : goal.displays::pair_values-deeper_value-requires-in-loop-pair
-displays::pair_values-deeper_value-requires-in-loop-pair g falls c κs within = (
-  (let i = c.loop-pair.pair-index in
-      let p = c.pair-item.result in
-      let here = pairs_here c.args.pairs.now i p (omega arith) c.pair-item.is in
-      let k : of_pairs (pairs_of (drop i c.args.pairs.now)) ≡ max (of_expression (expression_of p.key)) (max (of_expression (expression_of p.value)) (of_pairs (pairs_of (drop (i + 1) c.args.pairs.now)))) = ap of_pairs here in
-      omega arith),
-  (
-    search rules,
-    (
-      (let i = c.loop-pair.pair-index in
-          let p = c.pair-item.result in
-          let here = pairs_here c.args.pairs.now i p (omega arith) c.pair-item.is in
-          let k : of_pairs (pairs_of (drop i c.args.pairs.now)) ≡ max (of_expression (expression_of p.key)) (max (of_expression (expression_of p.value)) (of_pairs (pairs_of (drop (i + 1) c.args.pairs.now)))) = ap of_pairs here in
-          omega arith),
+displays::pair_values-deeper_value-requires-in-loop-pair g falls c κs within =
+    let i = c.loop-pair.pair-index in
+    let p = c.pair-item.result in
+    let here = pairs_here c.args.pairs.now i p (omega arith) c.pair-item.is in
+    let k : of_pairs (pairs_of (drop i c.args.pairs.now)) ≡ max (of_expression (expression_of p.key)) (max (of_expression (expression_of p.value)) (of_pairs (pairs_of (drop (i + 1) c.args.pairs.now)))) = ap of_pairs here in (
+      (omega arith),
       (
-        (let i = c.loop-pair.pair-index in
-            let p = c.pair-item.result in
-            let here = pairs_here c.args.pairs.now i p (omega arith) c.pair-item.is in
-            (subst (λ (ps : Pairs). PairsFit ps) here c.loop-pair.invariant.fits).1),
         search rules,
+        (
+          (omega arith),
+          (
+            ((subst (λ (ps : Pairs). PairsFit ps) here c.loop-pair.invariant.fits).1),
+            search rules,
+          ),
+        ),
       ),
-    ),
-  ),
-)
+    )
 
 pub displays::pair_values-returns-in_err-key-clause-gives : goal.displays::pair_values-returns-in_err-key-clause-gives
 displays::pair_values-returns-in_err-key-clause-gives g falls c =
@@ -701,7 +676,7 @@ displays::pair_values-returns-in_err-key-clause-gives g falls c =
     let i = c.loop-pair.pair-index in
     let p = c.pair-item.result in
     let rest = pairs_of (drop (i + 1) c.args.pairs.now) in
-    let calls = call c.args.room in
+    let calls = call c.args.calls_left in
     let done = value_pairs c.loop-pair.entries in
     let s = moment_of c.loop-pair.machine in
     let here = pairs_here c.args.pairs.now i p (omega arith) c.pair-item.is in
@@ -714,7 +689,7 @@ displays::pair_values-returns-in_err-value-clause-gives g falls c =
     let i = c.loop-pair.pair-index in
     let p = c.pair-item.result in
     let rest = pairs_of (drop (i + 1) c.args.pairs.now) in
-    let calls = call c.args.room in
+    let calls = call c.args.calls_left in
     let done = value_pairs c.loop-pair.entries in
     let s = moment_of c.loop-pair.machine in
     let here = pairs_here c.args.pairs.now i p (omega arith) c.pair-item.is in
@@ -726,7 +701,7 @@ displays::pair_values-loop-pair-preserved g falls c =
     let i = c.loop-pair.pair-index in
     let p = c.pair-item.result in
     let rest = pairs_of (drop (i + 1) c.args.pairs.now) in
-    let calls = call c.args.room in
+    let calls = call c.args.calls_left in
     let m1 = c.loop-pair.machine in
     let m2 = c.deeper_value.new.machine in
     let m3 = c.deeper_value-in-loop-pair.new.machine in
@@ -765,7 +740,7 @@ displays::pair_values-loop-pair-preserved g falls c =
 pub displays::pair_values-returns-clause-gives : goal.displays::pair_values-returns-clause-gives
 displays::pair_values-returns-clause-gives g falls c =
     let done = value_pairs c.loop-pair.entries in
-    let calls = call c.args.room in
+    let calls = call c.args.calls_left in
     let s = moment_of c.loop-pair.machine in
     all_made (pairs calls (pairs_of c.args.pairs.now) (moment_of c.args.machine.now)) done s
     (c.loop-pair.invariant.told ∙ ap (λ (ps : List Pair). and_then (pairs calls (pairs_of ps) s) (λ vs. give (done ++ vs))) (drop_all c.loop-pair.pair-index c.args.pairs.now (omega arith)))
@@ -780,7 +755,7 @@ primaries::part-returns-in-Primary-clause-gives g falls c =
 
 pub primaries::part_behind-loop-trailer-init : goal.primaries::part_behind-loop-trailer-init
 primaries::part_behind-loop-trailer-init g falls c = record {
-  told = (part (call c.args.room) (expression_of c.args.atom.now) (expr (call c.args.room) (expression_of c.args.atom.now)) (moment_of c.args.machine.now), c.part-found.ensures.gives, refl);
+  told = (part (call c.args.calls_left) (expression_of c.args.atom.now) (expr (call c.args.calls_left) (expression_of c.args.atom.now)) (moment_of c.args.machine.now), c.part-found.ensures.gives, refl);
   height = omega arith;
   fits = c.requires.fit_trailers;
   kept = c.part-found.ensures.kept;
@@ -888,7 +863,7 @@ primaries::part_behind-sliced_part-requires g falls c κs within =
 
 pub primaries::part_behind-returns-in-Err-clause-gives : goal.primaries::part_behind-returns-in-Err-clause-gives
 primaries::part_behind-returns-in-Err-clause-gives g falls c =
-    let calls = call c.args.room in
+    let calls = call c.args.calls_left in
     let e = expression_of c.args.atom.now in
     let ts = trailers_of c.args.trailers.now in
     let told = c.loop-trailer.invariant.told in
@@ -914,7 +889,7 @@ primaries::part_behind-loop-trailer-preserved g falls c =
     let ts = c.args.trailers.now in
     let x = c.trailer-item.result in
     let rest = trailers_of (drop (i + 1) ts) in
-    let calls = call c.args.room in
+    let calls = call c.args.calls_left in
     let e = expression_of c.args.atom.now in
     let m0 = c.args.machine.now in
     let m1 = c.loop-trailer.machine in
@@ -975,7 +950,7 @@ primaries::part_behind-loop-trailer-preserved g falls c =
 
 pub primaries::part_behind-returns-clause-gives : goal.primaries::part_behind-returns-clause-gives
 primaries::part_behind-returns-clause-gives g falls c =
-    let calls = call c.args.room in
+    let calls = call c.args.calls_left in
     let e = expression_of c.args.atom.now in
     let ts = trailers_of c.args.trailers.now in
     let told = c.loop-trailer.invariant.told in
@@ -1000,7 +975,7 @@ primaries::part_behind-returns-clause-owes g falls c =
 
 pub primaries::primary_part-returns-clause-gives : goal.primaries::primary_part-returns-clause-gives
 primaries::primary_part-returns-clause-gives g falls c =
-    let calls = call c.args.room in
+    let calls = call c.args.calls_left in
     let e = expression_of c.args.atom.now in
     let ts = trailers_of c.args.trailers.now in
     subst (λ (x : Ends (Unit {0})). Gives part_of c.part_behind.result (moment_of c.part_behind.new.machine) (and_then (and_then x (λ _. part calls e (expr calls e))) (λ p. trailers calls p ts)))
@@ -1010,7 +985,7 @@ primaries::primary_part-returns-clause-gives g falls c =
 
 pub primaries::primary_value-returns-in-Ok-clause-gives : goal.primaries::primary_value-returns-in-Ok-clause-gives
 primaries::primary_value-returns-in-Ok-clause-gives g falls c =
-    let calls = call c.args.room in
+    let calls = call c.args.calls_left in
     let e = expression_of c.args.atom.now in
     let ts = trailers_of c.args.trailers.now in
     let p = part_of c.in-Ok.part in
@@ -1021,7 +996,7 @@ primaries::primary_value-returns-in-Ok-clause-gives g falls c =
 
 pub primaries::primary_value-returns-in-Err-clause-gives : goal.primaries::primary_value-returns-in-Err-clause-gives
 primaries::primary_value-returns-in-Err-clause-gives g falls c =
-    let calls = call c.args.room in
+    let calls = call c.args.calls_left in
     let e = expression_of c.args.atom.now in
     let ts = trailers_of c.args.trailers.now in
     let f = c.in-Err.fault in
@@ -1038,7 +1013,7 @@ operators::value_with_sign-returns-clause-sound g falls c = c.signed_value.ensur
 
 pub displays::values_of-loop-item-init : goal.displays::values_of-loop-item-init
 displays::values_of-loop-item-init g falls c = record {
-  told = rw c.new-values.ensures.items (begun (values (call c.args.room) (expressions_of c.args.items.now) (moment_of c.args.machine.now)));
+  told = rw c.new-values.ensures.items (begun (values (call c.args.calls_left) (expressions_of c.args.items.now) (moment_of c.args.machine.now)));
   height = omega arith;
   fits = c.requires.fit_items;
   kept = grown_none 0 c.args.machine.now c.args.steps.now;
@@ -1070,7 +1045,7 @@ displays::values_of-loop-item-preserved g falls c =
     let e = expression_of c.item-item.result in
     let v = c.in_ok-evaluate.field-0 in
     let done = c.loop-item.values.items in
-    let calls = call c.args.room in
+    let calls = call c.args.calls_left in
     let s = moment_of c.loop-item.machine in
     let t = moment_of c.evaluate.new.machine in
     let kept = c.in_ok-evaluate.ensures.kept in
@@ -1092,7 +1067,7 @@ displays::values_of-loop-item-preserved g falls c =
 pub displays::values_of-returns-clause-gives : goal.displays::values_of-returns-clause-gives
 displays::values_of-returns-clause-gives g falls c =
     let done = map value_of c.loop-item.values.items in
-    let calls = call c.args.room in
+    let calls = call c.args.calls_left in
     let s = moment_of c.loop-item.machine in
     all_made (values calls (expressions_of c.args.items.now) (moment_of c.args.machine.now)) done s
     (c.loop-item.invariant.told ∙ ap (λ (es : List Expr). and_then (values calls (expressions_of es) s) (λ vs. give (done ++ vs))) (drop_all c.loop-item.item-index c.args.items.now (omega arith)))
@@ -1128,10 +1103,10 @@ calls::called-returns-in_ok-own-in-Some-clause-gives g falls c =
     let vs = map value_of c.args.function.now.defaults.items in
     let given = given_of c.args.given.now in
     let there : Some (names_of c.in-Some.values.entries) ≡ bound_values d vs given = search rules in
-    let some : 0 < c.args.room = search rules in
+    let some : 0 < c.args.calls_left = search rules in
     let here : frame_of (record { own = c.in_ok-own-in-Some.own; values = c.in-Some.values }) ≡ record { own = own_names d; values = names_of c.in-Some.values.entries } = search rules in
-    called_bound value_of c.entered.result c.args.room d vs given (moment_of c.args.machine.now) (moment_of c.entered.new.machine) some
-    (c.args.room - 1) (definition_of c.deref-in-Some-2.result.now) (frame_of (record { own = c.in_ok-own-in-Some.own; values = c.in-Some.values })) (names_of c.in-Some.values.entries) refl (ap definition_of c.deref-in-Some-2.ensures) here there c.entered.ensures.gives
+    called_bound value_of c.entered.result c.args.calls_left d vs given (moment_of c.args.machine.now) (moment_of c.entered.new.machine) some
+    (c.args.calls_left - 1) (definition_of c.deref-in-Some-2.result.now) (frame_of (record { own = c.in_ok-own-in-Some.own; values = c.in-Some.values })) (names_of c.in-Some.values.entries) refl (ap definition_of c.deref-in-Some-2.ensures) here there c.entered.ensures.gives
 
 pub calls::called-returns-in-None-clause-gives : goal.calls::called-returns-in-None-clause-gives
 calls::called-returns-in-None-clause-gives g falls c =
@@ -1139,9 +1114,9 @@ calls::called-returns-in-None-clause-gives g falls c =
     let vs = map value_of c.args.function.now.defaults.items in
     let given = given_of c.args.given.now in
     let there : None ≡ bound_values d vs given = search rules in
-    let some : 0 < c.args.room = search rules in
+    let some : 0 < c.args.calls_left = search rules in
     let title : c.as_str.result.now ≡ d.title = search (rules, title_is) in
-    called_refused value_of c.bad_arguments.result c.args.room d vs given (moment_of c.args.machine.now) (moment_of c.args.machine.now) some c.as_str.result.now there title c.requires.title c.bad_arguments.ensures
+    called_refused value_of c.bad_arguments.result c.args.calls_left d vs given (moment_of c.args.machine.now) (moment_of c.args.machine.now) some c.as_str.result.now there title c.requires.title c.bad_arguments.ensures
 
 -- ---- entered
 
@@ -1176,7 +1151,7 @@ calls::entered-returns-in_err-flow-clause-gives g falls c =
     let p = err_from_is_err_and c.from_residual.result c.from_residual.ensures.1 in
     let low : s.depth < 1000 = search rules in
     let deep : suc s.depth ≡ c.args.machine.now.budget.depth + 1 = omega arith in
-    rw (p.1, p.2) (entered_fails (call c.args.room) (frame_of c.args.frame) (definition_of c.args.def.now) (statements_of c.deref.result.now) s t (c.args.machine.now.budget.depth + 1) (locals_of c.replace-outer.new.dest) (locals_of c.replace-outer.result)
+    rw (p.1, p.2) (entered_fails (call c.args.calls_left) (frame_of c.args.frame) (definition_of c.args.def.now) (statements_of c.deref.result.now) s t (c.args.machine.now.budget.depth + 1) (locals_of c.replace-outer.new.dest) (locals_of c.replace-outer.result)
     low deep (ap locals_of (sym c.replace-outer.ensures.after)) (ap locals_of (sym c.replace-outer.ensures.value)) (body_is c.args.def.now ∙ ap statements_of (sym c.deref.ensures.value)) c.in_err-flow.field-0.0 c.in_err-flow.ensures.gives)
 
 pub calls::entered-returns-clause-gives : goal.calls::entered-returns-clause-gives
@@ -1185,7 +1160,7 @@ calls::entered-returns-clause-gives g falls c =
     let t = moment_of c.block-flow.new.machine in
     let low : s.depth < 1000 = search rules in
     let deep : suc s.depth ≡ c.args.machine.now.budget.depth + 1 = omega arith in
-    rw c.returned.ensures (entered_fine (call c.args.room) (frame_of c.args.frame) (definition_of c.args.def.now) (statements_of c.deref.result.now) s t (c.args.machine.now.budget.depth + 1) (locals_of c.replace-outer.new.dest) (locals_of c.replace-outer.result)
+    rw c.returned.ensures (entered_fine (call c.args.calls_left) (frame_of c.args.frame) (definition_of c.args.def.now) (statements_of c.deref.result.now) s t (c.args.machine.now.budget.depth + 1) (locals_of c.replace-outer.new.dest) (locals_of c.replace-outer.result)
     low deep (ap locals_of (sym c.replace-outer.ensures.after)) (ap locals_of (sym c.replace-outer.ensures.value)) (body_is c.args.def.now ∙ ap statements_of (sym c.deref.ensures.value)) (flow_of c.in_ok-flow.field-0) c.in_ok-flow.ensures.gives)
 
 -- ---- place_at
@@ -1236,7 +1211,7 @@ targets::primary_place-last_place-requires g falls c κs within = (
 
 pub targets::primary_place-returns-clause-gives : goal.targets::primary_place-returns-clause-gives
 targets::primary_place-returns-clause-gives g falls c =
-    let calls = call c.args.room in
+    let calls = call c.args.calls_left in
     let before = c.in-Some.before.now in
     let last = c.in-Some.last.now in
     let split = place_split calls (expression_of c.args.atom.now) (trailers_of c.args.trailers.now) (moment_of c.args.machine.now) (moment_of c.take_container_nodes.new.machine) c.in_ok-take_container_nodes.ensures.gives (map trailer_of before) (trailer_of last) (split_trailers c.args.trailers.now before last c.in-Some.ensures.cases.0) in
@@ -1248,7 +1223,7 @@ targets::primary_place-returns-in_err-part-clause-gives g falls c =
     let p = err_from_is_err_and c.from_residual-in_err-part.result c.from_residual-in_err-part.ensures.1 in
     let f = c.in_err-part.field-0.0 in
     let end = moment_of c.part_behind-2.new.machine in
-    let calls = call c.args.room in
+    let calls = call c.args.calls_left in
     let before = c.in-Some.before.now in
     let last = c.in-Some.last.now in
     let split = place_split calls (expression_of c.args.atom.now) (trailers_of c.args.trailers.now) (moment_of c.args.machine.now) (moment_of c.take_container_nodes.new.machine) c.in_ok-take_container_nodes.ensures.gives (map trailer_of before) (trailer_of last) (split_trailers c.args.trailers.now before last c.in-Some.ensures.cases.0) in
@@ -1259,12 +1234,12 @@ targets::primary_place-returns-in_err-_part-clause-gives g falls c =
     let p = err_from_is_err_and c.from_residual-in_err-_part.result c.from_residual-in_err-_part.ensures.1 in
     let f = c.in_err-_part.field-0.0 in
     let end = moment_of c.part_behind.new.machine in
-    let none = place_none (call c.args.room) (expression_of c.args.atom.now) (trailers_of c.args.trailers.now) (moment_of c.args.machine.now) (moment_of c.take_container_nodes.new.machine) c.in_ok-take_container_nodes.ensures.gives (ap trailers_of (nil_from_length c.args.trailers.now c.in_default.ensures.cases)) in
+    let none = place_none (call c.args.calls_left) (expression_of c.args.atom.now) (trailers_of c.args.trailers.now) (moment_of c.args.machine.now) (moment_of c.take_container_nodes.new.machine) c.in_ok-take_container_nodes.ensures.gives (ap trailers_of (nil_from_length c.args.trailers.now c.in_default.ensures.cases)) in
     rw (p.1, p.2) (subst (λ (x : Ends Place). Fails f end x) (sym none) (fails_on (λ q. no_place) f end _ c.in_err-_part.ensures.gives))
 
 pub targets::primary_place-returns-in_default-clause-gives : goal.targets::primary_place-returns-in_default-clause-gives
 targets::primary_place-returns-in_default-clause-gives g falls c =
-    let none = place_none (call c.args.room) (expression_of c.args.atom.now) (trailers_of c.args.trailers.now) (moment_of c.args.machine.now) (moment_of c.take_container_nodes.new.machine) c.in_ok-take_container_nodes.ensures.gives (ap trailers_of (nil_from_length c.args.trailers.now c.in_default.ensures.cases)) in
+    let none = place_none (call c.args.calls_left) (expression_of c.args.atom.now) (trailers_of c.args.trailers.now) (moment_of c.args.machine.now) (moment_of c.take_container_nodes.new.machine) c.in_ok-take_container_nodes.ensures.gives (ap trailers_of (nil_from_length c.args.trailers.now c.in_default.ensures.cases)) in
     none ∙ ap (λ (x : Ends Part). and_then x (λ q. no_place)) c.in_ok-_part.ensures.gives
 
 -- ---- store_deeper_pattern
@@ -1272,33 +1247,32 @@ targets::primary_place-returns-in_default-clause-gives g falls c =
 pub targets::store_deeper_pattern-returns-clause-gives : goal.targets::store_deeper_pattern-returns-clause-gives
 targets::store_deeper_pattern-returns-clause-gives g falls c =
     let done = c.store_pattern-result in
-    nested_gives (call c.args.room) (expressions_of c.args.targets.now) (value_of c.args.value.now) (λ u. u) done.result (moment_of c.args.machine.now) (moment_of done.new.machine) c.if-depth-ge-MOST_DEPTH.false done.ensures.gives
+    nested_gives (call c.args.calls_left) (expressions_of c.args.targets.now) (value_of c.args.value.now) (λ u. u) done.result (moment_of c.args.machine.now) (moment_of done.new.machine) c.if-depth-ge-MOST_DEPTH.false done.ensures.gives
 
 -- ---- store_each
 
 pub targets::store_each-store-requires : goal.targets::store_each-store-requires
-targets::store_each-store-requires g falls c κs within = (
-  (let low = expressions_low c.args.targets.now c.loop-i.i c.index-targets-i.result c.loop-i-test.true c.index-targets-i.is in
-      omega (arith, low.0, c.loop-i.invariant.height, c.requires.small_targets)),
-  (
-    search rules,
-    (
-      (let low = expressions_low c.args.targets.now c.loop-i.i c.index-targets-i.result c.loop-i-test.true c.index-targets-i.is in
-          omega (arith, low.0, c.loop-i.invariant.height, c.requires.small_targets)),
+targets::store_each-store-requires g falls c κs within =
+    let low = expressions_low c.args.targets.now c.loop-i.i c.index-targets-i.result c.loop-i-test.true c.index-targets-i.is in
+    let n = length c.args.machine.now.heap in (
+      (omega (arith, low.0, c.loop-i.invariant.height, c.requires.small_targets)),
       (
-        (expressions_fit c.args.targets.now c.loop-i.i c.index-targets-i.result c.loop-i-test.true c.index-targets-i.is c.loop-i.invariant.fits).0,
+        search rules,
         (
-          (let n = length c.args.machine.now.heap in
-              sound_more n (length c.loop-i.machine.heap) c.loop-i.invariant.kept.0 (value_of c.index-items-i.result) (sound_at n c.args.items.now c.loop-i.i c.index-items-i.result c.if-i-items.true c.index-items-i.is c.requires.sound_items)),
+          (omega (arith, low.0, c.loop-i.invariant.height, c.requires.small_targets)),
           (
-            search rules,
-            (targets_here c.args.targets.now c.loop-i.i c.index-targets-i.result c.loop-i-test.true c.index-targets-i.is c.loop-i.invariant.targets).0,
+            (expressions_fit c.args.targets.now c.loop-i.i c.index-targets-i.result c.loop-i-test.true c.index-targets-i.is c.loop-i.invariant.fits).0,
+            (
+              (sound_more n (length c.loop-i.machine.heap) c.loop-i.invariant.kept.0 (value_of c.index-items-i.result) (sound_at n c.args.items.now c.loop-i.i c.index-items-i.result c.if-i-items.true c.index-items-i.is c.requires.sound_items)),
+              (
+                search rules,
+                (targets_here c.args.targets.now c.loop-i.i c.index-targets-i.result c.loop-i-test.true c.index-targets-i.is c.loop-i.invariant.targets).0,
+              ),
+            ),
           ),
         ),
       ),
-    ),
-  ),
-)
+    )
 
 pub targets::store_each-returns-in_err-store-clause-gives : goal.targets::store_each-returns-in_err-store-clause-gives
 targets::store_each-returns-in_err-store-clause-gives g falls c =
@@ -1306,7 +1280,7 @@ targets::store_each-returns-in_err-store-clause-gives g falls c =
     let f = c.in_err-store.field-0.0 in
     let t = moment_of c.store.new.machine in
     rw (p.1, p.2) (subst (λ (x : Ends (Unit {0})). Fails f t x) (sym c.loop-i.invariant.told)
-    (store_fails c.args.targets.now c.loop-i.i c.index-targets-i.result c.loop-i-test.true c.index-targets-i.is c.args.items.now (call c.args.room) (moment_of c.loop-i.machine) c.index-items-i.result c.if-i-items.true c.index-items-i.is f t c.in_err-store.ensures.gives))
+    (store_fails c.args.targets.now c.loop-i.i c.index-targets-i.result c.loop-i-test.true c.index-targets-i.is c.args.items.now (call c.args.calls_left) (moment_of c.loop-i.machine) c.index-items-i.result c.if-i-items.true c.index-items-i.is f t c.in_err-store.ensures.gives))
 
 pub targets::store_each-loop-i-preserved : goal.targets::store_each-loop-i-preserved
 targets::store_each-loop-i-preserved g falls c =
@@ -1314,7 +1288,7 @@ targets::store_each-loop-i-preserved g falls c =
     let i = c.loop-i.i in
     let es = c.args.targets.now in
     let vs = c.args.items.now in
-    let calls = call c.args.room in
+    let calls = call c.args.calls_left in
     let s = moment_of c.loop-i.machine in
     record {
       told =
@@ -1342,14 +1316,14 @@ targets::store_each-loop-i-preserved g falls c =
 
 pub targets::store_each-returns-clause-gives : goal.targets::store_each-returns-clause-gives
 targets::store_each-returns-clause-gives g falls c =
-    c.loop-i.invariant.told ∙ targets_end (call c.args.room) c.args.targets.now c.loop-i.i (map value_of (drop c.loop-i.i c.args.items.now)) (moment_of c.loop-i.machine) (omega (arith, c.loop-i-test.false))
+    c.loop-i.invariant.told ∙ targets_end (call c.args.calls_left) c.args.targets.now c.loop-i.i (map value_of (drop c.loop-i.i c.args.items.now)) (moment_of c.loop-i.machine) (omega (arith, c.loop-i-test.false))
 
 -- ---- store_pattern
 
 pub targets::store_pattern-returns-in_err-items-clause-gives : goal.targets::store_pattern-returns-in_err-items-clause-gives
 targets::store_pattern-returns-in_err-items-clause-gives g falls c =
     let p = err_from_is_err_and c.from_residual.result c.from_residual.ensures.1 in
-    rw (p.1, p.2) (pattern_fails (call c.args.room) c.args.targets.now (value_of c.args.value.now) (moment_of c.args.machine.now) c.in_err-items.field-0.0 (moment_of c.unpacked.new.machine) c.in_err-items.ensures.gives)
+    rw (p.1, p.2) (pattern_fails (call c.args.calls_left) c.args.targets.now (value_of c.args.value.now) (moment_of c.args.machine.now) c.in_err-items.field-0.0 (moment_of c.unpacked.new.machine) c.in_err-items.ensures.gives)
 
 pub targets::store_pattern-store_each-requires : goal.targets::store_pattern-store_each-requires
 targets::store_pattern-store_each-requires g falls c κs within = (
@@ -1376,7 +1350,7 @@ pub targets::store_pattern-returns-clause-gives : goal.targets::store_pattern-re
 targets::store_pattern-returns-clause-gives g falls c =
     let t = moment_of c.unpacked.new.machine in
     let same = ap (λ (vs : List rust.Value). fine (map value_of vs) t) (sym c.as_slice.ensures.value) in
-    pattern_gives (call c.args.room) c.args.targets.now (value_of c.args.value.now) (moment_of c.args.machine.now) c.store_each.result (map value_of c.as_slice.result.now) t (moment_of c.store_each.new.machine) (c.in_ok-items.ensures.gives ∙ same) c.store_each.ensures.gives
+    pattern_gives (call c.args.calls_left) c.args.targets.now (value_of c.args.value.now) (moment_of c.args.machine.now) c.store_each.result (map value_of c.as_slice.result.now) t (moment_of c.store_each.new.machine) (c.in_ok-items.ensures.gives ∙ same) c.store_each.ensures.gives
 
 pub targets::store_pattern-returns-clause-reads : goal.targets::store_pattern-returns-clause-reads
 targets::store_pattern-returns-clause-reads g falls c =
@@ -1389,13 +1363,13 @@ pub statements::block-returns-then-depth-ge-MOST_DEPTH-clause-gives : goal.state
 statements::block-returns-then-depth-ge-MOST_DEPTH-clause-gives g falls c =
     let none : length c.args.body.now ≢ 0 = λ e. false-eqb _ 0 (sym (sym c.is_empty.ensures ∙ c.if-is_empty.false)) e in
     let some : 0 < length c.args.body.now = omega (arith, none) in
-    rw (block_is c.args.body.now (acts (call c.args.room) (statements_of c.args.body.now)) some) (search rules)
+    rw (block_is c.args.body.now (acts (call c.args.calls_left) (statements_of c.args.body.now)) some) (search rules)
 
 pub statements::block-returns-clause-gives : goal.statements::block-returns-clause-gives
 statements::block-returns-clause-gives g falls c =
     let none : length c.args.body.now ≢ 0 = λ e. false-eqb _ 0 (sym (sym c.is_empty.ensures ∙ c.if-is_empty.false)) e in
     let some : 0 < length c.args.body.now = omega (arith, none) in
-    rw (block_is c.args.body.now (acts (call c.args.room) (statements_of c.args.body.now)) some) (search rules)
+    rw (block_is c.args.body.now (acts (call c.args.calls_left) (statements_of c.args.body.now)) some) (search rules)
 
 -- ---- default_values
 
@@ -1409,7 +1383,7 @@ statements::default_values-loop-default-preserved g falls c =
     let old = c.loop-default in
     let new = c.match-default in
     let inv = old.invariant in
-    let calls = call c.args.room in
+    let calls = call c.args.calls_left in
     let vs = old.values.items in
     let s = moment_of old.machine in
     let low = parameters_low ps i p less at in
@@ -1477,21 +1451,20 @@ tries::handling-invariant_of-machine-2 g falls c =
 -- ---- run_choice
 
 pub statements::run_choice-evaluate-requires : goal.statements::run_choice-evaluate-requires
-statements::run_choice-evaluate-requires g falls c κs within = (
-  (let low = arms_low c.args.arms.now c.loop-arm.arm-index c.arm-item.result c.loop-arm-test.true c.arm-item.is in
-      omega (arith, low.0, c.loop-arm.invariant.height, c.requires.small_arms)),
-  (
-    search rules,
-    (
-      (let low = arms_low c.args.arms.now c.loop-arm.arm-index c.arm-item.result c.loop-arm-test.true c.arm-item.is in
-          omega (arith, low.0, c.loop-arm.invariant.height, c.requires.small_arms)),
+statements::run_choice-evaluate-requires g falls c κs within =
+    let low = arms_low c.args.arms.now c.loop-arm.arm-index c.arm-item.result c.loop-arm-test.true c.arm-item.is in (
+      (omega (arith, low.0, c.loop-arm.invariant.height, c.requires.small_arms)),
       (
-        (arms_fit c.args.arms.now c.loop-arm.arm-index c.arm-item.result c.loop-arm-test.true c.arm-item.is c.loop-arm.invariant.fits).0,
         search rules,
+        (
+          (omega (arith, low.0, c.loop-arm.invariant.height, c.requires.small_arms)),
+          (
+            (arms_fit c.args.arms.now c.loop-arm.arm-index c.arm-item.result c.loop-arm-test.true c.arm-item.is c.loop-arm.invariant.fits).0,
+            search rules,
+          ),
+        ),
       ),
-    ),
-  ),
-)
+    )
 
 pub statements::run_choice-returns-in_err-value-clause-gives : goal.statements::run_choice-returns-in_err-value-clause-gives
 statements::run_choice-returns-in_err-value-clause-gives g falls c =
@@ -1500,24 +1473,23 @@ statements::run_choice-returns-in_err-value-clause-gives g falls c =
     let s = moment_of c.loop-arm.machine in
     let t = moment_of c.evaluate.new.machine in
     rw (p.1, p.2) (subst (λ (x : Ends Flow). Fails f t x) (sym c.loop-arm.invariant.told)
-    (arm_fails c.args.arms.now c.loop-arm.arm-index c.arm-item.result c.loop-arm-test.true c.arm-item.is (call c.args.room) (statements_of c.args.other.now) s f t c.in_err-value.ensures.gives))
+    (arm_fails c.args.arms.now c.loop-arm.arm-index c.arm-item.result c.loop-arm-test.true c.arm-item.is (call c.args.calls_left) (statements_of c.args.other.now) s f t c.in_err-value.ensures.gives))
 
 pub statements::run_choice-block-requires : goal.statements::run_choice-block-requires
-statements::run_choice-block-requires g falls c κs within = (
-  (let low = arms_low c.args.arms.now c.loop-arm.arm-index c.arm-item.result c.loop-arm-test.true c.arm-item.is in
-      omega (arith, ap (λ b. of_statements (statements_of b)) c.deref.ensures.value, low.1, c.loop-arm.invariant.height, c.requires.small_arms)),
-  (
-    search rules,
-    (
-      (let low = arms_low c.args.arms.now c.loop-arm.arm-index c.arm-item.result c.loop-arm-test.true c.arm-item.is in
-          rw c.deref.ensures.value (omega (arith, low.1, c.loop-arm.invariant.height, c.requires.small_arms))),
+statements::run_choice-block-requires g falls c κs within =
+    let low = arms_low c.args.arms.now c.loop-arm.arm-index c.arm-item.result c.loop-arm-test.true c.arm-item.is in (
+      (omega (arith, ap (λ b. of_statements (statements_of b)) c.deref.ensures.value, low.1, c.loop-arm.invariant.height, c.requires.small_arms)),
       (
-        rw c.deref.ensures.value (arms_fit c.args.arms.now c.loop-arm.arm-index c.arm-item.result c.loop-arm-test.true c.arm-item.is c.loop-arm.invariant.fits).1,
         search rules,
+        (
+          (rw c.deref.ensures.value (omega (arith, low.1, c.loop-arm.invariant.height, c.requires.small_arms))),
+          (
+            rw c.deref.ensures.value (arms_fit c.args.arms.now c.loop-arm.arm-index c.arm-item.result c.loop-arm-test.true c.arm-item.is c.loop-arm.invariant.fits).1,
+            search rules,
+          ),
+        ),
       ),
-    ),
-  ),
-)
+    )
 
 pub statements::run_choice-returns-then-truth-clause-gives : goal.statements::run_choice-returns-then-truth-clause-gives
 statements::run_choice-returns-then-truth-clause-gives g falls c =
@@ -1525,7 +1497,7 @@ statements::run_choice-returns-then-truth-clause-gives g falls c =
     let s1 = moment_of c.evaluate.new.machine in
     let u = moment_of c.block.new.machine in
     subst (λ (x : Ends Flow). Gives flow_of c.block.result u x) (sym c.loop-arm.invariant.told)
-    (this_arm c.args.arms.now c.loop-arm.arm-index c.arm-item.result c.loop-arm-test.true c.arm-item.is (call c.args.room) (statements_of c.args.other.now) s (value_of c.in_ok-value.value) s1 c.truth.result c.in_ok-value.ensures.gives c.truth.ensures.is c.if-truth.true c.deref.result.now c.deref.ensures.value c.block.result u c.block.ensures.gives)
+    (this_arm c.args.arms.now c.loop-arm.arm-index c.arm-item.result c.loop-arm-test.true c.arm-item.is (call c.args.calls_left) (statements_of c.args.other.now) s (value_of c.in_ok-value.value) s1 c.truth.result c.in_ok-value.ensures.gives c.truth.ensures.is c.if-truth.true c.deref.result.now c.deref.ensures.value c.block.result u c.block.ensures.gives)
 
 pub statements::run_choice-loop-arm-preserved : goal.statements::run_choice-loop-arm-preserved
 statements::run_choice-loop-arm-preserved g falls c =
@@ -1538,42 +1510,41 @@ statements::run_choice-loop-arm-preserved g falls c =
     let low = arms_low arms i arm c.loop-arm-test.true c.arm-item.is in
     let kept = c.in_ok-value.ensures.kept in
     record {
-      told = now.told ∙ next_arm arms i arm c.loop-arm-test.true c.arm-item.is (call c.args.room) (statements_of c.args.other.now) s (value_of c.in_ok-value.value) s1 c.truth.result c.in_ok-value.ensures.gives c.truth.ensures.is c.if-truth.false;
+      told = now.told ∙ next_arm arms i arm c.loop-arm-test.true c.arm-item.is (call c.args.calls_left) (statements_of c.args.other.now) s (value_of c.in_ok-value.value) s1 c.truth.result c.in_ok-value.ensures.gives c.truth.ensures.is c.if-truth.false;
       height = omega (arith, low.2, now.height);
       fits = (arms_fit arms i arm c.loop-arm-test.true c.arm-item.is now.fits).2;
-      kept = (omega (arith, now.kept.0, kept.0), omega (arith, now.kept.1, kept.1), omega (arith, now.kept.2, kept.2, c.truth.ensures.counted));
-      reads = omega (arith, now.reads, c.in_ok-value.ensures.reads, c.truth.ensures.reads);
+      kept = (omega (arith, now.kept.0, kept.0), omega (arith, now.kept.1, kept.1), omega (arith, now.kept.2, kept.2, c.truth.ensures.reads.0));
+      reads = omega (arith, now.reads, c.in_ok-value.ensures.reads, c.truth.ensures.reads.1);
     }
 
 pub statements::run_choice-returns-clause-gives : goal.statements::run_choice-returns-clause-gives
 statements::run_choice-returns-clause-gives g falls c =
     let s = moment_of c.loop-arm.machine in
     let u = moment_of c.block-2.new.machine in
-    subst (λ (x : Ends Flow). Gives flow_of c.block-2.result u x) (sym (c.loop-arm.invariant.told ∙ no_arm c.args.arms.now c.loop-arm.arm-index c.loop-arm-test.false (call c.args.room) (statements_of c.args.other.now) s)) c.block-2.ensures.gives
+    subst (λ (x : Ends Flow). Gives flow_of c.block-2.result u x) (sym (c.loop-arm.invariant.told ∙ no_arm c.args.arms.now c.loop-arm.arm-index c.loop-arm-test.false (call c.args.calls_left) (statements_of c.args.other.now) s)) c.block-2.ensures.gives
 
 -- ---- run_def
 
 pub statements::run_def-default_values-requires : goal.statements::run_def-default_values-requires
-statements::run_def-default_values-requires g falls c κs within = (
-  (let is : map parameter_of c.as_slice.result.now ≡ (definition_of c.args.def.now.value).parameters = ap (map parameter_of) (c.as_slice.ensures.value ∙ ap (λ (d : Def). d.params.items) c.deref.ensures) ∙ sym (parameters_are c.args.def.now.value) in omega (arith, ap of_parameters is)),
-  (
-    search rules,
-    (
-      (let is : map parameter_of c.as_slice.result.now ≡ (definition_of c.args.def.now.value).parameters = ap (map parameter_of) (c.as_slice.ensures.value ∙ ap (λ (d : Def). d.params.items) c.deref.ensures) ∙ sym (parameters_are c.args.def.now.value) in
-          subst (λ (ps : List Parameter). of_parameters ps < 2 ^ 20) (sym is) c.requires.small),
+statements::run_def-default_values-requires g falls c κs within =
+    let is : map parameter_of c.as_slice.result.now ≡ (definition_of c.args.def.now.value).parameters = ap (map parameter_of) (c.as_slice.ensures.value ∙ ap (λ (d : Def). d.params.items) c.deref.ensures) ∙ sym (parameters_are c.args.def.now.value) in (
+      (let is : map parameter_of c.as_slice.result.now ≡ (definition_of c.args.def.now.value).parameters = ap (map parameter_of) (c.as_slice.ensures.value ∙ ap (λ (d : Def). d.params.items) c.deref.ensures) ∙ sym (parameters_are c.args.def.now.value) in omega (arith, ap of_parameters is)),
       (
-        (let is : map parameter_of c.as_slice.result.now ≡ (definition_of c.args.def.now.value).parameters = ap (map parameter_of) (c.as_slice.ensures.value ∙ ap (λ (d : Def). d.params.items) c.deref.ensures) ∙ sym (parameters_are c.args.def.now.value) in
-            subst (λ (ps : List Parameter). ParametersFit ps) (sym is) c.requires.fits),
         search rules,
+        (
+          (subst (λ (ps : List Parameter). of_parameters ps < 2 ^ 20) (sym is) c.requires.small),
+          (
+            (subst (λ (ps : List Parameter). ParametersFit ps) (sym is) c.requires.fits),
+            search rules,
+          ),
+        ),
       ),
-    ),
-  ),
-)
+    )
 
 pub statements::run_def-returns-in_err-defaults-clause-gives : goal.statements::run_def-returns-in_err-defaults-clause-gives
 statements::run_def-returns-in_err-defaults-clause-gives g falls c =
     let p = err_from_is_err_and c.from_residual.result c.from_residual.ensures.1 in
-    let calls = call c.args.room in
+    let calls = call c.args.calls_left in
     let d = definition_of c.args.def.now.value in
     let s = moment_of c.args.machine.now in
     let t = moment_of c.default_values.new.machine in
@@ -1605,7 +1576,7 @@ statements::run_def-assign-requires-clause-name g falls c =
 
 pub statements::run_def-returns-clause-gives : goal.statements::run_def-returns-clause-gives
 statements::run_def-returns-clause-gives g falls c =
-    let calls = call c.args.room in
+    let calls = call c.args.calls_left in
     let d = definition_of c.args.def.now.value in
     let code = rc_str_bytes c.args.code.now in
     let s = moment_of c.args.machine.now in
@@ -1628,7 +1599,7 @@ statements::run_def-returns-clause-gives g falls c =
 pub loops::run_for-returns-in_err-walked-clause-gives : goal.loops::run_for-returns-in_err-walked-clause-gives
 loops::run_for-returns-in_err-walked-clause-gives g falls c =
     let p = err_from_is_err_and c.from_residual.result c.from_residual.ensures.1 in
-    let calls = call c.args.room in
+    let calls = call c.args.calls_left in
     let e = expression_of c.args.target.now in
     let walked = expression_of c.args.walked.now in
     let body = statements_of c.args.body.now in
@@ -1638,7 +1609,7 @@ loops::run_for-returns-in_err-walked-clause-gives g falls c =
 pub loops::run_for-returns-in_err-walk-clause-gives : goal.loops::run_for-returns-in_err-walk-clause-gives
 loops::run_for-returns-in_err-walk-clause-gives g falls c =
     let p = err_from_is_err_and c.from_residual-in_err-walk.result c.from_residual-in_err-walk.ensures.1 in
-    let calls = call c.args.room in
+    let calls = call c.args.calls_left in
     let e = expression_of c.args.target.now in
     let walked = expression_of c.args.walked.now in
     let body = statements_of c.args.body.now in
@@ -1647,7 +1618,7 @@ loops::run_for-returns-in_err-walk-clause-gives g falls c =
 
 pub loops::run_for-returns-clause-gives : goal.loops::run_for-returns-clause-gives
 loops::run_for-returns-clause-gives g falls c =
-    let calls = call c.args.room in
+    let calls = call c.args.calls_left in
     let e = expression_of c.args.target.now in
     let walked = expression_of c.args.walked.now in
     let body = statements_of c.args.body.now in
@@ -1657,21 +1628,20 @@ loops::run_for-returns-clause-gives g falls c =
 -- ---- run_handlers
 
 pub tries::run_handlers-is_for-requires : goal.tries::run_handlers-is_for-requires
-tries::run_handlers-is_for-requires g falls c κs within = (
-  (let low = handlers_low c.args.handlers.now c.loop-handler.handler-index c.handler-item.result c.loop-handler-test.true c.handler-item.is in
-      omega (arith, low.0, c.loop-handler.invariant.height, c.requires.small)),
-  (
-    search rules,
-    (
-      (let low = handlers_low c.args.handlers.now c.loop-handler.handler-index c.handler-item.result c.loop-handler-test.true c.handler-item.is in
-          omega (arith, low.0, c.loop-handler.invariant.height, c.requires.small)),
+tries::run_handlers-is_for-requires g falls c κs within =
+    let low = handlers_low c.args.handlers.now c.loop-handler.handler-index c.handler-item.result c.loop-handler-test.true c.handler-item.is in (
+      (omega (arith, low.0, c.loop-handler.invariant.height, c.requires.small)),
       (
-        (handlers_fit c.args.handlers.now c.loop-handler.handler-index c.handler-item.result c.loop-handler-test.true c.handler-item.is c.loop-handler.invariant.fits).0,
         search rules,
+        (
+          (omega (arith, low.0, c.loop-handler.invariant.height, c.requires.small)),
+          (
+            (handlers_fit c.args.handlers.now c.loop-handler.handler-index c.handler-item.result c.loop-handler-test.true c.handler-item.is c.loop-handler.invariant.fits).0,
+            search rules,
+          ),
+        ),
       ),
-    ),
-  ),
-)
+    )
 
 pub tries::run_handlers-returns-in_err-is_for-clause-gives : goal.tries::run_handlers-returns-in_err-is_for-clause-gives
 tries::run_handlers-returns-in_err-is_for-clause-gives g falls c =
@@ -1680,30 +1650,29 @@ tries::run_handlers-returns-in_err-is_for-clause-gives g falls c =
     let s = moment_of c.loop-handler.machine in
     let t = moment_of c.is_for.new.machine in
     rw (p.1, p.2) (subst (λ (x : Ends Flow). Fails f t x) (sym c.loop-handler.invariant.told)
-    (not_told c.args.handlers.now c.loop-handler.handler-index c.handler-item.result c.loop-handler-test.true c.handler-item.is (call c.args.room) _ s t f c.in_err-is_for.ensures.gives))
+    (not_told c.args.handlers.now c.loop-handler.handler-index c.handler-item.result c.loop-handler-test.true c.handler-item.is (call c.args.calls_left) _ s t f c.in_err-is_for.ensures.gives))
 
 pub tries::run_handlers-handle-requires : goal.tries::run_handlers-handle-requires
-tries::run_handlers-handle-requires g falls c κs within = (
-  (let low = handlers_low c.args.handlers.now c.loop-handler.handler-index c.handler-item.result c.loop-handler-test.true c.handler-item.is in
-      omega (arith, ap (λ b. of_statements (statements_of b)) c.deref.ensures.value, low.1, c.loop-handler.invariant.height, c.requires.small)),
-  (
-    search rules,
-    (
-      (handlers_fit c.args.handlers.now c.loop-handler.handler-index c.handler-item.result c.loop-handler-test.true c.handler-item.is c.loop-handler.invariant.fits).1,
+tries::run_handlers-handle-requires g falls c κs within =
+    let low = handlers_low c.args.handlers.now c.loop-handler.handler-index c.handler-item.result c.loop-handler-test.true c.handler-item.is in (
+      (omega (arith, ap (λ b. of_statements (statements_of b)) c.deref.ensures.value, low.1, c.loop-handler.invariant.height, c.requires.small)),
       (
-        (let low = handlers_low c.args.handlers.now c.loop-handler.handler-index c.handler-item.result c.loop-handler-test.true c.handler-item.is in
-            rw c.deref.ensures.value (omega (arith, low.1, c.loop-handler.invariant.height, c.requires.small))),
+        search rules,
         (
-          rw c.deref.ensures.value (handlers_fit c.args.handlers.now c.loop-handler.handler-index c.handler-item.result c.loop-handler-test.true c.handler-item.is c.loop-handler.invariant.fits).2,
+          (handlers_fit c.args.handlers.now c.loop-handler.handler-index c.handler-item.result c.loop-handler-test.true c.handler-item.is c.loop-handler.invariant.fits).1,
           (
-            search rules,
-            search rules,
+            (rw c.deref.ensures.value (omega (arith, low.1, c.loop-handler.invariant.height, c.requires.small))),
+            (
+              rw c.deref.ensures.value (handlers_fit c.args.handlers.now c.loop-handler.handler-index c.handler-item.result c.loop-handler-test.true c.handler-item.is c.loop-handler.invariant.fits).2,
+              (
+                search rules,
+                search rules,
+              ),
+            ),
           ),
         ),
       ),
-    ),
-  ),
-)
+    )
 
 pub tries::run_handlers-returns-then-branch-clause-gives : goal.tries::run_handlers-returns-then-branch-clause-gives
 tries::run_handlers-returns-then-branch-clause-gives g falls c =
@@ -1711,7 +1680,7 @@ tries::run_handlers-returns-then-branch-clause-gives g falls c =
     let t = moment_of c.is_for.new.machine in
     let u = moment_of c.handle.new.machine in
     subst (λ (x : Ends Flow). Gives flow_of c.handle.result u x) (sym c.loop-handler.invariant.told)
-    (this_one c.args.handlers.now c.loop-handler.handler-index c.handler-item.result c.loop-handler-test.true c.handler-item.is (call c.args.room) _ s t c.in_ok-is_for.field-0 c.if-branch.true c.in_ok-is_for.ensures.gives c.deref.result.now c.deref.ensures.value c.handle.result u c.handle.ensures.gives)
+    (this_one c.args.handlers.now c.loop-handler.handler-index c.handler-item.result c.loop-handler-test.true c.handler-item.is (call c.args.calls_left) _ s t c.in_ok-is_for.field-0 c.if-branch.true c.in_ok-is_for.ensures.gives c.deref.result.now c.deref.ensures.value c.handle.result u c.handle.ensures.gives)
 
 pub tries::run_handlers-loop-handler-preserved : goal.tries::run_handlers-loop-handler-preserved
 tries::run_handlers-loop-handler-preserved g falls c =
@@ -1724,7 +1693,7 @@ tries::run_handlers-loop-handler-preserved g falls c =
     let low = handlers_low hs i h c.loop-handler-test.true c.handler-item.is in
     let kept = c.is_for.ensures.kept in
     record {
-      told = now.told ∙ not_this hs i h c.loop-handler-test.true c.handler-item.is (call c.args.room) _ s t c.in_ok-is_for.field-0 c.if-branch.false c.in_ok-is_for.ensures.gives;
+      told = now.told ∙ not_this hs i h c.loop-handler-test.true c.handler-item.is (call c.args.calls_left) _ s t c.in_ok-is_for.field-0 c.if-branch.false c.in_ok-is_for.ensures.gives;
       height = omega (arith, low.2, now.height);
       fits = (handlers_fit hs i h c.loop-handler-test.true c.handler-item.is now.fits).3;
       kept = grown_on 0 0 c.args.machine.now c.loop-handler.machine c.is_for.new.machine c.args.steps.now c.loop-handler.steps c.is_for.new.steps now.kept kept;
@@ -1748,8 +1717,8 @@ loops::run_turns-item_for-requires-clause-sound_walk g falls c = walk_more (leng
 pub loops::run_turns-returns-in_err-item-clause-gives : goal.loops::run_turns-returns-in_err-item-clause-gives
 loops::run_turns-returns-in_err-item-clause-gives g falls c =
     let p = err_from_is_err_and c.from_residual.result c.from_residual.ensures.1 in
-    let put = store (call c.args.room) (expression_of c.args.target.now) in
-    let body = in_block (statements_of c.args.body.now) (acts (call c.args.room) (statements_of c.args.body.now)) in
+    let put = store (call c.args.calls_left) (expression_of c.args.target.now) in
+    let body = in_block (statements_of c.args.body.now) (acts (call c.args.calls_left) (statements_of c.args.body.now)) in
     let walk = walk_of c.args.walk.now in
     let k = c.loop-item.place in
     let s = moment_of c.loop-item.machine in
@@ -1762,8 +1731,8 @@ loops::run_turns-returns-in_err-item-clause-gives g falls c =
 
 pub loops::run_turns-returns-in_default-clause-gives : goal.loops::run_turns-returns-in_default-clause-gives
 loops::run_turns-returns-in_default-clause-gives g falls c =
-    let put = store (call c.args.room) (expression_of c.args.target.now) in
-    let body = in_block (statements_of c.args.body.now) (acts (call c.args.room) (statements_of c.args.body.now)) in
+    let put = store (call c.args.calls_left) (expression_of c.args.target.now) in
+    let body = in_block (statements_of c.args.body.now) (acts (call c.args.calls_left) (statements_of c.args.body.now)) in
     let walk = walk_of c.args.walk.now in
     let k = c.loop-item.place in
     let s = moment_of c.loop-item.machine in
@@ -1776,8 +1745,8 @@ loops::run_turns-returns-in_default-clause-gives g falls c =
 pub loops::run_turns-returns-in_err-tick-clause-gives : goal.loops::run_turns-returns-in_err-tick-clause-gives
 loops::run_turns-returns-in_err-tick-clause-gives g falls c =
     let p = err_from_is_err_and c.from_residual-in_err-tick.result c.from_residual-in_err-tick.ensures.1 in
-    let put = store (call c.args.room) (expression_of c.args.target.now) in
-    let body = in_block (statements_of c.args.body.now) (acts (call c.args.room) (statements_of c.args.body.now)) in
+    let put = store (call c.args.calls_left) (expression_of c.args.target.now) in
+    let body = in_block (statements_of c.args.body.now) (acts (call c.args.calls_left) (statements_of c.args.body.now)) in
     let walk = walk_of c.args.walk.now in
     let k = c.loop-item.place in
     let s = moment_of c.loop-item.machine in
@@ -1815,8 +1784,8 @@ loops::run_turns-store-requires g falls c κs within = (
 pub loops::run_turns-returns-in_err-store-clause-gives : goal.loops::run_turns-returns-in_err-store-clause-gives
 loops::run_turns-returns-in_err-store-clause-gives g falls c =
     let p = err_from_is_err_and c.from_residual-in_err-store.result c.from_residual-in_err-store.ensures.1 in
-    let put = store (call c.args.room) (expression_of c.args.target.now) in
-    let body = in_block (statements_of c.args.body.now) (acts (call c.args.room) (statements_of c.args.body.now)) in
+    let put = store (call c.args.calls_left) (expression_of c.args.target.now) in
+    let body = in_block (statements_of c.args.body.now) (acts (call c.args.calls_left) (statements_of c.args.body.now)) in
     let walk = walk_of c.args.walk.now in
     let k = c.loop-item.place in
     let s = moment_of c.loop-item.machine in
@@ -1833,8 +1802,8 @@ loops::run_turns-returns-in_err-store-clause-gives g falls c =
 pub loops::run_turns-returns-in_err-block-clause-gives : goal.loops::run_turns-returns-in_err-block-clause-gives
 loops::run_turns-returns-in_err-block-clause-gives g falls c =
     let p = err_from_is_err_and c.from_residual-in_err-block.result c.from_residual-in_err-block.ensures.1 in
-    let put = store (call c.args.room) (expression_of c.args.target.now) in
-    let body = in_block (statements_of c.args.body.now) (acts (call c.args.room) (statements_of c.args.body.now)) in
+    let put = store (call c.args.calls_left) (expression_of c.args.target.now) in
+    let body = in_block (statements_of c.args.body.now) (acts (call c.args.calls_left) (statements_of c.args.body.now)) in
     let walk = walk_of c.args.walk.now in
     let k = c.loop-item.place in
     let s = moment_of c.loop-item.machine in
@@ -1850,8 +1819,8 @@ loops::run_turns-returns-in_err-block-clause-gives g falls c =
 
 pub loops::run_turns-returns-in-Broke-clause-gives : goal.loops::run_turns-returns-in-Broke-clause-gives
 loops::run_turns-returns-in-Broke-clause-gives g falls c =
-    let put = store (call c.args.room) (expression_of c.args.target.now) in
-    let body = in_block (statements_of c.args.body.now) (acts (call c.args.room) (statements_of c.args.body.now)) in
+    let put = store (call c.args.calls_left) (expression_of c.args.target.now) in
+    let body = in_block (statements_of c.args.body.now) (acts (call c.args.calls_left) (statements_of c.args.body.now)) in
     let walk = walk_of c.args.walk.now in
     let k = c.loop-item.place in
     let s = moment_of c.loop-item.machine in
@@ -1870,8 +1839,8 @@ loops::run_turns-returns-in-Broke-clause-gives g falls c =
 
 pub loops::run_turns-returns-in-Returned-clause-gives : goal.loops::run_turns-returns-in-Returned-clause-gives
 loops::run_turns-returns-in-Returned-clause-gives g falls c =
-    let put = store (call c.args.room) (expression_of c.args.target.now) in
-    let body = in_block (statements_of c.args.body.now) (acts (call c.args.room) (statements_of c.args.body.now)) in
+    let put = store (call c.args.calls_left) (expression_of c.args.target.now) in
+    let body = in_block (statements_of c.args.body.now) (acts (call c.args.calls_left) (statements_of c.args.body.now)) in
     let walk = walk_of c.args.walk.now in
     let k = c.loop-item.place in
     let s = moment_of c.loop-item.machine in
@@ -1890,12 +1859,12 @@ loops::run_turns-returns-in-Returned-clause-gives g falls c =
 
 pub loops::run_turns-loop-item-smaller-after-branch-6 : goal.loops::run_turns-loop-item-smaller-after-branch-6
 loops::run_turns-loop-item-smaller-after-branch-6 g falls c =
-    omega (arith, c.in_ok-item.ensures.kept.0, c.in_ok-item.ensures.kept.1, c.in_ok-tick.ensures.taken, c.in_ok-tick.ensures.kept.0, c.in_ok-tick.ensures.kept.1, c.in_ok-store.ensures.kept.0, c.in_ok-store.ensures.kept.1, c.in_ok-block.ensures.kept.0, c.in_ok-block.ensures.kept.1)
+    omega (arith, c.in_ok-item.ensures.costs.kept.0, c.in_ok-item.ensures.costs.kept.1, c.in_ok-tick.ensures.taken, c.in_ok-tick.ensures.kept.0, c.in_ok-tick.ensures.kept.1, c.in_ok-store.ensures.kept.0, c.in_ok-store.ensures.kept.1, c.in_ok-block.ensures.kept.0, c.in_ok-block.ensures.kept.1)
 
 pub loops::run_turns-loop-item-preserved-after-branch-6 : goal.loops::run_turns-loop-item-preserved-after-branch-6
 loops::run_turns-loop-item-preserved-after-branch-6 g falls c =
-    let put = store (call c.args.room) (expression_of c.args.target.now) in
-    let body = in_block (statements_of c.args.body.now) (acts (call c.args.room) (statements_of c.args.body.now)) in
+    let put = store (call c.args.calls_left) (expression_of c.args.target.now) in
+    let body = in_block (statements_of c.args.body.now) (acts (call c.args.calls_left) (statements_of c.args.body.now)) in
     let walk = walk_of c.args.walk.now in
     let k = c.loop-item.place in
     let s = moment_of c.loop-item.machine in
@@ -1915,22 +1884,22 @@ loops::run_turns-loop-item-preserved-after-branch-6 g falls c =
     ] in
     let next : suc k ≡ k + 1 = omega arith in
     record {
-      told = (w.0, omega (arith, w.1, told.1, c.in_ok-item.ensures.kept.0, c.in_ok-item.ensures.kept.1, c.in_ok-tick.ensures.taken, c.in_ok-tick.ensures.kept.0, c.in_ok-tick.ensures.kept.1, c.in_ok-store.ensures.kept.0, c.in_ok-store.ensures.kept.1, c.in_ok-block.ensures.kept.0, c.in_ok-block.ensures.kept.1), there ∙ ap (λ n. walk_on w.0 walk n (λ v. put v >> body) s4) next);
-      place = omega (arith, c.loop-item.invariant.place, c.in_ok-item.ensures.kept.0, c.in_ok-item.ensures.kept.1, c.in_ok-tick.ensures.taken, c.in_ok-tick.ensures.kept.0, c.in_ok-tick.ensures.kept.1, c.in_ok-store.ensures.kept.0, c.in_ok-store.ensures.kept.1, c.in_ok-block.ensures.kept.0, c.in_ok-block.ensures.kept.1);
+      told = (w.0, omega (arith, w.1, told.1, c.in_ok-item.ensures.costs.kept.0, c.in_ok-item.ensures.costs.kept.1, c.in_ok-tick.ensures.taken, c.in_ok-tick.ensures.kept.0, c.in_ok-tick.ensures.kept.1, c.in_ok-store.ensures.kept.0, c.in_ok-store.ensures.kept.1, c.in_ok-block.ensures.kept.0, c.in_ok-block.ensures.kept.1), there ∙ ap (λ n. walk_on w.0 walk n (λ v. put v >> body) s4) next);
+      place = omega (arith, c.loop-item.invariant.place, c.in_ok-item.ensures.costs.kept.0, c.in_ok-item.ensures.costs.kept.1, c.in_ok-tick.ensures.taken, c.in_ok-tick.ensures.kept.0, c.in_ok-tick.ensures.kept.1, c.in_ok-store.ensures.kept.0, c.in_ok-store.ensures.kept.1, c.in_ok-block.ensures.kept.0, c.in_ok-block.ensures.kept.1);
       kept =
           (let then = c.loop-item.invariant.kept in
-          (omega (arith, then.0, c.in_ok-item.ensures.kept.0, c.in_ok-item.ensures.kept.1, c.in_ok-tick.ensures.taken, c.in_ok-tick.ensures.kept.0, c.in_ok-tick.ensures.kept.1, c.in_ok-store.ensures.kept.0, c.in_ok-store.ensures.kept.1, c.in_ok-block.ensures.kept.0, c.in_ok-block.ensures.kept.1), omega (arith, then.1, ap length c.in_ok-tick.ensures.heap, c.in_ok-item.ensures.kept.0, c.in_ok-item.ensures.kept.1, c.in_ok-tick.ensures.taken, c.in_ok-tick.ensures.kept.0, c.in_ok-tick.ensures.kept.1, c.in_ok-store.ensures.kept.0, c.in_ok-store.ensures.kept.1, c.in_ok-block.ensures.kept.0, c.in_ok-block.ensures.kept.1), omega (arith, then.2, c.in_ok-item.ensures.kept.2, c.in_ok-tick.ensures.kept.2, c.in_ok-store.ensures.kept.2, c.in_ok-block.ensures.kept.2)));
-      reads = omega (arith, c.loop-item.invariant.reads, c.in_ok-item.ensures.reads, c.in_ok-tick.ensures.counted, c.in_ok-tick.ensures.taken, c.in_ok-store.ensures.reads, c.in_ok-block.ensures.reads);
+          (omega (arith, then.0, c.in_ok-item.ensures.costs.kept.0, c.in_ok-item.ensures.costs.kept.1, c.in_ok-tick.ensures.taken, c.in_ok-tick.ensures.kept.0, c.in_ok-tick.ensures.kept.1, c.in_ok-store.ensures.kept.0, c.in_ok-store.ensures.kept.1, c.in_ok-block.ensures.kept.0, c.in_ok-block.ensures.kept.1), omega (arith, then.1, ap length c.in_ok-tick.ensures.heap, c.in_ok-item.ensures.costs.kept.0, c.in_ok-item.ensures.costs.kept.1, c.in_ok-tick.ensures.taken, c.in_ok-tick.ensures.kept.0, c.in_ok-tick.ensures.kept.1, c.in_ok-store.ensures.kept.0, c.in_ok-store.ensures.kept.1, c.in_ok-block.ensures.kept.0, c.in_ok-block.ensures.kept.1), omega (arith, then.2, c.in_ok-item.ensures.costs.kept.2, c.in_ok-tick.ensures.kept.2, c.in_ok-store.ensures.kept.2, c.in_ok-block.ensures.kept.2)));
+      reads = omega (arith, c.loop-item.invariant.reads, c.in_ok-item.ensures.costs.reads, c.in_ok-tick.ensures.counted, c.in_ok-tick.ensures.taken, c.in_ok-store.ensures.reads, c.in_ok-block.ensures.reads);
     }
 
 pub loops::run_turns-loop-item-smaller : goal.loops::run_turns-loop-item-smaller
 loops::run_turns-loop-item-smaller g falls c =
-    omega (arith, c.in_ok-item.ensures.kept.0, c.in_ok-item.ensures.kept.1, c.in_ok-tick.ensures.taken, c.in_ok-tick.ensures.kept.0, c.in_ok-tick.ensures.kept.1, c.in_ok-store.ensures.kept.0, c.in_ok-store.ensures.kept.1, c.in_ok-block.ensures.kept.0, c.in_ok-block.ensures.kept.1)
+    omega (arith, c.in_ok-item.ensures.costs.kept.0, c.in_ok-item.ensures.costs.kept.1, c.in_ok-tick.ensures.taken, c.in_ok-tick.ensures.kept.0, c.in_ok-tick.ensures.kept.1, c.in_ok-store.ensures.kept.0, c.in_ok-store.ensures.kept.1, c.in_ok-block.ensures.kept.0, c.in_ok-block.ensures.kept.1)
 
 pub loops::run_turns-loop-item-preserved : goal.loops::run_turns-loop-item-preserved
 loops::run_turns-loop-item-preserved g falls c =
-    let put = store (call c.args.room) (expression_of c.args.target.now) in
-    let body = in_block (statements_of c.args.body.now) (acts (call c.args.room) (statements_of c.args.body.now)) in
+    let put = store (call c.args.calls_left) (expression_of c.args.target.now) in
+    let body = in_block (statements_of c.args.body.now) (acts (call c.args.calls_left) (statements_of c.args.body.now)) in
     let walk = walk_of c.args.walk.now in
     let k = c.loop-item.place in
     let s = moment_of c.loop-item.machine in
@@ -1950,12 +1919,12 @@ loops::run_turns-loop-item-preserved g falls c =
     ] in
     let next : suc k ≡ k + 1 = omega arith in
     record {
-      told = (w.0, omega (arith, w.1, told.1, c.in_ok-item.ensures.kept.0, c.in_ok-item.ensures.kept.1, c.in_ok-tick.ensures.taken, c.in_ok-tick.ensures.kept.0, c.in_ok-tick.ensures.kept.1, c.in_ok-store.ensures.kept.0, c.in_ok-store.ensures.kept.1, c.in_ok-block.ensures.kept.0, c.in_ok-block.ensures.kept.1), there ∙ ap (λ n. walk_on w.0 walk n (λ v. put v >> body) s4) next);
-      place = omega (arith, c.loop-item.invariant.place, c.in_ok-item.ensures.kept.0, c.in_ok-item.ensures.kept.1, c.in_ok-tick.ensures.taken, c.in_ok-tick.ensures.kept.0, c.in_ok-tick.ensures.kept.1, c.in_ok-store.ensures.kept.0, c.in_ok-store.ensures.kept.1, c.in_ok-block.ensures.kept.0, c.in_ok-block.ensures.kept.1);
+      told = (w.0, omega (arith, w.1, told.1, c.in_ok-item.ensures.costs.kept.0, c.in_ok-item.ensures.costs.kept.1, c.in_ok-tick.ensures.taken, c.in_ok-tick.ensures.kept.0, c.in_ok-tick.ensures.kept.1, c.in_ok-store.ensures.kept.0, c.in_ok-store.ensures.kept.1, c.in_ok-block.ensures.kept.0, c.in_ok-block.ensures.kept.1), there ∙ ap (λ n. walk_on w.0 walk n (λ v. put v >> body) s4) next);
+      place = omega (arith, c.loop-item.invariant.place, c.in_ok-item.ensures.costs.kept.0, c.in_ok-item.ensures.costs.kept.1, c.in_ok-tick.ensures.taken, c.in_ok-tick.ensures.kept.0, c.in_ok-tick.ensures.kept.1, c.in_ok-store.ensures.kept.0, c.in_ok-store.ensures.kept.1, c.in_ok-block.ensures.kept.0, c.in_ok-block.ensures.kept.1);
       kept =
           (let then = c.loop-item.invariant.kept in
-          (omega (arith, then.0, c.in_ok-item.ensures.kept.0, c.in_ok-item.ensures.kept.1, c.in_ok-tick.ensures.taken, c.in_ok-tick.ensures.kept.0, c.in_ok-tick.ensures.kept.1, c.in_ok-store.ensures.kept.0, c.in_ok-store.ensures.kept.1, c.in_ok-block.ensures.kept.0, c.in_ok-block.ensures.kept.1), omega (arith, then.1, ap length c.in_ok-tick.ensures.heap, c.in_ok-item.ensures.kept.0, c.in_ok-item.ensures.kept.1, c.in_ok-tick.ensures.taken, c.in_ok-tick.ensures.kept.0, c.in_ok-tick.ensures.kept.1, c.in_ok-store.ensures.kept.0, c.in_ok-store.ensures.kept.1, c.in_ok-block.ensures.kept.0, c.in_ok-block.ensures.kept.1), omega (arith, then.2, c.in_ok-item.ensures.kept.2, c.in_ok-tick.ensures.kept.2, c.in_ok-store.ensures.kept.2, c.in_ok-block.ensures.kept.2)));
-      reads = omega (arith, c.loop-item.invariant.reads, c.in_ok-item.ensures.reads, c.in_ok-tick.ensures.counted, c.in_ok-tick.ensures.taken, c.in_ok-store.ensures.reads, c.in_ok-block.ensures.reads);
+          (omega (arith, then.0, c.in_ok-item.ensures.costs.kept.0, c.in_ok-item.ensures.costs.kept.1, c.in_ok-tick.ensures.taken, c.in_ok-tick.ensures.kept.0, c.in_ok-tick.ensures.kept.1, c.in_ok-store.ensures.kept.0, c.in_ok-store.ensures.kept.1, c.in_ok-block.ensures.kept.0, c.in_ok-block.ensures.kept.1), omega (arith, then.1, ap length c.in_ok-tick.ensures.heap, c.in_ok-item.ensures.costs.kept.0, c.in_ok-item.ensures.costs.kept.1, c.in_ok-tick.ensures.taken, c.in_ok-tick.ensures.kept.0, c.in_ok-tick.ensures.kept.1, c.in_ok-store.ensures.kept.0, c.in_ok-store.ensures.kept.1, c.in_ok-block.ensures.kept.0, c.in_ok-block.ensures.kept.1), omega (arith, then.2, c.in_ok-item.ensures.costs.kept.2, c.in_ok-tick.ensures.kept.2, c.in_ok-store.ensures.kept.2, c.in_ok-block.ensures.kept.2)));
+      reads = omega (arith, c.loop-item.invariant.reads, c.in_ok-item.ensures.costs.reads, c.in_ok-tick.ensures.counted, c.in_ok-tick.ensures.taken, c.in_ok-store.ensures.reads, c.in_ok-block.ensures.reads);
     }
 
 -- ---- run_while
@@ -1970,10 +1939,10 @@ loops::run_while-loop-value-init g falls c = record {
 pub loops::run_while-returns-in_err-value-clause-gives : goal.loops::run_while-returns-in_err-value-clause-gives
 loops::run_while-returns-in_err-value-clause-gives g falls c =
     let p = err_from_is_err_and c.from_residual.result c.from_residual.ensures.1 in
-    let test = expr (call c.args.room) (expression_of c.args.test.now) in
-    let body = in_block (statements_of c.args.body.now) (acts (call c.args.room) (statements_of c.args.body.now)) in
+    let test = expr (call c.args.calls_left) (expression_of c.args.test.now) in
+    let body = in_block (statements_of c.args.body.now) (acts (call c.args.calls_left) (statements_of c.args.body.now)) in
     let s = moment_of c.loop-value.machine in
-    let start = act (call c.args.room) (t.while (expression_of c.args.test.now) (statements_of c.args.body.now)) (moment_of c.args.machine.now) in
+    let start = act (call c.args.calls_left) (t.while (expression_of c.args.test.now) (statements_of c.args.body.now)) (moment_of c.args.machine.now) in
     let told = c.loop-value.invariant.told in
     let w = while_told told.0 c.loop-value.machine.budget.left test body s start told.1 told.2 in
     let f = c.in_err-value.field-0.0 in
@@ -1982,10 +1951,10 @@ loops::run_while-returns-in_err-value-clause-gives g falls c =
 
 pub loops::run_while-returns-then-not-truth-clause-gives : goal.loops::run_while-returns-then-not-truth-clause-gives
 loops::run_while-returns-then-not-truth-clause-gives g falls c =
-    let test = expr (call c.args.room) (expression_of c.args.test.now) in
-    let body = in_block (statements_of c.args.body.now) (acts (call c.args.room) (statements_of c.args.body.now)) in
+    let test = expr (call c.args.calls_left) (expression_of c.args.test.now) in
+    let body = in_block (statements_of c.args.body.now) (acts (call c.args.calls_left) (statements_of c.args.body.now)) in
     let s = moment_of c.loop-value.machine in
-    let start = act (call c.args.room) (t.while (expression_of c.args.test.now) (statements_of c.args.body.now)) (moment_of c.args.machine.now) in
+    let start = act (call c.args.calls_left) (t.while (expression_of c.args.test.now) (statements_of c.args.body.now)) (moment_of c.args.machine.now) in
     let told = c.loop-value.invariant.told in
     let w = while_told told.0 c.loop-value.machine.budget.left test body s start told.1 told.2 in
     let s1 = moment_of c.evaluate.new.machine in
@@ -1996,10 +1965,10 @@ loops::run_while-returns-then-not-truth-clause-gives g falls c =
 pub loops::run_while-returns-in_err-tick-clause-gives : goal.loops::run_while-returns-in_err-tick-clause-gives
 loops::run_while-returns-in_err-tick-clause-gives g falls c =
     let p = err_from_is_err_and c.from_residual-in_err-tick.result c.from_residual-in_err-tick.ensures.1 in
-    let test = expr (call c.args.room) (expression_of c.args.test.now) in
-    let body = in_block (statements_of c.args.body.now) (acts (call c.args.room) (statements_of c.args.body.now)) in
+    let test = expr (call c.args.calls_left) (expression_of c.args.test.now) in
+    let body = in_block (statements_of c.args.body.now) (acts (call c.args.calls_left) (statements_of c.args.body.now)) in
     let s = moment_of c.loop-value.machine in
-    let start = act (call c.args.room) (t.while (expression_of c.args.test.now) (statements_of c.args.body.now)) (moment_of c.args.machine.now) in
+    let start = act (call c.args.calls_left) (t.while (expression_of c.args.test.now) (statements_of c.args.body.now)) (moment_of c.args.machine.now) in
     let told = c.loop-value.invariant.told in
     let w = while_told told.0 c.loop-value.machine.budget.left test body s start told.1 told.2 in
     let s1 = moment_of c.evaluate.new.machine in
@@ -2013,10 +1982,10 @@ loops::run_while-returns-in_err-tick-clause-gives g falls c =
 pub loops::run_while-returns-in_err-block-clause-gives : goal.loops::run_while-returns-in_err-block-clause-gives
 loops::run_while-returns-in_err-block-clause-gives g falls c =
     let p = err_from_is_err_and c.from_residual-in_err-block.result c.from_residual-in_err-block.ensures.1 in
-    let test = expr (call c.args.room) (expression_of c.args.test.now) in
-    let body = in_block (statements_of c.args.body.now) (acts (call c.args.room) (statements_of c.args.body.now)) in
+    let test = expr (call c.args.calls_left) (expression_of c.args.test.now) in
+    let body = in_block (statements_of c.args.body.now) (acts (call c.args.calls_left) (statements_of c.args.body.now)) in
     let s = moment_of c.loop-value.machine in
-    let start = act (call c.args.room) (t.while (expression_of c.args.test.now) (statements_of c.args.body.now)) (moment_of c.args.machine.now) in
+    let start = act (call c.args.calls_left) (t.while (expression_of c.args.test.now) (statements_of c.args.body.now)) (moment_of c.args.machine.now) in
     let told = c.loop-value.invariant.told in
     let w = while_told told.0 c.loop-value.machine.budget.left test body s start told.1 told.2 in
     let s1 = moment_of c.evaluate.new.machine in
@@ -2029,10 +1998,10 @@ loops::run_while-returns-in_err-block-clause-gives g falls c =
 
 pub loops::run_while-returns-in-Broke-clause-gives : goal.loops::run_while-returns-in-Broke-clause-gives
 loops::run_while-returns-in-Broke-clause-gives g falls c =
-    let test = expr (call c.args.room) (expression_of c.args.test.now) in
-    let body = in_block (statements_of c.args.body.now) (acts (call c.args.room) (statements_of c.args.body.now)) in
+    let test = expr (call c.args.calls_left) (expression_of c.args.test.now) in
+    let body = in_block (statements_of c.args.body.now) (acts (call c.args.calls_left) (statements_of c.args.body.now)) in
     let s = moment_of c.loop-value.machine in
-    let start = act (call c.args.room) (t.while (expression_of c.args.test.now) (statements_of c.args.body.now)) (moment_of c.args.machine.now) in
+    let start = act (call c.args.calls_left) (t.while (expression_of c.args.test.now) (statements_of c.args.body.now)) (moment_of c.args.machine.now) in
     let told = c.loop-value.invariant.told in
     let w = while_told told.0 c.loop-value.machine.budget.left test body s start told.1 told.2 in
     let s1 = moment_of c.evaluate.new.machine in
@@ -2047,10 +2016,10 @@ loops::run_while-returns-in-Broke-clause-gives g falls c =
 
 pub loops::run_while-returns-in-Returned-clause-gives : goal.loops::run_while-returns-in-Returned-clause-gives
 loops::run_while-returns-in-Returned-clause-gives g falls c =
-    let test = expr (call c.args.room) (expression_of c.args.test.now) in
-    let body = in_block (statements_of c.args.body.now) (acts (call c.args.room) (statements_of c.args.body.now)) in
+    let test = expr (call c.args.calls_left) (expression_of c.args.test.now) in
+    let body = in_block (statements_of c.args.body.now) (acts (call c.args.calls_left) (statements_of c.args.body.now)) in
     let s = moment_of c.loop-value.machine in
-    let start = act (call c.args.room) (t.while (expression_of c.args.test.now) (statements_of c.args.body.now)) (moment_of c.args.machine.now) in
+    let start = act (call c.args.calls_left) (t.while (expression_of c.args.test.now) (statements_of c.args.body.now)) (moment_of c.args.machine.now) in
     let told = c.loop-value.invariant.told in
     let w = while_told told.0 c.loop-value.machine.budget.left test body s start told.1 told.2 in
     let s1 = moment_of c.evaluate.new.machine in
@@ -2069,10 +2038,10 @@ loops::run_while-loop-value-smaller-after-branch-4 g falls c =
 
 pub loops::run_while-loop-value-preserved-after-branch-4 : goal.loops::run_while-loop-value-preserved-after-branch-4
 loops::run_while-loop-value-preserved-after-branch-4 g falls c =
-    let test = expr (call c.args.room) (expression_of c.args.test.now) in
-    let body = in_block (statements_of c.args.body.now) (acts (call c.args.room) (statements_of c.args.body.now)) in
+    let test = expr (call c.args.calls_left) (expression_of c.args.test.now) in
+    let body = in_block (statements_of c.args.body.now) (acts (call c.args.calls_left) (statements_of c.args.body.now)) in
     let s = moment_of c.loop-value.machine in
-    let start = act (call c.args.room) (t.while (expression_of c.args.test.now) (statements_of c.args.body.now)) (moment_of c.args.machine.now) in
+    let start = act (call c.args.calls_left) (t.while (expression_of c.args.test.now) (statements_of c.args.body.now)) (moment_of c.args.machine.now) in
     let told = c.loop-value.invariant.told in
     let w = while_told told.0 c.loop-value.machine.budget.left test body s start told.1 told.2 in
     let s1 = moment_of c.evaluate.new.machine in
@@ -2098,10 +2067,10 @@ loops::run_while-loop-value-preserved-after-branch-4 g falls c =
           let a1 = c.loop-value.steps in
           grown_on 0 0 m0 m3 m4 a0 c.tick.new.steps c.block.new.steps
           (grown_on 0 0 m0 m2 m3 a0 c.truth.new.steps c.tick.new.steps
-          (grown_on 0 0 m0 m1 m2 a0 a1 c.truth.new.steps c.loop-value.invariant.kept (omega (arith, c.in_ok-value.ensures.kept.0), omega (arith, c.in_ok-value.ensures.kept.1), omega (arith, c.in_ok-value.ensures.kept.2, c.truth.ensures.counted)))
+          (grown_on 0 0 m0 m1 m2 a0 a1 c.truth.new.steps c.loop-value.invariant.kept (omega (arith, c.in_ok-value.ensures.kept.0), omega (arith, c.in_ok-value.ensures.kept.1), omega (arith, c.in_ok-value.ensures.kept.2, c.truth.ensures.reads.0)))
           c.in_ok-tick.ensures.kept)
           c.in_ok-block.ensures.kept);
-      reads = omega (arith, c.loop-value.invariant.reads, c.in_ok-value.ensures.reads, c.in_ok-tick.ensures.counted, c.in_ok-tick.ensures.taken, c.in_ok-block.ensures.reads, c.truth.ensures.reads);
+      reads = omega (arith, c.loop-value.invariant.reads, c.in_ok-value.ensures.reads, c.in_ok-tick.ensures.counted, c.in_ok-tick.ensures.taken, c.in_ok-block.ensures.reads, c.truth.ensures.reads.1);
     }
 
 pub loops::run_while-loop-value-smaller : goal.loops::run_while-loop-value-smaller
@@ -2110,10 +2079,10 @@ loops::run_while-loop-value-smaller g falls c =
 
 pub loops::run_while-loop-value-preserved : goal.loops::run_while-loop-value-preserved
 loops::run_while-loop-value-preserved g falls c =
-    let test = expr (call c.args.room) (expression_of c.args.test.now) in
-    let body = in_block (statements_of c.args.body.now) (acts (call c.args.room) (statements_of c.args.body.now)) in
+    let test = expr (call c.args.calls_left) (expression_of c.args.test.now) in
+    let body = in_block (statements_of c.args.body.now) (acts (call c.args.calls_left) (statements_of c.args.body.now)) in
     let s = moment_of c.loop-value.machine in
-    let start = act (call c.args.room) (t.while (expression_of c.args.test.now) (statements_of c.args.body.now)) (moment_of c.args.machine.now) in
+    let start = act (call c.args.calls_left) (t.while (expression_of c.args.test.now) (statements_of c.args.body.now)) (moment_of c.args.machine.now) in
     let told = c.loop-value.invariant.told in
     let w = while_told told.0 c.loop-value.machine.budget.left test body s start told.1 told.2 in
     let s1 = moment_of c.evaluate.new.machine in
@@ -2139,8 +2108,8 @@ loops::run_while-loop-value-preserved g falls c =
           let a1 = c.loop-value.steps in
           grown_on 0 0 m0 m3 m4 a0 c.tick.new.steps c.block.new.steps
           (grown_on 0 0 m0 m2 m3 a0 c.truth.new.steps c.tick.new.steps
-          (grown_on 0 0 m0 m1 m2 a0 a1 c.truth.new.steps c.loop-value.invariant.kept (omega (arith, c.in_ok-value.ensures.kept.0), omega (arith, c.in_ok-value.ensures.kept.1), omega (arith, c.in_ok-value.ensures.kept.2, c.truth.ensures.counted)))
+          (grown_on 0 0 m0 m1 m2 a0 a1 c.truth.new.steps c.loop-value.invariant.kept (omega (arith, c.in_ok-value.ensures.kept.0), omega (arith, c.in_ok-value.ensures.kept.1), omega (arith, c.in_ok-value.ensures.kept.2, c.truth.ensures.reads.0)))
           c.in_ok-tick.ensures.kept)
           c.in_ok-block.ensures.kept);
-      reads = omega (arith, c.loop-value.invariant.reads, c.in_ok-value.ensures.reads, c.in_ok-tick.ensures.counted, c.in_ok-tick.ensures.taken, c.in_ok-block.ensures.reads, c.truth.ensures.reads);
+      reads = omega (arith, c.loop-value.invariant.reads, c.in_ok-value.ensures.reads, c.in_ok-tick.ensures.counted, c.in_ok-tick.ensures.taken, c.in_ok-block.ensures.reads, c.truth.ensures.reads.1);
     }

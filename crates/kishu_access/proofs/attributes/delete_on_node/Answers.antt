@@ -6,7 +6,8 @@ use Rattle.kishu_meaning.specs.moments.Moment.{fine}
 use Rattle.kishu_machine.specs.Frames.{locals_of}
 use Rattle.kishu_meaning.specs.values.Nodes.{remove_attr}
 use Rattle.kishu_meaning.specs.items.Subscripts.{delete_on_node}
-use Rattle.kishu_access.proofs.Changing.{run_changed, length_changed}
+use Rattle.kishu_heap.specs.Changing.{length_changed}
+use Rattle.kishu_access.proofs.Changing.{run_changed}
 use Rattle.kishu_access.proofs.Attributing.{deleted_on, not_deleted_on}
 use Rattle.kishu_access.proofs.Ends.{by_end, unnamed, unnamed_sound}
 use Rattle.kishu_access.proofs.attributes.delete_on_node.Goals as goal
@@ -22,10 +23,10 @@ returns-then-has_attribute-clause-gives g c =
     let i = c.args.id.0 in
     deleted_on i c.args.name.now s (slice_get s.nodes i) (sym c.has_attribute.ensures.is ∙ c.if-has_attribute.true) ∙ ap (λ (ns : List Node). fine tt (record s { nodes = ns })) (sym c.remove_attr-gone.ensures.nodes)
 
-pub returns-then-has_attribute-clause-kept : goal.returns-then-has_attribute-clause-kept
-returns-then-has_attribute-clause-kept g c =
+pub returns-then-has_attribute-clause-costs : goal.returns-then-has_attribute-clause-costs
+returns-then-has_attribute-clause-costs g c =
     let long = ap length c.remove_attr-gone.ensures.nodes ∙ length_changed (remove_attr c.args.name.now) c.args.id.0 c.args.machine.now.heap in
-    (omega (arith, long), omega (arith, long), omega arith)
+    record { kept = (omega (arith, long), omega (arith, long), omega arith); reads = omega arith }
 
 pub returns-clause-gives : goal.returns-clause-gives
 returns-clause-gives g c =

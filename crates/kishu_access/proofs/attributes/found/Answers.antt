@@ -1,6 +1,7 @@
 use Rattle.std.proofs.Common.{◌∙◌, ap, option_map}
 use Rattle.kishu_meaning.specs.values.Values.{value_of}
-use Rattle.kishu_access.proofs.Looking.{copied_value, finds}
+use Rattle.kishu_machine.specs.Lists.{copied_value}
+use Rattle.kishu_access.proofs.Looking.{finds}
 use Rattle.std.specs.Rc.{rc_str_bytes}
 use Rattle.std.specs.Str.{bytes_eq}
 use Rattle.kishu_access.proofs.attributes.found.Goals as goal

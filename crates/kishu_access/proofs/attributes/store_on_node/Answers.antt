@@ -7,7 +7,8 @@ use Rattle.kishu_machine.specs.Frames.{locals_of}
 use Rattle.std.specs.Rc.{rc_str_bytes}
 use Rattle.kishu_meaning.specs.items.Subscripts.{store_on_node}
 use Rattle.kishu_meaning.specs.values.Nodes.{changed, set_attr}
-use Rattle.kishu_access.proofs.Changing.{run_kept, length_changed}
+use Rattle.kishu_heap.specs.Changing.{length_changed}
+use Rattle.kishu_access.proofs.Changing.{run_kept}
 use Rattle.kishu_access.proofs.Attributing.{stored_on, not_stored_on}
 use Rattle.kishu_access.proofs.Ends.{by_end, unnamed, unnamed_sound}
 use Rattle.kishu_access.proofs.attributes.store_on_node.Goals as goal
@@ -39,12 +40,12 @@ returns-then-is_object-clause-gives g c =
     stored_on i (rc_str_bytes c.args.name.now) s w (slice_get s.nodes i) (sym c.is_object.ensures.is ∙ c.if-is_object.true)
     ∙ ap (λ (ns : List Node). fine tt (record s { nodes = ns })) (sym (c.in_ok-set_attr.ensures.ok ∙ ap (λ (y : List ℕ). changed (set_attr y w) i s.nodes) c.in_ok-clone.ensures.cases))
 
-pub returns-then-is_object-clause-kept : goal.returns-then-is_object-clause-kept
-returns-then-is_object-clause-kept g c =
+pub returns-then-is_object-clause-costs : goal.returns-then-is_object-clause-costs
+returns-then-is_object-clause-costs g c =
     let long = ap length c.in_ok-set_attr.ensures.ok ∙ length_changed (set_attr (rc_str_bytes c.in_ok-clone.field-0) (value_of c.args.value)) c.args.id.0 c.args.machine.now.heap in
-    (omega (arith, long), omega (arith, long), omega arith)
+    record { kept = (omega (arith, long), omega (arith, long), omega arith); reads = omega arith }
 
-pub returns-in_err-set_attr-clause-kept : goal.returns-in_err-set_attr-clause-kept
-returns-in_err-set_attr-clause-kept g c =
+pub returns-in_err-set_attr-clause-costs : goal.returns-in_err-set_attr-clause-costs
+returns-in_err-set_attr-clause-costs g c =
     let long = ap length c.in_err-set_attr.ensures.err in
-    (omega (arith, long), omega (arith, long), omega arith)
+    record { kept = (omega (arith, long), omega (arith, long), omega arith); reads = omega arith }

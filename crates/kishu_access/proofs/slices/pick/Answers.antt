@@ -5,7 +5,8 @@ use Rattle.std.proofs.lemmas.List.{append_assoc, map-append}
 use Rattle.kishu_meaning.specs.declared.value.Value as rust
 use Rattle.kishu_meaning.specs.values.Texts.{places, LieWithin}
 use Rattle.kishu_meaning.specs.values.Values.{Value, value_of}
-use Rattle.kishu_access.proofs.Placing.{first_within, second_within, rest_within, seen_at, seen_more, moved}
+use Rattle.kishu_text.specs.PlaceLaws.{first_within, second_within, rest_within}
+use Rattle.kishu_access.proofs.Placing.{seen_at, seen_more, moved}
 use Rattle.kishu_access.proofs.slices.pick.Goals as goal
 use Rattle.kishu_access.proofs.slices.pick.Goals.{then-k-len, else-k-len}
 

@@ -6,7 +6,8 @@ use Rattle.kishu_meaning.specs.values.Sound.{is_sound}
 use Rattle.kishu_meaning.specs.items.Subscripts.{without_place}
 use Rattle.kishu_meaning.specs.values.Values.{value_of}
 use Rattle.kishu_meaning.specs.items.Walks.{or_none_there}
-use Rattle.kishu_access.proofs.Changing.{all_without, length_changed, replaced, seen_removed}
+use Rattle.kishu_heap.specs.Changing.{length_changed}
+use Rattle.kishu_access.proofs.Changing.{all_without, replaced, seen_removed}
 use Rattle.kishu_access.proofs.stores.remove_place.Goals as goal
 
 pub remove-requires : goal.remove-requires

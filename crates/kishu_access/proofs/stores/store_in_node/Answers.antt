@@ -9,7 +9,8 @@ use Rattle.kishu_meaning.specs.values.Nodes.{set_item, insert}
 use Rattle.kishu_meaning.specs.items.Subscripts.{store_in_node}
 use Rattle.kishu_meaning.specs.values.Keys.{key_of}
 use Rattle.kishu_meaning.specs.declared.key.Key as rust_key
-use Rattle.kishu_access.proofs.Changing.{run_changed, run_kept, length_changed}
+use Rattle.kishu_heap.specs.Changing.{length_changed}
+use Rattle.kishu_access.proofs.Changing.{run_changed, run_kept}
 use Rattle.kishu_access.proofs.Storing.{has_place, list_stored, list_store_fails, dict_stored, dict_store_fails, not_stored}
 use Rattle.kishu_access.proofs.Ends.{by_end, passed_on, refused, refused_sound}
 use Rattle.kishu_access.proofs.stores.store_in_node.Goals as goal
@@ -41,10 +42,10 @@ returns-in_ok-place-in-List-clause-gives g c =
     list_stored c.args.id.0 (value_of c.args.index.now) (value_of c.args.value) s s (slice_get s.nodes c.args.id.0) c.in-List.len c.in_ok-place-in-List.place c.in-List.ensures.container c.in_ok-place-in-List.ensures.gives
     ∙ ap (λ (ns : List Node). fine tt (record s { nodes = ns })) (sym c.set_item.ensures)
 
-pub returns-in_ok-place-in-List-clause-kept : goal.returns-in_ok-place-in-List-clause-kept
-returns-in_ok-place-in-List-clause-kept g c =
+pub returns-in_ok-place-in-List-clause-costs : goal.returns-in_ok-place-in-List-clause-costs
+returns-in_ok-place-in-List-clause-costs g c =
     let long = ap length c.set_item.ensures ∙ length_changed (set_item c.in_ok-place-in-List.place (value_of c.args.value)) c.args.id.0 c.args.machine.now.heap in
-    (omega (arith, long), omega (arith, long), omega arith)
+    record { kept = (omega (arith, long), omega (arith, long), omega arith); reads = omega arith }
 
 pub returns-in-Other-clause-gives : goal.returns-in-Other-clause-gives
 returns-in-Other-clause-gives g c =
@@ -83,12 +84,12 @@ returns-in_ok-insert-in-Dict-clause-gives g c =
     dict_stored c.args.id.0 (value_of c.args.index.now) (value_of c.args.value) s t (slice_get s.nodes c.args.id.0) (key_of c.in_ok-key-in-Dict.key) c.in-Dict.ensures.container c.in_ok-key-in-Dict.ensures.gives
     ∙ ap (λ (ns : List Node). fine tt (record t { nodes = ns })) (sym c.in_ok-insert-in-Dict.ensures.ok)
 
-pub returns-in_ok-insert-in-Dict-clause-kept : goal.returns-in_ok-insert-in-Dict-clause-kept
-returns-in_ok-insert-in-Dict-clause-kept g c =
+pub returns-in_ok-insert-in-Dict-clause-costs : goal.returns-in_ok-insert-in-Dict-clause-costs
+returns-in_ok-insert-in-Dict-clause-costs g c =
     let long = ap length c.in_ok-insert-in-Dict.ensures.ok ∙ length_changed (insert (key_of c.in_ok-key-in-Dict.key) (value_of c.args.value)) c.args.id.0 c.key_of.new.machine.heap in
-    (omega (arith, long), omega (arith, long), omega arith)
+    record { kept = (omega (arith, long), omega (arith, long), omega arith); reads = omega arith }
 
-pub returns-in_err-insert-in-Dict-clause-kept : goal.returns-in_err-insert-in-Dict-clause-kept
-returns-in_err-insert-in-Dict-clause-kept g c =
+pub returns-in_err-insert-in-Dict-clause-costs : goal.returns-in_err-insert-in-Dict-clause-costs
+returns-in_err-insert-in-Dict-clause-costs g c =
     let long = ap length c.in_err-insert-in-Dict.ensures.err in
-    (omega (arith, long), omega (arith, long), omega arith)
+    record { kept = (omega (arith, long), omega (arith, long), omega arith); reads = omega arith }

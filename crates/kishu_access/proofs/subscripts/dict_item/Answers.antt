@@ -9,6 +9,7 @@ use Rattle.kishu_meaning.specs.moments.Moment.{node_at, or_else}
 use Rattle.kishu_meaning.specs.items.Subscripts.{node_item}
 use Rattle.kishu_meaning.specs.declared.key.Key as rust_key
 use Rattle.kishu_meaning.specs.declared.value.Value as rust
+use Rattle.kishu_meaning.specs.values.Classes.{key_error_class}
 use Rattle.kishu_machine.specs.Raising.{raises_with, sound_with}
 use Rattle.kishu_access.proofs.Taking.{entry_taken, entry_fails}
 use Rattle.kishu_access.proofs.Ends.{by_end, passed_on}
@@ -44,10 +45,10 @@ returns-clause-gives g c =
     let s = moment_of c.args.machine.now in
     let t = moment_of c.key_of.new.machine in
     let there = rw (c.in_ok-key.ensures.heap, c.in-None.is) at c.in_ok-found.ensures.value in
-    by_end value_of c.no_key.result t (node_item v i (node_at s.nodes v) s) (or_else (no_key i) None t) (entry_taken v i s t (node_at s.nodes v) (key_of c.in_ok-key.key) None c.requires.dict c.in_ok-key.ensures.gives there) (raises_with value_of 16 i c.no_key.result t c.no_key.ensures)
+    by_end value_of c.no_key.result t (node_item v i (node_at s.nodes v) s) (or_else (no_key i) None t) (entry_taken v i s t (node_at s.nodes v) (key_of c.in_ok-key.key) None c.requires.dict c.in_ok-key.ensures.gives there) (raises_with value_of key_error_class i c.no_key.result t c.no_key.ensures)
 
 pub returns-clause-sound : goal.returns-clause-sound
 returns-clause-sound g c =
     rw c.in_ok-key.ensures.heap
     (let n = length c.args.machine.now.heap in
-    sound_with (λ v. is_sound n (value_of v)) n 16 (value_of c.args.index.now) c.no_key.result c.no_key.ensures refl c.requires.sound_index)
+    sound_with (λ v. is_sound n (value_of v)) n key_error_class (value_of c.args.index.now) c.no_key.result c.no_key.ensures refl c.requires.sound_index)

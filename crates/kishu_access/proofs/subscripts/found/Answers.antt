@@ -1,6 +1,7 @@
 use Rattle.std.proofs.Common.{◌∙◌, ap, option_map}
 use Rattle.kishu_meaning.specs.values.Values.{value_of}
-use Rattle.kishu_access.proofs.Looking.{copied_value, finds}
+use Rattle.kishu_machine.specs.Lists.{copied_value}
+use Rattle.kishu_access.proofs.Looking.{finds}
 use Rattle.kishu_meaning.specs.values.Keys.{key_of, is_one}
 use Rattle.kishu_access.proofs.subscripts.found.Goals as goal
 

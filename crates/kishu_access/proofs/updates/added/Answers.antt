@@ -29,7 +29,7 @@ returns-in-Some-clause-gives g c =
     updated_list w s v c.in-Some.id.0 c.in-Some.ensures.is ∙ ap (λ (e : Ends (Unit {0})). and_then e (λ _. give v)) c.in_ok-extend.ensures.gives
 
 pub returns-in-Some-clause-sound : goal.returns-in-Some-clause-sound
-returns-in-Some-clause-sound g c = sound_more (length c.args.machine.now.heap) (length c.extend.new.machine.heap) c.in_ok-extend.ensures.kept.0 (value_of c.args.value) c.requires.sound_value
+returns-in-Some-clause-sound g c = sound_more (length c.args.machine.now.heap) (length c.extend.new.machine.heap) c.in_ok-extend.ensures.costs.kept.0 (value_of c.args.value) c.requires.sound_value
 
 pub returns-clause-gives : goal.returns-clause-gives
 returns-clause-gives g c =

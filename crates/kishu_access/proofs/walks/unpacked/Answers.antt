@@ -10,6 +10,7 @@ use Rattle.std.specs.declared.vec.Vec.{Vec}
 use Rattle.kishu_meaning.specs.declared.value.Value as rust
 use Rattle.kishu_meaning.specs.items.Sequences.{count_in}
 use Rattle.kishu_meaning.specs.items.Walks.{unpacked}
+use Rattle.kishu_meaning.specs.values.Classes.{value_error_class}
 use Rattle.kishu_machine.specs.Raising.{raises_text, sound_text}
 use Rattle.kishu_access.proofs.Ends.{by_end, passed_on, unwalked, unwalked_sound}
 use Rattle.kishu_access.proofs.Walking.{not_unpacked, unpack_fails, unpacked_items, unpacked_wrong}
@@ -56,12 +57,13 @@ returns-then-fits-clause-gives g c =
     let same : (c.in-Some.count == c.args.targets) ≡ true = grind (arith, nat_tests, c.if-fits.true) in
     by_end (λ v. map value_of v.items) c.items_of.result (moment_of c.items_of.new.machine) (unpacked c.args.targets v s) _ (unpacked_items c.args.targets v s c.in-Some.count (moment_of c.spend.new.machine) (sym c.in-Some.ensures.count) c.in_ok-spend.ensures.gives same) c.items_of.ensures.gives
 
-pub returns-then-fits-clause-kept : goal.returns-then-fits-clause-kept
-returns-then-fits-clause-kept g c =
+pub returns-then-fits-clause-costs : goal.returns-then-fits-clause-costs
+returns-then-fits-clause-costs g c =
     let v = value_of c.args.value.now in
     let long = ap length c.in_ok-spend.ensures.heap in
     let many = ap (λ (ns : List Node). unwrap_or (count_in ns v) 0) c.in_ok-spend.ensures.heap ∙ ap (λ (o : Option ℕ). unwrap_or o 0) (sym c.in-Some.ensures.count) in
-    (omega (arith, long, c.items_of.ensures.kept.0), omega (arith, long, many, c.in_ok-spend.ensures.taken, c.items_of.ensures.kept.1), omega (arith, c.items_of.ensures.kept.2, c.in_ok-spend.ensures.kept.2))
+    (let k = c.items_of.ensures.costs.kept in
+    record { kept = (omega (arith, long, k.0), omega (arith, long, many, c.in_ok-spend.ensures.taken, k.1), omega (arith, k.2, c.in_ok-spend.ensures.kept.2)); reads = omega arith })
 
 pub returns-clause-gives : goal.returns-clause-gives
 returns-clause-gives g c =
@@ -69,9 +71,9 @@ returns-clause-gives g c =
     let s = moment_of c.args.machine.now in
     let t = moment_of c.spend.new.machine in
     let other : (c.in-Some.count == c.args.targets) ≡ false = grind (arith, nat_tests, c.if-fits.false) in
-    by_end (λ v. map value_of v.items) c.bad_count.result t (unpacked c.args.targets v s) _ (unpacked_wrong c.args.targets v s c.in-Some.count t (sym c.in-Some.ensures.count) c.in_ok-spend.ensures.gives other) (raises_text (λ v. map value_of v.items) 24 (codes "cannot unpack into " ++ decimal c.args.targets) c.bad_count.result t c.bad_count.ensures)
+    by_end (λ v. map value_of v.items) c.bad_count.result t (unpacked c.args.targets v s) _ (unpacked_wrong c.args.targets v s c.in-Some.count t (sym c.in-Some.ensures.count) c.in_ok-spend.ensures.gives other) (raises_text (λ v. map value_of v.items) value_error_class (codes "cannot unpack into " ++ decimal c.args.targets) c.bad_count.result t c.bad_count.ensures)
 
 pub returns-clause-sound : goal.returns-clause-sound
 returns-clause-sound g c =
     let n = length c.spend.new.machine.heap in
-    sound_text (λ v. are_sound n (map value_of v.items)) n 24 (codes "cannot unpack into " ++ decimal c.args.targets) c.bad_count.result c.bad_count.ensures refl
+    sound_text (λ v. are_sound n (map value_of v.items)) n value_error_class (codes "cannot unpack into " ++ decimal c.args.targets) c.bad_count.result c.bad_count.ensures refl

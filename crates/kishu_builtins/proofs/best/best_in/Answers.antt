@@ -16,12 +16,9 @@ loop-at-init g c = record {
   best = tt;
   walk = refl;
   there = c.requires.there;
-  room = omega arith;
-  heap = omega arith;
-  depth = refl;
-  left = omega arith;
-  least = omega arith;
-  reads = omega arith;
+  grows = (omega arith, omega arith);
+  spends = (refl, omega arith, omega arith, omega arith);
+  turns = omega arith;
 }
 
 pub returns-in_err-item-clause-gives : goal.returns-in_err-item-clause-gives
@@ -47,10 +44,10 @@ returns-in_default-clause-gives g c =
     i.told ∙ folded_none (better (comparison_of c.args.which)) (walk_in c.args.heap.now c.args.walk.now) (n - at) (n - (at + 1)) at (at + 1) (fuel c.args.budget.now.left at c.loop-at-test.true) (next at) (option_map value_of c.loop-at.best) s t h
 
 pub returns-in_default-clause-sound : goal.returns-in_default-clause-sound
-returns-in_default-clause-sound g c = some_stays (length c.loop-at.heap) (length c.visited.new.heap) c.in_ok-item.ensures.heap c.loop-at.best c.loop-at.invariant.best
+returns-in_default-clause-sound g c = some_stays (length c.loop-at.heap) (length c.visited.new.heap) c.in_ok-item.ensures.grows.0 c.loop-at.best c.loop-at.invariant.best
 
 pub better-requires-clause-best : goal.better-requires-clause-best
-better-requires-clause-best g c = some_stays (length c.loop-at.heap) (length c.visited.new.heap) c.in_ok-item.ensures.heap c.loop-at.best c.loop-at.invariant.best
+better-requires-clause-best g c = some_stays (length c.loop-at.heap) (length c.visited.new.heap) c.in_ok-item.ensures.grows.0 c.loop-at.best c.loop-at.invariant.best
 
 pub better-requires-clause-value : goal.better-requires-clause-value
 better-requires-clause-value g c = rw c.in-Some.is at c.in_ok-item.ensures.sound
@@ -87,10 +84,11 @@ loop-at-preserved g c =
       best = c.in_ok-better.ensures.sound;
       walk = same ∙ i.walk;
       there = rw c.in-Some.is at c.in_ok-item.ensures.there;
-      room = omega (arith, room, i.room, c.in_ok-better.ensures.left);
-      heap = omega (arith, c.in_ok-item.ensures.heap, i.heap);
-      depth = c.in_ok-better.ensures.depth ∙ (c.in_ok-item.ensures.depth ∙ i.depth);
-      left = omega (arith, c.in_ok-better.ensures.left, c.in_ok-item.ensures.left, i.left);
-      least = omega (arith, c.in_ok-better.ensures.least, c.in_ok-item.ensures.least, i.least);
-      reads = omega (arith, paid, i.reads, c.in_ok-better.ensures.reads);
+      grows = (omega (arith, c.in_ok-item.ensures.grows.0, i.grows.0), omega (arith, room, i.grows.1, c.in_ok-better.ensures.spends.1));
+      spends = (c.in_ok-better.ensures.spends.0 ∙ (c.in_ok-item.ensures.spends.0 ∙ i.spends.0), omega (arith, c.in_ok-better.ensures.spends.1, c.in_ok-item.ensures.spends.1, i.spends.1), omega (arith, c.in_ok-better.ensures.spends.2, c.in_ok-item.ensures.spends.2, i.spends.2), omega (arith, paid, i.spends.3, c.in_ok-better.ensures.spends.3));
+      turns = omega (arith, paid, c.in_ok-item.ensures.spends.2, i.turns, c.in_ok-better.ensures.spends.1);
     }
+
+-- Each turn takes a step, so no turn is left over.
+pub returns-clause-gives : goal.returns-clause-gives
+returns-clause-gives g c = absurd (omega (arith, c.loop-at-test.false, c.loop-at.invariant.turns))

@@ -1,8 +1,9 @@
-use Rattle.std.proofs.Common.{◌≡◌, suc, ◌+◌, ◌-◌, ◌*◌, ◌≤◌, IsTrue, length, None}
+use Rattle.std.proofs.Common.{◌≡◌, suc, ◌+◌, ◌-◌, ◌≤◌, IsTrue, length, None}
 use Rattle.std.specs.Prelude.{IfSome, option_map}
 use Rattle.kishu_meaning.specs.calls.Builtins.{folded, better}
 use Rattle.kishu_meaning.specs.values.Sound.{is_sound}
 use Rattle.kishu_meaning.specs.values.Values.{value_of}
+use Rattle.kishu_heap.specs.Costs.{GrowsPaid, Spends}
 use Rattle.kishu_builtins.specs.Called.{moment_of}
 use Rattle.kishu_builtins.specs.Extremes.{comparison_of}
 use Rattle.kishu_builtins.specs.Walking.{walk_in, is_there}
@@ -14,10 +15,7 @@ invariant-loop-at g l = record {
   best : IfSome l.best (λ v. IsTrue (is_sound (length l.heap) (value_of v)));
   walk : walk_in l.heap l.walk ≡ walk_in l.fn.heap l.walk;
   there : IsTrue (is_there (length l.heap) l.walk);
-  room : length l.heap + l.budget.left ≤ length l.fn.heap + l.fn.budget.left;
-  heap : length l.fn.heap ≤ length l.heap;
-  depth : l.budget.depth ≡ l.fn.budget.depth;
-  left : l.budget.left ≤ l.fn.budget.left;
-  least : l.fn.budget.left + l.fn.steps ≤ l.budget.left + l.steps;
-  reads : 24 * l.budget.left + l.steps ≤ 24 * l.fn.budget.left + l.fn.steps;
+  grows : GrowsPaid 0 l.fn.heap l.fn.budget l.heap l.budget;
+  spends : Spends 0 l.fn.budget l.fn.steps l.budget l.steps;
+  turns : l.budget.left + l.at ≤ l.fn.budget.left;
 }

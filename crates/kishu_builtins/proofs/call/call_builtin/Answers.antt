@@ -3,7 +3,6 @@ use Rattle.kishu_meaning.specs.calls.Callees.{call_builtin}
 use Rattle.kishu_meaning.specs.values.Values.{value_of}
 use Rattle.kishu_builtins.specs.Called.{moment_of, plainly}
 use Rattle.kishu_builtins.specs.CallLaws.{builtin_kept}
-use Rattle.kishu_builtins.specs.GrowingCalls.{builtin_grows}
 use Rattle.kishu_builtins.proofs.Ending.{grown, thrown}
 use Rattle.kishu_builtins.proofs.call.call_builtin.Goals as goal
 
@@ -18,4 +17,4 @@ returns-clause-more g c =
     let vs = map value_of c.args.args.now in
     let s = moment_of c.args.heap.now c.args.budget.now in
     grown c.args.heap.now c.called.new.heap c.args.budget.now c.called.new.budget (call_builtin c.args.which.0 (plainly vs) s)
-    ((builtin_kept c.args.which.0 c.requires.not_print vs).keeps s) ((builtin_grows c.args.which.0 c.requires.not_print vs).grows s) c.called.result c.called.ensures.gives
+    ((builtin_kept c.args.which.0 c.requires.not_print vs).keeps s) c.called.ensures.grows c.called.result c.called.ensures.gives

@@ -6,15 +6,15 @@ use Rattle.kishu_builtins.specs.SoundCalls.{builtin_sounds}
 use Rattle.kishu_builtins.proofs.Ending.{sound}
 use Rattle.kishu_builtins.proofs.call.called.Goals as goal
 
-pub returns-in-4-clause-gives : goal.returns-in-4-clause-gives
-returns-in-4-clause-gives g c =
+pub returns-in-DIVMOD-clause-gives : goal.returns-in-DIVMOD-clause-gives
+returns-in-DIVMOD-clause-gives g c =
     let vs = map value_of c.args.args.now in
     let b = c.args.budget.now in
     let number : c.args.which.0 ≡ 4 = omega arith in
     subst (λ n. Gives value_of c.quotient_and_remainder.result (moment_of c.quotient_and_remainder.new.heap b) (call_builtin n (plainly vs) (moment_of c.args.heap.now b))) (sym number) (c.quotient_and_remainder.ensures.gives b)
 
-pub returns-in-4-clause-sound : goal.returns-in-4-clause-sound
-returns-in-4-clause-sound g c =
+pub returns-in-DIVMOD-clause-sound : goal.returns-in-DIVMOD-clause-sound
+returns-in-DIVMOD-clause-sound g c =
     let vs = map value_of c.args.args.now in
     let b = c.args.budget.now in
     let s = moment_of c.args.heap.now b in
@@ -23,16 +23,16 @@ returns-in-4-clause-sound g c =
     sound c.quotient_and_remainder.new.heap b (call_builtin c.args.which.0 (plainly vs) s) c.quotient_and_remainder.result gives
     ((builtin_sounds c.args.which.0 (λ e. absurd (omega arith)) (λ e. absurd (omega arith)) (λ e. absurd (omega arith)) vs).sound s)
 
-pub returns-in-5-clause-gives : goal.returns-in-5-clause-gives
-returns-in-5-clause-gives g c =
+pub returns-in-ISINSTANCE-clause-gives : goal.returns-in-ISINSTANCE-clause-gives
+returns-in-ISINSTANCE-clause-gives g c =
     let vs = map value_of c.args.args.now in
     let b = c.args.budget.now in
     let s = moment_of c.args.heap.now b in
     let number : c.args.which.0 ≡ 5 = omega arith in
     subst (λ n. Gives value_of c.instance.result s (call_builtin n (plainly vs) s)) (sym number) (c.instance.ensures.gives b)
 
-pub returns-in-5-clause-sound : goal.returns-in-5-clause-sound
-returns-in-5-clause-sound g c =
+pub returns-in-ISINSTANCE-clause-sound : goal.returns-in-ISINSTANCE-clause-sound
+returns-in-ISINSTANCE-clause-sound g c =
     let vs = map value_of c.args.args.now in
     let b = c.args.budget.now in
     let s = moment_of c.args.heap.now b in
@@ -41,17 +41,17 @@ returns-in-5-clause-sound g c =
     sound c.args.heap.now b (call_builtin c.args.which.0 (plainly vs) s) c.instance.result gives
     ((builtin_sounds c.args.which.0 (λ e. absurd (omega arith)) (λ e. absurd (omega arith)) (λ e. absurd (omega arith)) vs).sound s)
 
-pub returns-in-7-clause-gives : goal.returns-in-7-clause-gives
-returns-in-7-clause-gives g c =
+pub returns-in-MAX-clause-gives : goal.returns-in-MAX-clause-gives
+returns-in-MAX-clause-gives g c =
     let vs = map value_of c.args.args.now in
     let number : c.args.which.0 ≡ 7 = omega arith in
     subst (λ n. Gives value_of c.best.result (moment_of c.best.new.heap c.best.new.budget) (call_builtin n (plainly vs) (moment_of c.args.heap.now c.args.budget.now))) (sym number) c.best.ensures.gives
 
-pub returns-in-8-clause-gives : goal.returns-in-8-clause-gives
-returns-in-8-clause-gives g c =
+pub returns-in-MIN-clause-gives : goal.returns-in-MIN-clause-gives
+returns-in-MIN-clause-gives g c =
     let vs = map value_of c.args.args.now in
     let number : c.args.which.0 ≡ 8 = omega arith in
-    subst (λ n. Gives value_of c.best-in-8.result (moment_of c.best-in-8.new.heap c.best-in-8.new.budget) (call_builtin n (plainly vs) (moment_of c.args.heap.now c.args.budget.now))) (sym number) c.best-in-8.ensures.gives
+    subst (λ n. Gives value_of c.best-in-MIN.result (moment_of c.best-in-MIN.new.heap c.best-in-MIN.new.budget) (call_builtin n (plainly vs) (moment_of c.args.heap.now c.args.budget.now))) (sym number) c.best-in-MIN.ensures.gives
 
 pub returns-in_default-clause-sound : goal.returns-in_default-clause-sound
 returns-in_default-clause-sound g c =

@@ -3,7 +3,6 @@ use Rattle.kishu_meaning.specs.calls.Callees.{construct}
 use Rattle.kishu_meaning.specs.values.Values.{value_of}
 use Rattle.kishu_builtins.specs.Called.{moment_of, plainly}
 use Rattle.kishu_builtins.specs.CallLaws.{class_kept}
-use Rattle.kishu_builtins.specs.GrowingCalls.{class_grows}
 use Rattle.kishu_builtins.specs.SoundCalls.{class_sounds}
 use Rattle.kishu_builtins.proofs.Ending.{grown, thrown, sound}
 use Rattle.kishu_builtins.proofs.classes.construct.Goals as goal
@@ -25,4 +24,4 @@ returns-clause-more g c =
     let vs = map value_of c.args.args.now in
     let s = moment_of c.args.heap.now c.args.budget.now in
     grown c.args.heap.now c.constructed.new.heap c.args.budget.now c.constructed.new.budget (construct c.args.class.0 (plainly vs) s)
-    ((class_kept c.args.class.0 vs).keeps s) ((class_grows c.args.class.0 vs).grows s) c.constructed.result c.constructed.ensures.gives
+    ((class_kept c.args.class.0 vs).keeps s) c.constructed.ensures.grows c.constructed.result c.constructed.ensures.gives

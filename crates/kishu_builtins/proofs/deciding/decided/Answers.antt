@@ -12,12 +12,9 @@ loop-at-init g c = record {
   told = ap (λ n. decided c.args.which n (walk_in c.args.heap.now c.args.walk.now) 0 (moment_of c.args.heap.now c.args.budget.now)) (start c.args.budget.now.left);
   walk = refl;
   there = c.requires.there;
-  room = omega arith;
-  heap = omega arith;
-  depth = refl;
-  left = omega arith;
-  least = omega arith;
-  reads = omega arith;
+  grows = (omega arith, omega arith);
+  spends = (refl, omega arith, omega arith, omega arith);
+  turns = omega arith;
 }
 
 pub returns-in_err-item-clause-gives : goal.returns-in_err-item-clause-gives
@@ -69,10 +66,11 @@ loop-at-preserved g c =
           (value_of c.in-Some.item) c.is_true.result h (c.is_true.ensures.is c.visited.new.budget) c.if-is_true-which.false;
       walk = same ∙ i.walk;
       there = rw c.in-Some.is at c.in_ok-item.ensures.there;
-      room = omega (arith, room, i.room);
-      heap = omega (arith, c.in_ok-item.ensures.heap, i.heap);
-      depth = c.in_ok-item.ensures.depth ∙ i.depth;
-      left = omega (arith, c.in_ok-item.ensures.left, i.left);
-      least = omega (arith, c.in_ok-item.ensures.least, i.least, c.is_true.ensures.counted);
-      reads = omega (arith, paid, i.reads, c.is_true.ensures.reads);
+      grows = (omega (arith, c.in_ok-item.ensures.grows.0, i.grows.0), omega (arith, room, i.grows.1));
+      spends = (c.in_ok-item.ensures.spends.0 ∙ i.spends.0, omega (arith, c.in_ok-item.ensures.spends.1, i.spends.1), omega (arith, c.in_ok-item.ensures.spends.2, i.spends.2, c.is_true.ensures.reads.0), omega (arith, paid, i.spends.3, c.is_true.ensures.reads.1));
+      turns = omega (arith, paid, c.in_ok-item.ensures.spends.2, i.turns);
     }
+
+-- Each turn takes a step, so no turn is left over.
+pub returns-clause-gives : goal.returns-clause-gives
+returns-clause-gives g c = absurd (omega (arith, c.loop-at-test.false, c.loop-at.invariant.turns))

@@ -1,5 +1,6 @@
-use Rattle.std.proofs.Common.{◌≡◌, suc, ◌+◌, ◌-◌, ◌*◌, ◌≤◌, IsTrue, length}
+use Rattle.std.proofs.Common.{◌≡◌, suc, ◌+◌, ◌-◌, ◌≤◌, IsTrue, length}
 use Rattle.kishu_meaning.specs.calls.Builtins.{decided}
+use Rattle.kishu_heap.specs.Costs.{GrowsPaid, Spends}
 use Rattle.kishu_builtins.specs.Called.{moment_of}
 use Rattle.kishu_builtins.specs.Walking.{walk_in, is_there}
 use Rattle.kishu_builtins.proofs.deciding.decided.Given as goal
@@ -9,10 +10,7 @@ invariant-loop-at g l = record {
   told : decided l.which (suc l.fn.budget.left) (walk_in l.fn.heap l.walk) 0 (moment_of l.fn.heap l.fn.budget) ≡ decided l.which (suc l.fn.budget.left - l.at) (walk_in l.fn.heap l.walk) l.at (moment_of l.heap l.budget);
   walk : walk_in l.heap l.walk ≡ walk_in l.fn.heap l.walk;
   there : IsTrue (is_there (length l.heap) l.walk);
-  room : length l.heap + l.budget.left ≤ length l.fn.heap + l.fn.budget.left;
-  heap : length l.fn.heap ≤ length l.heap;
-  depth : l.budget.depth ≡ l.fn.budget.depth;
-  left : l.budget.left ≤ l.fn.budget.left;
-  least : l.fn.budget.left + l.fn.steps ≤ l.budget.left + l.steps;
-  reads : 24 * l.budget.left + l.steps ≤ 24 * l.fn.budget.left + l.fn.steps;
+  grows : GrowsPaid 0 l.fn.heap l.fn.budget l.heap l.budget;
+  spends : Spends 0 l.fn.budget l.fn.steps l.budget l.steps;
+  turns : l.budget.left + l.at ≤ l.fn.budget.left;
 }

@@ -1,7 +1,8 @@
-use Rattle.std.proofs.Common.{◌≡◌, suc, ◌+◌, ◌-◌, ◌*◌, ◌≤◌, IsTrue, length}
+use Rattle.std.proofs.Common.{◌≡◌, suc, ◌+◌, ◌-◌, ◌≤◌, IsTrue, length}
 use Rattle.std.specs.Prelude.{pos}
 use Rattle.kishu_meaning.specs.calls.Builtins.{folded, added}
 use Rattle.kishu_meaning.specs.values.Values.{integer}
+use Rattle.kishu_heap.specs.Costs.{GrowsPaid, Spends}
 use Rattle.kishu_builtins.specs.Called.{moment_of}
 use Rattle.kishu_builtins.specs.Walking.{walk_in, is_there}
 use Rattle.kishu_builtins.proofs.sums.total.Given as goal
@@ -11,10 +12,7 @@ invariant-loop-at g l = record {
   told : folded added (suc l.fn.budget.left) (walk_in l.fn.heap l.walk) 0 (integer (pos 0)) (moment_of l.fn.heap l.fn.budget) ≡ folded added (suc l.fn.budget.left - l.at) (walk_in l.fn.heap l.walk) l.at (integer l.sum) (moment_of l.heap l.budget);
   walk : walk_in l.heap l.walk ≡ walk_in l.fn.heap l.walk;
   there : IsTrue (is_there (length l.heap) l.walk);
-  room : length l.heap + l.budget.left ≤ length l.fn.heap + l.fn.budget.left;
-  heap : length l.fn.heap ≤ length l.heap;
-  depth : l.budget.depth ≡ l.fn.budget.depth;
-  left : l.budget.left ≤ l.fn.budget.left;
-  least : l.fn.budget.left + l.fn.steps ≤ l.budget.left + l.steps;
-  reads : 24 * l.budget.left + l.steps ≤ 24 * l.fn.budget.left + l.fn.steps;
+  grows : GrowsPaid 0 l.fn.heap l.fn.budget l.heap l.budget;
+  spends : Spends 0 l.fn.budget l.fn.steps l.budget l.steps;
+  turns : l.budget.left + l.at ≤ l.fn.budget.left;
 }

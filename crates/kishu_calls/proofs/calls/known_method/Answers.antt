@@ -10,24 +10,19 @@ use Rattle.kishu_calls.proofs.calls.known_method.Goals as goal
 pub invariant_of-machine : goal.invariant_of-machine
 invariant_of-machine g c = (
     let m = c.args.machine.now in
-    record { sound = sound_more_run m.heap c.call_method.new.heap m.names.bound (locals_of m.locals) (option_map value_of m.handled) c.call_method.ensures.heap m.sound })
+    record { sound = sound_more_run m.heap c.call_method.new.heap m.names.bound (locals_of m.locals) (option_map value_of m.handled) c.call_method.ensures.grows.0 m.sound })
 
 pub returns-clause-gives : goal.returns-clause-gives
 returns-clause-gives g c =
     let s = moment_of c.args.machine.now in
-    rw c.passed.ensures (method_gives (value_of c.args.receiver.now) c.args.name.now (map value_of c.args.values.now) s c.call_method.new.heap c.call_method.new.budget c.call_method.result c.call_method.ensures.depth c.call_method.ensures.gives)
+    rw c.passed.ensures (method_gives (value_of c.args.receiver.now) c.args.name.now (map value_of c.args.values.now) s c.call_method.new.heap c.call_method.new.budget c.call_method.result c.call_method.ensures.spends.0 c.call_method.ensures.gives)
 
 pub returns-clause-sound : goal.returns-clause-sound
 returns-clause-sound g c =
     let s = moment_of c.args.machine.now in
-    rw c.passed.ensures (method_sound (value_of c.args.receiver.now) c.args.name.now (map value_of c.args.values.now) s c.call_method.new.heap c.call_method.new.budget c.call_method.result c.call_method.ensures.depth c.call_method.ensures.gives c.requires.sound_values c.len-size.ensures.sound)
+    rw c.passed.ensures (method_sound (value_of c.args.receiver.now) c.args.name.now (map value_of c.args.values.now) s c.call_method.new.heap c.call_method.new.budget c.call_method.result c.call_method.ensures.spends.0 c.call_method.ensures.gives c.requires.sound_values c.len-size.ensures.sound)
 
-pub returns-clause-kept : goal.returns-clause-kept
-returns-clause-kept g c = (
+pub returns-clause-costs : goal.returns-clause-costs
+returns-clause-costs g c = (
     let e = c.call_method.ensures in
-    (e.heap, omega (arith, e.most, e.left), omega (arith, e.least)))
-
-pub returns-clause-reads : goal.returns-clause-reads
-returns-clause-reads g c = (
-    let e = c.call_method.ensures in
-    omega (arith, e.reads, e.left))
+    record { kept = (e.grows.0, omega (arith, e.grows.1, e.spends.1), omega (arith, e.spends.2)); reads = omega (arith, e.spends.3, e.spends.1) })

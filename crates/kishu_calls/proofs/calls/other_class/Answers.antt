@@ -3,31 +3,24 @@ use Rattle.kishu_meaning.specs.values.Values.{value_of}
 use Rattle.kishu_machine.specs.Frames.{locals_of}
 use Rattle.kishu_machine.specs.Machine.{moment_of}
 use Rattle.kishu_machine.specs.SoundMore.{sound_more_run}
-use Rattle.std.proofs.Common.{arith}
-use Rattle.kishu_calls.proofs.BuiltinCalls.{class_gives, class_sound}
+use Rattle.std.proofs.Common.{arith, length}
+use Rattle.kishu_calls.proofs.BuiltinCalls.{class_gives, told_sound}
 use Rattle.kishu_calls.proofs.calls.other_class.Goals as goal
 
 pub invariant_of-machine : goal.invariant_of-machine
 invariant_of-machine g c = (
     let m = c.args.machine.now in
-    record { sound = sound_more_run m.heap c.construct.new.heap m.names.bound (locals_of m.locals) (option_map value_of m.handled) c.construct.ensures.heap m.sound })
+    record { sound = sound_more_run m.heap c.construct.new.heap m.names.bound (locals_of m.locals) (option_map value_of m.handled) c.construct.ensures.grows.0 m.sound })
 
 pub returns-clause-gives : goal.returns-clause-gives
 returns-clause-gives g c =
     let s = moment_of c.args.machine.now in
-    rw c.passed.ensures (class_gives c.args.class.0 (map value_of c.args.values.now) s c.construct.new.heap c.construct.new.budget c.construct.result c.construct.ensures.depth c.requires.no_namespace c.construct.ensures.gives)
+    rw c.passed.ensures (class_gives c.args.class.0 (map value_of c.args.values.now) s c.construct.new.heap c.construct.new.budget c.construct.result c.construct.ensures.spends.0 c.requires.no_namespace c.construct.ensures.gives)
 
 pub returns-clause-sound : goal.returns-clause-sound
-returns-clause-sound g c =
-    let s = moment_of c.args.machine.now in
-    rw c.passed.ensures (class_sound c.args.class.0 (map value_of c.args.values.now) s c.construct.new.heap c.construct.new.budget c.construct.result c.construct.ensures.depth c.requires.no_namespace c.construct.ensures.gives c.requires.sound_values c.len-size.ensures.sound)
+returns-clause-sound g c = rw c.passed.ensures (told_sound (length c.construct.new.heap) c.construct.result c.construct.ensures.sound c.construct.ensures.thrown)
 
-pub returns-clause-kept : goal.returns-clause-kept
-returns-clause-kept g c = (
+pub returns-clause-costs : goal.returns-clause-costs
+returns-clause-costs g c = (
     let e = c.construct.ensures in
-    (e.heap, omega (arith, e.most, e.left), omega (arith, e.least)))
-
-pub returns-clause-reads : goal.returns-clause-reads
-returns-clause-reads g c = (
-    let e = c.construct.ensures in
-    omega (arith, e.reads, e.left))
+    record { kept = (e.grows.0, omega (arith, e.grows.1, e.spends.1), omega (arith, e.spends.2)); reads = omega (arith, e.spends.3, e.spends.1) })

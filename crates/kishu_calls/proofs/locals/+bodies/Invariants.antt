@@ -3,7 +3,7 @@ use Rattle.kishu_machine.specs.Frames.{texts_of}
 use Rattle.kishu_meaning.specs.calls.Functions.{bound_in_arms, bound_in_block, bound_in_handlers}
 use Rattle.kishu_language.specs.trees.Height.{of_arms, of_handlers, of_statement, of_statements}
 use Rattle.kishu_language.specs.trees.Tree.{statement_of}
-use Rattle.kishu_calls.specs.Trees.{arms_of, handlers_of, statements_of}
+use Rattle.kishu_language.specs.trees.Parts.{arms_of, handlers_of, statements_of}
 use Rattle.kishu_calls.proofs.locals.+bodies.Given as goal
 
 abbrev pub decreases-push_statement : goal.decreases-push_statement

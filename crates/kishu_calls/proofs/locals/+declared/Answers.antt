@@ -6,8 +6,8 @@ use Rattle.kishu_language.specs.declared.tree.Handler.{Handler as Handler'}
 use Rattle.kishu_meaning.specs.calls.Functions.{declared_in, declared_in_block, declared_in_arms, declared_in_handlers}
 use Rattle.kishu_language.specs.trees.Height.{of_expression, of_optional, of_statement, of_statements, of_arms, of_handlers}
 use Rattle.kishu_language.specs.trees.Tree.{statements, arms, handlers, value_of, expression_of, statement_of}
-use Rattle.kishu_calls.specs.StatementRows.{global_is, if_is, while_is, for_is, try_is, finally_is}
-use Rattle.kishu_calls.specs.Trees.{arm_of, handler_of}
+use Rattle.kishu_language.specs.trees.StatementRows.{global_is, if_is, while_is, for_is, try_is, finally_is}
+use Rattle.kishu_language.specs.trees.Parts.{arm_of, handler_of}
 use Rattle.kishu_calls.proofs.LocalNames.{both_if_ok, four_if_ok, one_more, height_here, arm_declared, arm_height, handler_declared, handler_height}
 use Rattle.kishu_calls.proofs.locals.+declared.Goals as goal
 

@@ -3,7 +3,7 @@ use Rattle.kishu_machine.specs.Frames.{texts_of}
 use Rattle.kishu_meaning.specs.calls.Functions.{declared_in_arms, declared_in_block, declared_in_handlers}
 use Rattle.kishu_language.specs.trees.Height.{of_arms, of_handlers, of_statement, of_statements}
 use Rattle.kishu_language.specs.trees.Tree.{statement_of}
-use Rattle.kishu_calls.specs.Trees.{arms_of, handlers_of, statements_of}
+use Rattle.kishu_language.specs.trees.Parts.{arms_of, handlers_of, statements_of}
 use Rattle.kishu_calls.proofs.locals.+declared.Given as goal
 
 abbrev pub decreases-push_declared : goal.decreases-push_declared

@@ -3,7 +3,7 @@ use Rattle.kishu_machine.specs.Frames.{texts_of}
 use Rattle.kishu_meaning.specs.calls.Functions.{all_bound_by}
 use Rattle.kishu_language.specs.trees.Height.{of_expression, of_expressions}
 use Rattle.kishu_language.specs.trees.Tree.{expression_of}
-use Rattle.kishu_calls.specs.Trees.{expressions_of}
+use Rattle.kishu_language.specs.trees.Parts.{expressions_of}
 use Rattle.kishu_calls.proofs.locals.+targets.Given as goal
 
 abbrev pub decreases-push_bound : goal.decreases-push_bound

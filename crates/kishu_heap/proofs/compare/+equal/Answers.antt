@@ -26,8 +26,7 @@ equal_items-returns-then-not-branch-clause-gives g t c =
 pub equal_items-loop-i-preserved : goal.equal_items-loop-i-preserved
 equal_items-loop-i-preserved g t c = record {
   told = c.loop-i.invariant.told ∙ item_equals (equal_nodes c.args.heap.now c.args.room) c.args.a.now c.args.b.now c.loop-i.i c.index-a-i.result c.index-b-i.result (omega arith) (omega arith) c.index-a-i.is c.index-b-i.is c.loop-i.left c.equal_pair.new.left (rw c.if-not-branch.false at c.in_ok-equal_pair.ensures.gives);
-  least = omega arith;
-  most = omega arith;
+  takes = (omega arith, omega arith, omega arith);
 }
 
 pub equal_entries-returns-in_err-equal_found-clause-gives :
@@ -45,8 +44,7 @@ equal_entries-returns-then-not-branch-clause-gives g t c =
 pub equal_entries-loop-i-preserved : goal.equal_entries-loop-i-preserved
 equal_entries-loop-i-preserved g t c = record {
   told = c.loop-i.invariant.told ∙ entry_equals (equal_nodes c.args.heap.now c.args.room) key_of is_one c.args.a.now.entries (entries_of c.args.b.now.entries) c.loop-i.i c.in-Some.key.now c.in-Some.value.now (option_map (λ v. value_of v.now) c.value_under.result) (sym c.in-Some.ensures.entry) c.value_under.ensures c.loop-i.left c.equal_found.new.left (rw c.if-not-branch.false at c.in_ok-equal_found.ensures.gives);
-  least = omega arith;
-  most = omega arith;
+  takes = (omega arith, omega arith, omega arith);
 }
 
 pub equal_attributes-returns-in_err-equal_found-clause-gives :
@@ -64,8 +62,7 @@ equal_attributes-returns-then-not-branch-clause-gives g t c =
 pub equal_attributes-loop-i-preserved : goal.equal_attributes-loop-i-preserved
 equal_attributes-loop-i-preserved g t c = record {
   told = c.loop-i.invariant.told ∙ entry_equals (equal_nodes c.args.heap.now c.args.room) rc_str_bytes bytes_eq c.args.a.now.entries (attributes_of c.args.b.now.entries) c.loop-i.i c.in-Some.name.now c.in-Some.value.now (option_map (λ v. value_of v.now) c.attribute.result) (sym c.in-Some.ensures.entry) (c.attribute.ensures ∙ ap (λ x. value_at bytes_eq x (attributes_of c.args.b.now.entries)) c.as_str.ensures.value) c.loop-i.left c.equal_found.new.left (rw c.if-not-branch.false at c.in_ok-equal_found.ensures.gives);
-  least = omega arith;
-  most = omega arith;
+  takes = (omega arith, omega arith, omega arith);
 }
 
 pub equal_values-returns-in-Some-Some-clause-gives :

@@ -1,8 +1,9 @@
-use Rattle.std.proofs.Common.{◌≡◌, ◌+◌, ◌*◌, ◌≤◌, drop, map}
+use Rattle.std.proofs.Common.{◌≡◌, ◌+◌, ◌*◌, drop, map}
 use Rattle.std.specs.Str.{bytes_eq}
 use Rattle.kishu_meaning.specs.values.Keys.{is_one}
 use Rattle.kishu_meaning.specs.values.Values.{value_of}
 use Rattle.kishu_meaning.specs.comparing.Equal.{equal_nodes, items_equal, entries_equal}
+use Rattle.kishu_heap.specs.Costs.{Compares}
 use Rattle.kishu_heap.specs.Cells.{entries_of, attributes_of}
 use Rattle.kishu_heap.proofs.compare.+equal.Given as goal
 
@@ -40,20 +41,17 @@ decreases-equal_nodes g l = 6 * l.room + 5
 abbrev pub invariant-equal_items-loop-i : goal.invariant-equal_items-loop-i
 invariant-equal_items-loop-i g l = record {
   told : items_equal (equal_nodes l.heap l.room) (map value_of l.a) (map value_of l.b) l.fn.left ≡ items_equal (equal_nodes l.heap l.room) (map value_of (drop l.i l.a)) (map value_of (drop l.i l.b)) l.left;
-  least : l.fn.left + l.fn.steps ≤ l.left + l.steps;
-  most : 8 * l.left + l.steps ≤ 8 * l.fn.left + l.fn.steps;
+  takes : Compares 0 l.fn.left l.fn.steps l.left l.steps;
 }
 
 abbrev pub invariant-equal_entries-loop-i : goal.invariant-equal_entries-loop-i
 invariant-equal_entries-loop-i g l = record {
   told : entries_equal (equal_nodes l.heap l.room) is_one (entries_of l.a.entries) (entries_of l.b.entries) l.fn.left ≡ entries_equal (equal_nodes l.heap l.room) is_one (entries_of (drop l.i l.a.entries)) (entries_of l.b.entries) l.left;
-  least : l.fn.left + l.fn.steps ≤ l.left + l.steps;
-  most : 8 * l.left + l.steps ≤ 8 * l.fn.left + l.fn.steps;
+  takes : Compares 0 l.fn.left l.fn.steps l.left l.steps;
 }
 
 abbrev pub invariant-equal_attributes-loop-i : goal.invariant-equal_attributes-loop-i
 invariant-equal_attributes-loop-i g l = record {
   told : entries_equal (equal_nodes l.heap l.room) bytes_eq (attributes_of l.a.entries) (attributes_of l.b.entries) l.fn.left ≡ entries_equal (equal_nodes l.heap l.room) bytes_eq (attributes_of (drop l.i l.a.entries)) (attributes_of l.b.entries) l.left;
-  least : l.fn.left + l.fn.steps ≤ l.left + l.steps;
-  most : 8 * l.left + l.steps ≤ 8 * l.fn.left + l.fn.steps;
+  takes : Compares 0 l.fn.left l.fn.steps l.left l.steps;
 }

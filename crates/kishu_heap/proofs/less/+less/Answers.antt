@@ -21,8 +21,7 @@ less_items-returns-then-not-branch-clause-gives g t c =
 pub less_items-loop-i-preserved : goal.less_items-loop-i-preserved
 less_items-loop-i-preserved g t c = record {
   told = c.loop-i.invariant.told ∙ order_goes_on (equal_nodes c.args.heap.now c.args.room) (less_nodes c.args.heap.now c.args.room) c.args.a.now c.args.b.now c.loop-i.i c.index-a-i.result c.index-b-i.result (omega arith) (omega arith) c.index-a-i.is c.index-b-i.is c.loop-i.left c.equal_pair.new.left (rw c.if-not-branch.false at c.in_ok-equal_pair.ensures.gives);
-  least = omega arith;
-  most = omega arith;
+  takes = (omega arith, omega arith, omega arith);
 }
 
 pub less_items-returns-clause-gives : goal.less_items-returns-clause-gives

@@ -1,6 +1,7 @@
-use Rattle.std.proofs.Common.{◌≡◌, ◌+◌, ◌*◌, ◌≤◌, drop, map}
+use Rattle.std.proofs.Common.{◌≡◌, ◌+◌, ◌*◌, drop, map}
 use Rattle.kishu_meaning.specs.values.Values.{value_of}
 use Rattle.kishu_meaning.specs.comparing.Equal.{equal_nodes, less_nodes, items_less}
+use Rattle.kishu_heap.specs.Costs.{Compares}
 use Rattle.kishu_heap.proofs.less.+less.Given as goal
 
 abbrev pub decreases-less_values : goal.decreases-less_values
@@ -15,6 +16,5 @@ decreases-less_nodes g l = 3 * l.room + 2
 abbrev pub invariant-less_items-loop-i : goal.invariant-less_items-loop-i
 invariant-less_items-loop-i g l = record {
   told : items_less (equal_nodes l.heap l.room) (less_nodes l.heap l.room) (map value_of l.a) (map value_of l.b) l.fn.left ≡ items_less (equal_nodes l.heap l.room) (less_nodes l.heap l.room) (map value_of (drop l.i l.a)) (map value_of (drop l.i l.b)) l.left;
-  least : l.fn.left + l.fn.steps ≤ l.left + l.steps;
-  most : 8 * l.left + l.steps ≤ 8 * l.fn.left + l.fn.steps;
+  takes : Compares 0 l.fn.left l.fn.steps l.left l.steps;
 }

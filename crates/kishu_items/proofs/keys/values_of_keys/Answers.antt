@@ -27,8 +27,5 @@ loop-i-preserved g c =
           ∙ ap (λ vs. and_then (values_of_keys rest t) (behind vs)) (sym made));
       sound = rw (c.in_ok-push.ensures.items, made) (sound_on _ (map value_of done) (value_of value) (values_more _ _ (grown_least 1 c.loop-i.heap c.value_of_key.new.heap more) (map value_of done) c.loop-i.invariant.sound) c.in_ok-value_of_key.ensures.sound);
       more = grows_on c.loop-i.i 1 (c.loop-i.i + 1) c.args.heap.now c.loop-i.heap c.value_of_key.new.heap c.loop-i.invariant.more more (omega arith);
-      left = omega arith;
-      depth = c.value_of_key.ensures.depth ∙ c.loop-i.invariant.depth;
-      least = omega arith;
-      reads = omega arith;
+      spends = (c.value_of_key.ensures.spends.0 ∙ c.loop-i.invariant.spends.0, omega arith, omega arith, omega arith);
     }

@@ -1,9 +1,10 @@
-use Rattle.std.proofs.Common.{◌≡◌, ◌+◌, ◌*◌, ◌≤◌, IsTrue, length, map, drop}
+use Rattle.std.proofs.Common.{◌≡◌, IsTrue, length, map, drop}
 use Rattle.kishu_meaning.specs.values.Keys.{key_of}
 use Rattle.kishu_meaning.specs.items.KeyOf.{values_of_keys}
 use Rattle.kishu_meaning.specs.moments.Moment.{and_then}
 use Rattle.kishu_meaning.specs.values.Sound.{are_sound}
 use Rattle.kishu_meaning.specs.values.Values.{value_of}
+use Rattle.kishu_heap.specs.Costs.{Spends}
 use Rattle.kishu_items.specs.Called.{moment_of}
 use Rattle.kishu_items.specs.Contents.{IsGrown}
 use Rattle.kishu_items.specs.Gathering.{behind}
@@ -14,8 +15,5 @@ invariant-loop-i g l = record {
   told : values_of_keys (map key_of l.keys) (moment_of l.fn.heap l.fn.budget) ≡ and_then (values_of_keys (map key_of (drop l.i l.keys)) (moment_of l.heap l.budget)) (behind (map value_of l.values.items));
   sound : IsTrue (are_sound (length l.heap) (map value_of l.values.items));
   more : IsGrown l.i l.fn.heap l.heap;
-  left : l.budget.left ≤ l.fn.budget.left;
-  depth : l.budget.depth ≡ l.fn.budget.depth;
-  least : l.fn.budget.left + l.fn.steps ≤ l.budget.left + l.steps;
-  reads : 24 * l.budget.left + l.steps ≤ 24 * l.fn.budget.left + l.fn.steps;
+  spends : Spends 0 l.fn.budget l.fn.steps l.budget l.steps;
 }

@@ -18,20 +18,11 @@ returns-clause-sound g c =
     let e = equal_in s.nodes s.depth (value_of c.args.a.now) (value_of c.args.b.now) s.left in
     c.answered.ensures.sound (length s.nodes) c.equal-answer.new.budget.left e c.equal-answer.ensures.gives
 
-pub returns-clause-kept : goal.returns-clause-kept
-returns-clause-kept g c =
+pub returns-clause-costs : goal.returns-clause-costs
+returns-clause-costs g c =
     let s = moment_of c.args.machine.now in
     let a = value_of c.args.a.now in
     let b = value_of c.args.b.now in
     let left = c.equal-answer.new.budget.left in
     let falls : left ≤ s.left = subst (λ (n : ℕ). n ≤ s.left) (gives_left c.equal-answer.result left (equal_in s.nodes s.depth a b s.left) c.equal-answer.ensures.gives) ((equal_in_falls s.nodes s.depth a b).falls s.left) in
-    (omega arith, omega (arith, falls), omega arith)
-
-pub returns-clause-reads : goal.returns-clause-reads
-returns-clause-reads g c =
-    let s = moment_of c.args.machine.now in
-    let a = value_of c.args.a.now in
-    let b = value_of c.args.b.now in
-    let left = c.equal-answer.new.budget.left in
-    let falls : left ≤ s.left = subst (λ (n : ℕ). n ≤ s.left) (gives_left c.equal-answer.result left (equal_in s.nodes s.depth a b s.left) c.equal-answer.ensures.gives) ((equal_in_falls s.nodes s.depth a b).falls s.left) in
-    omega (arith, falls)
+    record { kept = (omega arith, omega (arith, falls), omega arith); reads = omega (arith, falls) }

@@ -2,7 +2,7 @@ use Rattle.std.proofs.Common.{◌∙◌, ap, option_map}
 use Rattle.std.specs.Prelude.{is_some}
 use Rattle.kishu_meaning.specs.values.Keys.{key_of}
 use Rattle.kishu_meaning.specs.values.Values.{value_of}
-use Rattle.kishu_machine.proofs.Bound.{copied_value}
+use Rattle.kishu_machine.specs.Lists.{copied_value}
 use Rattle.kishu_machine.proofs.Members.{finds_entry, still_some}
 use Rattle.kishu_machine.proofs.comparing.is_key.Goals as goal
 

@@ -13,7 +13,7 @@ pub returns-clause-gives : goal.returns-clause-gives
 returns-clause-gives g c = λ s.
     let v = value_of c.args.value.now in
     let t = called.moment_of c.args.heap.now c.key_of-key.new.budget in
-    rw (c.passed.ensures, c.key_of-key.ensures.depth) (lifted key_of (key_of_value v) (key_bare v) (placed_in s c.args.heap.now c.args.budget.now) t c.key_of-key.result c.key_of-key.ensures.gives)
+    rw (c.passed.ensures, c.key_of-key.ensures.spends.0) (lifted key_of (key_of_value v) (key_bare v) (placed_in s c.args.heap.now c.args.budget.now) t c.key_of-key.result c.key_of-key.ensures.gives)
 
 pub returns-clause-sound : goal.returns-clause-sound
 returns-clause-sound g c =

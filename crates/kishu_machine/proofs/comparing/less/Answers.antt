@@ -19,20 +19,11 @@ returns-clause-gives g c =
 pub returns-clause-sound : goal.returns-clause-sound
 returns-clause-sound g c = c.ordered.ensures.sound
 
-pub returns-clause-kept : goal.returns-clause-kept
-returns-clause-kept g c =
+pub returns-clause-costs : goal.returns-clause-costs
+returns-clause-costs g c =
     let s = moment_of c.args.machine.now in
     let a = value_of c.args.one.now in
     let b = value_of c.args.other.now in
     let left = c.less-answer.new.budget.left in
     let falls : left ≤ s.left = subst (λ (n : ℕ). n ≤ s.left) (orders_left c.less-answer.result left (less_in s.nodes s.depth a b s.left) c.less-answer.ensures.gives) ((less_in_falls s.nodes s.depth a b).falls s.left) in
-    (omega arith, omega (arith, falls), omega arith)
-
-pub returns-clause-reads : goal.returns-clause-reads
-returns-clause-reads g c =
-    let s = moment_of c.args.machine.now in
-    let a = value_of c.args.one.now in
-    let b = value_of c.args.other.now in
-    let left = c.less-answer.new.budget.left in
-    let falls : left ≤ s.left = subst (λ (n : ℕ). n ≤ s.left) (orders_left c.less-answer.result left (less_in s.nodes s.depth a b s.left) c.less-answer.ensures.gives) ((less_in_falls s.nodes s.depth a b).falls s.left) in
-    omega (arith, falls)
+    record { kept = (omega arith, omega (arith, falls), omega arith); reads = omega (arith, falls) }

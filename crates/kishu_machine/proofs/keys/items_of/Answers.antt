@@ -23,7 +23,7 @@ returns-clause-gives g c =
     let v = value_of c.args.value.now in
     let s = moment_of c.args.machine.now in
     let t = called.moment_of c.items_of-items.new.heap c.items_of-items.new.budget in
-    rw (c.passed.ensures, c.items_of-items.ensures.depth) (lifted (λ v. map value_of v.items) (items_of v) (items_bare v) s t c.items_of-items.result c.items_of-items.ensures.gives)
+    rw (c.passed.ensures, c.items_of-items.ensures.spends.0) (lifted (λ v. map value_of v.items) (items_of v) (items_bare v) s t c.items_of-items.result c.items_of-items.ensures.gives)
 
 pub returns-clause-sound : goal.returns-clause-sound
 returns-clause-sound g c =

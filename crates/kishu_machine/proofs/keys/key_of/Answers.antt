@@ -13,7 +13,7 @@ returns-clause-gives g c =
     let v = value_of c.args.value.now in
     let s = moment_of c.args.machine.now in
     let t = called.moment_of s.nodes c.key_of-key.new.budget in
-    rw (c.passed.ensures, c.key_of-key.ensures.depth) (lifted key_of (key_of_value v) (key_bare v) s t c.key_of-key.result c.key_of-key.ensures.gives)
+    rw (c.passed.ensures, c.key_of-key.ensures.spends.0) (lifted key_of (key_of_value v) (key_bare v) s t c.key_of-key.result c.key_of-key.ensures.gives)
 
 pub returns-clause-sound : goal.returns-clause-sound
 returns-clause-sound g c =

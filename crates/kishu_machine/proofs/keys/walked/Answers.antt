@@ -23,7 +23,7 @@ returns-clause-gives g c =
     let v = value_of c.args.value.now in
     let s = moment_of c.args.machine.now in
     let t = called.moment_of c.walked-items.new.heap c.walked-items.new.budget in
-    rw (c.passed.ensures, c.walked-items.ensures.depth) (lifted (λ v. map value_of v.items) (walked v) (walked_bare v) s t c.walked-items.result c.walked-items.ensures.gives)
+    rw (c.passed.ensures, c.walked-items.ensures.spends.0) (lifted (λ v. map value_of v.items) (walked v) (walked_bare v) s t c.walked-items.result c.walked-items.ensures.gives)
 
 pub returns-clause-sound : goal.returns-clause-sound
 returns-clause-sound g c =

@@ -7,7 +7,7 @@ use Rattle.std.specs.Rc.{rc_str_bytes}
 use Rattle.kishu_meaning.specs.moments.Moment.{Locals, fine}
 use Rattle.kishu_machine.specs.Frames.{is_own}
 use Rattle.kishu_machine.proofs.OwnNames.{assign_own, assign_other, bound_global, own_bound_run}
-use Rattle.kishu_machine.proofs.SoundNames.{bound_run}
+use Rattle.kishu_machine.specs.SoundNames.{bound_run}
 use Rattle.kishu_machine.proofs.names.assign.Goals as goal
 
 pub invariant_of-machine : goal.invariant_of-machine

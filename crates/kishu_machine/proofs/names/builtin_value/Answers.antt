@@ -1,7 +1,7 @@
 use Rattle.std.proofs.Common.{◌≡◌, Some}
 use Rattle.kishu_language.specs.tokens.Names.{place_among}
 use Rattle.kishu_meaning.specs.values.BuiltinNames.{builtin_names}
-use Rattle.kishu_machine.proofs.SoundNames.{builtin_sound}
+use Rattle.kishu_machine.specs.SoundNames.{builtin_sound}
 use Rattle.kishu_machine.proofs.names.builtin_value.Goals as goal
 
 pub returns-in-Some-clause-sound : goal.returns-in-Some-clause-sound

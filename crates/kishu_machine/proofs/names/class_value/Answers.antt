@@ -1,7 +1,7 @@
 use Rattle.std.proofs.Common.{◌≡◌, Some}
 use Rattle.kishu_language.specs.tokens.Names.{place_among}
 use Rattle.kishu_meaning.specs.values.BuiltinNames.{class_names}
-use Rattle.kishu_machine.proofs.SoundNames.{class_sound}
+use Rattle.kishu_machine.specs.SoundNames.{class_sound}
 use Rattle.kishu_machine.proofs.names.class_value.Goals as goal
 
 pub returns-in-Some-clause-sound : goal.returns-in-Some-clause-sound

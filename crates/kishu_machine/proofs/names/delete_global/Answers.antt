@@ -6,7 +6,7 @@ use Rattle.std.proofs.Common.{◌≡◌, ◌∙◌, sym, ap, false}
 use Rattle.std.specs.Prelude.{is_some}
 use Rattle.kishu_meaning.specs.values.Values.{find}
 use Rattle.kishu_machine.proofs.OwnNames.{missing_global, some_mapped}
-use Rattle.kishu_machine.proofs.SoundNames.{unbound_run}
+use Rattle.kishu_machine.specs.SoundNames.{unbound_run}
 use Rattle.kishu_machine.proofs.names.delete_global.Goals as goal
 
 pub invariant_of-machine : goal.invariant_of-machine

@@ -5,7 +5,7 @@ use Rattle.kishu_machine.specs.Machine.{moment_of}
 use Rattle.std.proofs.Common.{◌∙◌, sym, ap, Option}
 use Rattle.kishu_meaning.specs.moments.Moment.{Locals, fine}
 use Rattle.kishu_machine.proofs.OwnNames.{forget_own, forget_other, forgotten_global, own_unbound_run}
-use Rattle.kishu_machine.proofs.SoundNames.{unbound_run}
+use Rattle.kishu_machine.specs.SoundNames.{unbound_run}
 use Rattle.kishu_machine.proofs.names.forget.Goals as goal
 
 pub invariant_of-machine : goal.invariant_of-machine

@@ -5,7 +5,7 @@ use Rattle.std.specs.declared.alloc.Global.{Global}
 use Rattle.std.specs.declared.rc.RcStr.{RcStr}
 use Rattle.kishu_language.specs.tokens.Names.{is_among}
 use Rattle.kishu_items.specs.Gathering.{dropped}
-use Rattle.kishu_machine.proofs.SoundNames.{among_here}
+use Rattle.kishu_machine.specs.SoundNames.{among_here}
 use Rattle.kishu_machine.proofs.names.is_among.Goals as goal
 
 pub returns-then-is_same_text : goal.returns-then-is_same_text

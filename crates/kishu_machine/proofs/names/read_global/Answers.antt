@@ -3,7 +3,7 @@ use Rattle.kishu_meaning.specs.values.Values.{value_of}
 use Rattle.kishu_machine.specs.Frames.{locals_of}
 use Rattle.std.proofs.Common.{◌≡◌, ◌∙◌, sym, ap, length, Some, subst, IsTrue, Option}
 use Rattle.kishu_meaning.specs.values.Values.{Value, find}
-use Rattle.kishu_machine.proofs.SoundNames.{is_sound_found, finds_sound}
+use Rattle.kishu_machine.specs.SoundNames.{is_sound_found, finds_sound}
 use Rattle.kishu_machine.specs.SoundMore.{names_in_run}
 use Rattle.kishu_machine.proofs.names.read_global.Goals as goal
 

@@ -2,7 +2,7 @@ use Rattle.std.proofs.Common.{◌≡◌, IsTrue, Option, Some, subst}
 use Rattle.kishu_meaning.specs.values.Values.{Value, value_of}
 use Rattle.kishu_machine.specs.Frames.{locals_of, own_value}
 use Rattle.kishu_machine.proofs.OwnNames.{own_value_sound}
-use Rattle.kishu_machine.proofs.SoundNames.{is_sound_found}
+use Rattle.kishu_machine.specs.SoundNames.{is_sound_found}
 use Rattle.kishu_machine.proofs.names.read_local.Goals as goal
 
 pub returns-in_ok-copied-in-Some-clause-sound : goal.returns-in_ok-copied-in-Some-clause-sound

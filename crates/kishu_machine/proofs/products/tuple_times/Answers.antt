@@ -8,5 +8,5 @@ returns-clause-gives g c = rw c.tuple_at-part.ensures.items at (c.items_times.en
 pub returns-clause-sound : goal.returns-clause-sound
 returns-clause-sound g c = c.items_times.ensures.sound (length c.args.machine.now.heap) c.tuple_at-part.ensures.sound
 
-pub returns-clause-kept : goal.returns-clause-kept
-returns-clause-kept g c = (omega arith, omega arith, omega arith)
+pub returns-clause-costs : goal.returns-clause-costs
+returns-clause-costs g c = record { kept = (omega arith, omega arith, omega arith); reads = omega arith }

@@ -63,7 +63,7 @@ loop-value-preserved g c = record {
       let further = texts_further ns d s done n m (value_of v) rest text (c.in_ok-made.ensures.gives s m _ shown) in
       rw (c.in_ok-push.ensures.items, map-append (λ (t : String Global). chars (string_bytes t)) c.loop-value.texts.items (c.in_ok-made.field-0 ∷ [])) (sym further ∙ here));
   left = omega arith;
-  depth = c.show-text.ensures.depth ∙ c.loop-value.invariant.depth;
+  depth = c.show-text.ensures.spends.0 ∙ c.loop-value.invariant.depth;
   least = omega arith;
   reads = omega arith;
 }

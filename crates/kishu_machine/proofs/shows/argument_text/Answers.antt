@@ -16,7 +16,7 @@ returns-clause-gives g c =
     let m = λ (ns : List Node) (d : ℕ). argument_text (repr_nodes ns (most_depth - d) []) (show_nodes ns (most_depth - d)) c.args.class v in
     let s = moment_of c.args.machine.now in
     let t = moment_of c.tick.new.machine in
-    rw c.deeper_text-text.ensures.depth (
+    rw c.deeper_text-text.ensures.spends.0 (
     subst (λ (e : Ends (List ℕ)). Gives (λ x. chars (string_bytes x)) c.made.result (record t { left = c.deeper_text-text.new.budget.left }) e) (sym (ticked s m))
     (gives_on (λ _ u. ended_in u (m u.nodes u.depth u.left)) (λ x. chars (string_bytes x)) c.made.result tt t (record t { left = c.deeper_text-text.new.budget.left }) _ c.in_ok-tick.ensures.gives
     (c.made.ensures.gives t c.deeper_text-text.new.budget.left _ c.deeper_text-text.ensures.gives)))

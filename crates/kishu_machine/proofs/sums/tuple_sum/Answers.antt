@@ -8,5 +8,5 @@ returns-clause-gives g c = rw (c.tuple_at-x.ensures.items, c.tuple_at-y.ensures.
 pub returns-clause-sound : goal.returns-clause-sound
 returns-clause-sound g c = c.both_items.ensures.sound (length c.args.machine.now.heap) c.tuple_at-x.ensures.sound c.tuple_at-y.ensures.sound
 
-pub returns-clause-kept : goal.returns-clause-kept
-returns-clause-kept g c = (omega arith, omega arith, omega arith)
+pub returns-clause-costs : goal.returns-clause-costs
+returns-clause-costs g c = record { kept = (omega arith, omega arith, omega arith); reads = omega arith }

@@ -6,5 +6,5 @@ use Rattle.kishu_methods.proofs.finding.count_among.Goals as goal
 
 pub returns-clause-gives : goal.returns-clause-gives
 returns-clause-gives g c =
-    rw c.all_equal.ensures.depth
+    rw c.all_equal.ensures.spends.0
     (c.compared.ensures (count_from c.args.heap.now c.args.budget.now.depth (value_of c.args.value.now) 0 (map value_of c.args.items.now) c.args.budget.now.left) (moment_of c.args.heap.now c.args.budget.now) c.all_equal.new.budget.left c.all_equal.ensures.gives)

@@ -8,7 +8,7 @@ use Rattle.kishu_methods.proofs.finding.place_among.Goals as goal
 
 pub returns-clause-gives : goal.returns-clause-gives
 returns-clause-gives g c =
-    rw c.first_equal.ensures.depth
+    rw c.first_equal.ensures.spends.0
     (c.compared.ensures (place_from c.args.heap.now c.args.budget.now.depth (value_of c.args.value.now) 0 (map value_of c.args.items.now) c.args.budget.now.left) (moment_of c.args.heap.now c.args.budget.now) c.first_equal.new.budget.left c.first_equal.ensures.gives)
 
 pub returns-clause-within : goal.returns-clause-within

@@ -9,12 +9,7 @@ pub replace_list-requires-clause-sound : goal.replace_list-requires-clause-sound
 replace_list-requires-clause-sound g c =
     sorted_sound (length c.args.heap.now) (items_at c.args.heap.now c.args.id.0) (map value_of c.in-Some.sorted.items) (rw (c.in-Some.is, c.in_ok-items.ensures.items) at c.in_ok-sorted.ensures) c.in_ok-items.ensures.sound
 
-pub returns-in-Some-clause-heap : goal.returns-in-Some-clause-heap
-returns-in-Some-clause-heap g c =
+pub returns-in-Some-clause-grows : goal.returns-in-Some-clause-grows
+returns-in-Some-clause-grows g c =
     let long = ap length c.replace_list.ensures ∙ length_changed _ _ _ in
-    omega (arith, long)
-
-pub returns-in-Some-clause-most : goal.returns-in-Some-clause-most
-returns-in-Some-clause-most g c =
-    let long = ap length c.replace_list.ensures ∙ length_changed _ _ _ in
-    omega (arith, long)
+    (omega (arith, long), omega (arith, long))

@@ -1,7 +1,6 @@
 use Rattle.std.proofs.Common.{◌≡◌, map, drop}
 use Rattle.kishu_meaning.specs.calls.Methods.{method_named}
-use Rattle.kishu_methods.specs.Called.{method_of}
 use Rattle.kishu_methods.proofs.method.named.Given as goal
 
 abbrev pub invariant-loop-method : goal.invariant-loop-method
-invariant-loop-method l = method_named l.name (map method_of l.methods) ≡ method_named l.name (map method_of (drop l.method-index l.methods))
+invariant-loop-method g l = method_named l.name (map g.M.Method.method_of l.methods) ≡ method_named l.name (map g.M.Method.method_of (drop l.method-index l.methods))

@@ -198,15 +198,13 @@ push_values-returns-in_err-push_value-clause-gives g t c =
     rw (c.loop-i.invariant.told, p.1, p.2)
     (item_stops value_of (repr_by (repr_nodes c.args.heap.now c.args.room (around_of c.args.around.now))) c.args.values.now c.loop-i.i c.index-values-i.result (omega arith) c.index-values-i.is c.in_err-push_value.field-0.0 c.loop-i.draft c.push_comma.new.draft c.push_value.new.draft c.in_ok-push_comma.ensures.gives c.in_err-push_value.ensures.gives)
 
-pub push_values-returns-in_err-push_value-clause-reads : goal.push_values-returns-in_err-push_value-clause-reads
-push_values-returns-in_err-push_value-clause-reads g t c = omega (arith, c.in_ok-push_comma.ensures.taken)
+pub push_values-returns-in_err-push_value-clause-takes : goal.push_values-returns-in_err-push_value-clause-takes
+push_values-returns-in_err-push_value-clause-takes g t c = (omega arith, omega arith, omega (arith, c.in_ok-push_comma.ensures.taken))
 
 pub push_values-loop-i-preserved : goal.push_values-loop-i-preserved
 push_values-loop-i-preserved g t c = record {
   told = c.loop-i.invariant.told ∙ goes_on value_of (repr_by (repr_nodes c.args.heap.now c.args.room (around_of c.args.around.now))) c.args.values.now c.loop-i.i c.index-values-i.result (omega arith) c.index-values-i.is c.loop-i.draft c.push_comma.new.draft c.push_value.new.draft c.in_ok-push_comma.ensures.gives c.in_ok-push_value.ensures.gives;
-  left = omega arith;
-  least = omega arith;
-  reads = omega (arith, c.in_ok-push_comma.ensures.taken);
+  takes = (omega arith, omega arith, omega (arith, c.in_ok-push_comma.ensures.taken));
 }
 
 pub push_values-returns-clause-gives : goal.push_values-returns-clause-gives
@@ -227,9 +225,7 @@ push_entries-returns-in_err-push_entry-clause-gives g t c =
 pub push_entries-loop-i-preserved : goal.push_entries-loop-i-preserved
 push_entries-loop-i-preserved g t c = record {
   told = c.loop-i.invariant.told ∙ goes_on (entry_of key_of) (entry_repr (repr_nodes c.args.heap.now c.args.room (around_of c.args.around.now))) c.args.entries.now.entries c.loop-i.i (c.in-Some.key.now, c.in-Some.value.now) (slice_get_within c.args.entries.now.entries c.loop-i.i (c.in-Some.key.now, c.in-Some.value.now) (sym c.in-Some.ensures.entry)) (sym (get_or_from_slice_get c.args.entries.now.entries c.loop-i.i (c.in-Some.key.now, c.in-Some.value.now) (c.in-Some.key.now, c.in-Some.value.now) (sym c.in-Some.ensures.entry))) c.loop-i.draft c.push_comma.new.draft c.push_entry.new.draft c.in_ok-push_comma.ensures.gives c.in_ok-push_entry.ensures.gives;
-  left = omega arith;
-  least = omega arith;
-  reads = omega arith;
+  takes = (omega arith, omega arith, omega arith);
 }
 
 pub push_entries-returns-clause-gives : goal.push_entries-returns-clause-gives
@@ -251,9 +247,7 @@ push_attributes-returns-in_err-push_attribute-clause-gives g t c =
 pub push_attributes-loop-i-preserved : goal.push_attributes-loop-i-preserved
 push_attributes-loop-i-preserved g t c = record {
   told = c.loop-i.invariant.told ∙ goes_on (entry_of rc_str_bytes) (attribute_repr (repr_nodes c.args.heap.now c.args.room (around_of c.args.around.now))) c.args.attributes.now.entries c.loop-i.i (c.in-Some.name.now, c.in-Some.value.now) (slice_get_within c.args.attributes.now.entries c.loop-i.i (c.in-Some.name.now, c.in-Some.value.now) (sym c.in-Some.ensures.entry)) (sym (get_or_from_slice_get c.args.attributes.now.entries c.loop-i.i (c.in-Some.name.now, c.in-Some.value.now) (c.in-Some.name.now, c.in-Some.value.now) (sym c.in-Some.ensures.entry))) c.loop-i.draft c.push_comma.new.draft c.push_attribute.new.draft c.in_ok-push_comma.ensures.gives (subst (λ n. onto c.push_comma.new.draft (attribute_repr (repr_nodes c.args.heap.now c.args.room (around_of c.args.around.now)) (n, value_of c.in-Some.value.now)) ≡ answer (text_of c.push_attribute.new.draft) c.push_attribute.new.draft.left) c.as_str.ensures.value c.in_ok-push_attribute.ensures.gives);
-  left = omega arith;
-  least = omega arith;
-  reads = omega arith;
+  takes = (omega arith, omega arith, omega arith);
 }
 
 pub push_attributes-returns-clause-gives : goal.push_attributes-returns-clause-gives

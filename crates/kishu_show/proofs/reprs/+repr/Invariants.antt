@@ -1,10 +1,11 @@
-use Rattle.std.proofs.Common.{◌≡◌, ◌+◌, ◌*◌, ◌≤◌}
+use Rattle.std.proofs.Common.{◌≡◌, ◌+◌, ◌*◌}
 use Rattle.kishu_meaning.specs.values.Keys.{key_of}
 use Rattle.kishu_meaning.specs.values.Values.{value_of}
 use Rattle.kishu_meaning.specs.comparing.Show.{listed, repr_by, repr_nodes, entry_repr, attribute_repr}
 use Rattle.std.specs.Prelude.{map, min}
 use Rattle.std.specs.Rc.{rc_str_bytes}
 use Rattle.kishu_heap.specs.Cells.{entries_of, attributes_of}
+use Rattle.kishu_heap.specs.Costs.{Takes}
 use Rattle.kishu_show.specs.Shown.{onto}
 use Rattle.kishu_show.specs.Stack.{around_of}
 use Rattle.kishu_show.proofs.Walks.{entry_of, rest}
@@ -55,23 +56,17 @@ decreases-push_node g l = 7 * l.room + 6
 abbrev pub invariant-push_values-loop-i : goal.invariant-push_values-loop-i
 invariant-push_values-loop-i g l = record {
   told : onto l.fn.draft (listed (repr_by (repr_nodes l.heap l.room (around_of l.around))) (map value_of l.values)) ≡ onto l.draft (rest value_of (repr_by (repr_nodes l.heap l.room (around_of l.around))) l.values l.i);
-  left : l.draft.left ≤ l.fn.draft.left;
-  least : l.fn.draft.left + l.fn.steps ≤ l.draft.left + l.steps;
-  reads : 24 * l.draft.left + l.steps ≤ 24 * l.fn.draft.left + l.fn.steps + min l.i 1;
+  takes : Takes (min l.i 1) l.fn.draft.left l.fn.steps l.draft.left l.steps;
 }
 
 abbrev pub invariant-push_entries-loop-i : goal.invariant-push_entries-loop-i
 invariant-push_entries-loop-i g l = record {
   told : onto l.fn.draft (listed (entry_repr (repr_nodes l.heap l.room (around_of l.around))) (entries_of l.entries.entries)) ≡ onto l.draft (rest (entry_of key_of) (entry_repr (repr_nodes l.heap l.room (around_of l.around))) l.entries.entries l.i);
-  left : l.draft.left ≤ l.fn.draft.left;
-  least : l.fn.draft.left + l.fn.steps ≤ l.draft.left + l.steps;
-  reads : 24 * l.draft.left + l.steps ≤ 24 * l.fn.draft.left + l.fn.steps;
+  takes : Takes 0 l.fn.draft.left l.fn.steps l.draft.left l.steps;
 }
 
 abbrev pub invariant-push_attributes-loop-i : goal.invariant-push_attributes-loop-i
 invariant-push_attributes-loop-i g l = record {
   told : onto l.fn.draft (listed (attribute_repr (repr_nodes l.heap l.room (around_of l.around))) (attributes_of l.attributes.entries)) ≡ onto l.draft (rest (entry_of rc_str_bytes) (attribute_repr (repr_nodes l.heap l.room (around_of l.around))) l.attributes.entries l.i);
-  left : l.draft.left ≤ l.fn.draft.left;
-  least : l.fn.draft.left + l.fn.steps ≤ l.draft.left + l.steps;
-  reads : 24 * l.draft.left + l.steps ≤ 24 * l.fn.draft.left + l.fn.steps;
+  takes : Takes 0 l.fn.draft.left l.fn.steps l.draft.left l.steps;
 }

@@ -5,7 +5,7 @@ use Rattle.kishu_language.specs.trees.Height.{of_statement, of_statements}
 use Rattle.kishu_meaning.specs.moments.Moment.{Ends}
 use Rattle.kishu_language.specs.trees.Tree.{Statement, Statements, statement_of}
 use Rattle.kishu_calls.specs.Calls.{flow_of}
-use Rattle.kishu_calls.specs.Trees.{statements_of}
+use Rattle.kishu_language.specs.trees.Parts.{statements_of}
 use Rattle.kishu_machine.specs.Machine.{Fails, moment_of}
 use Rattle.kishu_statements.specs.Forms.{each}
 use Rattle.kishu_statements.proofs.Cells.{statements_here, list_here, each_fails, each_on, paid}

@@ -2,7 +2,7 @@ use Rattle.std.proofs.Common.{◌≡◌, ◌≤◌, map, drop}
 use Rattle.kishu_language.specs.trees.Height.{of_statements}
 use Rattle.kishu_language.specs.trees.Tree.{statement_of}
 use Rattle.kishu_language.specs.trees.Fits.{StatementsFit}
-use Rattle.kishu_calls.specs.Trees.{statements_of}
+use Rattle.kishu_language.specs.trees.Parts.{statements_of}
 use Rattle.kishu_machine.specs.Machine.{GrownBy, ReadsBy, moment_of}
 use Rattle.kishu_statements.specs.Forms.{each}
 use Rattle.kishu_statements.proofs.cell.run_each.Given as goal

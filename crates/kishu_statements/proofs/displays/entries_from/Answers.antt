@@ -29,8 +29,8 @@ loop-key-preserved-in_ok-insert g c =
       told = entry_told items rest k v j es new next made (with_pairs (value_pairs c.args.pairs) [] (moment_of c.args.machine.now)) (moment_of at.machine) (moment_of c.key_of.new.machine) at.invariant.told key.gives;
       others = subst (λ (h : List Node). IsTrue (are_sound_pairs (length h) (seen_pairs rest))) (sym key.heap) (entry_others items rest k v j es new next made n at.invariant.others);
       sound = subst (λ (h : List Node). IsTrue (list_all (λ (e : Key × Value). is_sound (length h) e.1) (entries_of new))) (sym key.heap) (entry_sound items rest k v j es new next made n at.invariant.others at.invariant.sound);
-      kept = grown_on 0 0 c.args.machine.now at.machine c.key_of.new.machine c.args.steps.now at.steps c.key_of.new.steps at.invariant.kept key.kept;
-      reads = let one : length items ≡ suc (length rest) = ap length next in omega (arith, one, at.invariant.reads, key.reads);
+      kept = grown_on 0 0 c.args.machine.now at.machine c.key_of.new.machine c.args.steps.now at.steps c.key_of.new.steps at.invariant.kept key.costs.kept;
+      reads = let one : length items ≡ suc (length rest) = ap length next in omega (arith, one, at.invariant.reads, key.costs.reads);
       heap = key.heap ∙ at.invariant.heap;
     }
 
@@ -52,7 +52,7 @@ loop-key-preserved g c =
       told = entry_told items rest k v j es new next made (with_pairs (value_pairs c.args.pairs) [] (moment_of c.args.machine.now)) (moment_of at.machine) (moment_of c.key_of.new.machine) at.invariant.told key.gives;
       others = subst (λ (h : List Node). IsTrue (are_sound_pairs (length h) (seen_pairs rest))) (sym key.heap) (entry_others items rest k v j es new next made n at.invariant.others);
       sound = subst (λ (h : List Node). IsTrue (list_all (λ (e : Key × Value). is_sound (length h) e.1) (entries_of new))) (sym key.heap) (entry_sound items rest k v j es new next made n at.invariant.others at.invariant.sound);
-      kept = grown_on 0 0 c.args.machine.now at.machine c.key_of.new.machine c.args.steps.now at.steps c.key_of.new.steps at.invariant.kept key.kept;
-      reads = let one : length items ≡ suc (length rest) = ap length next in omega (arith, one, at.invariant.reads, key.reads);
+      kept = grown_on 0 0 c.args.machine.now at.machine c.key_of.new.machine c.args.steps.now at.steps c.key_of.new.steps at.invariant.kept key.costs.kept;
+      reads = let one : length items ≡ suc (length rest) = ap length next in omega (arith, one, at.invariant.reads, key.costs.reads);
       heap = key.heap ∙ at.invariant.heap;
     }

@@ -1,6 +1,6 @@
 use Rattle.std.proofs.Common.{◌≡◌, ◌+◌, ◌≤◌, drop}
 use Rattle.kishu_meaning.specs.cells.Meaning.{nodes, nodes_before_last}
-use Rattle.kishu_calls.specs.Trees.{trailers_of}
+use Rattle.kishu_language.specs.trees.Parts.{trailers_of}
 use Rattle.kishu_machine.specs.Machine.{GrownBy, moment_of}
 use Rattle.kishu_statements.proofs.targets.take_container_nodes.Given as goal
 

@@ -6,7 +6,8 @@ use Rattle.std.proofs.lemmas.Int.{ints, to_z-of_z}
 use Rattle.std.proofs.lemmas.List.{append_assoc}
 use Rattle.std.proofs.lemmas.Str.{chars-nil}
 use Rattle.kishu_meaning.specs.values.Texts.{places, LieWithin, picked}
-use Rattle.kishu_text.proofs.Places.{first_within, second_within, rest_within, picked_more, moved}
+use Rattle.kishu_text.specs.PlaceLaws.{first_within, second_within, rest_within}
+use Rattle.kishu_text.proofs.Places.{picked_more, moved}
 use Rattle.kishu_text.proofs.index.pick.Goals as goal
 use Rattle.kishu_text.proofs.index.pick.Goals.{then-k-len, else-k-len}
 

@@ -6,7 +6,8 @@ use Rattle.std.proofs.lemmas.Bool.Decides.{nat_tests}
 use Rattle.std.proofs.lemmas.Int.{to_z-of_z}
 use Rattle.std.proofs.lemmas.Str.{chars-nil}
 use Rattle.kishu_meaning.specs.values.Texts.{places, picked}
-use Rattle.kishu_text.proofs.Places.{first_within, fits, same_place, moved, same_picked}
+use Rattle.kishu_text.specs.PlaceLaws.{first_within, fits, same_place}
+use Rattle.kishu_text.proofs.Places.{moved, same_picked}
 use Rattle.kishu_text.proofs.index.slice.Goals as goal
 
 pub overflow_cast-start : goal.overflow_cast-start

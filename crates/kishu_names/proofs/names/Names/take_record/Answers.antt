@@ -1,4 +1,3 @@
-use Rattle.std.proofs.Common.{◌∙◌, ap}
 use Rattle.kishu_names.proofs.Records.{rises_nil}
 use Rattle.kishu_names.proofs.names.Names.take_record.Goals as goal
 

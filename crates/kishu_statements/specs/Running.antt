@@ -1,2 +1,0 @@
--- What cells run on.
-pub use Rattle.kishu_machine.specs.Machine.{state_in}
