@@ -1,4 +1,5 @@
 -- What the parameters of a function are bound to.
+use Rattle.kishu_language.specs.Limits.{longest_text}
 use Rattle.std.proofs.Common.{◌≡◌, ◌∙◌, ℕ, zero, suc, ◌+◌, ◌-◌, ◌<◌, ◌≤◌, refl, sym, ap, arith, Bool, true, List, [], ◌∷◌, ◌++◌, length, take, drop, map, get_or, Option, Some, None, Ordering, append_assoc, add-one, subst}
 use denote.Bor.{Bor}
 use Rattle.std.specs.Slice.{IsItemAt}
@@ -199,5 +200,5 @@ pub onto_finished : (xs : List Text) (vs : List rust.Value) (bound : Names) → 
 onto_finished xs [] bound h = onto_end xs bound
 onto_finished xs (v ∷ vs) bound h = absurd (omega (arith, h))
 
-pub function_there : (o : Option Node) (profile : Profile) (code : Text) (vs : List Value) (f : rust_function.Function) → Some (function profile code vs) ≡ o → ∥ IsCodeOf profile code (definition_of f.def.value) ∥₁ → IsUtf8 code → length code ≤ 1048576 → vs ≡ map value_of f.defaults.items → IsFunction o f
+pub function_there : (o : Option Node) (profile : Profile) (code : Text) (vs : List Value) (f : rust_function.Function) → Some (function profile code vs) ≡ o → ∥ IsCodeOf profile code (definition_of f.def.value) ∥₁ → IsUtf8 code → length code ≤ longest_text → vs ≡ map value_of f.defaults.items → IsFunction o f
 function_there o profile code vs f h r u n e = subst (λ (x : Option Node). IsFunction x f) h (r, u, n, e)

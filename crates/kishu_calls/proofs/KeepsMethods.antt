@@ -8,7 +8,7 @@ use Rattle.kishu_meaning.specs.values.Nodes.{value_at, last_of, replace_list, in
 use Rattle.kishu_meaning.specs.values.Sound.{is_sound, are_sound, is_sound_node}
 use Rattle.kishu_meaning.specs.moments.Moment.{M, ◌>>=◌, ◌>>◌, give, or_else, spend, look, make, change}
 use Rattle.kishu_meaning.specs.values.Kinds.{value_error, index_error, no_key, no_attribute, bad_arguments}
-use Rattle.kishu_meaning.specs.comparing.Show.{key_error}
+use Rattle.kishu_meaning.specs.values.Classes.{key_error_class}
 use Rattle.kishu_meaning.specs.items.Indexes.{index_of, place_of}
 use Rattle.kishu_meaning.specs.items.KeyOf.{key_of_value}
 use Rattle.kishu_meaning.specs.items.Sequences.{walked, extended}
@@ -169,7 +169,7 @@ module _ (n : ℕ) where
   dict_row_leaves m.get i es (key ∷ d ∷ []) h a = look_up_leaves es key (give d) h (value_keeps n d (next_sound key d [] a))
   dict_row_leaves m.setdefault i es (key ∷ []) h a = set_default_leaves i es key none h refl
   dict_row_leaves m.setdefault i es (key ∷ d ∷ []) h a = set_default_leaves i es key d h (next_sound key d [] a)
-  dict_row_leaves m.pop i es (key ∷ []) h a = pop_key_leaves i es key (no_key key) h (raise_with_keeps n is_sound key_error key refl (head_sound key [] a))
+  dict_row_leaves m.pop i es (key ∷ []) h a = pop_key_leaves i es key (no_key key) h (raise_with_keeps n is_sound key_error_class key refl (head_sound key [] a))
   dict_row_leaves m.pop i es (key ∷ d ∷ []) h a = pop_key_leaves i es key (give d) h (value_keeps n d (next_sound key d [] a))
   dict_row_leaves m.clear i es [] h a = changing_leaves n i _
   dict_row_leaves m.update i es (d ∷ []) h a = update_leaves i d

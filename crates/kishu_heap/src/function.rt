@@ -1,4 +1,5 @@
 // Functions.
+ghost use Rattle.kishu_language.specs.Limits.{longest_text};
 ghost use Rattle.std.specs.Prelude.{◌≡◌, ◌≤◌, length};
 ghost use Rattle.std.specs.Rc.{rc_str_bytes};
 ghost use Rattle.kishu_language.specs.trees.Fits.{IsCodeOf};
@@ -17,7 +18,7 @@ pub struct FunctionNode {
     pub code: RcStr,
     pub def: Rc<Def>,
     pub defaults: Vec<Value>,
-    ghost short: { length (rc_str_bytes code) ≤ 1048576 },
+    ghost short: { length (rc_str_bytes code) ≤ longest_text },
     ghost read: { ∥ IsCodeOf profile (rc_str_bytes code) (definition_of def.value) ∥₁ },
     ghost filled: { length defaults.items ≡ default_count (definition_of def.value) },
 }

@@ -6,7 +6,8 @@ use Rattle.kishu_meaning.specs.moments.Moment as moment
 use Rattle.kishu_meaning.specs.moments.Moment.{Moment, Ends, fine, raised, stopped, M, tick, raise, most_depth}
 use Rattle.kishu_meaning.specs.moments.Counting.{Counted, Count, answer, too_deep, spent, and_then, ◌>>=◌, ◌>>◌, give, spend, ended_in, counted}
 use Rattle.kishu_meaning.specs.comparing.Equal.{room_at}
-use Rattle.kishu_meaning.specs.comparing.Show.{repr_by, show_by, argument_text, key_error, repr_nodes, show_nodes, show_in, show_all_in}
+use Rattle.kishu_meaning.specs.values.Classes.{key_error_class}
+use Rattle.kishu_meaning.specs.comparing.Show.{repr_by, show_by, argument_text, repr_nodes, show_nodes, show_in, show_all_in}
 use Rattle.kishu_machine.specs.declared.fault.Fault.{Fault}
 use Rattle.kishu_machine.specs.Lists.{is_node}
 use Rattle.kishu_machine.specs.Machine.{Fails}
@@ -65,7 +66,7 @@ plain_either false f g p q v h = show_plain p q v h
 
 -- A plain value has the same text at each depth.
 pub plain_inside : (f g p q : ℕ → Count (List ℕ)) (kind : ℕ) (v : Value) → is_node v ≡ false → argument_text f p kind v ≡ argument_text g q kind v
-plain_inside f g p q kind v h = plain_either (kind == key_error) f g p q v h
+plain_inside f g p q kind v h = plain_either (kind == key_error_class) f g p q v h
 
 deep_either : (b : Bool) (ns : List Node) (i left : ℕ) → (if b then repr_by (repr_nodes ns 0 []) (node i) else show_by (show_nodes ns 0) (node i)) left ≡ too_deep left
 deep_either true ns i left = refl
@@ -73,7 +74,7 @@ deep_either false ns i left = refl
 
 -- A node has none where no room is left.
 pub deep_inside : (ns : List Node) (d kind left : ℕ) (v : Value) → most_depth ≤ d → is_node v ≡ true → argument_text (repr_nodes ns (most_depth - d) []) (show_nodes ns (most_depth - d)) kind v left ≡ too_deep left
-deep_inside ns d kind left (node i) h e = (let z : most_depth - d ≡ 0 = omega arith in rw z (deep_either (kind == key_error) ns i left))
+deep_inside ns d kind left (node i) h e = (let z : most_depth - d ≡ 0 = omega arith in rw z (deep_either (kind == key_error_class) ns i left))
 deep_inside ns d kind left none h e = absurd cc
 deep_inside ns d kind left (bool b) h e = absurd cc
 deep_inside ns d kind left (integer z) h e = absurd cc

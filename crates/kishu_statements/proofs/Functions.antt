@@ -1,4 +1,5 @@
 -- The function at a node: its tree fits, and a call of the node is one of it.
+use Rattle.kishu_language.specs.Limits.{height_limit}
 use Rattle.std.proofs.Common.{sym, subst, ℕ, ◌<◌, ◌≤◌, not, IsTrue, List, [], ◌∷◌, length, map, Option, Some, None, Result, Ok, Err}
 use Rattle.std.proofs.Math.Bool.{Bool-set}
 use Rattle.std.proofs.Math.Logic.{∥∥₁_elim, ∥∥₁_prop}
@@ -181,7 +182,7 @@ mutual
 
 -- It fits, its title is a name, and its body is low.
 abbrev pub FunctionHolds : Definition → Type 0
-FunctionHolds d = FunctionFits d × IsTrue (is_name d.title) × (of_statements d.body < 1048576)
+FunctionHolds d = FunctionFits d × IsTrue (is_name d.title) × (of_statements d.body < height_limit)
 
 function_prop : (d : Definition) → IsProp (FunctionHolds d)
 function_prop d = three_prop (×_prop (parameters_prop d.parameters) (statements_prop d.body)) (Bool-set _ _) le_prop
@@ -212,6 +213,6 @@ module _ {X : Type 0} (view : X → Value) (r : Result X Fault) (room n : ℕ) (
 
 -- ---- the code of a function that is made
 
-pub defined_code : (profile : Profile) (code : Text) (d : Definition) → IsTrue (is_name d.title) → ParametersFit d.parameters → StatementsFit d.body → of_statements d.body < 1048576
+pub defined_code : (profile : Profile) (code : Text) (d : Definition) → IsTrue (is_name d.title) → ParametersFit d.parameters → StatementsFit d.body → of_statements d.body < height_limit
     → ∥ ReadsDef profile code d ∥₁ → ∥ IsCodeOf profile code d ∥₁
 defined_code profile code d name parameters body low h = ∥∥₁_elim h ∥∥₁_prop (λ p. ∣ record { reads = p; name = name; fits = (parameters, body); low = low } ∣₁)

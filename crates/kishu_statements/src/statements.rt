@@ -3,7 +3,7 @@ ghost use Rattle.std.specs.Prelude.{IfOk, IsTrue, length, map, ◌<◌, ◌≡�
 ghost use Rattle.std.specs.Rc.{rc_str_bytes};
 ghost use Rattle.std.specs.List.{list_all};
 ghost use Rattle.kishu_language.specs.grammar.Targets.{is_target};
-ghost use Rattle.kishu_meaning.specs.values.Classes.{namespace_number};
+ghost use Rattle.kishu_meaning.specs.values.Classes.{namespace_class};
 ghost use Rattle.kishu_meaning.specs.calls.Functions.{or_class_name};
 ghost use Rattle.kishu_language.specs.trees.Height.{of_arms, of_parameters, of_statement, of_statements};
 ghost use Rattle.kishu_meaning.specs.cells.Meaning.{act, acts, call, defaults, in_block, raise_by, returned_by};
@@ -193,7 +193,7 @@ fn run_delete<L: Ledger>(
 #[inline(never)]
 fn run_import(machine: &mut Machine, name: &Option<RcStr>) -> Result<Flow, Fault>
     requires fit_name { TitleFits (text_of name.now) }
-    ensures gives { Gives flow_of result (moment_of machine.new) ((assign (or_class_name (text_of name.now)) (class namespace_number) ▹ give onward) (moment_of machine.old)) }
+    ensures gives { Gives flow_of result (moment_of machine.new) ((assign (or_class_name (text_of name.now)) (class namespace_class) ▹ give onward) (moment_of machine.old)) }
     ensures sound { SoundFlow machine.new.heap result }
     ensures heap { machine.new.heap ≡ machine.old.heap }
     ensures budget { machine.new.budget ≡ machine.old.budget }

@@ -1,6 +1,7 @@
 // Texts of values and nodes, and the steps that they take. The texts are CPython's, but for a
 // function, whose text has no address here, and for an exception that is being shown already, where
 // the class and three dots are this language's own.
+ghost use Rattle.kishu_language.specs.Limits.{longest_text};
 ghost use Rattle.std.specs.Prelude.{◌≡◌, ◌<◌, ◌≤◌, ◌^◌, [], IsTrue, IfOk, IfSome, length};
 ghost use Rattle.kishu_language.specs.tokens.Names.{is_name};
 
@@ -236,7 +237,7 @@ fn exceptions_that_hold_themselves(rt: HostRuntime) -> Result<(), Fail> {
 // The function that this code is, where it has no parameters.
 #[tactic(auto, using(crate::proofs::Parameters::no_defaults, crate::proofs::Parameters::read_as))]
 fn function_of(alloc: Global, code: &str) -> Result<Option<FunctionNode>, AllocError>
-    requires { length code.now ≤ 1048576 }
+    requires { length code.now ≤ longest_text }
     ensures { IfOk result (λ found. IfSome found (λ f. f.defaults.items ≡ [])) }
 {
     let Ok(definition) = parse_def(alloc, Profile::One, code) else {

@@ -1,4 +1,5 @@
 -- The tree of a text fits: its names are names, and the code of each function in it reads as that function.
+use Rattle.kishu_language.specs.Limits.{longest_text}
 use Rattle.std.specs.Prelude.{◌≤◌, List, [], ◌∷◌, length}
 use Rattle.std.specs.Str.{IsUtf8}
 use Rattle.std.proofs.Common.{arith}
@@ -22,20 +23,20 @@ parsed_fits profile text tree h = all_named tree ((programs (plain_text text)).l
 code_reads : (profile other : Profile) (code : Text) (d : Definition) → ParseDef profile code d → ParseDef other code d
 code_reads p q code d h = h
 
-code_fits : (profile : Profile) (code : Text) (d : Definition) → length code ≤ 1048576 → ParseDef profile code d → CodeFits code d
+code_fits : (profile : Profile) (code : Text) (d : Definition) → length code ≤ longest_text → ParseDef profile code d → CodeFits code d
 code_fits profile code d small h = (small, λ other. ∣ read_only other code (t.define d.title d.parameters d.body code ∷ []) (code_reads profile other code d h) ∣₁)
 
 -- With codes that read, it fits.
-pub tree_fits : (profile : Profile) (text : Text) (tree : List Statement) → length text ≤ 1048576 → Parse profile text tree → CodesRead profile text tree → StatementsFit (statements tree)
+pub tree_fits : (profile : Profile) (text : Text) (tree : List Statement) → length text ≤ longest_text → Parse profile text tree → CodesRead profile text tree → StatementsFit (statements tree)
 tree_fits profile text tree small h read = fit_statements (statements tree) (parsed_fits profile text tree h)
     (λ d code inside. (let r = read d code inside in code_fits profile code d (omega (arith, r.1, small)) r.0))
 
 -- The tree of a text of at most 1 MiB fits.
-pub text_fits : (profile : Profile) (text : Text) → IsUtf8 text → length text ≤ 1048576 → (tree : List Statement) → Parse profile text tree → StatementsFit (statements tree)
+pub text_fits : (profile : Profile) (text : Text) → IsUtf8 text → length text ≤ longest_text → (tree : List Statement) → Parse profile text tree → StatementsFit (statements tree)
 text_fits profile text utf8 small tree h = tree_fits profile text tree small h (codes_read profile text utf8 tree h)
 
 -- The code of a function, by the relation of text and tree, is one by the reading.
-pub code_of_parsed : (profile : Profile) (code : Text) (d : Definition) → IsUtf8 code → length code ≤ 1048576 → ParseDef profile code d → IsCodeOf profile code d
+pub code_of_parsed : (profile : Profile) (code : Text) (d : Definition) → IsUtf8 code → length code ≤ longest_text → ParseDef profile code d → IsCodeOf profile code d
 code_of_parsed profile code d utf8 small h =
     let fit = text_fits profile code utf8 small (t.define d.title d.parameters d.body code ∷ []) h in
     record {

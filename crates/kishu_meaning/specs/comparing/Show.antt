@@ -154,9 +154,6 @@ repr_of v = λ s. counted (repr_in s.nodes s.depth v) s
 
 -- ---- str
 
-abbrev pub key_error : ℕ
-key_error = key_error_class
-
 -- A text is itself; all else is its repr, but for exceptions.
 abbrev pub show_by : (ℕ → Count (List ℕ)) → Value → Count (List ℕ)
 show_by nodes (text cs) = made cs

@@ -85,9 +85,6 @@ or_else other None = other
 abbrev pub exhausted : {A : Type 0} → M A
 exhausted s = stopped (record s { left = 0 })
 
-abbrev pub later : {A : Type 0} → M A
-later = exhausted
-
 -- ---- the budget and the depth
 
 -- so many steps

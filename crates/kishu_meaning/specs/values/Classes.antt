@@ -76,9 +76,6 @@ type_error_class = 23
 abbrev pub value_error_class : ℕ
 value_error_class = 24
 
-abbrev pub namespace_number : ℕ
-namespace_number = namespace_class
-
 -- the class above a class of exceptions; that of all of them is its own
 abbrev pub class_above : ℕ → ℕ
 class_above n =

@@ -1,4 +1,5 @@
 -- The tree of a text is sound.
+use Rattle.kishu_language.specs.Limits.{longest_text}
 use Rattle.std.proofs.Common.{◌≡◌, ◌≤◌, ℕ, true, List, [], ◌∷◌, ◌++◌, length, refl, sym, ap, subst, ◌∙◌, arith, append_assoc}
 use Rattle.std.proofs.lemmas.Str.{scalars-chars}
 use Rattle.std.specs.Prelude.{Ok}
@@ -63,11 +64,11 @@ module _ (profile : Profile) (text : Text) (utf8 : IsUtf8 text) where
 code_reads : (profile other : Profile) (code : Text) (d : Definition) → ParseDef profile code d → ParseDef other code d
 code_reads p q code d h = h
 
-module _ (profile : Profile) (text : Text) (utf8 : IsUtf8 text) (small : length text ≤ 1048576) where
+module _ (profile : Profile) (text : Text) (utf8 : IsUtf8 text) (small : length text ≤ longest_text) where
   code_sound : (tree : List Statement) → Parse profile text tree → (d : Definition) (code : Text) → InStatements (t.define d.title d.parameters d.body code) (statements tree) → CodeSound code d.parameters
   code_sound tree h d code inside =
       let r = codes_read profile text utf8 tree h d code inside in
-      let fits : length code ≤ 1048576 = omega (arith, r.1, small) in
+      let fits : length code ≤ longest_text = omega (arith, r.1, small) in
       let utf = code_utf8 profile text utf8 tree h d code inside in
       λ other. record {
         utf8 = utf;

@@ -1,4 +1,5 @@
 -- What the functions of the cycle promise.
+use Rattle.kishu_language.specs.Limits.{height_limit, longest_text}
 use Rattle.std.proofs.Common.{◌≡◌, ◌∙◌, ◌+◌, ◌++◌, ◌∷◌, [], ap, sym, subst, arith, map, max, drop, length, length-append, IsTrue, ℕ, rules, not, Option, ◌*◌, ◌≢◌, true, false, false-eqb, ◌<◌, List, length-drop, refl, ◌≤◌, ◌-◌, Some, None, suc, ◌^◌}
 use Rattle.std.proofs.lemmas.List.{map-append, drop_all, length_push, nil_from_length}
 use Rattle.std.proofs.lemmas.Result.{err_from_is_err_and}
@@ -1126,7 +1127,7 @@ calls::entered-block-flow-requires g falls c κs within = (
   (
     search rules,
     (
-      subst (λ (b : Statements). of_statements b < 1048576) (body_is c.args.def.now ∙ ap statements_of (sym c.deref.ensures.value)) c.requires.small,
+      subst (λ (b : Statements). of_statements b < height_limit) (body_is c.args.def.now ∙ ap statements_of (sym c.deref.ensures.value)) c.requires.small,
       (
         subst StatementsFit (body_is c.args.def.now ∙ ap statements_of (sym c.deref.ensures.value)) c.requires.fits,
         search rules,
@@ -1560,7 +1561,7 @@ statements::run_def-invariant_of-function g falls c =
     let def_is : c.in_ok-clone-2.field-0.value ≡ d = c.in_ok-clone-2.ensures.cases in
     let is : map parameter_of c.as_slice.result.now ≡ (definition_of d).parameters = ap (map parameter_of) (c.as_slice.ensures.value ∙ ap (λ (d : Def). d.params.items) c.deref.ensures) ∙ sym (parameters_are d) in
     record {
-      short = subst (λ (x : Text). length x ≤ 1048576) (sym code_is) c.requires.short;
+      short = subst (λ (x : Text). length x ≤ longest_text) (sym code_is) c.requires.short;
       read =
           subst (λ (p : Profile). ∥ IsCodeOf p (rc_str_bytes c.in_ok-clone.field-0) (definition_of c.in_ok-clone-2.field-0.value) ∥₁) (same_profile c.args.machine.now.profile c.default_values.new.machine.profile)
           (subst (λ (x : Text). ∥ IsCodeOf c.args.machine.now.profile x (definition_of c.in_ok-clone-2.field-0.value) ∥₁) (sym code_is)

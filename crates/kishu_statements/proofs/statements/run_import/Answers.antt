@@ -1,7 +1,7 @@
 use Rattle.std.proofs.Common.{◌∙◌, List, Option, ap, refl, sym, ℕ}
 use Rattle.std.specs.declared.alloc.Global.{Global}
 use Rattle.std.specs.declared.rc.RcStr.{RcStr}
-use Rattle.kishu_meaning.specs.values.Classes.{namespace_number}
+use Rattle.kishu_meaning.specs.values.Classes.{namespace_class}
 use Rattle.kishu_meaning.specs.calls.Functions.{or_class_name}
 use Rattle.kishu_meaning.specs.moments.Moment.{Ends, and_then, assign, fine, give}
 use Rattle.kishu_language.specs.tokens.Names.{reserved_words}
@@ -22,12 +22,12 @@ returns-clause-gives c =
     let s = moment_of c.args.machine.now in
     ap (λ (x : Ends (Unit {0})). and_then x (λ _. give onward)) (elim c.match-name.branch [
       | in-Some+in_ok-assign-in-Some w ↦
-          ap (λ (o : Option (RcStr Global)). assign (or_class_name (text_of o)) (class namespace_number) s) w.in-Some.is
+          ap (λ (o : Option (RcStr Global)). assign (or_class_name (text_of o)) (class namespace_class) s) w.in-Some.is
           ∙ w.in_ok-assign-in-Some.ensures.gives
           ∙ ap (λ (m : Machine). fine tt (moment_of m)) (sym w.machine-is)
       | in-None+in_ok-name-in-None+in_ok-assign-in-None w ↦
-          ap (λ (o : Option (RcStr Global)). assign (or_class_name (text_of o)) (class namespace_number) s) w.in-None.is
-          ∙ ap (λ (x : List ℕ). assign x (class namespace_number) s) (sym w.in_ok-name-in-None.ensures.ok)
+          ap (λ (o : Option (RcStr Global)). assign (or_class_name (text_of o)) (class namespace_class) s) w.in-None.is
+          ∙ ap (λ (x : List ℕ). assign x (class namespace_class) s) (sym w.in_ok-name-in-None.ensures.ok)
           ∙ w.in_ok-assign-in-None.ensures.gives
           ∙ ap (λ (m : Machine). fine tt (moment_of m)) (sym w.machine-is)
     ])
