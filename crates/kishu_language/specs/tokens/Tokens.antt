@@ -3,7 +3,6 @@ use Rattle.std.specs.Prelude.{ℕ, List}
 use Rattle.std.specs.Rc.{rc_str_bytes}
 use Rattle.std.specs.Str.{chars}
 use Rattle.kishu_language.specs.declared.profile.Profile.{Profile}
-use Rattle.kishu_language.specs.declared.profile.Profile.TheVariants.{One}
 use Rattle.kishu_language.specs.declared.token.Token as rust_token
 use Rattle.kishu_language.specs.declared.token.TokenKind as rust
 use Rattle.kishu_language.specs.declared.token.TokenKind.TheVariants as rust_kind
@@ -23,9 +22,9 @@ kind_of (rust_kind.Mark k) = mark k
 abbrev pub token_of : rust_token.Token → Token
 token_of t = token (kind_of t.kind) t.line t.start t.end
 
--- the tokens of a text of characters, or the line of the fault that comes first
+-- the tokens of a text of characters, or the line of the fault that comes first; the same under every profile
 abbrev pub tokens_of_chars : Profile → List ℕ → Outcome (List Token)
-tokens_of_chars One cs = layout (plain_lines cs)
+tokens_of_chars profile cs = layout (plain_lines cs)
 
 -- the same of a text's bytes in UTF-8
 abbrev pub tokens : Profile → List ℕ → Outcome (List Token)

@@ -4,7 +4,6 @@ use Rattle.std.proofs.lemmas.Str.{chars-encodes, encodes-chars, scalars-chars}
 use Rattle.std.specs.Prelude.{Ok}
 use Rattle.std.specs.Str.{IsUtf8, chars, encode_utf8_all, all_scalars}
 use Rattle.kishu_language.specs.declared.profile.Profile.{Profile}
-use Rattle.kishu_language.specs.declared.profile.Profile.TheVariants.{One}
 use Rattle.kishu_language.specs.tokens.PlainLines.{plain_lines}
 use Rattle.kishu_language.specs.tokens.Layout.{Token, width, layout}
 use Rattle.kishu_language.specs.tokens.Tokens.{tokens}
@@ -31,7 +30,7 @@ record FunctionRead (profile : Profile) (text : Text) (d : Statement) : Type 0 w
 
 -- the tokens of text by its characters
 tokens_are : (profile : Profile) (text : Text) → tokens profile text ≡ layout (plain_lines (chars text))
-tokens_are One text = refl
+tokens_are profile text = refl
 
 -- ---- a part of a text with plain line ends
 
