@@ -5,3 +5,6 @@ pub mod Holds
 pub mod Fits
 pub mod Inside
 pub mod FunctionCodes
+pub mod Parts
+pub mod Rows
+pub mod StatementRows

@@ -8,7 +8,7 @@ use Rattle.kishu_language.specs.declared.tree.Expr.{Expr}
 use Rattle.kishu_language.specs.declared.tree.Trailer.{Trailer as Trailer'}
 use Rattle.kishu_language.specs.trees.Tree.{expressions, trailers, expression_of}
 use Rattle.kishu_language.specs.grammar.Targets.{is_place_trailer, ends_in_place, is_target, are_targets}
-use Rattle.kishu_parser.specs.Trees.{trailer_of}
+use Rattle.kishu_language.specs.trees.Parts.{trailer_of}
 use Rattle.kishu_parser.proofs.Walks.{here}
 
 abbrev at_last : Option Trailer' → Bool

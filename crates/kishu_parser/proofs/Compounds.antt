@@ -10,10 +10,10 @@ use Rattle.kishu_language.specs.grammar.Refusals.{Around, in_loop, in_function, 
 use Rattle.kishu_language.specs.reading.Reader.{Reader, Outcome, and_then, where_true, mark, token, a_name}
 use Rattle.kishu_language.specs.reading.ReadExpressions.{any_listed}
 use Rattle.kishu_language.specs.reading.ReadStatements as spec
-use Rattle.kishu_parser.specs.Bodies.{arm_of}
+use Rattle.kishu_language.specs.trees.Parts.{arm_of}
 use Rattle.kishu_parser.specs.Statements as lines
 use Rattle.kishu_parser.proofs.Bodies as bodies
-use Rattle.kishu_parser.proofs.StatementRows.{arm_is, while_is}
+use Rattle.kishu_language.specs.trees.StatementRows.{arm_is, while_is}
 
 abbrev looped : Arm → Reader Statement
 looped found ts = Some (t.while found.0 found.1, ts)

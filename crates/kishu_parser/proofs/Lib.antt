@@ -1,8 +1,6 @@
 pub mod Fronts
-pub mod Rows
 pub mod Parts
 pub mod Counts
-pub mod StatementRows
 pub mod Bodies
 pub mod NameSets
 pub mod Orders

@@ -12,11 +12,10 @@ use Rattle.kishu_language.specs.trees.Tree.{Text, Expression, expressions, expre
 use Rattle.kishu_language.specs.trees.Tree as t
 use Rattle.kishu_language.specs.grammar.Refusals.{Mention, variables, in_expression, in_expressions, in_pairs, in_trailer, in_bound, in_optional, in_statements, in_arms, in_handlers, globals_fit_after}
 use Rattle.kishu_language.specs.trees.Height.{of_expression, of_pairs, of_trailer, of_bound, of_optional, of_statements, of_arms, of_handlers}
-use Rattle.kishu_parser.specs.Trees.{link_of, operand_of, pair_of}
-use Rattle.kishu_parser.specs.Bodies.{arm_of, handler_of}
+use Rattle.kishu_language.specs.trees.Parts.{link_of, operand_of, pair_of, arm_of, handler_of}
 use Rattle.kishu_parser.specs.Sets.{note, noted}
-use Rattle.kishu_parser.proofs.Rows.{link_is, operand_is, pair_is}
-use Rattle.kishu_parser.proofs.StatementRows.{arm_is, handler_is, definition_is}
+use Rattle.kishu_language.specs.trees.Rows.{link_is, operand_is, pair_is}
+use Rattle.kishu_language.specs.trees.StatementRows.{arm_is, handler_is, definition_is}
 use Rattle.kishu_parser.proofs.NameSets.{Same, continued, note_append, note_fits}
 
 pub link_value : (l : Link) → (link_of l).1 ≡ expression_of l.value

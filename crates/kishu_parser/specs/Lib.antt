@@ -1,7 +1,6 @@
 pub mod Views
 pub mod Trees
 pub mod Turns
-pub mod Bodies
 pub mod Statements
 pub mod Sets
 pub mod TopLevel

@@ -27,7 +27,7 @@ use Rattle.kishu_language.specs.tokens.Layout as kind
 use Rattle.kishu_parser.specs.declared.cursor.Stop.{Stop}
 use Rattle.kishu_parser.specs.declared.cursor.Stop.TheVariants as stop
 use Rattle.kishu_parser.specs.Views.{Fails}
-use Rattle.kishu_parser.specs.Bodies.{arm_of, handler_of}
+use Rattle.kishu_language.specs.trees.Parts.{arm_of, handler_of}
 
 abbrev pub around_of : rust_around.Around → Around
 around_of a = record { function = a.in_function; loop = a.in_loop; handler = a.in_handler }

@@ -1,5 +1,5 @@
--- What the parts of the code's trees stand for.
-use Rattle.std.specs.Prelude.{ℕ, List, map, Option}
+-- What lists of the code's trees stand for.
+use Rattle.std.specs.Prelude.{List, map}
 use Rattle.std.specs.declared.alloc.Global.{Global}
 use Rattle.std.specs.declared.vec.Vec.{Vec}
 use Rattle.std.specs.declared.rc.RcStr.{RcStr}
@@ -12,26 +12,11 @@ use Rattle.kishu_language.specs.declared.tree.Operand.{Operand}
 use Rattle.kishu_language.specs.declared.tree.Pair.{Pair}
 use Rattle.kishu_language.specs.declared.tree.Trailer as rust_trailer
 use Rattle.kishu_language.specs.declared.tree.Argument as rust_argument
-use Rattle.kishu_language.specs.declared.tree.Argument.TheFolds.{fold-Argument, fold-Trailer, fold-Link, fold-Operand, fold-Pair}
 use Rattle.kishu_language.specs.grammar.Grammar.{Phrase, exprs, expr, negated, unary}
 use Rattle.kishu_parser.specs.declared.expressions.Phrase as rust_phrase
 use Rattle.kishu_parser.specs.declared.expressions.Phrase.TheVariants as phrases
-use Rattle.kishu_language.specs.trees.Tree.{Text, Expression, Trailer, Argument, Parameter, expression_of, argument_step, expression_step, trailer_step, link_step, operand_step, pair_step}
-
-unfoldable pub link_of : Link → Comparison × Expression
-link_of = fold-Link Argument Expression Trailer (Comparison × Expression) (Operator × Expression) (Expression × Expression) argument_step expression_step trailer_step link_step operand_step pair_step
-
-unfoldable pub operand_of : Operand → Operator × Expression
-operand_of = fold-Operand Argument Expression Trailer (Comparison × Expression) (Operator × Expression) (Expression × Expression) argument_step expression_step trailer_step link_step operand_step pair_step
-
-unfoldable pub pair_of : Pair → Expression × Expression
-pair_of = fold-Pair Argument Expression Trailer (Comparison × Expression) (Operator × Expression) (Expression × Expression) argument_step expression_step trailer_step link_step operand_step pair_step
-
-unfoldable pub trailer_of : rust_trailer.Trailer → Trailer
-trailer_of = fold-Trailer Argument Expression Trailer (Comparison × Expression) (Operator × Expression) (Expression × Expression) argument_step expression_step trailer_step link_step operand_step pair_step
-
-unfoldable pub argument_of : rust_argument.Argument → Argument
-argument_of = fold-Argument Argument Expression Trailer (Comparison × Expression) (Operator × Expression) (Expression × Expression) argument_step expression_step trailer_step link_step operand_step pair_step
+use Rattle.kishu_language.specs.trees.Tree.{Text, Expression, Trailer, Argument, expression_of}
+use Rattle.kishu_language.specs.trees.Parts.{link_of, operand_of, pair_of, trailer_of, argument_of}
 
 abbrev pub expressions_in : Vec Expr Global → List Expression
 expressions_in v = map expression_of v.items

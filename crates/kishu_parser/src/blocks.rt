@@ -8,7 +8,7 @@ ghost use Rattle.kishu_language.specs.reading.ReadStatements as spec;
 ghost use Rattle.kishu_parser.specs.Views.{left, Gives};
 ghost use Rattle.kishu_parser.specs.Turns as turns;
 ghost use Rattle.kishu_parser.specs.Statements as lines;
-ghost use Rattle.kishu_parser.specs.Bodies as bodies;
+ghost use Rattle.kishu_language.specs.trees.Parts as tree_parts;
 
 use crate::cursor::{Parser, Stop};
 use crate::expressions::Phrase;
@@ -155,11 +155,11 @@ impl<'a> Parser<'a> {
     }
 
     #[cycle(blocks)]
-    #[tactic(auto, using(crate::proofs::StatementRows::arm_is), unfolding(kishu_language::specs::reading::ReadStatements::arm))]
+    #[tactic(auto, using(kishu_language::specs::trees::StatementRows::arm_is), unfolding(kishu_language::specs::reading::ReadStatements::arm))]
     fn arm(&self, at: &mut usize, room: u32, around: Around) -> Result<Arm, Stop>
         requires room { room < 1000 }
         requires placed { lines.Placed self.now.source.now self.now.tokens.now }
-        ensures { Gives bodies.arm_of (spec.arm self.now.source.now room (spec.chunk self.now.source.now room) (lines.around_of around) (left self.now.tokens.now at.old)) result (left self.now.tokens.now at.new) }
+        ensures { Gives tree_parts.arm_of (spec.arm self.now.source.now room (spec.chunk self.now.source.now room) (lines.around_of around) (left self.now.tokens.now at.old)) result (left self.now.tokens.now at.new) }
     {
         let test = self.nested(at, room + 1, Phrase::Expr)?;
         self.expect(at, Mark::Colon)?;
@@ -168,7 +168,7 @@ impl<'a> Parser<'a> {
     }
 
     #[cycle(blocks)]
-    #[tactic(auto, using(crate::proofs::StatementRows::if_is), unfolding(kishu_language::specs::reading::ReadStatements::choice))]
+    #[tactic(auto, using(kishu_language::specs::trees::StatementRows::if_is), unfolding(kishu_language::specs::reading::ReadStatements::choice))]
     fn choice(&self, at: &mut usize, room: u32, around: Around) -> Result<Stmt, Stop>
         requires room { room < 1000 }
         requires placed { lines.Placed self.now.source.now self.now.tokens.now }
@@ -191,7 +191,7 @@ impl<'a> Parser<'a> {
     ) -> Result<Vec<Arm>, Stop>
         requires room { room < 1000 }
         requires placed { lines.Placed self.now.source.now self.now.tokens.now }
-        ensures { Gives lines.arms_in (reader.turns (reader.sees m.Elif) (turns.more_turn m.Elif (spec.arm self.now.source.now room (spec.chunk self.now.source.now room) (lines.around_of around))) (bodies.arm_of first ∷ []) (left self.now.tokens.now at.old)) result (left self.now.tokens.now at.new) }
+        ensures { Gives lines.arms_in (reader.turns (reader.sees m.Elif) (turns.more_turn m.Elif (spec.arm self.now.source.now room (spec.chunk self.now.source.now room) (lines.around_of around))) (tree_parts.arm_of first ∷ []) (left self.now.tokens.now at.old)) result (left self.now.tokens.now at.new) }
     {
         let mut arms = Vec::new(self.alloc);
         push_arm(&mut arms, first)?;
@@ -219,7 +219,7 @@ impl<'a> Parser<'a> {
     }
 
     #[cycle(blocks)]
-    #[tactic(auto, using(crate::proofs::Bodies::for_is, crate::proofs::StatementRows::for_is))]
+    #[tactic(auto, using(crate::proofs::Bodies::for_is, kishu_language::specs::trees::StatementRows::for_is))]
     fn for_(&self, at: &mut usize, room: u32, around: Around) -> Result<Stmt, Stop>
         requires room { room < 1000 }
         requires placed { lines.Placed self.now.source.now self.now.tokens.now }
@@ -244,7 +244,7 @@ impl<'a> Parser<'a> {
         Ok(found)
     }
 
-    #[tactic(auto, using(crate::proofs::Rows::tuple_is))]
+    #[tactic(auto, using(kishu_language::specs::trees::Rows::tuple_is))]
     fn targets(&self, at: &mut usize, room: u32) -> Result<Expr, Stop>
         ensures { Gives expression_of (lines.targets room (left self.now.tokens.now at.old)) result (left self.now.tokens.now at.new) }
     {
@@ -291,7 +291,7 @@ impl<'a> Parser<'a> {
     }
 
     #[cycle(blocks)]
-    #[tactic(auto, using(crate::proofs::StatementRows::try_is), unfolding(kishu_language::specs::reading::ReadStatements::handled))]
+    #[tactic(auto, using(kishu_language::specs::trees::StatementRows::try_is), unfolding(kishu_language::specs::reading::ReadStatements::handled))]
     fn handled(
         &self,
         at: &mut usize,
@@ -328,7 +328,7 @@ impl<'a> Parser<'a> {
     ) -> Result<Vec<Handler>, Stop>
         requires room { room < 1000 }
         requires placed { lines.Placed self.now.source.now self.now.tokens.now }
-        ensures { Gives lines.handlers_in (reader.turns (reader.sees m.Except) (reader.one_more (spec.handler self.now.source.now room (spec.chunk self.now.source.now room) (lines.around_of around))) (bodies.handler_of first ∷ []) (left self.now.tokens.now at.old)) result (left self.now.tokens.now at.new) }
+        ensures { Gives lines.handlers_in (reader.turns (reader.sees m.Except) (reader.one_more (spec.handler self.now.source.now room (spec.chunk self.now.source.now room) (lines.around_of around))) (tree_parts.handler_of first ∷ []) (left self.now.tokens.now at.old)) result (left self.now.tokens.now at.new) }
     {
         let mut all = Vec::new(self.alloc);
         push_handler(&mut all, first)?;
@@ -343,11 +343,11 @@ impl<'a> Parser<'a> {
     }
 
     #[cycle(blocks)]
-    #[tactic(auto, using(crate::proofs::Handlers::body_is, crate::proofs::StatementRows::handler_is))]
+    #[tactic(auto, using(crate::proofs::Handlers::body_is, kishu_language::specs::trees::StatementRows::handler_is))]
     fn handler(&self, at: &mut usize, room: u32, around: Around) -> Result<Handler, Stop>
         requires room { room < 1000 }
         requires placed { lines.Placed self.now.source.now self.now.tokens.now }
-        ensures { Gives bodies.handler_of (spec.handler self.now.source.now room (spec.chunk self.now.source.now room) (lines.around_of around) (left self.now.tokens.now at.old)) result (left self.now.tokens.now at.new) }
+        ensures { Gives tree_parts.handler_of (spec.handler self.now.source.now room (spec.chunk self.now.source.now room) (lines.around_of around) (left self.now.tokens.now at.old)) result (left self.now.tokens.now at.new) }
     {
         self.expect(at, Mark::Except)?;
         let (class, name) = self.caught(at, room)?;
@@ -370,7 +370,7 @@ impl<'a> Parser<'a> {
     }
 
     #[cycle(blocks)]
-    #[tactic(auto, using(crate::proofs::StatementRows::finally_is), unfolding(kishu_language::specs::reading::ReadStatements::finished))]
+    #[tactic(auto, using(kishu_language::specs::trees::StatementRows::finally_is), unfolding(kishu_language::specs::reading::ReadStatements::finished))]
     fn finished(
         &self,
         at: &mut usize,

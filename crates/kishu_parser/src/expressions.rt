@@ -44,7 +44,7 @@ impl<'a> Parser<'a> {
     }
 
     #[cycle(expressions)]
-    #[tactic(auto, using(crate::proofs::Rows::tuple_is), unfolding(kishu_language::specs::reading::ReadExpressions::exprs_level))]
+    #[tactic(auto, using(kishu_language::specs::trees::Rows::tuple_is), unfolding(kishu_language::specs::reading::ReadExpressions::exprs_level))]
     fn exprs_level(&self, at: &mut usize, room: u32) -> Result<Expr, Stop>
         ensures { Gives expression_of (spec.exprs_level (grammar.has_room room) (spec.phrase room) (left self.now.tokens.now at.old)) result (left self.now.tokens.now at.new) }
     {

@@ -118,21 +118,21 @@ pub(crate) fn negated(alloc: Global, operand: Expr) -> Result<Expr, AllocError>
     Ok(Expr::Not(Box::new(alloc, operand)?))
 }
 
-#[tactic(auto, using(crate::proofs::Rows::signed_is))]
+#[tactic(auto, using(kishu_language::specs::trees::Rows::signed_is))]
 pub(crate) fn signed(alloc: Global, sign: Sign, operand: Expr) -> Result<Expr, AllocError>
     ensures { IfOk result (λ e. expression_of e ≡ t.signed sign (expression_of operand)) }
 {
     Ok(Expr::Signed(sign, Box::new(alloc, operand)?))
 }
 
-#[tactic(auto, using(crate::proofs::Rows::power_is))]
+#[tactic(auto, using(kishu_language::specs::trees::Rows::power_is))]
 pub(crate) fn power(alloc: Global, base: Expr, exponent: Expr) -> Result<Expr, AllocError>
     ensures { IfOk result (λ e. expression_of e ≡ t.power (expression_of base) (expression_of exponent)) }
 {
     Ok(Expr::Power(Box::new(alloc, base)?, Box::new(alloc, exponent)?))
 }
 
-#[tactic(auto, using(crate::proofs::Rows::paren_is))]
+#[tactic(auto, using(kishu_language::specs::trees::Rows::paren_is))]
 pub(crate) fn parenthesised(alloc: Global, inside: Expr) -> Result<Expr, AllocError>
     ensures { IfOk result (λ e. expression_of e ≡ t.paren (expression_of inside)) }
 {

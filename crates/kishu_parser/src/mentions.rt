@@ -5,8 +5,7 @@ ghost use Rattle.kishu_language.specs.trees.Tree as t;
 ghost use Rattle.kishu_language.specs.trees.Tree.{expression_of, statement_of, parameter_of, value_of, text_of};
 ghost use Rattle.kishu_language.specs.grammar.Refusals as spec;
 ghost use Rattle.kishu_language.specs.grammar.Refusals.{variable, declared};
-ghost use Rattle.kishu_parser.specs.Trees as views;
-ghost use Rattle.kishu_parser.specs.Bodies as bodies;
+ghost use Rattle.kishu_language.specs.trees.Parts as tree_parts;
 ghost use Rattle.kishu_parser.specs.Sets.{Adds, Walks, names_in, with_names};
 
 use crate::texts::Texts;
@@ -81,7 +80,7 @@ fn add_exprs(seen: &mut Texts, all: &[Expr]) -> Result<(), AllocError>
 
 #[cycle(variables)]
 fn add_links(seen: &mut Texts, links: &[Link]) -> Result<(), AllocError>
-    ensures { OnOk result (Adds (spec.in_links (t.links (map views.link_of links.now))) seen.old seen.new) }
+    ensures { OnOk result (Adds (spec.in_links (t.links (map tree_parts.link_of links.now))) seen.old seen.new) }
 {
     for link in links {
         add_expr(seen, &link.value)?;
@@ -91,7 +90,7 @@ fn add_links(seen: &mut Texts, links: &[Link]) -> Result<(), AllocError>
 
 #[cycle(variables)]
 fn add_operands(seen: &mut Texts, operands: &[Operand]) -> Result<(), AllocError>
-    ensures { OnOk result (Adds (spec.in_operands (t.operands (map views.operand_of operands.now))) seen.old seen.new) }
+    ensures { OnOk result (Adds (spec.in_operands (t.operands (map tree_parts.operand_of operands.now))) seen.old seen.new) }
 {
     for operand in operands {
         add_expr(seen, &operand.value)?;
@@ -101,7 +100,7 @@ fn add_operands(seen: &mut Texts, operands: &[Operand]) -> Result<(), AllocError
 
 #[cycle(variables)]
 fn add_pairs(seen: &mut Texts, pairs: &[Pair]) -> Result<(), AllocError>
-    ensures { OnOk result (Adds (spec.in_pairs (t.pairs (map views.pair_of pairs.now))) seen.old seen.new) }
+    ensures { OnOk result (Adds (spec.in_pairs (t.pairs (map tree_parts.pair_of pairs.now))) seen.old seen.new) }
 {
     for pair in pairs {
         add_expr(seen, &pair.key)?;
@@ -112,7 +111,7 @@ fn add_pairs(seen: &mut Texts, pairs: &[Pair]) -> Result<(), AllocError>
 
 #[cycle(variables)]
 fn add_trailers(seen: &mut Texts, trailers: &[Trailer]) -> Result<(), AllocError>
-    ensures { OnOk result (Adds (spec.in_trailers (t.trailers (map views.trailer_of trailers.now))) seen.old seen.new) }
+    ensures { OnOk result (Adds (spec.in_trailers (t.trailers (map tree_parts.trailer_of trailers.now))) seen.old seen.new) }
 {
     for trailer in trailers {
         add_trailer(seen, trailer)?;
@@ -122,7 +121,7 @@ fn add_trailers(seen: &mut Texts, trailers: &[Trailer]) -> Result<(), AllocError
 
 #[cycle(variables)]
 fn add_trailer(seen: &mut Texts, trailer: &Trailer) -> Result<(), AllocError>
-    ensures { OnOk result (Adds (spec.in_trailer (views.trailer_of trailer.now)) seen.old seen.new) }
+    ensures { OnOk result (Adds (spec.in_trailer (tree_parts.trailer_of trailer.now)) seen.old seen.new) }
 {
     match trailer {
         Trailer::Attribute(_) => Ok(()),
@@ -138,7 +137,7 @@ fn add_trailer(seen: &mut Texts, trailer: &Trailer) -> Result<(), AllocError>
 
 #[cycle(variables)]
 fn add_arguments(seen: &mut Texts, arguments: &[Argument]) -> Result<(), AllocError>
-    ensures { OnOk result (Adds (spec.in_arguments (t.arguments (map views.argument_of arguments.now))) seen.old seen.new) }
+    ensures { OnOk result (Adds (spec.in_arguments (t.arguments (map tree_parts.argument_of arguments.now))) seen.old seen.new) }
 {
     for argument in arguments {
         add_argument(seen, argument)?;
@@ -148,7 +147,7 @@ fn add_arguments(seen: &mut Texts, arguments: &[Argument]) -> Result<(), AllocEr
 
 #[cycle(variables)]
 fn add_argument(seen: &mut Texts, argument: &Argument) -> Result<(), AllocError>
-    ensures { OnOk result (Adds (spec.in_argument (views.argument_of argument.now)) seen.old seen.new) }
+    ensures { OnOk result (Adds (spec.in_argument (tree_parts.argument_of argument.now)) seen.old seen.new) }
 {
     match argument {
         Argument::Plain(e) => add_expr(seen, e),
@@ -320,7 +319,7 @@ fn statements_fit(alloc: Global, seen: &mut Texts, all: &[Stmt]) -> Result<bool,
 
 #[cycle(globals)]
 fn arms_fit(alloc: Global, seen: &mut Texts, arms: &[Arm]) -> Result<bool, AllocError>
-    ensures { IfOk result (λ fits. Walks (spec.in_arms (t.arms (map bodies.arm_of arms.now))) fits seen.old seen.new) }
+    ensures { IfOk result (λ fits. Walks (spec.in_arms (t.arms (map tree_parts.arm_of arms.now))) fits seen.old seen.new) }
 {
     for arm in arms {
         add_expr(seen, &arm.test)?;
@@ -337,7 +336,7 @@ fn handler_bodies_fit(
     seen: &mut Texts,
     handlers: &[Handler],
 ) -> Result<bool, AllocError>
-    ensures { IfOk result (λ fits. Walks (spec.in_handlers (t.handlers (map bodies.handler_of handlers.now))) fits seen.old seen.new) }
+    ensures { IfOk result (λ fits. Walks (spec.in_handlers (t.handlers (map tree_parts.handler_of handlers.now))) fits seen.old seen.new) }
 {
     for handler in handlers {
         add_optional(seen, &handler.class)?;

@@ -8,6 +8,7 @@ ghost use Rattle.kishu_language.specs.reading.Reader as reader;
 ghost use Rattle.kishu_language.specs.reading.ReadExpressions as spec;
 ghost use Rattle.kishu_parser.specs.Views.{left, by_table, Gives};
 ghost use Rattle.kishu_parser.specs.Trees as views;
+ghost use Rattle.kishu_language.specs.trees.Parts as tree_parts;
 ghost use Rattle.kishu_parser.specs.Turns as turns;
 
 use crate::cursor::{Parser, Stop};
@@ -68,7 +69,7 @@ impl<'a> Parser<'a> {
     }
 
     #[cycle(expressions)]
-    #[tactic(auto, using(crate::proofs::Rows::tuple_is), unfolding(kishu_language::specs::reading::ReadExpressions::parenthesised))]
+    #[tactic(auto, using(kishu_language::specs::trees::Rows::tuple_is), unfolding(kishu_language::specs::reading::ReadExpressions::parenthesised))]
     fn parenthesised(&self, at: &mut usize, room: u32) -> Result<Expr, Stop>
         ensures { Gives expression_of (spec.parenthesised (spec.phrase room) (left self.now.tokens.now at.old)) result (left self.now.tokens.now at.new) }
     {
@@ -83,7 +84,7 @@ impl<'a> Parser<'a> {
     }
 
     #[cycle(expressions)]
-    #[tactic(auto, using(crate::proofs::Rows::list_is), unfolding(kishu_language::specs::reading::ReadExpressions::list))]
+    #[tactic(auto, using(kishu_language::specs::trees::Rows::list_is), unfolding(kishu_language::specs::reading::ReadExpressions::list))]
     fn list(&self, at: &mut usize, room: u32) -> Result<Expr, Stop>
         ensures { Gives expression_of (spec.list (spec.phrase room) (left self.now.tokens.now at.old)) result (left self.now.tokens.now at.new) }
     {
@@ -126,7 +127,7 @@ impl<'a> Parser<'a> {
     }
 
     #[cycle(expressions)]
-    #[tactic(auto, using(crate::proofs::Rows::dict_is), unfolding(kishu_language::specs::reading::ReadExpressions::dict))]
+    #[tactic(auto, using(kishu_language::specs::trees::Rows::dict_is), unfolding(kishu_language::specs::reading::ReadExpressions::dict))]
     fn dict(&self, at: &mut usize, room: u32) -> Result<Expr, Stop>
         ensures { Gives expression_of (spec.dict (spec.phrase room) (left self.now.tokens.now at.old)) result (left self.now.tokens.now at.new) }
     {
@@ -182,7 +183,7 @@ impl<'a> Parser<'a> {
     #[cycle(expressions)]
     #[tactic(auto, unfolding(kishu_language::specs::reading::ReadExpressions::trailer, kishu_language::specs::reading::ReadExpressions::attribute))]
     pub(crate) fn trailer(&self, at: &mut usize, room: u32) -> Result<Trailer, Stop>
-        ensures { Gives views.trailer_of (spec.trailer (grammar.has_room room) (spec.phrase room) (left self.now.tokens.now at.old)) result (left self.now.tokens.now at.new) }
+        ensures { Gives tree_parts.trailer_of (spec.trailer (grammar.has_room room) (spec.phrase room) (left self.now.tokens.now at.old)) result (left self.now.tokens.now at.new) }
     {
         if self.sees(*at, Mark::Dot) {
             return self.attribute(at);
@@ -198,9 +199,9 @@ impl<'a> Parser<'a> {
     }
 
     #[cycle(expressions)]
-    #[tactic(auto, using(crate::proofs::Rows::call_is), unfolding(kishu_language::specs::reading::ReadExpressions::call))]
+    #[tactic(auto, using(kishu_language::specs::trees::Rows::call_is), unfolding(kishu_language::specs::reading::ReadExpressions::call))]
     fn call(&self, at: &mut usize, room: u32) -> Result<Trailer, Stop>
-        ensures { Gives views.trailer_of (spec.call (spec.phrase room) (left self.now.tokens.now at.old)) result (left self.now.tokens.now at.new) }
+        ensures { Gives tree_parts.trailer_of (spec.call (spec.phrase room) (left self.now.tokens.now at.old)) result (left self.now.tokens.now at.new) }
     {
         self.expect(at, Mark::LeftParenthesis)?;
         let found = self.arguments(at, room)?;
@@ -233,7 +234,7 @@ impl<'a> Parser<'a> {
         room: u32,
         first: Argument,
     ) -> Result<Vec<Argument>, Stop>
-        ensures { Gives views.arguments_in (reader.turns (spec.another m.Comma) (turns.more_turn m.Comma (spec.argument (spec.phrase room))) (views.argument_of first ∷ []) (left self.now.tokens.now at.old)) result (left self.now.tokens.now at.new) }
+        ensures { Gives views.arguments_in (reader.turns (spec.another m.Comma) (turns.more_turn m.Comma (spec.argument (spec.phrase room))) (tree_parts.argument_of first ∷ []) (left self.now.tokens.now at.old)) result (left self.now.tokens.now at.new) }
     {
         let mut all = Vec::new(self.alloc);
         push_argument(&mut all, first)?;
@@ -249,9 +250,9 @@ impl<'a> Parser<'a> {
     }
 
     #[cycle(expressions)]
-    #[tactic(auto, using(crate::proofs::Rows::plain_is, crate::proofs::Rows::keyword_is), unfolding(kishu_language::specs::reading::ReadExpressions::argument))]
+    #[tactic(auto, using(kishu_language::specs::trees::Rows::plain_is, kishu_language::specs::trees::Rows::keyword_is), unfolding(kishu_language::specs::reading::ReadExpressions::argument))]
     fn argument(&self, at: &mut usize, room: u32) -> Result<Argument, Stop>
-        ensures { Gives views.argument_of (spec.argument (spec.phrase room) (left self.now.tokens.now at.old)) result (left self.now.tokens.now at.new) }
+        ensures { Gives tree_parts.argument_of (spec.argument (spec.phrase room) (left self.now.tokens.now at.old)) result (left self.now.tokens.now at.new) }
     {
         if !self.begins_keyword(*at) {
             let value = self.nested(at, room, Phrase::Expr)?;
@@ -266,7 +267,7 @@ impl<'a> Parser<'a> {
     #[cycle(expressions)]
     #[tactic(auto, unfolding(kishu_language::specs::reading::ReadExpressions::item_or_slice))]
     fn item_or_slice(&self, at: &mut usize, room: u32) -> Result<Trailer, Stop>
-        ensures { Gives views.trailer_of (spec.item_or_slice (spec.phrase room) (left self.now.tokens.now at.old)) result (left self.now.tokens.now at.new) }
+        ensures { Gives tree_parts.trailer_of (spec.item_or_slice (spec.phrase room) (left self.now.tokens.now at.old)) result (left self.now.tokens.now at.new) }
     {
         self.expect(at, Mark::LeftBracket)?;
         let found = self.between_brackets(at, room)?;
@@ -275,9 +276,9 @@ impl<'a> Parser<'a> {
     }
 
     #[cycle(expressions)]
-    #[tactic(auto, using(crate::proofs::Rows::index_is))]
+    #[tactic(auto, using(kishu_language::specs::trees::Rows::index_is))]
     fn between_brackets(&self, at: &mut usize, room: u32) -> Result<Trailer, Stop>
-        ensures { Gives views.trailer_of (turns.between_brackets (spec.phrase room) (left self.now.tokens.now at.old)) result (left self.now.tokens.now at.new) }
+        ensures { Gives tree_parts.trailer_of (turns.between_brackets (spec.phrase room) (left self.now.tokens.now at.old)) result (left self.now.tokens.now at.new) }
     {
         if self.sees(*at, Mark::Colon) {
             return self.slice_after(at, room, None);
@@ -293,9 +294,9 @@ impl<'a> Parser<'a> {
     }
 
     #[cycle(expressions)]
-    #[tactic(auto, using(crate::proofs::Rows::slice_is), unfolding(kishu_language::specs::reading::ReadExpressions::slice_after))]
+    #[tactic(auto, using(kishu_language::specs::trees::Rows::slice_is), unfolding(kishu_language::specs::reading::ReadExpressions::slice_after))]
     fn slice_after(&self, at: &mut usize, room: u32, start: Option<Expr>) -> Result<Trailer, Stop>
-        ensures { Gives views.trailer_of (spec.slice_after (spec.phrase room) (value_of start) (left self.now.tokens.now at.old)) result (left self.now.tokens.now at.new) }
+        ensures { Gives tree_parts.trailer_of (spec.slice_after (spec.phrase room) (value_of start) (left self.now.tokens.now at.old)) result (left self.now.tokens.now at.new) }
     {
         self.expect(at, Mark::Colon)?;
         let stop = self.bound(at, room)?;
@@ -325,7 +326,7 @@ impl<'a> Parser<'a> {
         Ok(Some(value))
     }
 
-    #[tactic(auto, using(crate::proofs::Rows::name_is))]
+    #[tactic(auto, using(kishu_language::specs::trees::Rows::name_is))]
     fn name_atom(&self, at: &mut usize) -> Result<Expr, Stop>
         ensures { Gives expression_of (spec.name (left self.now.tokens.now at.old)) result (left self.now.tokens.now at.new) }
     {
@@ -333,7 +334,7 @@ impl<'a> Parser<'a> {
         Ok(Expr::Name(name))
     }
 
-    #[tactic(auto, using(crate::proofs::Rows::int_is))]
+    #[tactic(auto, using(kishu_language::specs::trees::Rows::int_is))]
     fn integer_atom(&self, at: &mut usize) -> Result<Expr, Stop>
         ensures { Gives expression_of (spec.integer (left self.now.tokens.now at.old)) result (left self.now.tokens.now at.new) }
     {
@@ -341,7 +342,7 @@ impl<'a> Parser<'a> {
         Ok(Expr::Int(value))
     }
 
-    #[tactic(auto, using(crate::proofs::Rows::text_is))]
+    #[tactic(auto, using(kishu_language::specs::trees::Rows::text_is))]
     fn text_atom(&self, at: &mut usize) -> Result<Expr, Stop>
         ensures { Gives expression_of (spec.text (left self.now.tokens.now at.old)) result (left self.now.tokens.now at.new) }
     {
@@ -378,9 +379,9 @@ impl<'a> Parser<'a> {
         }
     }
 
-    #[tactic(auto, using(crate::proofs::Rows::attribute_is), unfolding(kishu_language::specs::reading::ReadExpressions::attribute))]
+    #[tactic(auto, using(kishu_language::specs::trees::Rows::attribute_is), unfolding(kishu_language::specs::reading::ReadExpressions::attribute))]
     fn attribute(&self, at: &mut usize) -> Result<Trailer, Stop>
-        ensures { Gives views.trailer_of (turns.attribute (left self.now.tokens.now at.old)) result (left self.now.tokens.now at.new) }
+        ensures { Gives tree_parts.trailer_of (turns.attribute (left self.now.tokens.now at.old)) result (left self.now.tokens.now at.new) }
     {
         self.expect(at, Mark::Dot)?;
         let name = self.name(at)?;
@@ -388,7 +389,7 @@ impl<'a> Parser<'a> {
     }
 }
 
-#[tactic(auto, using(crate::proofs::Rows::none_is, crate::proofs::Rows::true_is, crate::proofs::Rows::false_is))]
+#[tactic(auto, using(kishu_language::specs::trees::Rows::none_is, kishu_language::specs::trees::Rows::true_is, kishu_language::specs::trees::Rows::false_is))]
 fn constant(mark: Option<Mark>) -> Option<Expr>
     ensures { value_of result ≡ by_table grammar.constant_of mark }
 {

@@ -4,7 +4,7 @@ ghost use Rattle.std.specs.Rc.{rc_str_bytes};
 ghost use Rattle.kishu_language.specs.trees.Tree.{expression_of, statement_of, parameter_of, definition_of};
 ghost use Rattle.kishu_parser.specs.Trees as views;
 ghost use Rattle.kishu_parser.specs.Statements as lines;
-ghost use Rattle.kishu_parser.specs.Bodies as bodies;
+ghost use Rattle.kishu_language.specs.trees.Parts as tree_parts;
 
 use kishu_language::{Argument, Arm, Def, Expr, Handler, Stmt, Trailer};
 use std::alloc::{AllocError, Global};
@@ -26,14 +26,14 @@ pub(crate) fn push_joined(all: &mut Vec<Expr>, next: Expr) -> Result<(), AllocEr
 }
 
 pub(crate) fn push_trailer(all: &mut Vec<Trailer>, next: Trailer) -> Result<(), AllocError>
-    ensures { OnOk result (views.trailers_in all.new ≡ views.trailers_in all.old ++ views.trailer_of next ∷ []) }
+    ensures { OnOk result (views.trailers_in all.new ≡ views.trailers_in all.old ++ tree_parts.trailer_of next ∷ []) }
 {
     all.push(next)?;
     Ok(())
 }
 
 pub(crate) fn push_argument(all: &mut Vec<Argument>, next: Argument) -> Result<(), AllocError>
-    ensures { OnOk result (views.arguments_in all.new ≡ views.arguments_in all.old ++ views.argument_of next ∷ []) }
+    ensures { OnOk result (views.arguments_in all.new ≡ views.arguments_in all.old ++ tree_parts.argument_of next ∷ []) }
 {
     all.push(next)?;
     Ok(())
@@ -54,14 +54,14 @@ pub(crate) fn push_statement(all: &mut Vec<Stmt>, next: Stmt) -> Result<(), Allo
 }
 
 pub(crate) fn push_arm(all: &mut Vec<Arm>, next: Arm) -> Result<(), AllocError>
-    ensures { OnOk result (lines.arms_in all.new ≡ lines.arms_in all.old ++ bodies.arm_of next ∷ []) }
+    ensures { OnOk result (lines.arms_in all.new ≡ lines.arms_in all.old ++ tree_parts.arm_of next ∷ []) }
 {
     all.push(next)?;
     Ok(())
 }
 
 pub(crate) fn push_handler(all: &mut Vec<Handler>, next: Handler) -> Result<(), AllocError>
-    ensures { OnOk result (lines.handlers_in all.new ≡ lines.handlers_in all.old ++ bodies.handler_of next ∷ []) }
+    ensures { OnOk result (lines.handlers_in all.new ≡ lines.handlers_in all.old ++ tree_parts.handler_of next ∷ []) }
 {
     all.push(next)?;
     Ok(())
@@ -78,7 +78,7 @@ pub(crate) fn push_parameter(
 }
 
 /// A function and its code as a statement.
-#[tactic(auto, using(crate::proofs::StatementRows::def_is))]
+#[tactic(auto, using(kishu_language::specs::trees::StatementRows::def_is))]
 pub(crate) fn defined(alloc: Global, definition: Def, code: RcStr) -> Result<Stmt, AllocError>
     ensures { IfOk result (λ s. statement_of s ≡ lines.defined (definition_of definition) (rc_str_bytes code)) }
 {

@@ -3,8 +3,7 @@ ghost use Rattle.std.specs.Prelude.{◌≡◌, ◌&&◌, ◌∷◌, List, map, I
 ghost use Rattle.kishu_language.specs.trees.Tree as t;
 ghost use Rattle.kishu_language.specs.grammar.Grammar as grammar;
 ghost use Rattle.kishu_language.specs.grammar.Refusals as spec;
-ghost use Rattle.kishu_parser.specs.Trees as views;
-ghost use Rattle.kishu_parser.specs.Bodies as bodies;
+ghost use Rattle.kishu_language.specs.trees.Parts as tree_parts;
 ghost use Rattle.kishu_parser.specs.Sets.{names_in};
 
 use crate::texts::Texts;
@@ -14,7 +13,7 @@ use std::rc::RcStr;
 
 /// Whether an argument fits behind those whose keywords were seen. Adds its keyword.
 fn argument_fits(seen: &mut Texts, argument: &Argument) -> Result<bool, AllocError>
-    ensures { IfOk result (λ b. (rest : List t.Argument) → grammar.fits_after (names_in seen.old) (views.argument_of argument.now ∷ rest) ≡ (b && grammar.fits_after (names_in seen.new) rest)) }
+    ensures { IfOk result (λ b. (rest : List t.Argument) → grammar.fits_after (names_in seen.old) (tree_parts.argument_of argument.now ∷ rest) ≡ (b && grammar.fits_after (names_in seen.new) rest)) }
 {
     match argument {
         Argument::Plain(_) => Ok(seen.is_empty()),
@@ -24,7 +23,7 @@ fn argument_fits(seen: &mut Texts, argument: &Argument) -> Result<bool, AllocErr
 
 /// Whether no keyword stands twice, and none before a plain argument.
 pub(crate) fn arguments_fit(alloc: Global, found: &[Argument]) -> Result<bool, AllocError>
-    ensures { IfOk result (λ b. b ≡ grammar.arguments_fit (map views.argument_of found.now)) }
+    ensures { IfOk result (λ b. b ≡ grammar.arguments_fit (map tree_parts.argument_of found.now)) }
 {
     let mut seen = Texts::new(alloc);
     for argument in found {
@@ -73,7 +72,7 @@ pub(crate) fn parameters_fit(
 
 /// Whether no handler without a class stands but the last.
 pub(crate) fn handlers_fit(handlers: &[Handler]) -> bool
-    ensures { result ≡ spec.handlers_fit (map bodies.handler_of handlers.now) }
+    ensures { result ≡ spec.handlers_fit (map tree_parts.handler_of handlers.now) }
 {
     let mut open = false;
     for handler in handlers {

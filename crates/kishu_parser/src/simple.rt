@@ -38,7 +38,7 @@ impl<'a> Parser<'a> {
         self.primary(at, room - 1)
     }
 
-    #[tactic(auto, using(crate::proofs::StatementRows::raise_is), unfolding(kishu_language::specs::reading::ReadStatements::raise))]
+    #[tactic(auto, using(kishu_language::specs::trees::StatementRows::raise_is), unfolding(kishu_language::specs::reading::ReadStatements::raise))]
     fn raise(&self, at: &mut usize, room: u32, around: Around) -> Result<Stmt, Stop>
         ensures { Gives statement_of (spec.raise (lines.around_of around) room (left self.now.tokens.now at.old)) result (left self.now.tokens.now at.new) }
     {
@@ -53,7 +53,7 @@ impl<'a> Parser<'a> {
         Ok(Stmt::Raise(None))
     }
 
-    #[tactic(auto, using(crate::proofs::Bodies::return_is, crate::proofs::StatementRows::return_is))]
+    #[tactic(auto, using(crate::proofs::Bodies::return_is, kishu_language::specs::trees::StatementRows::return_is))]
     fn return_(&self, at: &mut usize, room: u32, around: Around) -> Result<Stmt, Stop>
         ensures { Gives statement_of (spec.return (lines.around_of around) room (left self.now.tokens.now at.old)) result (left self.now.tokens.now at.new) }
     {
@@ -68,7 +68,7 @@ impl<'a> Parser<'a> {
         Ok(Stmt::Return(Some(value)))
     }
 
-    #[tactic(auto, using(crate::proofs::StatementRows::assert_is), unfolding(kishu_language::specs::reading::ReadStatements::assertion))]
+    #[tactic(auto, using(kishu_language::specs::trees::StatementRows::assert_is), unfolding(kishu_language::specs::reading::ReadStatements::assertion))]
     fn assertion(&self, at: &mut usize, room: u32) -> Result<Stmt, Stop>
         ensures { Gives statement_of (spec.assertion lines.anywhere room (left self.now.tokens.now at.old)) result (left self.now.tokens.now at.new) }
     {
@@ -82,7 +82,7 @@ impl<'a> Parser<'a> {
         Ok(Stmt::Assert(test, Some(message)))
     }
 
-    #[tactic(auto, using(crate::proofs::StatementRows::delete_is), unfolding(kishu_language::specs::reading::ReadStatements::delete))]
+    #[tactic(auto, using(kishu_language::specs::trees::StatementRows::delete_is), unfolding(kishu_language::specs::reading::ReadStatements::delete))]
     fn delete(&self, at: &mut usize, room: u32) -> Result<Stmt, Stop>
         ensures { Gives statement_of (spec.delete lines.anywhere room (left self.now.tokens.now at.old)) result (left self.now.tokens.now at.new) }
     {
@@ -118,7 +118,7 @@ impl<'a> Parser<'a> {
         Ok(found)
     }
 
-    #[tactic(auto, using(crate::proofs::StatementRows::global_is), unfolding(kishu_language::specs::reading::ReadStatements::global))]
+    #[tactic(auto, using(kishu_language::specs::trees::StatementRows::global_is), unfolding(kishu_language::specs::reading::ReadStatements::global))]
     fn global(&self, at: &mut usize, around: Around) -> Result<Stmt, Stop>
         ensures { Gives statement_of (spec.global (lines.around_of around) 0 (left self.now.tokens.now at.old)) result (left self.now.tokens.now at.new) }
     {
@@ -147,7 +147,7 @@ impl<'a> Parser<'a> {
         Ok(all)
     }
 
-    #[tactic(auto, using(crate::proofs::StatementRows::import_is), unfolding(kishu_language::specs::reading::ReadStatements::import))]
+    #[tactic(auto, using(kishu_language::specs::trees::StatementRows::import_is), unfolding(kishu_language::specs::reading::ReadStatements::import))]
     fn import(&self, at: &mut usize) -> Result<Stmt, Stop>
         ensures { Gives statement_of (spec.import lines.anywhere 0 (left self.now.tokens.now at.old)) result (left self.now.tokens.now at.new) }
     {
@@ -182,7 +182,7 @@ impl<'a> Parser<'a> {
         self.assignment_of(at, room, first)
     }
 
-    #[tactic(auto, using(crate::proofs::StatementRows::update_is), unfolding(kishu_language::specs::reading::ReadStatements::update_of))]
+    #[tactic(auto, using(kishu_language::specs::trees::StatementRows::update_is), unfolding(kishu_language::specs::reading::ReadStatements::update_of))]
     fn update_of(&self, at: &mut usize, room: u32, place: Expr) -> Result<Stmt, Stop>
         ensures { Gives statement_of (spec.update_of lines.anywhere room (expression_of place) (left self.now.tokens.now at.old)) result (left self.now.tokens.now at.new) }
     {
@@ -197,7 +197,7 @@ impl<'a> Parser<'a> {
         Ok(Stmt::Update(place, operator, value))
     }
 
-    #[tactic(auto, using(crate::proofs::StatementRows::assign_is), unfolding(kishu_language::specs::reading::ReadStatements::assignment_of))]
+    #[tactic(auto, using(kishu_language::specs::trees::StatementRows::assign_is), unfolding(kishu_language::specs::reading::ReadStatements::assignment_of))]
     fn assignment_of(&self, at: &mut usize, room: u32, first: Expr) -> Result<Stmt, Stop>
         ensures { Gives statement_of (spec.assignment_of lines.anywhere room (expression_of first) (left self.now.tokens.now at.old)) result (left self.now.tokens.now at.new) }
     {
@@ -226,7 +226,7 @@ impl<'a> Parser<'a> {
         Ok((targets, value))
     }
 
-    #[tactic(auto, using(crate::proofs::StatementRows::pass_is))]
+    #[tactic(auto, using(kishu_language::specs::trees::StatementRows::pass_is))]
     fn pass(&self, at: &mut usize) -> Result<Stmt, Stop>
         ensures { Gives statement_of (lines.pass (left self.now.tokens.now at.old)) result (left self.now.tokens.now at.new) }
     {
@@ -234,7 +234,7 @@ impl<'a> Parser<'a> {
         Ok(Stmt::Pass)
     }
 
-    #[tactic(auto, using(crate::proofs::StatementRows::break_is))]
+    #[tactic(auto, using(kishu_language::specs::trees::StatementRows::break_is))]
     fn break_(&self, at: &mut usize, around: Around) -> Result<Stmt, Stop>
         ensures { Gives statement_of (lines.break (lines.around_of around) (left self.now.tokens.now at.old)) result (left self.now.tokens.now at.new) }
     {
@@ -245,7 +245,7 @@ impl<'a> Parser<'a> {
         Ok(Stmt::Break)
     }
 
-    #[tactic(auto, using(crate::proofs::StatementRows::continue_is))]
+    #[tactic(auto, using(kishu_language::specs::trees::StatementRows::continue_is))]
     fn continue_(&self, at: &mut usize, around: Around) -> Result<Stmt, Stop>
         ensures { Gives statement_of (lines.continue (lines.around_of around) (left self.now.tokens.now at.old)) result (left self.now.tokens.now at.new) }
     {

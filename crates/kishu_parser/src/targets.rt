@@ -3,13 +3,13 @@ ghost use Rattle.std.specs.Prelude.{◌≡◌, map};
 ghost use Rattle.kishu_language.specs.trees.Tree.{expression_of};
 ghost use Rattle.kishu_language.specs.trees.Tree as t;
 ghost use Rattle.kishu_language.specs.grammar.Targets as spec;
-ghost use Rattle.kishu_parser.specs.Trees as views;
+ghost use Rattle.kishu_language.specs.trees.Parts as tree_parts;
 
 use kishu_language::{Expr, Trailer};
 
 /// Whether it is an attribute or an item.
 fn is_place_trailer(trailer: &Trailer) -> bool
-    ensures { result ≡ spec.is_place_trailer (views.trailer_of trailer.now) }
+    ensures { result ≡ spec.is_place_trailer (tree_parts.trailer_of trailer.now) }
 {
     match trailer {
         Trailer::Attribute(_) => true,
@@ -21,7 +21,7 @@ fn is_place_trailer(trailer: &Trailer) -> bool
 
 /// Whether the last of the trailers is an attribute or an item.
 fn ends_in_place(trailers: &[Trailer]) -> bool
-    ensures { result ≡ spec.ends_in_place (t.trailers (map views.trailer_of trailers.now)) }
+    ensures { result ≡ spec.ends_in_place (t.trailers (map tree_parts.trailer_of trailers.now)) }
 {
     match trailers.last() {
         Some(last) => is_place_trailer(last),

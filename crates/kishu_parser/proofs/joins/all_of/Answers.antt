@@ -1,5 +1,5 @@
 use Rattle.std.proofs.Common.{◌≡◌, refl, sym, ap, ◌∙◌, length, false-eqb}
-use Rattle.kishu_parser.proofs.Rows.{and_is}
+use Rattle.kishu_language.specs.trees.Rows.{and_is}
 use Rattle.kishu_parser.proofs.Parts.{all_many}
 use Rattle.kishu_parser.proofs.joins.all_of.Goals as goal
 

@@ -1,5 +1,5 @@
 use Rattle.std.proofs.Common.{◌≡◌, refl, sym, ap, ◌∙◌, length, false-eqb}
-use Rattle.kishu_parser.proofs.Rows.{tuple_is}
+use Rattle.kishu_language.specs.trees.Rows.{tuple_is}
 use Rattle.kishu_parser.proofs.Parts.{alone_many}
 use Rattle.kishu_parser.proofs.joins.alone.Goals as goal
 

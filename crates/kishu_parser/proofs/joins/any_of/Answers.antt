@@ -1,5 +1,5 @@
 use Rattle.std.proofs.Common.{◌≡◌, refl, sym, ap, ◌∙◌, length, false-eqb}
-use Rattle.kishu_parser.proofs.Rows.{or_is}
+use Rattle.kishu_language.specs.trees.Rows.{or_is}
 use Rattle.kishu_parser.proofs.Parts.{any_many}
 use Rattle.kishu_parser.proofs.joins.any_of.Goals as goal
 

@@ -1,7 +1,7 @@
 use Rattle.std.proofs.Common.{◌≡◌, refl, sym, ap, ◌∙◌, length, false-eqb}
 use Rattle.kishu_language.specs.grammar.Grammar.{compared_with}
-use Rattle.kishu_parser.specs.Trees.{link_of}
-use Rattle.kishu_parser.proofs.Rows.{compared_is}
+use Rattle.kishu_language.specs.trees.Parts.{link_of}
+use Rattle.kishu_language.specs.trees.Rows.{compared_is}
 use Rattle.kishu_parser.proofs.Parts.{many}
 use Rattle.kishu_parser.proofs.joins.compared.Goals as goal
 

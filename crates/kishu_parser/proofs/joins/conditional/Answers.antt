@@ -1,5 +1,5 @@
 use Rattle.std.proofs.Common.{◌≡◌, refl, sym, ap, ◌∙◌, length, false-eqb}
-use Rattle.kishu_parser.proofs.Rows.{conditional_is}
+use Rattle.kishu_language.specs.trees.Rows.{conditional_is}
 use Rattle.kishu_parser.proofs.joins.conditional.Goals as goal
 
 pub returns : goal.returns

@@ -1,5 +1,5 @@
 use Rattle.std.proofs.Common.{◌≡◌, refl, sym, ap, ◌∙◌, length, false-eqb}
-use Rattle.kishu_parser.proofs.Rows.{not_is}
+use Rattle.kishu_language.specs.trees.Rows.{not_is}
 use Rattle.kishu_parser.proofs.joins.negated.Goals as goal
 
 pub returns : goal.returns

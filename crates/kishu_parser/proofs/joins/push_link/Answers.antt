@@ -1,5 +1,5 @@
-use Rattle.kishu_parser.specs.Trees.{link_of}
-use Rattle.kishu_parser.proofs.Rows.{link_is}
+use Rattle.kishu_language.specs.trees.Parts.{link_of}
+use Rattle.kishu_language.specs.trees.Rows.{link_is}
 use Rattle.kishu_parser.proofs.Parts.{pushed}
 use Rattle.kishu_parser.proofs.joins.push_link.Goals as goal
 

@@ -1,5 +1,5 @@
-use Rattle.kishu_parser.specs.Trees.{operand_of}
-use Rattle.kishu_parser.proofs.Rows.{operand_is}
+use Rattle.kishu_language.specs.trees.Parts.{operand_of}
+use Rattle.kishu_language.specs.trees.Rows.{operand_is}
 use Rattle.kishu_parser.proofs.Parts.{pushed}
 use Rattle.kishu_parser.proofs.joins.push_operand.Goals as goal
 

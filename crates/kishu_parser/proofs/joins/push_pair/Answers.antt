@@ -1,5 +1,5 @@
-use Rattle.kishu_parser.specs.Trees.{pair_of}
-use Rattle.kishu_parser.proofs.Rows.{pair_is}
+use Rattle.kishu_language.specs.trees.Parts.{pair_of}
+use Rattle.kishu_language.specs.trees.Rows.{pair_is}
 use Rattle.kishu_parser.proofs.Parts.{pushed}
 use Rattle.kishu_parser.proofs.joins.push_pair.Goals as goal
 

@@ -1,7 +1,7 @@
 use Rattle.std.proofs.Common.{◌≡◌, refl, sym, ap, ◌∙◌, length, false-eqb}
 use Rattle.kishu_language.specs.grammar.Grammar.{summed}
-use Rattle.kishu_parser.specs.Trees.{operand_of}
-use Rattle.kishu_parser.proofs.Rows.{sum_is}
+use Rattle.kishu_language.specs.trees.Parts.{operand_of}
+use Rattle.kishu_language.specs.trees.Rows.{sum_is}
 use Rattle.kishu_parser.proofs.Parts.{many}
 use Rattle.kishu_parser.proofs.joins.summed.Goals as goal
 

@@ -1,8 +1,8 @@
 use Rattle.std.proofs.Common.{◌≡◌, refl, sym, ap, ◌∙◌, length, false-eqb}
 use Rattle.kishu_language.specs.trees.Tree.{trailers}
 use Rattle.kishu_language.specs.trees.Tree as t
-use Rattle.kishu_parser.specs.Trees.{trailer_of}
-use Rattle.kishu_parser.proofs.Rows.{primary_is}
+use Rattle.kishu_language.specs.trees.Parts.{trailer_of}
+use Rattle.kishu_language.specs.trees.Rows.{primary_is}
 use Rattle.kishu_parser.proofs.Parts.{many}
 use Rattle.kishu_parser.proofs.joins.with_trailers.Goals as goal
 

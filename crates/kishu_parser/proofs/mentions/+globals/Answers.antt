@@ -7,9 +7,9 @@ use Rattle.kishu_language.specs.declared.tree.Handler.{Handler as Handler'}
 use Rattle.kishu_language.specs.trees.Tree.{expressions, statements, arms, handlers, value_of, text_of, expression_of, statement_of, definition_of}
 use Rattle.kishu_language.specs.grammar.Refusals.{variables, in_expression, in_expressions, in_optional, in_statement, in_statements, in_arms, in_handlers}
 use Rattle.kishu_language.specs.trees.Height.{of_expression, of_optional, of_list, of_parameters, of_statement, of_statements, of_arms, of_handlers}
-use Rattle.kishu_parser.specs.Bodies.{arm_of, handler_of}
+use Rattle.kishu_language.specs.trees.Parts.{arm_of, handler_of}
 use Rattle.kishu_parser.specs.Sets.{names_in, note, noted}
-use Rattle.kishu_parser.proofs.StatementRows.{pass_is, break_is, continue_is, return_is, raise_is, assert_is, delete_is, global_is, import_is, update_is, assign_is, if_is, while_is, for_is, try_is, finally_is, def_is}
+use Rattle.kishu_language.specs.trees.StatementRows.{pass_is, break_is, continue_is, return_is, raise_is, assert_is, delete_is, global_is, import_is, update_is, assign_is, if_is, while_is, for_is, try_is, finally_is, def_is}
 use Rattle.kishu_parser.proofs.Walks.{here, note_then, note_ends, then_if_ok, fits_on, fits_off, told_more, told_ends, height_here, listed_names, arm_names, arm_height, handler_names, handler_height}
 use Rattle.kishu_parser.proofs.mentions.+globals.Goals as goal
 

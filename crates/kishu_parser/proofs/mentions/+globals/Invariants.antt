@@ -2,7 +2,7 @@ use Rattle.std.proofs.Common.{◌≡◌, ◌+◌, ◌*◌, ◌≤◌, ℕ, drop,
 use Rattle.kishu_language.specs.trees.Tree.{statements, arms, handlers, statement_of}
 use Rattle.kishu_language.specs.grammar.Refusals.{in_statements, in_arms, in_handlers}
 use Rattle.kishu_language.specs.trees.Height.{of_statement, of_statements, of_arms, of_handlers}
-use Rattle.kishu_parser.specs.Bodies.{arm_of, handler_of}
+use Rattle.kishu_language.specs.trees.Parts.{arm_of, handler_of}
 use Rattle.kishu_parser.specs.Sets.{names_in, note}
 use Rattle.kishu_parser.proofs.mentions.+globals.Given as goal
 

@@ -8,9 +8,9 @@ use Rattle.kishu_language.specs.declared.tree.Argument.{Argument as Argument'}
 use Rattle.kishu_language.specs.trees.Tree.{expressions, links, operands, pairs, trailers, arguments, bound_of, value_of, expression_of}
 use Rattle.kishu_language.specs.grammar.Refusals.{in_expression, in_expressions, in_links, in_operands, in_pairs, in_trailers, in_trailer, in_arguments, in_argument, in_bound, in_optional}
 use Rattle.kishu_language.specs.trees.Height.{of_expression, of_expressions, of_links, of_operands, of_pairs, of_trailers, of_trailer, of_arguments, of_argument, of_bound, of_optional}
-use Rattle.kishu_parser.specs.Trees.{link_of, operand_of, pair_of, trailer_of, argument_of}
+use Rattle.kishu_language.specs.trees.Parts.{link_of, operand_of, pair_of, trailer_of, argument_of}
 use Rattle.kishu_parser.specs.Sets.{names_in, note}
-use Rattle.kishu_parser.proofs.Rows.{tuple_is, conditional_is, or_is, and_is, not_is, compared_is, sum_is, product_is, signed_is, power_is, primary_is, name_is, int_is, text_is, none_is, true_is, false_is, paren_is, list_is, dict_is, attribute_is, call_is, index_is, slice_is, plain_is, keyword_is}
+use Rattle.kishu_language.specs.trees.Rows.{tuple_is, conditional_is, or_is, and_is, not_is, compared_is, sum_is, product_is, signed_is, power_is, primary_is, name_is, int_is, text_is, none_is, true_is, false_is, paren_is, list_is, dict_is, attribute_is, call_is, index_is, slice_is, plain_is, keyword_is}
 use Rattle.kishu_parser.proofs.Walks.{link_value, operand_value, pair_key, pair_value, here, note_then, then_ok, told_more, height_here, pair_height, pair_names, slice_height, slice_names}
 use Rattle.kishu_parser.proofs.mentions.+variables.Goals as goal
 

@@ -2,7 +2,7 @@ use Rattle.std.proofs.Common.{◌≡◌, ◌+◌, ◌*◌, ◌≤◌, ℕ, drop,
 use Rattle.kishu_language.specs.trees.Tree.{expressions, links, operands, pairs, trailers, arguments, expression_of, value_of}
 use Rattle.kishu_language.specs.grammar.Refusals.{in_expressions, in_links, in_operands, in_pairs, in_trailers, in_arguments}
 use Rattle.kishu_language.specs.trees.Height.{of_expression, of_expressions, of_links, of_operands, of_pairs, of_trailers, of_trailer, of_arguments, of_argument, of_optional}
-use Rattle.kishu_parser.specs.Trees.{link_of, operand_of, pair_of, trailer_of, argument_of}
+use Rattle.kishu_language.specs.trees.Parts.{link_of, operand_of, pair_of, trailer_of, argument_of}
 use Rattle.kishu_parser.specs.Sets.{names_in, note}
 use Rattle.kishu_parser.proofs.mentions.+variables.Given as goal
 

@@ -1,5 +1,5 @@
 use Rattle.std.proofs.Common.{refl}
-use Rattle.kishu_parser.specs.Bodies.{arm_of}
+use Rattle.kishu_language.specs.trees.Parts.{arm_of}
 use Rattle.kishu_parser.proofs.Parts.{pushed}
 use Rattle.kishu_parser.proofs.pushes.push_arm.Goals as goal
 

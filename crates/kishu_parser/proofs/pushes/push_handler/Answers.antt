@@ -1,5 +1,5 @@
 use Rattle.std.proofs.Common.{refl}
-use Rattle.kishu_parser.specs.Bodies.{handler_of}
+use Rattle.kishu_language.specs.trees.Parts.{handler_of}
 use Rattle.kishu_parser.proofs.Parts.{pushed}
 use Rattle.kishu_parser.proofs.pushes.push_handler.Goals as goal
 

@@ -1,5 +1,5 @@
 use Rattle.std.proofs.Common.{refl}
-use Rattle.kishu_parser.specs.Trees.{trailer_of}
+use Rattle.kishu_language.specs.trees.Parts.{trailer_of}
 use Rattle.kishu_parser.proofs.Parts.{pushed}
 use Rattle.kishu_parser.proofs.pushes.push_trailer.Goals as goal
 

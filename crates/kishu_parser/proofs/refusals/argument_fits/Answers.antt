@@ -5,9 +5,9 @@ use Rattle.kishu_language.specs.tokens.Names.{is_among}
 use Rattle.kishu_language.specs.trees.Tree.{Text, Expression, Argument, keyword, expression_of}
 use Rattle.kishu_language.specs.grammar.Grammar.{fits_after}
 use Rattle.kishu_parser.specs.Sets.{names_in, with_name}
-use Rattle.kishu_parser.specs.Trees.{argument_of}
+use Rattle.kishu_language.specs.trees.Parts.{argument_of}
 use Rattle.kishu_parser.proofs.NameSets.{plain_fits, keyword_fits}
-use Rattle.kishu_parser.proofs.Rows.{plain_is, keyword_is}
+use Rattle.kishu_language.specs.trees.Rows.{plain_is, keyword_is}
 use Rattle.kishu_parser.proofs.refusals.argument_fits.Goals as goal
 
 pub returns-in-Plain : goal.returns-in-Plain

@@ -1,7 +1,7 @@
 use Rattle.std.proofs.Common.{◌≡◌, [], drop, map}
 use Rattle.kishu_language.specs.grammar.Grammar.{fits_after}
 use Rattle.kishu_parser.specs.Sets.{names_in}
-use Rattle.kishu_parser.specs.Trees.{argument_of}
+use Rattle.kishu_language.specs.trees.Parts.{argument_of}
 use Rattle.kishu_parser.proofs.refusals.arguments_fit.Given as goal
 
 abbrev pub invariant-loop-argument : goal.invariant-loop-argument

@@ -2,8 +2,8 @@ use Rattle.std.proofs.Common.{map, ◌≡◌, ◌+◌, Bool, true, false, drop, 
 use Rattle.std.specs.Prelude.{is_some, is_none, not, ◌&&◌}
 use Rattle.kishu_language.specs.declared.tree.Expr.{Expr}
 use Rattle.kishu_language.specs.trees.Tree.{value_of}
-use Rattle.kishu_parser.specs.Bodies.{handler_of}
-use Rattle.kishu_parser.proofs.StatementRows.{handler_is}
+use Rattle.kishu_language.specs.trees.Parts.{handler_of}
+use Rattle.kishu_language.specs.trees.StatementRows.{handler_is}
 use Rattle.kishu_parser.proofs.Orders.{after_open, handlers_after}
 use Rattle.kishu_parser.proofs.Walks.{here}
 use Rattle.kishu_parser.proofs.refusals.handlers_fit.Goals as goal

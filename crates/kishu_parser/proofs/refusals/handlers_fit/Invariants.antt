@@ -1,6 +1,6 @@
 use Rattle.std.proofs.Common.{◌≡◌, drop, map}
 use Rattle.kishu_language.specs.grammar.Refusals.{handlers_fit}
-use Rattle.kishu_parser.specs.Bodies.{handler_of}
+use Rattle.kishu_language.specs.trees.Parts.{handler_of}
 use Rattle.kishu_parser.proofs.Orders.{after_open}
 use Rattle.kishu_parser.proofs.refusals.handlers_fit.Given as goal
 

@@ -2,7 +2,7 @@ use Rattle.std.proofs.Common.{◌≡◌, ◌+◌, suc, max, ap, sym, ◌∙◌, 
 use Rattle.kishu_language.specs.declared.tree.Expr.{Expr}
 use Rattle.kishu_language.specs.trees.Tree.{expressions, expression_of}
 use Rattle.kishu_language.specs.trees.Height.{of_expression, of_expressions}
-use Rattle.kishu_parser.proofs.Rows.{tuple_is, conditional_is, or_is, and_is, not_is, compared_is, sum_is, product_is, signed_is, power_is, primary_is, name_is, int_is, text_is, none_is, true_is, false_is, paren_is, list_is, dict_is}
+use Rattle.kishu_language.specs.trees.Rows.{tuple_is, conditional_is, or_is, and_is, not_is, compared_is, sum_is, product_is, signed_is, power_is, primary_is, name_is, int_is, text_is, none_is, true_is, false_is, paren_is, list_is, dict_is}
 use Rattle.kishu_parser.proofs.Walks.{height_here}
 use Rattle.kishu_parser.proofs.Assignable.{one_less, one_not, all_seen}
 use Rattle.kishu_parser.proofs.targets.+target.Goals as goal

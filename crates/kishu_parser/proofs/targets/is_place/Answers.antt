@@ -1,5 +1,5 @@
 use Rattle.std.proofs.Common.{refl}
-use Rattle.kishu_parser.proofs.Rows.{tuple_is, conditional_is, or_is, and_is, not_is, compared_is, sum_is, product_is, signed_is, power_is, primary_is, name_is, int_is, text_is, none_is, true_is, false_is, paren_is, list_is, dict_is}
+use Rattle.kishu_language.specs.trees.Rows.{tuple_is, conditional_is, or_is, and_is, not_is, compared_is, sum_is, product_is, signed_is, power_is, primary_is, name_is, int_is, text_is, none_is, true_is, false_is, paren_is, list_is, dict_is}
 use Rattle.kishu_parser.proofs.targets.is_place.Goals as goal
 
 pub returns-in-Primary : goal.returns-in-Primary

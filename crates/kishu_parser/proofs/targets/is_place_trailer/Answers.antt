@@ -1,5 +1,5 @@
 use Rattle.std.proofs.Common.{refl}
-use Rattle.kishu_parser.proofs.Rows.{attribute_is, call_is, index_is, slice_is}
+use Rattle.kishu_language.specs.trees.Rows.{attribute_is, call_is, index_is, slice_is}
 use Rattle.kishu_parser.proofs.targets.is_place_trailer.Goals as goal
 
 pub returns-in-Attribute : goal.returns-in-Attribute

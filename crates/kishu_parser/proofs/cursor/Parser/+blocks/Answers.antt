@@ -6,9 +6,7 @@ use Rattle.kishu_language.specs.reading.Reader as reader
 use Rattle.kishu_language.specs.reading.ReadExpressions as expressions
 use Rattle.kishu_language.specs.reading.ReadStatements as spec
 use Rattle.kishu_parser.specs.Views.{left}
-use Rattle.kishu_parser.specs.Trees as views
 use Rattle.kishu_parser.specs.Turns as turns
-use Rattle.kishu_parser.specs.Bodies as bodies
 use Rattle.kishu_parser.specs.Statements as lines
 use Rattle.std.proofs.lemmas.Grind.{common_steps}
 use Rattle.kishu_parser.proofs.Counts.{one_more, stops, fails_mark, fails_item, fails_one}
@@ -20,7 +18,7 @@ use Rattle.kishu_parser.proofs.Counts.{chunk_opens}
 use Rattle.std.proofs.Common.{map, Some}
 use Rattle.kishu_language.specs.trees.Tree.{statements}
 use Rattle.kishu_language.specs.grammar.Refusals.{parameters_fit, globals_fit}
-use Rattle.kishu_parser.proofs.StatementRows.{definition_is}
+use Rattle.kishu_language.specs.trees.StatementRows.{definition_is}
 use Rattle.kishu_parser.proofs.Compounds.{while_reads, head_reads, parameters_refused, body_reads, globals_refused, globals_pass}
 use Rattle.kishu_parser.proofs.cursor.Parser.+blocks.Goals as goal
 

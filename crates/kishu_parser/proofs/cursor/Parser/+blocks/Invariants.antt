@@ -6,9 +6,8 @@ use Rattle.kishu_language.specs.reading.Reader as reader
 use Rattle.kishu_language.specs.reading.ReadExpressions as expressions
 use Rattle.kishu_language.specs.reading.ReadStatements as spec
 use Rattle.kishu_parser.specs.Views.{left}
-use Rattle.kishu_parser.specs.Trees as views
 use Rattle.kishu_parser.specs.Turns as turns
-use Rattle.kishu_parser.specs.Bodies as bodies
+use Rattle.kishu_language.specs.trees.Parts as tree_parts
 use Rattle.kishu_parser.specs.Statements as lines
 use Rattle.kishu_parser.proofs.cursor.Parser.+blocks.Given as goal
 
@@ -68,9 +67,9 @@ invariant-more_chunks-loop-turn l = reader.turns lines.sees_chunk (lines.chunk_t
     ≡ reader.climb lines.sees_chunk (lines.chunk_turn (spec.chunk l.self.source.now l.room (lines.around_of l.around))) (l._turn-end - l._turn) (lines.statements_in l.all) (left l.self.tokens.now l.at)
 
 abbrev pub invariant-more_arms-loop-turn : goal.invariant-more_arms-loop-turn
-invariant-more_arms-loop-turn l = reader.turns (reader.sees m.Elif) (turns.more_turn m.Elif (spec.arm l.self.source.now l.room (spec.chunk l.self.source.now l.room) (lines.around_of l.around))) (bodies.arm_of l.fn.first ∷ []) (left l.self.tokens.now l.fn.at)
+invariant-more_arms-loop-turn l = reader.turns (reader.sees m.Elif) (turns.more_turn m.Elif (spec.arm l.self.source.now l.room (spec.chunk l.self.source.now l.room) (lines.around_of l.around))) (tree_parts.arm_of l.fn.first ∷ []) (left l.self.tokens.now l.fn.at)
     ≡ reader.climb (reader.sees m.Elif) (turns.more_turn m.Elif (spec.arm l.self.source.now l.room (spec.chunk l.self.source.now l.room) (lines.around_of l.around))) (l._turn-end - l._turn) (lines.arms_in l.arms) (left l.self.tokens.now l.at)
 
 abbrev pub invariant-more_handlers-loop-turn : goal.invariant-more_handlers-loop-turn
-invariant-more_handlers-loop-turn l = reader.turns (reader.sees m.Except) (reader.one_more (spec.handler l.self.source.now l.room (spec.chunk l.self.source.now l.room) (lines.around_of l.around))) (bodies.handler_of l.fn.first ∷ []) (left l.self.tokens.now l.fn.at)
+invariant-more_handlers-loop-turn l = reader.turns (reader.sees m.Except) (reader.one_more (spec.handler l.self.source.now l.room (spec.chunk l.self.source.now l.room) (lines.around_of l.around))) (tree_parts.handler_of l.fn.first ∷ []) (left l.self.tokens.now l.fn.at)
     ≡ reader.climb (reader.sees m.Except) (reader.one_more (spec.handler l.self.source.now l.room (spec.chunk l.self.source.now l.room) (lines.around_of l.around))) (l._turn-end - l._turn) (lines.handlers_in l.all) (left l.self.tokens.now l.at)

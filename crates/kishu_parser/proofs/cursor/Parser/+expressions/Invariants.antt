@@ -6,6 +6,7 @@ use Rattle.kishu_language.specs.reading.Reader as reader
 use Rattle.kishu_language.specs.reading.ReadExpressions as spec
 use Rattle.kishu_parser.specs.Views.{left}
 use Rattle.kishu_parser.specs.Trees as views
+use Rattle.kishu_language.specs.trees.Parts as tree_parts
 use Rattle.kishu_parser.specs.Turns as turns
 use Rattle.kishu_parser.proofs.cursor.Parser.+expressions.Given as goal
 
@@ -163,5 +164,5 @@ invariant-more_pairs-loop-turn l = reader.turns (spec.another m.Comma) (turns.mo
     ≡ reader.climb (spec.another m.Comma) (turns.more_turn m.Comma (spec.pair (spec.phrase l.room))) (l._turn-end - l._turn) (views.pairs_in l.all) (left l.self.tokens.now l.at)
 
 abbrev pub invariant-more_arguments-loop-turn : goal.invariant-more_arguments-loop-turn
-invariant-more_arguments-loop-turn l = reader.turns (spec.another m.Comma) (turns.more_turn m.Comma (spec.argument (spec.phrase l.room))) (views.argument_of l.fn.first ∷ []) (left l.self.tokens.now l.fn.at)
+invariant-more_arguments-loop-turn l = reader.turns (spec.another m.Comma) (turns.more_turn m.Comma (spec.argument (spec.phrase l.room))) (tree_parts.argument_of l.fn.first ∷ []) (left l.self.tokens.now l.fn.at)
     ≡ reader.climb (spec.another m.Comma) (turns.more_turn m.Comma (spec.argument (spec.phrase l.room))) (l._turn-end - l._turn) (views.arguments_in l.all) (left l.self.tokens.now l.at)

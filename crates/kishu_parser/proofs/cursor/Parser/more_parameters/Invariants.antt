@@ -6,9 +6,7 @@ use Rattle.kishu_language.specs.reading.Reader as reader
 use Rattle.kishu_language.specs.reading.ReadExpressions as expressions
 use Rattle.kishu_language.specs.reading.ReadStatements as spec
 use Rattle.kishu_parser.specs.Views.{left}
-use Rattle.kishu_parser.specs.Trees as views
 use Rattle.kishu_parser.specs.Turns as turns
-use Rattle.kishu_parser.specs.Bodies as bodies
 use Rattle.kishu_parser.specs.Statements as lines
 use Rattle.kishu_parser.proofs.cursor.Parser.more_parameters.Given as goal
 

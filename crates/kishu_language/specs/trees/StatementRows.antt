@@ -1,5 +1,5 @@
 -- What the code's statements stand for, variant by variant.
-use Rattle.std.proofs.Common.{◌≡◌, ℕ, List, [], ◌∷◌, map, refl, sym, ap, ◌∙◌, Option, Some, None}
+use Rattle.std.proofs.Common.{◌≡◌, map, sym, ap, ◌∙◌, Option}
 use Rattle.std.specs.declared.alloc.Global.{Global}
 use Rattle.std.specs.declared.rc.Rc.{Rc}
 use Rattle.std.specs.declared.rc.RcStr.{RcStr}
@@ -12,12 +12,12 @@ use Rattle.kishu_language.specs.declared.tree.Stmt.TheVariants as s
 use Rattle.kishu_language.specs.declared.tree.Arm.{Arm as Arm'}
 use Rattle.kishu_language.specs.declared.tree.Handler.{Handler as Handler'}
 use Rattle.kishu_language.specs.declared.tree.Def.{Def}
-use Rattle.kishu_language.specs.declared.tree.Stmt.TheOpen.{Arm-F, Def-F, Handler-F, Stmt-F}
+use Rattle.kishu_language.specs.declared.tree.Stmt.TheOpen.{Stmt-F}
 use Rattle.kishu_language.specs.declared.tree.Stmt.TheFolds.{fold-roll-Stmt, fold-roll-Arm, fold-roll-Handler, fold-roll-Def}
 use Rattle.kishu_language.specs.declared.tree.Stmt.TheViews.{roll-Arm, roll-Handler, roll-Def}
 use Rattle.kishu_language.specs.trees.Tree.{Statement, Arm, Handler, Definition, statements, arms, handlers, value_of, text_of, parameter_of, expression_of, statement_of, definition_of, statement_step, arm_step, definition_step, handler_step}
 use Rattle.kishu_language.specs.trees.Tree as t
-use Rattle.kishu_parser.specs.Bodies.{arm_of, handler_of}
+use Rattle.kishu_language.specs.trees.Parts.{arm_of, handler_of}
 
 pub pass_is : statement_of (s.Pass) ≡ t.pass
 unfolding statement_of
@@ -91,6 +91,9 @@ pub arm_is : (a : Expr) (v : Vec Stmt Global) → arm_of (roll-Arm (record { tes
 unfolding arm_of statement_of
 arm_is a v = fold-roll-Arm Statement Arm Definition Handler statement_step arm_step definition_step handler_step (record { test = a; body = v })
 
+pub arm_at : (a : Arm') → arm_of a ≡ (expression_of a.test, statements (map statement_of a.body.items))
+arm_at a = arm_is a.test a.body
+
 pub handler_is : (a : Option Expr) (x : Option (RcStr Global)) (v : Vec Stmt Global) → handler_of (roll-Handler (record { class = a; name = x; body = v })) ≡ record { class = value_of a; caught = text_of x; body = statements (map statement_of v.items) }
 unfolding handler_of statement_of
 handler_is a x v = fold-roll-Handler Statement Arm Definition Handler statement_step arm_step definition_step handler_step (record { class = a; name = x; body = v })
@@ -98,3 +101,11 @@ handler_is a x v = fold-roll-Handler Statement Arm Definition Handler statement_
 pub definition_is : (x : RcStr Global) (ps : Vec (RcStr Global × Option Expr) Global) (v : Vec Stmt Global) → definition_of (roll-Def (record { name = x; params = ps; body = v })) ≡ record { title = rc_str_bytes x; parameters = map parameter_of ps.items; body = statements (map statement_of v.items) }
 unfolding definition_of statement_of
 definition_is x ps v = fold-roll-Def Statement Arm Definition Handler statement_step arm_step definition_step handler_step (record { name = x; params = ps; body = v })
+
+pub parameters_at : (d : Def) → (definition_of d).parameters ≡ map parameter_of d.params.items
+parameters_at d = ap (λ k. k.parameters) (definition_is d.name d.params d.body)
+
+pub body_at : (d : Def) → (definition_of d).body ≡ statements (map statement_of d.body.items)
+body_at d = ap (λ k. k.body) (definition_is d.name d.params d.body)
+
+pub ruleset statement_rows = (pass_is, break_is, continue_is, return_is, raise_is, assert_is, delete_is, global_is, import_is, update_is, assign_is, if_is, while_is, for_is, try_is, finally_is, def_is, arm_is)

@@ -1,5 +1,5 @@
 -- What the code's trees stand for, variant by variant.
-use Rattle.std.proofs.Common.{◌≡◌, ℕ, List, [], ◌∷◌, ◌++◌, map, refl, sym, ap, ◌∙◌, Option, Some, None}
+use Rattle.std.proofs.Common.{◌≡◌, map, sym, ap, ◌∙◌, Option, Some, None}
 use Rattle.std.specs.Prelude.{ℤ}
 use Rattle.std.specs.declared.alloc.Global.{Global}
 use Rattle.std.specs.declared.boxed.Box.{Box}
@@ -11,24 +11,19 @@ use Rattle.kishu_language.specs.declared.tree.Sign.{Sign}
 use Rattle.kishu_language.specs.declared.tree.Comparison.{Comparison}
 use Rattle.kishu_language.specs.declared.tree.Expr.{Expr}
 use Rattle.kishu_language.specs.declared.tree.Expr.TheVariants as e
-use Rattle.kishu_language.specs.declared.tree.Link as link
 use Rattle.kishu_language.specs.declared.tree.Link.{Link}
-use Rattle.kishu_language.specs.declared.tree.Operand as operand
 use Rattle.kishu_language.specs.declared.tree.Operand.{Operand}
-use Rattle.kishu_language.specs.declared.tree.Pair as pair
 use Rattle.kishu_language.specs.declared.tree.Pair.{Pair}
 use Rattle.kishu_language.specs.declared.tree.Trailer as rust_trailer
 use Rattle.kishu_language.specs.declared.tree.Trailer.TheVariants as tr
 use Rattle.kishu_language.specs.declared.tree.Argument as rust_argument
 use Rattle.kishu_language.specs.declared.tree.Argument.TheVariants as ar
-use Rattle.kishu_language.specs.declared.tree.Argument.TheOpen.{Expr-F, Trailer-F, Argument-F, Link-F, Operand-F, Pair-F}
+use Rattle.kishu_language.specs.declared.tree.Argument.TheOpen.{Expr-F, Trailer-F, Argument-F}
 use Rattle.kishu_language.specs.declared.tree.Argument.TheFolds.{fold-roll-Expr, fold-roll-Trailer, fold-roll-Argument, fold-roll-Link, fold-roll-Operand, fold-roll-Pair}
 use Rattle.kishu_language.specs.trees.Tree.{Expression, Trailer, Argument, expressions, links, operands, trailers, arguments, pairs, bound_of, value_of, expression_of, argument_step, expression_step, trailer_step, link_step, operand_step, pair_step}
-use Rattle.kishu_language.specs.declared.tree.Argument.TheViews.{roll-Link}
-use Rattle.kishu_language.specs.declared.tree.Argument.TheViews.{roll-Operand}
-use Rattle.kishu_language.specs.declared.tree.Argument.TheViews.{roll-Pair}
+use Rattle.kishu_language.specs.declared.tree.Argument.TheViews.{roll-Link, roll-Operand, roll-Pair}
 use Rattle.kishu_language.specs.trees.Tree as t
-use Rattle.kishu_parser.specs.Trees.{link_of, operand_of, pair_of, trailer_of, argument_of}
+use Rattle.kishu_language.specs.trees.Parts.{link_of, operand_of, pair_of, trailer_of, argument_of}
 
 pub tuple_is : (v : Vec Expr Global) → expression_of (e.Tuple v) ≡ t.tuple (expressions (map expression_of v.items))
 unfolding expression_of
@@ -152,3 +147,13 @@ operand_is o a = fold-roll-Operand Argument Expression Trailer (Comparison × Ex
 pub pair_is : (a b : Expr) → pair_of (roll-Pair (record { key = a; value = b })) ≡ (expression_of a, expression_of b)
 unfolding pair_of expression_of
 pair_is a b = fold-roll-Pair Argument Expression Trailer (Comparison × Expression) (Operator × Expression) (Expression × Expression) argument_step expression_step trailer_step link_step operand_step pair_step (record { key = a; value = b })
+
+pub link_at : (l : Link) → link_of l ≡ (l.comparison, expression_of l.value)
+link_at l = link_is l.comparison l.value
+
+pub operand_at : (o : Operand) → operand_of o ≡ (o.operator, expression_of o.value)
+operand_at o = operand_is o.operator o.value
+
+pub ruleset part_rows = (link_at, operand_at)
+
+pub ruleset tree_rows = (tuple_is, conditional_is, or_is, and_is, not_is, compared_is, sum_is, product_is, signed_is, power_is, primary_is, name_is, int_is, text_is, none_is, true_is, false_is, paren_is, list_is, attribute_is, call_is, index_is, slice_is, plain_is, keyword_is, link_is, operand_is, dict_is)
