@@ -88,10 +88,11 @@ fn layout(alloc: Global, text: &[char]) -> Result<Vec<Token>, SyntaxFault>
     lexer.finish(line, start)
 }
 
-/// The tokens of a text of at most 1,048,576 bytes, under the rules of a profile (Python Language
-/// Reference 3, "Lexical analysis"). Their places count bytes of the text as `plain_lines` gives it;
-/// they are in order, at the edges of its characters. Syntax says that the text has no tokens, with
-/// the line, from 1, of the fault that comes first; NoMemory says nothing of the text.
+/// The tokens of a text of at most 1,048,576 bytes, under the rules of a profile, which are the same
+/// for all (Python Language Reference 3, "Lexical analysis"). Their places count bytes of the text as
+/// `plain_lines` gives it; they are in order, at the edges of its characters. Syntax says that the
+/// text has no tokens, with the line, from 1, of the fault that comes first; NoMemory says nothing of
+/// the text.
 pub fn tokens(alloc: Global, profile: Profile, text: &str) -> Result<Vec<Token>, SyntaxFault>
     requires { length text.now ≤ 1048576 }
     ensures ok { IfOk result (λ v. tokens.tokens profile text.now ≡ Ok (tokens_of v.items)) }
@@ -113,10 +114,6 @@ pub fn tokens(alloc: Global, profile: Profile, text: &str) -> Result<Vec<Token>,
     // to its value: a text by its escapes, a number by its digits.
     ensures texts { IfOk result (λ v. AllWritten (plain_lines (chars text.now)) (tokens_of v.items)) }
 {
-    match profile {
-        Profile::One => {
-            let plain = plain_chars(alloc, text)?;
-            layout(alloc, plain.as_slice())
-        }
-    }
+    let plain = plain_chars(alloc, text)?;
+    layout(alloc, plain.as_slice())
 }
