@@ -1,4 +1,5 @@
 // The tokens of a text.
+ghost use Rattle.kishu_language.specs.Limits.{longest_text};
 ghost use Rattle.std.specs.Prelude.{◌≡◌, ◌<◌, ◌≤◌, ◌+◌, ◌^◌, length, take, drop, List, IfOk, IfErr, MatchResult};
 ghost use Rattle.std.specs.Str.{chars, encode_utf8_all};
 ghost use Rattle.kishu_language.specs.tokens.PlainLines.{plain_lines};
@@ -72,7 +73,7 @@ fn turn<'a>(
 }
 
 fn layout(alloc: Global, text: &[char]) -> Result<Vec<Token>, SyntaxFault>
-    requires { length text.now ≤ 1048576 }
+    requires { length text.now ≤ longest_text }
     ensures { Answers (spec.layout text.now) result (λ v. v.items) }
 {
     let mut lexer = Lexer::new(alloc);
@@ -94,7 +95,7 @@ fn layout(alloc: Global, text: &[char]) -> Result<Vec<Token>, SyntaxFault>
 /// text has no tokens, with the line, from 1, of the fault that comes first; NoMemory says nothing of
 /// the text.
 pub fn tokens(alloc: Global, profile: Profile, text: &str) -> Result<Vec<Token>, SyntaxFault>
-    requires { length text.now ≤ 1048576 }
+    requires { length text.now ≤ longest_text }
     ensures ok { IfOk result (λ v. tokens.tokens profile text.now ≡ Ok (tokens_of v.items)) }
     ensures err { IfErr result (λ e. Fails (tokens.tokens profile text.now) e) }
 

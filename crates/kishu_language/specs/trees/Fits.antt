@@ -1,4 +1,5 @@
 -- When a tree may run: its names are names, its targets are targets, no keyword stands twice in a call, and the code of each function in it reads as that function. The tree of a text is so.
+use Rattle.kishu_language.specs.Limits.{height_limit, longest_text}
 use Rattle.std.specs.Prelude.{◌<◌, ◌≤◌, IsTrue, List, length, Option}
 use Rattle.kishu_language.specs.declared.profile.Profile.{Profile}
 use Rattle.kishu_language.specs.tokens.Names.{is_name}
@@ -50,7 +51,7 @@ ParametersFit = ParametersHold any any
 
 -- The code of a function is short and reads as that function.
 abbrev pub CodeFits : Text → Definition → Type 0
-CodeFits code d = (length code ≤ 1048576) × ((profile : Profile) → ∥ ReadsDef profile code d ∥₁)
+CodeFits code d = (length code ≤ longest_text) × ((profile : Profile) → ∥ ReadsDef profile code d ∥₁)
 
 abbrev pub StatementFits : Statement → Type 0
 StatementFits = StatementHolds any any is_target ExpressionFits CodeFits
@@ -73,4 +74,4 @@ pub record IsCodeOf (profile : Profile) (code : Text) (d : Definition) : Type 0 
   pub reads : ReadsDef profile code d
   pub name : IsTrue (is_name d.title)
   pub fits : FunctionFits d
-  pub low : of_statements d.body < 1048576
+  pub low : of_statements d.body < height_limit
