@@ -113,10 +113,8 @@ pub fn tokens(alloc: Global, profile: Profile, text: &str) -> Result<Vec<Token>,
     // to its value: a text by its escapes, a number by its digits.
     ensures texts { IfOk result (λ v. AllWritten (plain_lines (chars text.now)) (tokens_of v.items)) }
 {
-    match profile {
-        Profile::One => {
-            let plain = plain_chars(alloc, text)?;
-            layout(alloc, plain.as_slice())
-        }
-    }
+    // Every profile cuts a text alike.
+    let (Profile::One | Profile::Two) = profile;
+    let plain = plain_chars(alloc, text)?;
+    layout(alloc, plain.as_slice())
 }
