@@ -17,3 +17,5 @@ pub mod Unbroken
 pub mod PieceEnds
 pub mod ExactPieces
 pub mod ExactText
+pub mod Enough
+pub mod Reads

@@ -1,18 +1,18 @@
 -- What reading from the front takes, the rules of lines allow: brackets.
-use Rattle.std.proofs.Common.{◌≡◌, ℕ, zero, suc, ◌+◌, ◌-◌, ◌<◌, ◌≤◌, Bool, true, false, cond, List, [], ◌∷◌, ◌++◌, length, replicate, Some, refl, sym, ap, subst, ◌∙◌, arith}
-use Rattle.std.specs.Prelude.{Result, Ok, Err, IfOk, nat_eq}
+use Rattle.std.proofs.Common.{◌≡◌, ℕ, zero, suc, ◌+◌, ◌-◌, ◌<◌, ◌≤◌, Bool, true, false, List, [], ◌∷◌, ◌++◌, length, replicate, Some, refl, sym, ap, subst, ◌∙◌, arith}
+use Rattle.std.specs.Prelude.{Result, Ok, Err, IfOk}
 use Rattle.kishu_language.specs.declared.token.Token as rust
 use Rattle.kishu_lexer.specs.declared.fault.SyntaxFault.{SyntaxFault}
 use Rattle.kishu_lexer.specs.Machine.{Answers, tokens_of}
-use Rattle.std.specs.Str.{bytes_eq}
-use Rattle.std.specs.List.{starts_with}
 use Rattle.kishu_language.specs.declared.token.Mark.{Mark}
 use Rattle.kishu_language.specs.tokens.Lexemes.{Lexeme, blank, comment, bad_comment, joined, feed, word, number, string, sign, bad}
 use Rattle.kishu_language.specs.tokens.Layout as y
 use Rattle.kishu_language.specs.tokens.Layout.{◌>>=◌, Outcome, State, Start, fresh, led, inside, Kind, Token, Item, End, newline, indent, dedent, token, mark, top, dedents, dedented, indented, finish, begin, bracket, is_opening, is_closing, closes, step, steps, cut, end_of, layout}
 use Rattle.kishu_language.specs.rules.LineRules as r
 use Rattle.kishu_language.specs.rules.LineRules.{is_quiet, value, begins, token_at, Quiet, Inside, Line, Lead, Back, Indentation, Lines, HasTokens}
-use Rattle.kishu_lexer.proofs.Rules.{St, done, listed, last_of, run, after, quiet_step, feed_step, value_step, open_step, close_step, inside_takes, line_takes, first_step, begin_is, indentation_takes, comment_first, led_step, blank_first, joined_first, lines_take}
+use Rattle.kishu_token_laws.specs.LineSteps.{St, done, listed, last_of, run, after, feed_in_brackets, value_step, open_step, close_step, first_step, from_begin}
+use Rattle.kishu_token_laws.specs.Indents.{indentation_takes, indentation_met}
+use Rattle.kishu_lexer.proofs.Rules.{quiet_step, inside_takes, line_takes, begin_is, comment_first, led_step, blank_first, joined_first, lines_take}
 
 -- the bracket that closes b, and what stands before it
 pub record Closes (is : List Item) (b : Mark × ℕ) : Type 0 where
@@ -27,10 +27,6 @@ pub record Closes (is : List Item) (b : Mark × ℕ) : Type 0 where
 
 abbrev pub Closing : ℕ → Type 0
 Closing n = (is : List Item) (out : List Token) (b : Mark × ℕ) (bs : List (Mark × ℕ)) (vs : List (List ℕ)) (t : State) → length is ≤ n → steps is (St inside out (b ∷ bs) vs) ≡ done t → t.brackets ≡ [] → Closes is b
-
-bind_ok : (o : Outcome State) (f : State → Outcome State) (t : State) → o >>= f ≡ done t → (b : State) × ((o ≡ done b) × (f b ≡ done t))
-bind_ok (Ok b) f t e = (b, (refl, e))
-bind_ok (Err l) f t e = absurd cc
 
 -- from what one step gives to what the rest does
 along : (is : List Item) (o : Outcome State) (s t : State) → o ≡ done s → o >>= steps is ≡ done t → steps is s ≡ done t
@@ -130,7 +126,7 @@ piece_case n hyp i (blank w) is out b bs vs t small h none q = quiet_case n hyp 
 piece_case n hyp i comment is out b bs vs t small h none q = quiet_case n hyp i is out b bs vs t small h none (ap is_quiet q)
 piece_case n hyp i joined is out b bs vs t small h none q = quiet_case n hyp i is out b bs vs t small h none (ap is_quiet q)
 piece_case n hyp i feed is out b bs vs t small h none q =
-    lined i is b q (hyp is out b bs vs t small (along is _ (St inside out (b ∷ bs) vs) t (feed_step i.what i.line i.start i.end out b bs vs q) h) none)
+    lined i is b q (hyp is out b bs vs t small (along is _ (St inside out (b ∷ bs) vs) t (feed_in_brackets i.what i.line i.start i.end out b bs vs q) h) none)
 piece_case n hyp i (word w) is out b bs vs t small h none q = value_case n hyp i (y.word_kind w) is out b bs vs t small h none (ap value q)
 piece_case n hyp i (number z) is out b bs vs t small h none q = value_case n hyp i (y.integer z) is out b bs vs t small h none (ap value q)
 piece_case n hyp i (string u) is out b bs vs t small h none q = value_case n hyp i (y.quoted u) is out b bs vs t small h none (ap value q)
@@ -231,55 +227,6 @@ line_met n at [] out vs us small h = record { others = []; found = token newline
 line_met zero at (i ∷ is) out vs us small h = absurd (omega arith)
 line_met (suc n) at (i ∷ is) out vs us small h = line_piece n (line_met n) at i i.what is out vs us (omega arith) h refl
 
--- ---- indentation
-
-Off : List ℕ → ℕ → ℕ → List (List ℕ) → Type 0
-Off w n a vs = (us : List (List ℕ)) × ((ts : List Token) × Back w n a vs us ts)
-
-back_met : (w : List ℕ) (n a : ℕ) (vs : List (List ℕ)) (out : List Token) (p : List (List ℕ) × List Token) → dedents w n a vs out ≡ Ok p → Off w n a vs
-unfolding Off
-back_met w n a [] out p e = go (bytes_eq w []) refl e
-  where
-    go : (b : Bool) → bytes_eq w [] ≡ b → cond b (Ok ([], out)) (Err n) ≡ Ok p → Off w n a []
-    go true q e = ([], ([], r.bottom q))
-    go false q e = absurd cc
-back_met w n a (v ∷ vs) out p e = go (bytes_eq w v) refl e (back_met w n a vs (out ++ token dedent n a a ∷ []) p)
-  where
-    go : (b : Bool) → bytes_eq w v ≡ b → cond b (Ok (v ∷ vs, out)) (dedents w n a vs (out ++ token dedent n a a ∷ [])) ≡ Ok p → (dedents w n a vs (out ++ token dedent n a a ∷ []) ≡ Ok p → Off w n a vs) → Off w n a (v ∷ vs)
-    go true q e next = (v ∷ vs, ([], r.found q))
-    go false q e next = let t = next e in (t.0, (token dedent n a a ∷ t.1.0, r.off q t.1.1))
-
-Deep : List ℕ → ℕ → ℕ → ℕ → List (List ℕ) → Type 0
-Deep w row from to vs = (us : List (List ℕ)) × ((ts : List Token) × Indentation w row from to vs us ts)
-
-taken_off : (s t : State) (o : Outcome (List (List ℕ) × List Token)) → dedented s o ≡ done t → (p : List (List ℕ) × List Token) × (o ≡ Ok p)
-taken_off s t (Ok p) e = (p, refl)
-taken_off s t (Err l) e = absurd cc
-
-indentation_met : (w : List ℕ) (row from to : ℕ) (vs : List (List ℕ)) (out : List Token) (t : State) → indented w row from to (St inside out [] vs) ≡ done t → Deep w row from to vs
-unfolding indented Deep Off
-indentation_met w row from to vs out t e = go (bytes_eq w (top vs)) (starts_with nat_eq w (top vs)) refl refl e
-  where
-    go : (p q : Bool) → bytes_eq w (top vs) ≡ p → starts_with nat_eq w (top vs) ≡ q
-        → cond p (done (St inside out [] vs)) (cond q (done (y.deeper w row from to (St inside out [] vs))) (dedented (St inside out [] vs) (dedents w row to vs out))) ≡ done t → Deep w row from to vs
-    go true q e f h = (vs, ([], r.equal e))
-    go false true e f h = (w ∷ vs, (token indent row from to ∷ [], r.longer e f))
-    go false false e f h = let p = taken_off (St inside out [] vs) t (dedents w row to vs out) h in let b = back_met w row to vs out p.0 p.1 in (b.0, (b.1.0, r.lower e f b.1.1))
-
--- the first piece of a line begins it
-from_begin : (l : Lexeme) (n a e : ℕ) (s t : State) → begins l ≡ true → step l n a e s ≡ done t → (b : State) × (begin n a s ≡ done b)
-unfolding step
-from_begin (word w) n a e s t h q = let p = bind_ok (begin n a s) (λ b. done (y.emit (token (y.word_kind w) n a e) b)) t q in (p.0, p.1.0)
-from_begin (number z) n a e s t h q = let p = bind_ok (begin n a s) (λ b. done (y.emit (token (y.integer z) n a e) b)) t q in (p.0, p.1.0)
-from_begin (string u) n a e s t h q = let p = bind_ok (begin n a s) (λ b. done (y.emit (token (y.quoted u) n a e) b)) t q in (p.0, p.1.0)
-from_begin (sign k) n a e s t h q = let p = bind_ok (begin n a s) (λ b. bracket k n b >>= (λ c. done (y.emit (token (mark k) n a e) c))) t q in (p.0, p.1.0)
-from_begin (blank w) n a e s t h q = absurd cc
-from_begin comment n a e s t h q = absurd cc
-from_begin joined n a e s t h q = absurd cc
-from_begin feed n a e s t h q = absurd cc
-from_begin bad_comment n a e s t h q = absurd cc
-from_begin (bad b) n a e s t h q = absurd cc
-
 begin_by : (v : Start) (n a : ℕ) (out : List Token) (vs : List (List ℕ)) (b : State) → begin n a (St v out [] vs) ≡ done b → y.begin_at v n a (St v out [] vs) ≡ done b
 unfolding begin
 begin_by v n a out vs b h = h
@@ -295,12 +242,12 @@ Reading n = (at : End) (is : List Item) (out : List Token) (vs : List (List ℕ)
 logical : (n : ℕ) → Reading n → (at : End) (before : List Item) (i : Item) (is : List Item) (v : Start) (w : List ℕ) (row from to : ℕ) (out : List Token) (vs : List (List ℕ)) (us : List Token) → length is ≤ n
     → Lead before (i ∷ is) w row from to → begins i.what ≡ true → y.begin_at v i.line i.start (St v out [] vs) ≡ indented w row from to (St inside out [] vs)
     → run at (i ∷ is) (St v out [] vs) ≡ listed us → Readable at vs before
-unfolding Readable Deep
+unfolding Readable
 logical n hyp at before i is v w row from to out vs us small lead b begun h =
     let p = bind_ok_list (step i.what i.line i.start i.end (St v out [] vs)) is at us h in
     let q = from_begin i.what i.line i.start i.end (St v out [] vs) p.0 b p.1 in
-    let d = indentation_met w row from to vs out q.0 (sym begun ∙ begin_by v i.line i.start out vs q.0 q.1) in
-    let same : y.begin_at v i.line i.start (St v out [] vs) ≡ done (St inside (out ++ d.1.0) [] d.0) = begun ∙ indentation_takes out d.1.1 in
+    let d = indentation_met w row from to vs out [] q.0 (sym begun ∙ begin_by v i.line i.start out vs q.0 q.1) in
+    let same : y.begin_at v i.line i.start (St v out [] vs) ≡ done (St inside (out ++ d.1.0) [] d.0) = begun ∙ indentation_takes out [] d.1.1 in
     let here : run at (i ∷ is) (St inside (out ++ d.1.0) [] d.0) ≡ listed us =
     sym (ap (after at is) (first_step i.what i.line i.start i.end (St v out [] vs) (St inside (out ++ d.1.0) [] d.0) b (begin_is v i.line i.start out d.1.0 vs d.0 same))) ∙ h in
     let c = line_met (suc n) at (i ∷ is) (out ++ d.1.0) d.0 us (omega arith) here in

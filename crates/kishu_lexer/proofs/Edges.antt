@@ -16,7 +16,7 @@ use Rattle.kishu_language.specs.tokens.Layout.{◌>>=◌, Outcome, State, Start,
 use Rattle.kishu_lexer.specs.declared.fault.SyntaxFault.{SyntaxFault}
 use Rattle.kishu_lexer.specs.Edges.{Placed}
 use Rattle.kishu_lexer.specs.Machine.{Answers, tokens_of}
-use Rattle.kishu_lexer.proofs.Lengths.{some_taken}
+use Rattle.kishu_token_laws.specs.PieceLengths.{some_taken}
 use Rattle.kishu_lexer.proofs.Order.{bind_ok, done, ok_is, listed, list_is, wrong_never, bytes_width}
 
 -- Each token begins and ends at a place that has the property.

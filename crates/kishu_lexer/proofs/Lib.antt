@@ -8,6 +8,5 @@ pub mod Turns
 pub mod Order
 pub mod Rules
 pub mod Complete
-pub mod Lengths
 pub mod Edges
 pub mod Alone

@@ -1,42 +1,19 @@
 -- What the rules of lines say of a text's pieces is what the reading from the front gives.
-use Rattle.std.proofs.Common.{◌≡◌, ℕ, Bool, true, false, cond, ◌&&◌, ◌||◌, List, [], ◌∷◌, ◌++◌, length, replicate, Some, None, refl, sym, ap, ◌∙◌, append_assoc, inl, inr, ⊎_elim, ◌⊎◌}
+use Rattle.std.proofs.Common.{◌≡◌, ℕ, Bool, true, false, List, [], ◌∷◌, ◌++◌, length, replicate, refl, sym, ap, ◌∙◌, append_assoc}
 use Rattle.std.proofs.lemmas.List.{append-nil}
 use Rattle.std.specs.Prelude.{Result, Ok, Err, MatchResult}
 use Rattle.kishu_language.specs.declared.token.Token as rust
 use Rattle.kishu_lexer.specs.declared.fault.SyntaxFault.{SyntaxFault}
 use Rattle.kishu_lexer.specs.declared.fault.SyntaxFault.TheVariants as fault
 use Rattle.kishu_lexer.specs.Machine.{Answers, tokens_of}
-use denote.Enum.Bare.{same_true}
-use Rattle.kishu_language.specs.contracts.token.Mark.{the_type}
 use Rattle.kishu_language.specs.declared.token.Mark.{Mark}
-use Rattle.kishu_language.specs.declared.token.Mark.TheVariants as m
 use Rattle.kishu_language.specs.tokens.Lexemes.{Lexeme, blank, comment, bad_comment, joined, feed, word, number, string, sign, bad}
 use Rattle.kishu_language.specs.tokens.Layout as y
 use Rattle.kishu_language.specs.tokens.Layout.{◌>>=◌, Outcome, State, Start, fresh, led, inside, Kind, Token, Item, token, newline, indent, dedent, mark, top, dedents, dedented, indented, begin, bracket, is_opening, is_closing, closes, step, steps, finish, End, end_of, cut, layout, empty}
 use Rattle.kishu_language.specs.rules.LineRules as r
+use Rattle.kishu_token_laws.specs.LineSteps.{St, done, last_of, run, listed, after, feed_in_brackets, feed_at_end, value_step, open_step, close_step, first_step}
+use Rattle.kishu_token_laws.specs.Indents.{indentation_takes}
 use Rattle.kishu_language.specs.rules.LineRules.{is_quiet, value, begins, token_at, Quiet, Inside, Line, Lead, Back, Indentation, Lines, HasTokens}
-
-abbrev pub St : Start → List Token → List (Mark × ℕ) → List (List ℕ) → State
-St b out bs vs = record { out = out; brackets = bs; indents = vs; begun = b }
-
-abbrev pub done : State → Outcome State
-done s = Ok s
-
-abbrev pub last_of : End → State → Outcome (List Token)
-last_of at t = finish t.brackets at t
-
-abbrev pub run : End → List Item → State → Outcome (List Token)
-run at is s = steps is s >>= last_of at
-
-abbrev pub listed : List Token → Outcome (List Token)
-listed ts = Ok ts
-
--- one piece, and then the rest
-abbrev pub after : End → List Item → Outcome State → Outcome (List Token)
-after at is o = (o >>= steps is) >>= last_of at
-
-some_is : {x y : Kind} → Some x ≡ Some y → x ≡ y
-some_is q = cc
 
 -- ---- inside a line
 
@@ -53,92 +30,14 @@ quiet_step (sign k) n a e out bs vs h = absurd cc
 quiet_step bad_comment n a e out bs vs h = absurd cc
 quiet_step (bad b) n a e out bs vs h = absurd cc
 
-pub feed_step : (l : Lexeme) (n a e : ℕ) (out : List Token) (b : Mark × ℕ) (bs : List (Mark × ℕ)) (vs : List (List ℕ)) → l ≡ feed → step l n a e (St inside out (b ∷ bs) vs) ≡ done (St inside out (b ∷ bs) vs)
-unfolding step
-feed_step l n a e out b bs vs h = ap (λ x. step x n a e (St inside out (b ∷ bs) vs)) h
-
-pub end_step : (l : Lexeme) (n a e : ℕ) (out : List Token) (vs : List (List ℕ)) → l ≡ feed → step l n a e (St inside out [] vs) ≡ done (St fresh (out ++ token newline n a e ∷ []) [] vs)
-unfolding step
-end_step l n a e out vs h = ap (λ x. step x n a e (St inside out [] vs)) h
-
-bracket_plain : (k : Mark) (n : ℕ) (s : State) → is_opening k ≡ false → is_closing k ≡ false → bracket k n s ≡ Ok s
-unfolding bracket
-bracket_plain k n s h j = rw (h, j) refl
-
-bracket_opens : (k : Mark) (n : ℕ) (s : State) → is_opening k ≡ true → bracket k n s ≡ Ok (y.opened k n s)
-unfolding bracket
-bracket_opens k n s h = rw h refl
-
-bracket_closes : (o c : Mark) (n l : ℕ) (out : List Token) (bs : List (Mark × ℕ)) (vs : List (List ℕ)) → closes o c ≡ true → is_opening c ≡ false → is_closing c ≡ true
-    → bracket c l (St inside out ((o, n) ∷ bs) vs) ≡ Ok (St inside out bs vs)
-unfolding bracket
-bracket_closes o c n l out bs vs h a b = rw (a, b, h) refl
-
-second_of : (a b p q : Bool) → ((a && b) || (p && q)) ≡ true → (b ≡ true) ⊎ (q ≡ true)
-second_of true true p q h = inl refl
-second_of true false true q h = inr h
-second_of true false false q h = absurd cc
-second_of false b true q h = inr h
-second_of false b false q h = absurd cc
-
-third_of : (a b c d e f : Bool) → ((a && b) || ((c && d) || (e && f))) ≡ true → (b ≡ true) ⊎ ((d ≡ true) ⊎ (f ≡ true))
-third_of true true c d e f h = inl refl
-third_of true false c d e f h = inr (second_of c d e f h)
-third_of false b c d e f h = inr (second_of c d e f h)
-
-closing : (o c : Mark) → closes o c ≡ true → (is_opening c ≡ false) × (is_closing c ≡ true)
-closing o c h = ⊎_elim
-    (λ k. (let e : c ≡ m.RightParenthesis = same_true the_type tt c m.RightParenthesis k in (ap is_opening e, ap is_closing e)))
-    (λ j. ⊎_elim
-    (λ k. (let e : c ≡ m.RightBracket = same_true the_type tt c m.RightBracket k in (ap is_opening e, ap is_closing e)))
-    (λ k. (let e : c ≡ m.RightBrace = same_true the_type tt c m.RightBrace k in (ap is_opening e, ap is_closing e))) j)
-    (third_of _ _ _ _ _ _ h)
-
-sign_step : (l : Lexeme) (k : Mark) (n a e : ℕ) (s t : State) → l ≡ sign k → s.begun ≡ inside → bracket k n s ≡ Ok t → step l n a e s ≡ done (y.emit (token (mark k) n a e) t)
-unfolding step begin
-sign_step l k n a e s t q b h =
-    ap (λ x. step x n a e s) q ∙ ap (λ v. y.begin_at v n a s >>= (λ c. bracket k n c >>= (λ d. done (y.emit (token (mark k) n a e) d)))) b
-    ∙ ap (λ v. v >>= (λ d. done (y.emit (token (mark k) n a e) d))) h
-
-no_bracket : (s : Mark) (k : Kind) (a b : Bool) → cond a None (cond b None (Some (mark s))) ≡ Some k → (a ≡ false) × (b ≡ false) × (mark s ≡ k)
-no_bracket s k true b h = absurd cc
-no_bracket s k false true h = absurd cc
-no_bracket s k false false h = (refl, refl, some_is h)
-
-pub value_step : (l : Lexeme) (k : Kind) (n a e : ℕ) (out : List Token) (bs : List (Mark × ℕ)) (vs : List (List ℕ)) → value l ≡ Some k → step l n a e (St inside out bs vs) ≡ done (St inside (out ++ token k n a e ∷ []) bs vs)
-unfolding step begin bracket
-value_step (word w) k n a e out bs vs h = ap (λ v. done (St inside (out ++ token v n a e ∷ []) bs vs)) (some_is h)
-value_step (number z) k n a e out bs vs h = ap (λ v. done (St inside (out ++ token v n a e ∷ []) bs vs)) (some_is h)
-value_step (string t) k n a e out bs vs h = ap (λ v. done (St inside (out ++ token v n a e ∷ []) bs vs)) (some_is h)
-value_step (sign s) k n a e out bs vs h =
-    let p = no_bracket s k (is_opening s) (is_closing s) h in
-    sign_step (sign s) s n a e (St inside out bs vs) (St inside out bs vs) refl refl (bracket_plain s n (St inside out bs vs) p.0 p.1)
-    ∙ ap (λ v. done (St inside (out ++ token v n a e ∷ []) bs vs)) p.2
-value_step (blank w) k n a e out bs vs h = absurd cc
-value_step comment k n a e out bs vs h = absurd cc
-value_step joined k n a e out bs vs h = absurd cc
-value_step feed k n a e out bs vs h = absurd cc
-value_step bad_comment k n a e out bs vs h = absurd cc
-value_step (bad b) k n a e out bs vs h = absurd cc
-
 regroup : (out ts us : List Token) (a b : Token) → (((out ++ a ∷ []) ++ ts) ++ b ∷ []) ++ us ≡ out ++ (a ∷ (ts ++ b ∷ us))
 regroup out ts us a b = simp append_assoc
-
--- a bracket opens, and one closes
-pub open_step : (i : Item) (o : Mark) (out : List Token) (bs : List (Mark × ℕ)) (vs : List (List ℕ)) → i.what ≡ sign o → is_opening o ≡ true
-    → step i.what i.line i.start i.end (St inside out bs vs) ≡ done (St inside (out ++ token_at (mark o) i ∷ []) ((o, i.line) ∷ bs) vs)
-open_step i o out bs vs q h = sign_step i.what o i.line i.start i.end (St inside out bs vs) (St inside out ((o, i.line) ∷ bs) vs) q refl (bracket_opens o i.line (St inside out bs vs) h)
-
-pub close_step : (i : Item) (o c : Mark) (n : ℕ) (out : List Token) (bs : List (Mark × ℕ)) (vs : List (List ℕ)) → i.what ≡ sign c → closes o c ≡ true
-    → step i.what i.line i.start i.end (St inside out ((o, n) ∷ bs) vs) ≡ done (St inside (out ++ token_at (mark c) i ∷ []) bs vs)
-close_step i o c n out bs vs q h = let k = closing o c h in
-    sign_step i.what c i.line i.start i.end (St inside out ((o, n) ∷ bs) vs) (St inside out bs vs) q refl (bracket_closes o c n i.line out bs vs h k.0 k.1)
 
 -- what stands inside a bracket
 pub inside_takes : {is js : List Item} {ts : List Token} (out : List Token) (b : Mark × ℕ) (bs : List (Mark × ℕ)) (vs : List (List ℕ)) → Inside is js ts → steps is (St inside out (b ∷ bs) vs) ≡ steps js (St inside (out ++ ts) (b ∷ bs) vs)
 inside_takes {js = js} out b bs vs r.nothing = ap (λ v. steps js (St inside v (b ∷ bs) vs)) (sym (append-nil out))
 inside_takes out b bs vs (r.skip {i = i} {is = is} h t) = ap (λ o. o >>= steps is) (quiet_step i.what i.line i.start i.end out (b ∷ bs) vs h) ∙ inside_takes out b bs vs t
-inside_takes out b bs vs (r.new_line {i = i} {is = is} h t) = ap (λ o. o >>= steps is) (feed_step i.what i.line i.start i.end out b bs vs h) ∙ inside_takes out b bs vs t
+inside_takes out b bs vs (r.new_line {i = i} {is = is} h t) = ap (λ o. o >>= steps is) (feed_in_brackets i.what i.line i.start i.end out b bs vs h) ∙ inside_takes out b bs vs t
 inside_takes out b bs vs (r.one {i = i} {is = is} {js = js} {ts = ts} {k = k} h t) =
     ap (λ o. o >>= steps is) (value_step i.what k i.line i.start i.end out (b ∷ bs) vs h) ∙ inside_takes (out ++ token_at k i ∷ []) b bs vs t
     ∙ ap (λ v. steps js (St inside v (b ∷ bs) vs)) (append_assoc out (token_at k i ∷ []) ts)
@@ -152,7 +51,7 @@ inside_takes out b bs vs (r.group {i = i} {j = j} {o = o} {c = c} {is = is} {js 
 -- a line from a token on
 pub line_takes : {at : End} {is js : List Item} {ts : List Token} (out : List Token) (vs : List (List ℕ)) → Line at is js ts → run at is (St inside out [] vs) ≡ run at js (St fresh (out ++ ts) [] vs)
 line_takes out vs r.last = refl
-line_takes {at = at} out vs (r.ends {i = i} {is = is} h) = ap (after at is) (end_step i.what i.line i.start i.end out vs h)
+line_takes {at = at} out vs (r.ends {i = i} {is = is} h) = ap (after at is) (feed_at_end i.what i.line i.start i.end out vs h)
 line_takes {at = at} out vs (r.skip_in {i = i} {is = is} h t) = ap (after at is) (quiet_step i.what i.line i.start i.end out [] vs h) ∙ line_takes out vs t
 line_takes {at = at} out vs (r.one_in {i = i} {is = is} {js = js} {ts = ts} {k = k} h t) =
     ap (after at is) (value_step i.what k i.line i.start i.end out [] vs h) ∙ line_takes (out ++ token_at k i ∷ []) vs t
@@ -165,32 +64,6 @@ line_takes {at = at} out vs (r.group_in {i = i} {j = j} {o = o} {c = c} {is = is
     ∙ ap (λ v. run at ks (St fresh v [] vs)) (regroup out ts us (token_at (mark o) i) (token_at (mark c) j))
 
 -- ---- indentation
-
-back_takes : {w : List ℕ} {n at : ℕ} {vs us : List (List ℕ)} {ts : List Token} (out : List Token) → Back w n at vs us ts → dedents w n at vs out ≡ Ok (us, out ++ ts)
-back_takes out (r.found {v = v} {vs = vs} h) = rw h (λ i. Ok (v ∷ vs, sym (append-nil out) i))
-back_takes out (r.bottom h) = rw h (λ i. Ok ([], sym (append-nil out) i))
-back_takes {n = n} {at = at} {us = us} out (r.off {ts = ts} h t) = rw h (back_takes (out ++ token dedent n at at ∷ []) t ∙ ap (λ v. Ok (us, v)) (append_assoc out (token dedent n at at ∷ []) ts))
-
-pub indentation_takes : {w : List ℕ} {n from to : ℕ} {vs us : List (List ℕ)} {ts : List Token} (out : List Token) → Indentation w n from to vs us ts
-    → indented w n from to (St inside out [] vs) ≡ done (St inside (out ++ ts) [] us)
-unfolding indented
-indentation_takes {vs = vs} out (r.equal h) = rw h (ap (λ v. done (St inside v [] vs)) (sym (append-nil out)))
-indentation_takes out (r.longer h k) = rw (h, k) refl
-indentation_takes {vs = vs} out (r.lower h k t) = rw (h, k) (ap (dedented (St inside out [] vs)) (back_takes out t))
-
--- the first token of a line
-pub first_step : (l : Lexeme) (n a e : ℕ) (s t : State) → begins l ≡ true → begin n a s ≡ begin n a t → step l n a e s ≡ step l n a e t
-unfolding step
-first_step (word w) n a e s t h q = ap (λ o. o >>= (λ b. done (y.emit (token (y.word_kind w) n a e) b))) q
-first_step (number z) n a e s t h q = ap (λ o. o >>= (λ b. done (y.emit (token (y.integer z) n a e) b))) q
-first_step (string u) n a e s t h q = ap (λ o. o >>= (λ b. done (y.emit (token (y.quoted u) n a e) b))) q
-first_step (sign k) n a e s t h q = ap (λ o. o >>= (λ b. bracket k n b >>= (λ c. done (y.emit (token (mark k) n a e) c)))) q
-first_step (blank w) n a e s t h q = absurd cc
-first_step comment n a e s t h q = absurd cc
-first_step joined n a e s t h q = absurd cc
-first_step feed n a e s t h q = absurd cc
-first_step bad_comment n a e s t h q = absurd cc
-first_step (bad b) n a e s t h q = absurd cc
 
 pub begin_is : (v : Start) (n a : ℕ) (out before : List Token) (vs us : List (List ℕ)) → y.begin_at v n a (St v out [] vs) ≡ done (St inside (out ++ before) [] us)
     → begin n a (St v out [] vs) ≡ begin n a (St inside (out ++ before) [] us)
@@ -236,11 +109,11 @@ comment_first n a e out vs = refl
 logical_line : {at : End} {i : Item} {is js ks : List Item} {w : List ℕ} {row from to : ℕ} {vs us : List (List ℕ)} {before ts : List Token} (out : List Token) → Lead is (i ∷ js) w row from to
     → Indentation w row from to vs us before → Line at (i ∷ js) ks ts → run at is (St fresh out [] vs) ≡ run at ks (St fresh ((out ++ before) ++ ts) [] us)
 logical_line {at = at} {vs = vs} out (r.past {i = i} {is = is} e l) n t = ap (after at is) (ap (λ x. step x i.line i.start i.end (St fresh out [] vs)) e ∙ comment_first i.line i.start i.end out vs) ∙ logical_line out l n t
-logical_line {vs = vs} {us = us} {before = before} out (r.bare h) n t = line_from fresh out before vs us h (indentation_takes out n) t
+logical_line {vs = vs} {us = us} {before = before} out (r.bare h) n t = line_from fresh out before vs us h (indentation_takes out [] n) t
 logical_line {at = at} {vs = vs} {us = us} {before = before} out (r.blanks {i = i} {is = is} {w = w} e q h) n t =
-    ap (after at is) (blank_first i.what i.line i.start i.end w out vs e) ∙ quiet_led at w i.line i.start i.end out vs q ∙ line_from (led w i.line i.start i.end) out before vs us h (indentation_takes out n) t
+    ap (after at is) (blank_first i.what i.line i.start i.end w out vs e) ∙ quiet_led at w i.line i.start i.end out vs q ∙ line_from (led w i.line i.start i.end) out before vs us h (indentation_takes out [] n) t
 logical_line {at = at} {vs = vs} {us = us} {before = before} out (r.joint {i = i} {is = is} e q h) n t =
-    ap (after at is) (joined_first i.what i.line i.start i.end out vs e) ∙ quiet_led at [] i.line i.start i.start out vs q ∙ line_from (led [] i.line i.start i.start) out before vs us h (indentation_takes out n) t
+    ap (after at is) (joined_first i.what i.line i.start i.end out vs e) ∙ quiet_led at [] i.line i.start i.start out vs q ∙ line_from (led [] i.line i.start i.start) out before vs us h (indentation_takes out [] n) t
 
 -- ---- lines without a token
 

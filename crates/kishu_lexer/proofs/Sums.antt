@@ -6,9 +6,6 @@ use Rattle.std.proofs.lemmas.Bool.Decides.{nat_tests}
 use Rattle.kishu_language.specs.tokens.Lexemes.{feeds}
 use Rattle.kishu_language.specs.tokens.Layout.{width}
 
-pub feeds_split : (n : ℕ) (xs : List ℕ) → feeds (take n xs) + feeds (drop n xs) ≡ feeds xs
-feeds_split n xs = sum_by-take-drop _ xs n
-
 pub width_split : (n : ℕ) (xs : List ℕ) → width (take n xs) + width (drop n xs) ≡ width xs
 width_split n xs = sum_by-take-drop len_utf8 xs n
 

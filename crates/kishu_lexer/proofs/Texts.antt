@@ -1,27 +1,15 @@
 -- Texts character by character.
-use Rattle.std.proofs.Common.{◌≡◌, ℕ, zero, suc, ◌+◌, ◌-◌, ◌*◌, ◌<◌, ◌≤◌, Bool, true, false, cond, List, [], ◌∷◌, ◌++◌, drop, length, get_or, refl, arith, append_assoc, add-one}
+use Rattle.std.proofs.Common.{◌≡◌, ℕ, zero, suc, ◌+◌, ◌<◌, Bool, true, false, cond, List, [], ◌∷◌, ◌++◌, drop, length, get_or, refl, arith, append_assoc, add-one}
 use Rattle.std.proofs.Math.Seq.{drop-cons}
 use Rattle.std.specs.Prelude.{◌==◌, slice_index}
 use Rattle.std.specs.Char.{encode_utf8}
-use Rattle.std.specs.Str.{encode_utf8_all, chars, chars_after, continuation_len, lead_bits}
+use Rattle.std.specs.Str.{encode_utf8_all}
 use Rattle.kishu_language.specs.tokens.PlainLines.{plain_lines}
 use Rattle.kishu_lexer.specs.Views.{plain_char}
 
 -- a character that was pushed, and the rest
 pub pushed : (out cs : List ℕ) (i : ℕ) → i < length cs → (out ++ encode_utf8 (get_or cs i 0)) ++ encode_utf8_all (drop (i + 1) cs) ≡ out ++ encode_utf8_all (drop i cs)
 pushed out cs i h = rw (append_assoc, add-one, drop-cons cs i 0) refl
-
--- no more characters than bytes
-after_small : (n c : ℕ) (bs : List ℕ) → length (chars_after n c bs) ≤ length bs + 1
-after_small zero c [] = omega arith
-after_small (suc n) c [] = omega arith
-after_small zero c (b ∷ bs) = omega (arith, after_small (continuation_len b) (lead_bits b) bs)
-after_small (suc n) c (b ∷ bs) = omega (arith, after_small n (c * 64 + (b - 128)) bs)
-
-pub chars_small : (bs : List ℕ) → length (chars bs) ≤ length bs
-unfolding chars
-chars_small [] = omega arith
-chars_small (b ∷ bs) = omega (arith, after_small (continuation_len b) (lead_bits b) bs)
 
 -- the first line end is made plain, and then the rest
 first_plain : (a b : Bool) (c : ℕ) (rest : List ℕ) → cond a (cond b rest (10 ∷ rest)) (c ∷ rest) ≡ cond a (cond b [] (10 ∷ [])) (c ∷ []) ++ rest

@@ -1,4 +1,5 @@
 // The tokens of a text.
+ghost use Rattle.kishu_language.specs.Limits.{longest_text};
 ghost use Rattle.std.specs.Prelude.{◌≡◌, ◌<◌, ◌≤◌, ◌+◌, ◌^◌, length, take, drop, List, IfOk, IfErr, MatchResult};
 ghost use Rattle.std.specs.Str.{chars, encode_utf8_all};
 ghost use Rattle.kishu_language.specs.tokens.PlainLines.{plain_lines};
@@ -72,7 +73,7 @@ fn turn<'a>(
 }
 
 fn layout(alloc: Global, text: &[char]) -> Result<Vec<Token>, SyntaxFault>
-    requires { length text.now ≤ 1048576 }
+    requires { length text.now ≤ longest_text }
     ensures { Answers (spec.layout text.now) result (λ v. v.items) }
 {
     let mut lexer = Lexer::new(alloc);
@@ -88,12 +89,13 @@ fn layout(alloc: Global, text: &[char]) -> Result<Vec<Token>, SyntaxFault>
     lexer.finish(line, start)
 }
 
-/// The tokens of a text of at most 1,048,576 bytes, under the rules of a profile (Python Language
-/// Reference 3, "Lexical analysis"). Their places count bytes of the text as `plain_lines` gives it;
-/// they are in order, at the edges of its characters. Syntax says that the text has no tokens, with
-/// the line, from 1, of the fault that comes first; NoMemory says nothing of the text.
+/// The tokens of a text of at most 1,048,576 bytes, under the rules of a profile, which are the same
+/// for all (Python Language Reference 3, "Lexical analysis"). Their places count bytes of the text as
+/// `plain_lines` gives it; they are in order, at the edges of its characters. Syntax says that the
+/// text has no tokens, with the line, from 1, of the fault that comes first; NoMemory says nothing of
+/// the text.
 pub fn tokens(alloc: Global, profile: Profile, text: &str) -> Result<Vec<Token>, SyntaxFault>
-    requires { length text.now ≤ 1048576 }
+    requires { length text.now ≤ longest_text }
     ensures ok { IfOk result (λ v. tokens.tokens profile text.now ≡ Ok (tokens_of v.items)) }
     ensures err { IfErr result (λ e. Fails (tokens.tokens profile text.now) e) }
 
@@ -113,8 +115,6 @@ pub fn tokens(alloc: Global, profile: Profile, text: &str) -> Result<Vec<Token>,
     // to its value: a text by its escapes, a number by its digits.
     ensures texts { IfOk result (λ v. AllWritten (plain_lines (chars text.now)) (tokens_of v.items)) }
 {
-    // Every profile cuts a text alike.
-    let (Profile::One | Profile::Two) = profile;
     let plain = plain_chars(alloc, text)?;
     layout(alloc, plain.as_slice())
 }

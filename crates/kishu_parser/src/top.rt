@@ -1,4 +1,5 @@
 // The trees of texts.
+ghost use Rattle.kishu_language.specs.Limits.{longest_text};
 ghost use Rattle.std.specs.Prelude.{◌≡◌, ◌≤◌, List, [], ◌∷◌, length, map, IfOk, IfErr, MatchResult};
 ghost use Rattle.kishu_language.specs.trees.Tree.{Statement, Definition, statements, program_of, definition_of};
 ghost use Rattle.kishu_language.specs.trees.Height.{of_statement, of_statements};
@@ -19,7 +20,7 @@ use std::alloc::{AllocError, Global};
 /// fault: the line of the first fault of its tokens, else the line on which the first of its
 /// top-level pieces begins that the grammar doesn't read. NoMemory says nothing of the text.
 pub fn parse(alloc: Global, profile: Profile, text: &str) -> Result<Program, SyntaxFault>
-    requires { length text.now ≤ 1048576 }
+    requires { length text.now ≤ longest_text }
     ensures found { IfOk result (λ p. Parse profile text.now (program_of p)) }
 
     // A text that has a tree gets that tree, and no other is its tree.
@@ -44,7 +45,7 @@ pub fn parse(alloc: Global, profile: Profile, text: &str) -> Result<Program, Syn
 /// it begins. Syntax says that it has no tree, with the line of its fault, as `parse` does;
 /// NoMemory says nothing of the text.
 pub fn parse_pieces(alloc: Global, profile: Profile, text: &str) -> Result<Vec<Piece>, SyntaxFault>
-    requires { length text.now ≤ 1048576 }
+    requires { length text.now ≤ longest_text }
     ensures found { IfOk result (λ v. HasPieces profile text.now (map piece_of v.items)) }
 
     // A text that has pieces gets those, and no others are its pieces.
@@ -69,7 +70,7 @@ pub fn parse_pieces(alloc: Global, profile: Profile, text: &str) -> Result<Vec<P
 /// line of its fault where it has no tree, as `parse` tells it, else with line 1. NoMemory says
 /// nothing of the text.
 pub fn parse_def(alloc: Global, profile: Profile, text: &str) -> Result<Def, SyntaxFault>
-    requires { length text.now ≤ 1048576 }
+    requires { length text.now ≤ longest_text }
     ensures found { IfOk result (λ d. ParseDef profile text.now (definition_of d)) }
 
     // A text that is one function's code gets that function, and is no other's.

@@ -6,3 +6,6 @@ pub mod OperatorPieces
 pub mod PieceLaws
 pub mod TokenLaws
 pub mod TokenPlaces
+pub mod PieceLengths
+pub mod LineSteps
+pub mod Indents

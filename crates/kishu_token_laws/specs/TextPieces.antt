@@ -1,22 +1,18 @@
 -- The rules of texts and the cutting of pieces agree: a text by the rules is cut as that piece with that meaning, and what is cut as a text is one by the rules.
-use Rattle.std.proofs.Common.{◌≡◌, ℕ, suc, ◌+◌, ◌<◌, ◌≤◌, Bool, true, false, cond, not, List, [], ◌∷◌, ◌++◌, length, take, drop, Option, Some, None, refl, sym, ap, subst, ◌∙◌, arith, ◌||◌, inl, inr, ⊎_elim, ◌⊎◌}
+use Rattle.std.proofs.Common.{◌≡◌, ℕ, suc, ◌+◌, ◌<◌, ◌≤◌, Bool, true, false, cond, not, List, [], ◌∷◌, ◌++◌, length, take, drop, Some, None, refl, sym, ap, subst, ◌∙◌, arith, ◌||◌, inl, inr, ⊎_elim, ◌⊎◌}
 use Rattle.std.proofs.lemmas.List.{take-append-drop, take_at, length-append, append_cancel_right, append_assoc}
 use Rattle.std.proofs.lemmas.Bool.{eqb-true}
 use Rattle.std.proofs.lemmas.Bool.Decides.{nat_tests}
 use Rattle.std.proofs.Math.Seq.{drop-append-add}
-use Rattle.std.specs.Prelude.{ℤ, ◌==◌, ◌&&◌, slice_index, nat_lt, nat_le}
+use Rattle.std.specs.Prelude.{◌==◌, slice_index, nat_lt}
 use Rattle.std.specs.List.{prefix_len, position, list_any}
 use Rattle.std.specs.Str.{encode_utf8_all}
-use Rattle.kishu_language.specs.declared.token.Mark.{Mark}
-use Rattle.kishu_language.specs.tokens.Names.{is_digit, is_letter, is_word_char, longest_name}
-use Rattle.kishu_language.specs.tokens.Numerals.{numeral}
-use Rattle.kishu_language.specs.tokens.Marks.{operator}
 use Rattle.kishu_language.specs.tokens.Quoted.{Read, quoted}
 use Rattle.kishu_language.specs.tokens.Lexemes as x
 use Rattle.kishu_language.specs.tokens.Lexemes.{Cut, Lexeme, lexeme, token_piece, text_from, unless_null, is_null, string}
 use Rattle.kishu_language.specs.rules.TextRules as r
 use Rattle.kishu_language.specs.rules.TextRules.{Text, IsText, Prefix, Quotes}
-use Rattle.kishu_token_laws.specs.TextItems.{split, both, neither}
+use Rattle.kishu_token_laws.specs.TextItems.{neither}
 use Rattle.kishu_token_laws.specs.TextBodies.{quotation, IsWholeText, scanned_quoted, quoted_sound}
 
 -- ---- the character of code 0
@@ -193,54 +189,6 @@ fair_plain c cs h = fair_text false [] (c ∷ cs) r.no_prefix (quoted false (c �
 pub fair_prefixed : (c : ℕ) (cs : List ℕ) → x.is_prefix c ≡ true → x.is_quote (slice_index cs 0) ≡ true → Fair (c ∷ cs) (text_from 1 (c ∷ cs) (quoted (x.is_raw_prefix c) cs))
 fair_prefixed c [] h k = absurd cc
 fair_prefixed c (d ∷ cs) h k = fair_text (x.is_raw_prefix c) (c ∷ []) (d ∷ cs) (prefix_of c h) (quoted (x.is_raw_prefix c) (d ∷ cs)) (sound_at (x.is_raw_prefix c) d cs k)
-
-either : (all : List ℕ) (b : Bool) (p q : Cut) → Fair all p → Fair all q → Fair all (cond b p q)
-either all true p q h k = h
-either all false p q h k = k
-
-fair_name : (all w : List ℕ) (n : ℕ) → Fair all (x.name w n)
-fair_name all w n = either all (nat_le n longest_name) (x.word w, n) (x.bad 0, n) (no_string all (x.word w) n (λ bytes e. cc)) (no_string all (x.bad 0) n (λ bytes e. cc))
-
-fair_comment : (all : List ℕ) (o : Option ℕ) (n : ℕ) → Fair all (x.comment_by o, n)
-fair_comment all None n = no_string all x.comment n (λ bytes e. cc)
-fair_comment all (Some place) n = no_string all x.bad_comment n (λ bytes e. cc)
-
-fair_number : (all : List ℕ) (next : ℕ) (o : Option ℤ) (n : ℕ) → Fair all (x.value_or_bad next o, n)
-fair_number all next None n = no_string all (x.bad 0) n (λ bytes e. cc)
-fair_number all next (Some z) n = go (x.is_dot next)
-  where
-    go : (b : Bool) → Fair all (cond b (x.bad 0) (x.number z), n)
-    go true = no_string all (x.bad 0) n (λ bytes e. cc)
-    go false = no_string all (x.number z) n (λ bytes e. cc)
-
-fair_sign : (all : List ℕ) (o : Option (Mark × ℕ)) → Fair all (x.sign_or_bad o)
-fair_sign all None = no_string all (x.bad 0) 1 (λ bytes e. cc)
-fair_sign all (Some t) = no_string all (x.sign t.0) t.1 (λ bytes e. cc)
-
-fair_token : (c : ℕ) (cs : List ℕ) → Fair (c ∷ cs) (token_piece (c ∷ cs))
-unfolding token_piece
-fair_token c cs =
-    let all = c ∷ cs in
-    let n = prefix_len is_word_char all in
-    split (Fair all) (x.is_quote c) _ _ (λ h. fair_plain c cs h)
-    (λ a. split (Fair all) (x.is_prefix c && x.is_quote (slice_index cs 0)) _ _ (λ h. (let k = both _ _ h in fair_prefixed c cs k.0 k.1))
-    (λ b. either all (is_letter c) _ _ (fair_name all (take n all) n)
-    (either all (is_digit c) _ _ (fair_number all (slice_index all n) (numeral (take n all)) n) (fair_sign all (operator c (slice_index cs 0) (slice_index cs 1))))))
-
-fair_piece : (c : ℕ) (cs : List ℕ) → Fair (c ∷ cs) (lexeme (c ∷ cs))
-unfolding lexeme
-fair_piece c cs =
-    let all = c ∷ cs in
-    let n = prefix_len x.is_no_feed all in
-    either all (x.is_blank c) _ _ (no_string all (x.blank _) _ (λ bytes e. cc))
-    (either all (x.is_feed c) _ _ (no_string all x.feed 1 (λ bytes e. cc))
-    (either all (c == 35) _ _ (fair_comment all (position is_null (take n all)) n)
-    (either all (c == 92) _ _ (either all (slice_index cs 0 == 10) _ _ (no_string all x.joined 2 (λ bytes e. cc)) (no_string all (x.bad 0) 1 (λ bytes e. cc))) (fair_token c cs))))
-
--- What is cut as a text with this value is one by the rules.
-pub cut_is_text : (all bytes : List ℕ) (n : ℕ) → 0 < length all → lexeme all ≡ (string bytes, n) → TextAt all bytes n
-cut_is_text [] bytes n some h = absurd (omega arith)
-cut_is_text (c ∷ cs) bytes n some h = subst (λ m. TextAt (c ∷ cs) bytes m) (ap (λ (p : Cut). p.1) h) ((fair_piece c cs).text bytes (ap (λ (p : Cut). p.0) h))
 
 -- Where no text is cut, none stands in front by the rules.
 pub no_text_is_cut : (piece rest meaning : List ℕ) (below n : ℕ) → lexeme (piece ++ rest) ≡ (x.bad below, n) → IsText piece rest meaning → ⊥

@@ -12,7 +12,7 @@ use Rattle.kishu_language.specs.rules.LineRules.{is_quiet, value}
 use Rattle.kishu_language_laws.specs.codes.Emits.{Emits}
 use Rattle.kishu_language_laws.specs.codes.Emits as emits
 use Rattle.kishu_language_laws.specs.codes.CodeLayout.{Moved, AllMoved}
-use Rattle.kishu_language_laws.specs.staying.PieceLengths.{some_taken}
+use Rattle.kishu_token_laws.specs.PieceLengths.{some_taken}
 use Rattle.kishu_language_laws.specs.staying.CutShort.{is_fault}
 use Rattle.kishu_language_laws.specs.staying.PiecesShort.{piece_alone}
 

@@ -1,5 +1,5 @@
 -- The tokens of a function are those of one function, to its end.
-use Rattle.std.specs.Prelude.{◌≡◌, ℕ, zero, suc, Bool, true, false, cond, List, [], ◌∷◌}
+use Rattle.std.specs.Prelude.{◌≡◌, ℕ, zero, suc, true, false, cond, List, [], ◌∷◌}
 use Rattle.std.proofs.Common.{refl, ap, ◌∙◌, ⊎_elim}
 use Rattle.kishu_language.specs.declared.token.Mark.{Mark}
 use Rattle.kishu_language.specs.declared.token.Mark.TheVariants as m
@@ -34,9 +34,6 @@ level_or first second = record { same = λ ts us a n h. ⊎_elim (first.same ts 
 
 level_spelled : {A : Type 0} {p : Language A} → IsLevel p → IsLevel (l.spelled p)
 level_spelled first = record { same = λ ts us a n h. first.same ts us a.0 n h.0 }
-
-level_mark : {k : Mark} → (kind_plain : (a : Unit {0}) (bs : List Mark) (n : ℕ) (ts : Tokens) (rest : List Mark → ℕ → Bool) → taken (kind.mark k) bs n ts rest ≡ rest bs n) → IsLevel (l.mark k)
-level_mark plain = level_of (even_token plain)
 
 many_level : {A : Type 0} {step : A → Language A} → ((a : A) → IsLevel (step a)) → {a b : A} {ts us : Tokens} (n : ℕ) → Many step a ts us b → is_rest ts [] (suc n) ≡ is_rest us [] (suc n)
 many_level each n done = refl

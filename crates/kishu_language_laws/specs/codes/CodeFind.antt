@@ -10,7 +10,7 @@ use Rattle.kishu_language.specs.trees.Code.{is_layout}
 use Rattle.kishu_language_laws.specs.codes.CodeTokens.{closed_by, taken, is_rest}
 use Rattle.kishu_language_laws.specs.codes.Emits.{is_early, onward, Emits}
 use Rattle.kishu_language_laws.specs.codes.Emits as emits
-use Rattle.kishu_language_laws.specs.codes.EmitsLayout.{closing_mark}
+use Rattle.kishu_token_laws.specs.LineSteps.{closing_mark}
 use Rattle.kishu_language_laws.specs.codes.CodeLayout.{all_dedents, dedent_is, both, absurd_bool, first_token, rest_tokens, copies_split, value_is}
 use Rattle.kishu_language_laws.specs.codes.CodeLines.{early_apart}
 

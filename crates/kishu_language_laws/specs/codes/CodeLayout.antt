@@ -11,7 +11,7 @@ use Rattle.kishu_language.specs.trees.Code.{is_layout, end_after}
 use Rattle.kishu_language_laws.specs.codes.CodeTokens.{is_indent, begins_block, line_ended, closed_by, taken, is_rest, IsPlain, marked_plain}
 use Rattle.kishu_language_laws.specs.codes.Emits.{is_early, first_onward, onward, blanks_of, row_of, from_of, to_of, Emits}
 use Rattle.kishu_language_laws.specs.codes.Emits as emits
-use Rattle.kishu_language_laws.specs.codes.EmitsLayout.{plain_sign, closing_mark}
+use Rattle.kishu_token_laws.specs.LineSteps.{plain_sign, closing_mark}
 
 -- ---- pieces and tokens further on
 
@@ -177,9 +177,6 @@ newline_is (mark k) h = absurd cc
 
 pub absurd_bool : true ≡ false → ⊥
 absurd_bool h = cc
-
-opposite : (a : Bool) → a ≡ true → a ≡ false → ⊥
-opposite a h k = absurd_bool (sym h ∙ k)
 
 pub first_token : (t u : Token) (ts us : List Token) → t ∷ ts ≡ u ∷ us → t ≡ u
 first_token t u ts us h = ap (λ (v : List Token). head v) h

@@ -12,7 +12,7 @@ use Rattle.kishu_language.specs.grammar.Grammar.{exprs, expr, alone, several, de
 use Rattle.kishu_language.specs.grammar.Grammar as g
 use Rattle.kishu_language.specs.grammar.Targets.{target}
 use Rattle.kishu_language.specs.grammar.Targets as a
-use Rattle.kishu_language.specs.grammar.Refusals.{Around, top, in_function, in_loop, in_handler}
+use Rattle.kishu_language.specs.grammar.Refusals.{Around, in_function, in_loop, in_handler}
 use Rattle.kishu_language.specs.grammar.Statements as st
 use Rattle.kishu_language.specs.reading.Reader.{Reader, sees_some, sees, sees_one}
 use Rattle.kishu_language.specs.reading.Reader as r
@@ -267,20 +267,3 @@ chunks_read source (suc n) =
       begins = λ around. begins_or (begins_by (simples_begins around (suc n)) simple_is_chunk)
           (begins_then (λ found. r.pure (found ∷ [])) anything (compound around).begins (λ found. pure_reads));
     }
-
-some_tokens : (ts : Tokens) → starts_with begins_chunk ts ≡ true → not (rs.is_empty ts) ≡ true
-some_tokens [] h = absurd cc
-some_tokens (t ∷ ts) h = refl
-
--- the end of the text
-abbrev pub Nothing : Tokens → Type 0
-Nothing ts = ts ≡ []
-
-pub program_reads : (source : Text) → Reads (st.program source) (rs.program source) Nothing
-unfolding st.program rs.program
-program_reads source = bind_reads Nothing
-    (list_reads EndsChunk ((chunks_read source deepest).reads top) (λ ts. not (rs.is_empty ts)) Nothing
-    (begins_by ((chunks_read source deepest).begins top) some_tokens)
-    (λ ts h. (ap (λ v. not (rs.is_empty v)) h, subst EndsChunk (sym h) (refl, refl, refl, refl)))
-    (λ ts us a h. chunk_ends ts (((chunks_read source deepest).begins top).begins ts us a h)) [])
-    (λ parts. pure_reads) (λ a ts us b h s. h.0 ∙ s)

@@ -201,11 +201,3 @@ nothing_left unary = omega arith
 nothing_left negated = omega arith
 nothing_left expr = omega arith
 nothing_left exprs = (omega arith, refl)
-
--- Tokens spell at most one tree.
-pub one_tree : (n : ℕ) (p : Phrase) (ts : Tokens) (a b : Expression) → g.phrase n p ts [] a → g.phrase n p ts [] b → a ≡ b
-one_tree n p ts a b h k =
-    let x = ((phrases n).reads p).complete ts [] a h (nothing_left p) in
-    let y = ((phrases n).reads p).complete ts [] b k (nothing_left p) in
-    let z : ◌≡◌ {A = Expression × Tokens} (a, []) (b, []) = some_is (sym x ∙ y) in
-    ap (λ q. q.0) z

@@ -153,16 +153,5 @@ module _ (profile : Profile) (text : Text) where
   pub one_parse : (tree other : List Statement) → Parse profile text tree → Parse profile text other → tree ≡ other
   one_parse tree other h k = ok_is (sym (read_only tree h) ∙ read_only other k)
 
-  pub one_line : (line other : ℕ) → Line profile text line → Line profile text other → line ≡ other
-  one_line line other h k = err_is (sym (line_only line h) ∙ line_only other k)
-
   pub no_line : (tree : List Statement) (line : ℕ) → Parse profile text tree → Line profile text line → ⊥
   no_line tree line h k = let both : Ok tree ≡ Err line = sym (read_only tree h) ∙ line_only line k in cc
-
-  -- A text has a tree or a fault.
-  pub tree_or_line : ((tree : List Statement) × Parse profile text tree) ⊎ ((line : ℕ) × Line profile text line)
-  tree_or_line = either (read_chars profile (chars text)) refl
-    where
-      either : (o : Result (List Statement) ℕ) → read_chars profile (chars text) ≡ o → ((tree : List Statement) × Parse profile text tree) ⊎ ((line : ℕ) × Line profile text line)
-      either (Ok tree) e = inl (tree, read_found tree e)
-      either (Err line) e = inr (line, line_found line e)

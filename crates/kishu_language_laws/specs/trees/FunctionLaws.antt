@@ -1,5 +1,5 @@
 -- Each function of a text is spelled by tokens of its own, and by themselves they are that function, with the code that it has in the text.
-use Rattle.std.specs.Prelude.{◌≡◌, Ok, ◌≤◌, ◌-◌, ℕ, suc, List, [], ◌∷◌}
+use Rattle.std.specs.Prelude.{◌≡◌, Ok, ◌-◌, ℕ, suc, List, [], ◌∷◌}
 use Rattle.std.proofs.Common.{refl, sym, subst, arith, inr}
 use Rattle.std.proofs.lemmas.List.{append-nil}
 use Rattle.kishu_language.specs.declared.profile.Profile.{Profile}
@@ -7,7 +7,7 @@ use Rattle.kishu_language.specs.trees.Tree.{Text, Statement, Definition, stateme
 use Rattle.kishu_language.specs.trees.Tree as t
 use Rattle.kishu_language.specs.grammar.Language.{Tokens, done, more}
 use Rattle.kishu_language.specs.grammar.Grammar.{deepest}
-use Rattle.kishu_language.specs.grammar.Refusals.{Around, top}
+use Rattle.kishu_language.specs.grammar.Refusals.{top}
 use Rattle.kishu_language.specs.trees.Code.{code_of}
 use Rattle.kishu_language.specs.grammar.Statements as s
 use Rattle.kishu_language.specs.grammar.Parse.{plain_text, Parse, ParseDef}
@@ -15,11 +15,7 @@ use Rattle.kishu_language.specs.tokens.Tokens.{tokens}
 use Rattle.kishu_language_laws.specs.staying.Carries.{same_kind, kinds_of, all_of_kind, likewise}
 use Rattle.kishu_language_laws.specs.staying.CarriesStatements.{definitions}
 use Rattle.kishu_language.specs.trees.Inside.{InStatements, Apart}
-use Rattle.kishu_language_laws.specs.trees.InsideStatements.{all_held, chunks_held, program_held}
-
-pub chunk_functions : (source : Text) (k n : ℕ) → n ≤ suc k → (around : Around) (ts us : Tokens) (ss : List Statement) → s.chunk source n around ts us ss
-    → (d : Statement) → InStatements d (statements ss) → Apart k source ts d
-chunk_functions source k n under around ts us ss h = all_held source k ts ss ((chunks_held source k ts n under around).leads ts us ss ([], refl) h).1
+use Rattle.kishu_language_laws.specs.trees.InsideStatements.{all_held, program_held}
 
 -- how deep what stands in a statement at the top may be
 abbrev pub below_top : ℕ
@@ -40,16 +36,6 @@ define_at_top source k ts d h = inr ([], _, inr (inr (inr (inr (ts, tt, (refl, r
 one_statement : (source : Text) (ts : Tokens) (d : Statement) → s.chunk source deepest top ts [] (d ∷ []) → s.program source ts [] (d ∷ [])
 unfolding s.program
 one_statement source ts d h = ([], (d ∷ []) ∷ [], more ([], d ∷ [], h, (refl, refl)) done, (refl, refl))
-
-pub apart_at_top : (source : Text) (k : ℕ) (all : Tokens) (d : Statement) (a : Apart k source all d) → s.chunk source (suc k) top a.own [] (d ∷ [])
-apart_at_top source k all d a = subst (λ e. s.chunk source (suc k) top a.own [] (e ∷ [])) (sym a.cut) (define_at_top source k a.own a.function a.spelled)
-
--- Each function of a text is by itself the one statement of its tokens, with the code that it has in the text.
-pub functions_alone : (profile : Profile) (text : Text) (tree : List Statement) (h : Parse profile text tree) (d : Statement) (inside : InStatements d (statements tree))
-    → s.program (plain_text text) (tree_functions profile text tree h d inside).own [] (d ∷ [])
-functions_alone profile text tree h d inside =
-    let a = tree_functions profile text tree h d inside in
-    one_statement (plain_text text) a.own d (apart_at_top (plain_text text) below_top h.0 d a)
 
 -- ---- in another text
 
