@@ -1,5 +1,5 @@
 // Places and targets (Python Language Reference 3, "Assignment statements").
-ghost use Rattle.std.specs.Prelude.{IsTrue, OnOk, length, map, ◌*◌, ◌+◌, ◌<◌, ◌≡◌, ◌≤◌};
+ghost use Rattle.std.specs.Prelude.{IsTrue, OnOk, codes, length, map, ◌*◌, ◌+◌, ◌<◌, ◌≡◌, ◌≤◌};
 ghost use Rattle.std.specs.List.{list_all};
 ghost use Rattle.kishu_statements.specs.Forms.{PlaceReads};
 ghost use Rattle.kishu_language.specs.grammar.Targets.{is_target, are_targets};
@@ -13,7 +13,8 @@ ghost use Rattle.kishu_access.specs.Access.{place_of, SoundPlace};
 ghost use Rattle.kishu_calls.specs.Calls.{owed, part_of, IsSoundPart};
 ghost use Rattle.kishu_language.specs.trees.Parts.{expressions_of, trailer_of, trailers_of};
 ghost use Rattle.kishu_language.specs.trees.Fits.{TrailerFits};
-ghost use Rattle.kishu_machine.specs.Machine.{Gives, GrownBy, HasRoom, HasRoomBy, ReadsBy, moment_of};
+ghost use Rattle.kishu_meaning.specs.values.Classes.{syntax_error_class};
+ghost use Rattle.kishu_machine.specs.Machine.{Gives, GrownBy, HasRoom, HasRoomBy, IsRaised, ReadsBy, moment_of};
 ghost use Rattle.kishu_machine.specs.Clauses.{AreSoundIn, IsSoundIn, SoundEnd};
 ghost use Rattle.kishu_statements.specs.Handed.{FitExpression, FitExpressions, FitTargets, FitTrailers, LowExpression, LowExpressions, LowTargets, LowTrailers};
 ghost use Rattle.kishu_language.specs.Limits.{height_limit};
@@ -23,12 +24,24 @@ use crate::expressions::deeper_value;
 use crate::primaries::part_behind;
 use kishu_access::{Place, store_in, unpacked};
 use kishu_calls::{Part, settled};
+use kishu_items::plain_text;
 use kishu_language::{Expr, Trailer};
-use kishu_machine::{Fault, MOST_DEPTH, Machine, tick, too_deep};
-use kishu_meaning::{Steps, Value};
+use kishu_machine::{Fault, MOST_DEPTH, Machine, raise, tick, too_deep};
+use kishu_meaning::{ClassId, Steps, Value};
+use std::alloc::Global;
 use std::sync::ledger::Ledger;
 
 // ---- which place it is
+
+// What the tree of no text has where a place or a target stands.
+fn no_place<T>(alloc: Global) -> Result<T, Fault>
+    ensures { IsRaised result syntax_error_class (codes "invalid syntax") }
+{
+    raise(
+        ClassId::SYNTAX_ERROR,
+        plain_text(alloc, "invalid syntax")?,
+    )
+}
 
 /// The place that an expression is: its container is evaluated, and then the index.
 #[cycle(run)]
@@ -51,24 +64,24 @@ pub(crate) fn place_at<L: Ledger>(
     match e {
         Expr::Name(name) => Ok(Place::Named(name.clone()?)),
         Expr::Primary(atom, trailers) => primary_place(machine, atom, trailers, calls_left, steps),
-        Expr::Int(_) => Err(Fault::Stopped),
-        Expr::Text(_) => Err(Fault::Stopped),
-        Expr::None => Err(Fault::Stopped),
-        Expr::True => Err(Fault::Stopped),
-        Expr::False => Err(Fault::Stopped),
-        Expr::Paren(_) => Err(Fault::Stopped),
-        Expr::Tuple(_) => Err(Fault::Stopped),
-        Expr::List(_) => Err(Fault::Stopped),
-        Expr::Dict(_) => Err(Fault::Stopped),
-        Expr::Conditional { .. } => Err(Fault::Stopped),
-        Expr::Or(_) => Err(Fault::Stopped),
-        Expr::And(_) => Err(Fault::Stopped),
-        Expr::Not(_) => Err(Fault::Stopped),
-        Expr::Signed(_, _) => Err(Fault::Stopped),
-        Expr::Power(_, _) => Err(Fault::Stopped),
-        Expr::Sum(_, _) => Err(Fault::Stopped),
-        Expr::Product(_, _) => Err(Fault::Stopped),
-        Expr::Compared(_, _) => Err(Fault::Stopped),
+        Expr::Int(_) => no_place(machine.alloc),
+        Expr::Text(_) => no_place(machine.alloc),
+        Expr::None => no_place(machine.alloc),
+        Expr::True => no_place(machine.alloc),
+        Expr::False => no_place(machine.alloc),
+        Expr::Paren(_) => no_place(machine.alloc),
+        Expr::Tuple(_) => no_place(machine.alloc),
+        Expr::List(_) => no_place(machine.alloc),
+        Expr::Dict(_) => no_place(machine.alloc),
+        Expr::Conditional { .. } => no_place(machine.alloc),
+        Expr::Or(_) => no_place(machine.alloc),
+        Expr::And(_) => no_place(machine.alloc),
+        Expr::Not(_) => no_place(machine.alloc),
+        Expr::Signed(_, _) => no_place(machine.alloc),
+        Expr::Power(_, _) => no_place(machine.alloc),
+        Expr::Sum(_, _) => no_place(machine.alloc),
+        Expr::Product(_, _) => no_place(machine.alloc),
+        Expr::Compared(_, _) => no_place(machine.alloc),
     }
 }
 
@@ -113,7 +126,7 @@ fn primary_place<L: Ledger>(
     take_container_nodes(machine, trailers, steps)?;
     let Some((last, before)) = trailers.split_last() else {
         let _part = part_behind(machine, atom, &[], calls_left, steps)?;
-        return Err(Fault::Stopped);
+        return no_place(machine.alloc);
     };
     let part = part_behind(machine, atom, before, calls_left, steps)?;
     last_place(machine, part, last, calls_left, steps)
@@ -146,8 +159,8 @@ fn last_place<L: Ledger>(
             let index = deeper_value(machine, index, calls_left, steps)?;
             Ok(Place::Item(value, index))
         }
-        Trailer::Call(_) => Err(Fault::Stopped),
-        Trailer::Slice { .. } => Err(Fault::Stopped),
+        Trailer::Call(_) => no_place(machine.alloc),
+        Trailer::Slice { .. } => no_place(machine.alloc),
     }
 }
 
@@ -181,21 +194,21 @@ pub(crate) fn store<L: Ledger>(
         Expr::Paren(inner) => store_deeper(machine, inner, value, calls_left, steps),
         Expr::Tuple(targets) => store_pattern(machine, targets, value, calls_left, steps),
         Expr::List(targets) => store_deeper_pattern(machine, targets, value, calls_left, steps),
-        Expr::Int(_) => Err(Fault::Stopped),
-        Expr::Text(_) => Err(Fault::Stopped),
-        Expr::None => Err(Fault::Stopped),
-        Expr::True => Err(Fault::Stopped),
-        Expr::False => Err(Fault::Stopped),
-        Expr::Dict(_) => Err(Fault::Stopped),
-        Expr::Conditional { .. } => Err(Fault::Stopped),
-        Expr::Or(_) => Err(Fault::Stopped),
-        Expr::And(_) => Err(Fault::Stopped),
-        Expr::Not(_) => Err(Fault::Stopped),
-        Expr::Signed(_, _) => Err(Fault::Stopped),
-        Expr::Power(_, _) => Err(Fault::Stopped),
-        Expr::Sum(_, _) => Err(Fault::Stopped),
-        Expr::Product(_, _) => Err(Fault::Stopped),
-        Expr::Compared(_, _) => Err(Fault::Stopped),
+        Expr::Int(_) => no_place(machine.alloc),
+        Expr::Text(_) => no_place(machine.alloc),
+        Expr::None => no_place(machine.alloc),
+        Expr::True => no_place(machine.alloc),
+        Expr::False => no_place(machine.alloc),
+        Expr::Dict(_) => no_place(machine.alloc),
+        Expr::Conditional { .. } => no_place(machine.alloc),
+        Expr::Or(_) => no_place(machine.alloc),
+        Expr::And(_) => no_place(machine.alloc),
+        Expr::Not(_) => no_place(machine.alloc),
+        Expr::Signed(_, _) => no_place(machine.alloc),
+        Expr::Power(_, _) => no_place(machine.alloc),
+        Expr::Sum(_, _) => no_place(machine.alloc),
+        Expr::Product(_, _) => no_place(machine.alloc),
+        Expr::Compared(_, _) => no_place(machine.alloc),
     }
 }
 

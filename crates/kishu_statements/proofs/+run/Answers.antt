@@ -3,7 +3,7 @@ use Rattle.kishu_language.specs.Limits.{height_limit, longest_text}
 use Rattle.std.proofs.Common.{◌≡◌, ◌∙◌, ◌+◌, ◌++◌, ◌∷◌, [], ap, sym, subst, arith, map, max, drop, length, length-append, IsTrue, ℕ, rules, not, Option, ◌*◌, ◌≢◌, true, false, false-eqb, ◌<◌, List, length-drop, refl, ◌≤◌, ◌-◌, Some, None, suc, ◌^◌}
 use Rattle.std.proofs.lemmas.List.{map-append, drop_all, length_push, nil_from_length}
 use Rattle.std.proofs.lemmas.Result.{err_from_is_err_and}
-use Rattle.std.specs.Prelude.{MatchOption, slice_get, option_map}
+use Rattle.std.specs.Prelude.{MatchOption, codes, slice_get, option_map}
 use Rattle.std.specs.Rc.{rc_str_bytes}
 use Rattle.std.specs.declared.alloc.Global.{Global}
 use Rattle.std.specs.declared.rc.RcStr.{RcStr}
@@ -17,6 +17,7 @@ use Rattle.kishu_meaning.specs.moments.Moment.{Ends, and_then, give, ◌>>=◌, 
 use Rattle.kishu_language.specs.tokens.Names.{is_name}
 use Rattle.kishu_language.specs.trees.Fits.{IsCodeOf}
 use Rattle.kishu_language.specs.grammar.Refusals.{all_differ}
+use Rattle.kishu_meaning.specs.values.Classes.{syntax_error_class}
 use Rattle.kishu_meaning.specs.values.Sound.{are_sound, with_default, is_sound}
 use Rattle.kishu_language.specs.trees.Tree.{Text, Arguments, expression_of, Operands, Links, Expressions, more_expressions, Pairs, Trailer, bound_of, value_of as tree_value, Definition, definition_of, Statements, parameter_of, Parameter}
 use Rattle.kishu_meaning.specs.values.Values.{Value, value_of, Names, function, node, Node}
@@ -56,6 +57,7 @@ use Rattle.kishu_machine.specs.Composing.{grown_on, grown_none, grown_by_more, f
 use Rattle.kishu_machine.specs.Frames.{frame_of, names_of, locals_of, is_sound_run}
 use Rattle.kishu_machine.specs.Lists.{value_pairs, values_in}
 use Rattle.kishu_machine.specs.Machine.{Fails, moment_of, GrownBy, Gives, ReadsBy}
+use Rattle.kishu_machine.specs.Raising.{raises_text}
 use Rattle.kishu_machine.specs.SoundMore.{sound_more, sound_more_pairs, handled_in_run, run_with_handled, sound_more_handled, sound_more_thrown}
 use Rattle.kishu_machine.specs.declared.frame.Frame.{Frame}
 use Rattle.kishu_machine.specs.declared.machine.Machine.{Machine}
@@ -1241,7 +1243,9 @@ targets::primary_place-returns-in_err-_part-clause-gives g falls c =
 pub targets::primary_place-returns-in_default-clause-gives : goal.targets::primary_place-returns-in_default-clause-gives
 targets::primary_place-returns-in_default-clause-gives g falls c =
     let none = place_none (call c.args.calls_left) (expression_of c.args.atom.now) (trailers_of c.args.trailers.now) (moment_of c.args.machine.now) (moment_of c.take_container_nodes.new.machine) c.in_ok-take_container_nodes.ensures.gives (ap trailers_of (nil_from_length c.args.trailers.now c.in_default.ensures.cases)) in
-    none ∙ ap (λ (x : Ends Part). and_then x (λ q. no_place)) c.in_ok-_part.ensures.gives
+    let end = moment_of c.part_behind.new.machine in
+    subst (λ (x : Ends Place). Gives place_of c.no_place.result end x) (sym (none ∙ ap (λ (x : Ends Part). and_then x (λ q. no_place)) c.in_ok-_part.ensures.gives))
+    (raises_text place_of syntax_error_class (codes "invalid syntax") c.no_place.result end c.no_place.ensures)
 
 -- ---- store_deeper_pattern
 
