@@ -14,10 +14,11 @@ use Rattle.kishu_meaning.specs.cells.Ways.{Flow, broke, continued, returned}
 use Rattle.kishu_meaning.specs.cells.Meaning.{Calls, returned_by, raise_by, failed, walked_by, defaults, is_for, act, arms, handlers, acts}
 use Rattle.kishu_objects.specs.State.{AreValues, IsName}
 use Rattle.kishu_state_laws.specs.trees.Sound.{OptionalSound, TitleSound, ParametersSound, StatementSound, StatementsSound, ArmsSound, HandlersSound}
+use Rattle.kishu_state_laws.specs.Moments.{IsWalk}
 use Rattle.kishu_state_laws.specs.keeping.Logic.{Maybe, Any, IsThrown, Safe, safe_later, bind_s, plain_s, then_s, so_s, give_s, any_s, throw_s, if_s, tick_s, deeper_s, value_later, values_later}
 use Rattle.kishu_state_laws.specs.keeping.Leaves.{truth_s}
 use Rattle.kishu_state_laws.specs.keeping.Subscripts.{attribute_s}
-use Rattle.kishu_state_laws.specs.keeping.Operating.{IsWalk, walk_of_s, walk_view_s}
+use Rattle.kishu_state_laws.specs.keeping.Operating.{walk_of_s, walk_view_s}
 use Rattle.kishu_state_laws.specs.keeping.Callees.{IsPart}
 use Rattle.kishu_state_laws.specs.keeping.Names.{assign_s}
 use Rattle.kishu_state_laws.specs.keeping.Flows.{IsFlow, flow_s, onward_s, throw_value_s, throw_again_s, is_caught_s, go_on_s, repeat_s, walk_along_s, attempt_s, finally_s, handle_s}
@@ -56,7 +57,7 @@ module _ (calls : Calls) (cs : CallsSafe calls) where
   failed_s k None h = throw_s (fresh assertion_error_class []) (refl, tt)
   failed_s k (Some e) h = bind_s (expr_s calls cs k e h) (λ l le v q. throw_s (fresh assertion_error_class (v ∷ [])) (refl, (q, tt)))
 
-  walked_by_s : (k : ℕ) (p : Part) → IsPart k p → Safe k IsWalk (walked_by calls p)
+  pub walked_by_s : (k : ℕ) (p : Part) → IsPart k p → Safe k IsWalk (walked_by calls p)
   walked_by_s k (viewed i found) h = walk_view_s i found
   walked_by_s k (whole v) h = walk_of_s v h
   walked_by_s k (dotted v x) h = bind_s (attribute_s v x h.1) (λ l le w q. walk_of_s w q)

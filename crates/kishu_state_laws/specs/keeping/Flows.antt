@@ -10,9 +10,10 @@ use Rattle.kishu_meaning.specs.cells.Ways.{Flow, onward, broke, continued, retur
 use Rattle.kishu_objects.specs.State.{IsValue, IsName}
 use Rattle.kishu_pairing_laws.specs.World.{end_of}
 use Rattle.kishu_state_laws.specs.Moments.{widest_budget}
+use Rattle.kishu_state_laws.specs.Moments.{IsWalk}
 use Rattle.kishu_state_laws.specs.keeping.Logic.{Maybe, Any, IsThrown, IsMoment, SafeEnds, fines, raiseds, stoppeds, more, more_good, WiderEnds, both_fine, both_raised, one_stopped, falls_in, Safe, safe_later, ends_later, bind_s, plain_s, then_s, give_s, any_s, value_s, throw_s, raise_s, if_s, when_s, asking_s, look_any, node_now_s, make_s, value_later, thrown_later, optional_later}
 use Rattle.kishu_state_laws.specs.keeping.Leaves.{MaybeValue, truth_s}
-use Rattle.kishu_state_laws.specs.keeping.Operating.{IsWalk, walk_later, item_for_s}
+use Rattle.kishu_state_laws.specs.keeping.Operating.{walk_later, item_for_s}
 use Rattle.kishu_state_laws.specs.keeping.Loops.{Both, both_safe, if_both, bind_both, turn_both, loop_s}
 use Rattle.kishu_state_laws.specs.keeping.Names.{assign_s, forget_s}
 

@@ -78,7 +78,7 @@ enter_s : (calls : Calls) (cs : CallsSafe calls) (k : ℕ) (d : Definition) (o :
 enter_s calls cs k d (Some f) n b h = bind_s (deeper_s (frame_s IsFlow (record { own = own_names d; values = f }) h (in_block_s d.body (acts_s calls cs k d.body b)))) (λ l le x q. value_s (result_of x) (result_value l x q))
 enter_s calls cs k d None n b h = bad_arguments_s d.title (text_title d.title n)
 
-call_s : (n : ℕ) → CallsSafe (call n)
+pub call_s : (n : ℕ) → CallsSafe (call n)
 unfolding call
 call_s zero k profile code vs g c h e = raise_s _ (codes "depth limit reached") refl refl
 call_s (suc n) k profile code vs g c h e =
