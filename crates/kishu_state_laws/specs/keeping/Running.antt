@@ -120,18 +120,18 @@ pub record Follows (ns : List Node) (s : State) : Type 0 where
 abbrev state_at : Moment → State
 state_at s = record { names = s.names; nodes = s.nodes }
 
-follows : {n : ℕ} {ns : List Node} (l : ℕ) (s : Moment) → After n ns s → IsMoment l s → Follows ns (state_at s)
+follows : {n : ℕ} {ns : List Node} {deep : ℕ} (l : ℕ) (s : Moment) → After n ns deep s → IsMoment l s → Follows ns (state_at s)
 follows l s after g = record {
   state = record { names = subst (λ k. AreNames k s.names) g.many g.names; nodes = subst (λ k. Each (IsNode k) s.nodes) g.many g.nodes };
   grown = after.1;
 }
 
-uncaught_follows : (x : Thrown) {k n : ℕ} {ns : List Node} {e : Ends (List ℕ)} → SafeEnds k n ns Any e → Follows ns (uncaught x e).state
+uncaught_follows : (x : Thrown) {k n : ℕ} {ns : List Node} {deep : ℕ} {e : Ends (List ℕ)} → SafeEnds k n ns deep Any e → Follows ns (uncaught x e).state
 uncaught_follows x (fines l {s = s} le after q g) = follows l s after g
 uncaught_follows x (raiseds l {s = s} le after q g) = follows l s after g
 uncaught_follows x (stoppeds l {s = s} le after g) = follows l s after g
 
-finished_follows : {k n : ℕ} {ns : List Node} {e : Ends (Option (List ℕ))} → SafeEnds k n ns Any e → Follows ns (finished e).state
+finished_follows : {k n : ℕ} {ns : List Node} {deep : ℕ} {e : Ends (Option (List ℕ))} → SafeEnds k n ns deep Any e → Follows ns (finished e).state
 finished_follows (fines l {s = s} le after q g) = follows l s after g
 finished_follows (raiseds l {x = x} {s = s} le after q g) = uncaught_follows x (ends_later s le after ((so_s (show_thrown_s {k = l} x q) (λ m cs r. tt)).go l (omega arith) s g))
 finished_follows (stoppeds l {s = s} le after g) = follows l s after g
