@@ -9,3 +9,4 @@ pub mod Fitting
 pub mod HeldLaws
 pub mod Budgets
 pub mod Turns
+pub mod Depths

@@ -24,8 +24,10 @@ use Rattle.kishu_state_laws.specs.keeping.Operating.{walk_later, walk_of_s, item
 use Rattle.kishu_state_laws.specs.keeping.Calling.{better_s, added_s}
 use Rattle.kishu_state_laws.specs.keeping.Flows.{IsFlow}
 use Rattle.kishu_state_laws.specs.keeping.Parts.{in_block_s}
-use Rattle.kishu_state_laws.specs.keeping.Expressions.{expr_s, part_safe, store_s}
-use Rattle.kishu_state_laws.specs.keeping.Acts.{walked_by_s, acts_s}
+use Rattle.kishu_state_laws.specs.keeping.Agreeing.{bind_a}
+use Rattle.kishu_state_laws.specs.keeping.CallsAgreeing.{one_calls}
+use Rattle.kishu_state_laws.specs.keeping.Expressions.{expr_s, expr_a, part_a, store_a}
+use Rattle.kishu_state_laws.specs.keeping.Acts.{walked_by_a, acts_s}
 use Rattle.kishu_state_laws.specs.keeping.Running.{call_s}
 
 -- a moment of a run, with fewer steps left than n
@@ -268,15 +270,16 @@ whiles_turn_on d n e body s h o =
 
 pub fors_turn_on : (d n : ℕ) (e walked : Expression) (body : Statements) (s : Moment) → StatementSound (t.for e walked body) → Outlasts n s → act (call d) (t.for e walked body) s ≡ for_within n (call d) e walked body s
 fors_turn_on d n e walked body s h o =
-    let found = bind_s (part_safe (call d) (call_s d) (length s.nodes) walked h.1 (expr_s (call d) (call_s d) (length s.nodes) walked h.1)) (λ l le p q. walked_by_s (call d) (call_s d) l p q) in
+    let cs = one_calls (call d) (call_s d) in
+    let found = bind_a (part_a 0 (call d) (call d) cs (length s.nodes) walked h.1 (expr_a 0 (call d) (call d) cs (length s.nodes) walked h.1)) (λ l le p q. walked_by_a 0 (call d) (call d) cs l p q) in
     let few = o.1 in
     then_same (Later IsWalk s) ((part (call d) walked (expr (call d) walked) >>= walked_by (call d)) s)
     (λ walk. walk_along walk (λ v. store (call d) e v >> in_block body (acts (call d) body)))
     (λ walk. walk_on n walk 0 (λ v. store (call d) e v >> in_block body (acts (call d) body)))
-    (safe_fine IsWalk (part (call d) walked (expr (call d) walked) >>= walked_by (call d)) s found o.0)
+    (safe_fine IsWalk (part (call d) walked (expr (call d) walked) >>= walked_by (call d)) s found.safe o.0)
     (λ walk t p. let less = p.0.left in
     walks_turn_on walk (λ v. store (call d) e v >> in_block body (acts (call d) body)) n t
-    (λ v u w r. ends_lead u IsFlow ((then_s (store_s (call d) (call_s d) (length u.nodes) e v h.0 w) (in_block_s body (acts_s (call d) (call_s d) (length u.nodes) body h.2))).go (length u.nodes) (omega arith) u r))
+    (λ v u w r. ends_lead u IsFlow ((then_s (store_a 0 (call d) (call d) cs (length u.nodes) e v h.0 w).safe (in_block_s body (acts_s (call d) (call_s d) (length u.nodes) body h.2))).go (length u.nodes) (omega arith) u r))
     p.1 (p.0.holds, omega (arith, less, few)))
 
 pub decisions_turn_on : (which : Bool) (n : ℕ) (v : Value) (s : Moment) → IsValue (length s.nodes) v → Outlasts n s → decide which v s ≡ decide_within n which v s

@@ -10,7 +10,7 @@ ghost use Rattle.kishu_meaning.specs.calls.Builtins.{Call, best_of, builtin_call
 ghost use Rattle.kishu_meaning.specs.cells.Meaning.{act, acts, all_calls, call, cell, expr, run};
 ghost use Rattle.kishu_meaning.specs.cells.Ways.{Flow, repeat, turns, walk_along, walk_on};
 ghost use Rattle.kishu_meaning.specs.items.Walks.{Walk};
-ghost use Rattle.kishu_meaning.specs.moments.Moment.{M, Moment, most_steps};
+ghost use Rattle.kishu_meaning.specs.moments.Moment.{M, Moment, most_depth, most_steps};
 ghost use Rattle.kishu_meaning.specs.values.Sound.{default_count};
 ghost use Rattle.kishu_meaning.specs.values.BuiltinNames as builtins;
 ghost use Rattle.kishu_meaning.specs.values.Values.{State, Value, empty};
@@ -32,7 +32,7 @@ ghost use Rattle.kishu_state_laws.specs.trees.Sound.{ExpressionSound, StatementS
 ghost use Rattle.kishu_store.specs.Graph.{Commit, Graph, path};
 ghost use Rattle.kishu_store.specs.Holds.{Holds as HoldsGraph};
 ghost use Rattle.std.specs.List.{AllByRecursion};
-ghost use Rattle.std.specs.Prelude.{Bool, List, Ok, [], length, ℕ, ◌∷◌, ◌+◌, ◌≡◌, ◌↔◌, ◌≤◌, ◌<◌, ◌^◌};
+ghost use Rattle.std.specs.Prelude.{Bool, List, Ok, [], length, suc, ℕ, ◌∷◌, ◌+◌, ◌≡◌, ◌↔◌, ◌≤◌, ◌<◌, ◌^◌};
 ghost use Rattle.std.specs.Str.{IsUtf8, chars};
 
 /// The empty state is a state, and a run leads from a state to a state.
@@ -123,4 +123,12 @@ pub fn turns_never_run_out()
     ensures decisions { (which : Bool) (n : ℕ) (v : Value) (s : Moment) → IsValue (length s.nodes) v → Outlasts n s → decide which v s ≡ decide_within n which v s }
     ensures bests { (comparison : Comparison) (n : ℕ) (walk : Walk) (s : Moment) → IsWalk (length s.nodes) walk → Outlasts n s → best_of comparison walk s ≡ best_within n comparison walk s }
     ensures sums { (print : Call) (n : ℕ) (v : Value) (s : Moment) → IsValue (length s.nodes) v → Outlasts n s → builtin_call print builtins.sum (v ∷ []) s ≡ sum_within n v s }
+{}
+
+/// Calls never run out: each lies a level deeper, so with any number of them above the levels that are
+/// left a run goes as the meaning has it, with a RecursionError at the deepest level alone. `call n` has
+/// n calls in one another, and `all_calls` one more than there are levels.
+pub fn calls_never_run_out()
+    ensures expressions { (n : ℕ) (e : Expression) (s : Moment) → ExpressionSound e → Holds s → most_depth ≤ n + s.depth → expr (call (suc n)) e s ≡ expr all_calls e s }
+    ensures statements { (n : ℕ) (ss : Statements) (s : Moment) → StatementsSound ss → Holds s → most_depth ≤ n + s.depth → acts (call (suc n)) ss s ≡ acts all_calls ss s }
 {}

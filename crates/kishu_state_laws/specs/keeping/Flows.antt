@@ -35,7 +35,7 @@ onward_s = flow_s onward tt
 
 -- ---- exceptions
 
-object_of_s : {k : ℕ} (x : Thrown) → IsThrown k x → Safe k IsValue (object_of x)
+pub object_of_s : {k : ℕ} (x : Thrown) → IsThrown k x → Safe k IsValue (object_of x)
 object_of_s (fresh kind vs) h = make_s (exception kind vs) h
 object_of_s (thrown_object i) h = value_s (node i) h
 
@@ -186,7 +186,7 @@ finally_s b h = record {
   wide = λ l le s g d pos fits. last_wide le pos fits (b.wide l le s g d pos fits) (b.go l le s g) (b.go l le (more d s) (more_good d fits g)) h;
 }
 
-with_handled : {l : ℕ} {s : Moment} (o : Option Value) → MaybeValue l o → IsMoment l s → IsMoment l (record s { handled = o })
+pub with_handled : {l : ℕ} {s : Moment} (o : Option Value) → MaybeValue l o → IsMoment l s → IsMoment l (record s { handled = o })
 with_handled o h g = record { many = g.many; nodes = g.nodes; names = g.names; locals = g.locals; handled = h; budget = g.budget }
 
 handled_ends : {A : Type 0} {k n : ℕ} {ns : List Node} {deep : ℕ} (Q : ℕ → A → Type 0) (o : Option Value) {e : Ends A} → MaybeValue k o → SafeEnds k n ns deep Q e → SafeEnds k n ns deep Q (handled_as o e)
@@ -204,17 +204,17 @@ handled_wide o both_fine = both_fine
 handled_wide o both_raised = both_raised
 handled_wide {d = d} o (one_stopped {e = e} z short) = one_stopped z (subst (λ (j : ℕ). j < d) (sym (handled_left o e)) short)
 
-handling_s : {k : ℕ} (v : Value) {m : M Flow} → IsValue k v → Safe k IsFlow m → Safe k IsFlow (handling v m)
+pub handling_s : {k : ℕ} (v : Value) {m : M Flow} → IsValue k v → Safe k IsFlow m → Safe k IsFlow (handling v m)
 handling_s {k = k} v p h = record {
   go = λ l le s g. handled_ends IsFlow s.handled g.handled (h.go l le (record s { handled = Some v }) (with_handled (Some v) (value_later k l le v p) g));
   wide = λ l le s g d pos fits. handled_wide s.handled (h.wide l le (record s { handled = Some v }) (with_handled (Some v) (value_later k l le v p) g) d pos fits);
 }
 
-bind_caught_s : {k : ℕ} (o : Option (List ℕ)) (v : Value) → Maybe IsName o → IsValue k v → Safe k Any (bind_caught o v)
+pub bind_caught_s : {k : ℕ} (o : Option (List ℕ)) (v : Value) → Maybe IsName o → IsValue k v → Safe k Any (bind_caught o v)
 bind_caught_s None v n p = any_s
 bind_caught_s (Some x) v n p = assign_s x v n p
 
-forget_caught_s : {k : ℕ} (o : Option (List ℕ)) → Safe k Any (forget_caught o)
+pub forget_caught_s : {k : ℕ} (o : Option (List ℕ)) → Safe k Any (forget_caught o)
 forget_caught_s None = any_s
 forget_caught_s (Some x) = forget_s x
 

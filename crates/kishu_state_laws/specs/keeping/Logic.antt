@@ -125,7 +125,7 @@ optional_later k l h o p = maybe_later (IsValue k) (IsValue l) (value_later k l 
 pub at_left : {l : ℕ} {s : Moment} (n : ℕ) → n ≤ widest_budget → IsMoment l s → IsMoment l (record s { left = n })
 at_left n h g = record { many = g.many; nodes = g.nodes; names = g.names; locals = g.locals; handled = g.handled; budget = h }
 
-at_depth : {l : ℕ} {s : Moment} (d : ℕ) → IsMoment l s → IsMoment l (record s { depth = d })
+pub at_depth : {l : ℕ} {s : Moment} (d : ℕ) → IsMoment l s → IsMoment l (record s { depth = d })
 at_depth d g = record { many = g.many; nodes = g.nodes; names = g.names; locals = g.locals; handled = g.handled; budget = g.budget }
 
 -- at a moment that follows one with n steps left and these nodes, at the same depth

@@ -77,7 +77,7 @@ names_unbound k x ns h = record { titles = unbound_titles x ns h.titles; rise = 
 with_names : {l : ℕ} {s : Moment} (f : Names) (xs : List (List ℕ)) → AreNames l f → IsMoment l s → IsMoment l (record s { names = f; accessed = xs })
 with_names f xs h g = record { many = g.many; nodes = g.nodes; names = h; locals = g.locals; handled = g.handled; budget = g.budget }
 
-with_locals : {l : ℕ} {s : Moment} (o : Option Locals) → Maybe (λ (here : Locals). AreValues l (values_in here.values)) o → IsMoment l s → IsMoment l (record s { locals = o })
+pub with_locals : {l : ℕ} {s : Moment} (o : Option Locals) → Maybe (λ (here : Locals). AreValues l (values_in here.values)) o → IsMoment l s → IsMoment l (record s { locals = o })
 with_locals o h g = record { many = g.many; nodes = g.nodes; names = g.names; locals = h; handled = g.handled; budget = g.budget }
 
 -- ---- builtin functions and classes

@@ -146,22 +146,3 @@ given_sound k es g s d h = record {
 
 abbrev pub CallsSafe : Calls → Type 0
 CallsSafe calls = (k : ℕ) (profile : Profile) (code : List ℕ) (vs : List Value) (g : Given) → IsCode profile code (length vs) → AreValues k vs → IsGiven k g → Safe k IsValue (calls profile code vs g)
-
-module _ (calls : Calls) (cs : CallsSafe calls) where
-  call_node_s : {k : ℕ} (v : Value) (o : Option Node) (g : Given) → Maybe (IsNode k) o → IsGiven k g → Safe k IsValue (call_node calls v o g)
-  call_node_s {k = k} v (Some (function profile code vs)) g h e = cs k profile code vs g h.0 h.1 e
-  call_node_s v o g h e = not_callable_s v
-
-  call_value_s : {k : ℕ} (v : Value) (g : Given) → IsGiven k g → Safe k IsValue (call_value calls v g)
-  call_value_s (builtin m) g h = call_builtin_s m g h
-  call_value_s (class m) g h = construct_s m g h
-  call_value_s {k = k} (node i) g h = bind_s (node_now_s (node i)) (λ l le o q. call_node_s (node i) o g q (given_later k l le g h))
-  call_value_s v g h = not_callable_s v
-
-  whole_s : {k : ℕ} (v : Value) → IsValue k v → Safe k IsPart (give (whole v))
-  whole_s v h = part_s (whole v) h
-
-  pub apply_s : {k : ℕ} (f : Callee) (g : Given) → IsCallee k f → IsGiven k g → Safe k IsPart (apply calls f g)
-  apply_s (c.function v) g q h = bind_s (call_value_s v g h) (λ l le w q. whole_s w q)
-  apply_s (method v x) g q h = bind_s (by_plain_s x g.named (text_title x q.1) (call_method_s v x g.plain q.1 q.0 h.plain)) (λ l le w q. whole_s w q)
-  apply_s (view i found) g q h = part_s (viewed i found) tt

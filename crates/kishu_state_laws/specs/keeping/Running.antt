@@ -46,7 +46,7 @@ or_default_value : (k : ℕ) (o p : Option Value) → MaybeValue k o → MaybeVa
 or_default_value k (Some v) p h g = h
 or_default_value k None p h g = g
 
-abbrev MaybeNames : ℕ → Option Names → Type 0
+abbrev pub MaybeNames : ℕ → Option Names → Type 0
 MaybeNames k = Maybe (λ (f : Names). AreValues k (values_in f))
 
 with_value_names : (k : ℕ) (x : Text) (o : Option Value) (f : Option Names) → MaybeValue k o → MaybeNames k f → MaybeNames k (with_value x o f)
@@ -63,12 +63,12 @@ if_names : (k : ℕ) (b : Bool) (o : Option Names) → MaybeNames k o → MaybeN
 if_names k true o h = h
 if_names k false o h = tt
 
-bound_names : (k : ℕ) (d : Definition) (vs : List Value) (g : Given) → AreValues k vs → IsGiven k g → MaybeNames k (bound_values d vs g)
+pub bound_names : (k : ℕ) (d : Definition) (vs : List Value) (g : Given) → AreValues k vs → IsGiven k g → MaybeNames k (bound_values d vs g)
 bound_names k d vs g h e = if_names k (arguments_fit (parameter_titles d.parameters) g) (values_for (with_defaults d.parameters vs) g.plain g.named) (values_names k (with_defaults d.parameters vs) g.plain g.named (defaults_values k d.parameters vs h) e.plain e.named.values)
 
 -- ---- calls
 
-result_value : (k : ℕ) (f : Flow) → IsFlow k f → IsValue k (result_of f)
+pub result_value : (k : ℕ) (f : Flow) → IsFlow k f → IsValue k (result_of f)
 result_value k (returned v) h = h
 result_value k onward h = tt
 result_value k broke h = tt
