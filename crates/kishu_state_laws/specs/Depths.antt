@@ -1,8 +1,6 @@
 -- Calls never run out: each lies a level deeper, so with any number of calls above the levels that are left a run goes the same way.
 use Rattle.std.specs.Prelude.{◌≡◌, ℕ, zero, suc, ◌+◌, ◌<◌, ◌≤◌, nat_lt, Bool, true, false, if◌then◌else◌, List, [], ◌∷◌, length, Option, Some, None, Result}
-use Rattle.std.specs.Str.{chars}
 use Rattle.std.proofs.Common.{refl, ap, sym, subst, arith, ltb-true}
-use Rattle.kishu_language.specs.declared.profile.Profile.{Profile}
 use Rattle.kishu_language.specs.trees.Tree.{Expression, Statement, Statements, Definition}
 use Rattle.kishu_language.specs.trees.Tree as t
 use Rattle.kishu_meaning.specs.values.Values.{Names}

@@ -1,12 +1,12 @@
 -- Loops never run out of turns: each turn takes a step, so with any number of turns above the steps that are left they go the same way.
-use Rattle.std.specs.Prelude.{◌≡◌, ℕ, zero, suc, ◌-◌, ◌<◌, ◌≤◌, nat_le, ℤ, pos, Bool, true, false, not, if◌then◌else◌, List, [], ◌∷◌, length, Option, Some, None}
+use Rattle.std.specs.Prelude.{◌≡◌, ℕ, zero, suc, ◌-◌, ◌<◌, ◌≤◌, nat_le, pos, Bool, true, false, not, if◌then◌else◌, [], ◌∷◌, length, Option, Some, None}
 use Rattle.std.specs.Bool.{beq}
 use Rattle.std.proofs.Common.{refl, ap, subst, arith, leb-true}
 use Rattle.kishu_language.specs.declared.tree.Comparison.{Comparison}
 use Rattle.kishu_language.specs.trees.Tree.{Expression, Statements}
 use Rattle.kishu_language.specs.trees.Tree as t
 use Rattle.kishu_meaning.specs.values.BuiltinNames as builtins
-use Rattle.kishu_meaning.specs.values.Values.{Value, bool, integer, Node}
+use Rattle.kishu_meaning.specs.values.Values.{Value, bool, integer}
 use Rattle.kishu_meaning.specs.moments.Moment.{Moment, Ends, fine, raised, stopped, M, and_then, ◌>>=◌, ◌>>◌, give, tick}
 use Rattle.kishu_meaning.specs.items.Walks.{Walk, walk_of, item_for}
 use Rattle.kishu_meaning.specs.calls.Operators.{truth}
@@ -15,10 +15,10 @@ use Rattle.kishu_meaning.specs.cells.Ways.{Flow, onward, broke, continued, retur
 use Rattle.kishu_meaning.specs.cells.Meaning.{Calls, expr, part, store, walked_by, in_block, act, acts, call}
 use Rattle.kishu_pairing_laws.specs.World.{end_of}
 use Rattle.kishu_objects.specs.State.{IsValue}
-use Rattle.kishu_state_laws.specs.Moments.{Maybe, IsMoment, Holds, Leads, LeadsOn, LeadsWith, IsWalk}
+use Rattle.kishu_state_laws.specs.Moments.{Holds, Leads, LeadsOn, LeadsWith, IsWalk}
 use Rattle.kishu_state_laws.specs.Whole.{leads, ends_lead}
 use Rattle.kishu_state_laws.specs.trees.Sound.{StatementSound}
-use Rattle.kishu_state_laws.specs.keeping.Logic.{Any, SafeEnds, fines, raiseds, stoppeds, Safe, bind_s, then_s, at_left, grown_self, grown_on, grown_length, spend_by, value_later, optional_later}
+use Rattle.kishu_state_laws.specs.keeping.Logic.{Any, SafeEnds, fines, raiseds, stoppeds, Safe, then_s, at_left, grown_self, grown_on, grown_length, spend_by, value_later, optional_later}
 use Rattle.kishu_state_laws.specs.keeping.Leaves.{MaybeValue, truth_s}
 use Rattle.kishu_state_laws.specs.keeping.Operating.{walk_later, walk_of_s, item_for_s}
 use Rattle.kishu_state_laws.specs.keeping.Calling.{better_s, added_s}

@@ -1,22 +1,20 @@
 -- Computations that keep what holds of every state, and that go the same way as others from moments of some depth on.
 use Rattle.std.specs.Prelude.{◌≡◌, ℕ, zero, suc, ◌≤◌, nat_lt, Bool, true, false, if◌then◌else◌, List, Option, Some, None}
-use Rattle.std.proofs.Common.{refl, ap, sym, subst, ◌∙◌, arith}
+use Rattle.std.proofs.Common.{refl, ap, ◌∙◌, arith}
 use Rattle.kishu_language.specs.trees.Tree.{Statements, no_statements, more_statements}
 use Rattle.kishu_meaning.specs.values.Values.{Value, Node}
-use Rattle.kishu_meaning.specs.moments.Moment.{Locals, Moment, Thrown, Ends, fine, raised, stopped, M, and_then, ◌>>=◌, ◌>>◌, give, throw, tick, most_depth, back_at, recursion_error, deeper}
-use Rattle.kishu_meaning.specs.items.Walks.{Walk, item_for}
-use Rattle.kishu_meaning.specs.calls.Operators.{truth}
+use Rattle.kishu_meaning.specs.moments.Moment.{Locals, Moment, Thrown, Ends, M, and_then, ◌>>=◌, ◌>>◌, give, throw, most_depth, back_at, recursion_error, deeper}
+use Rattle.kishu_meaning.specs.items.Walks.{Walk}
 use Rattle.kishu_meaning.specs.calls.Functions.{left_at, in_frame}
-use Rattle.kishu_meaning.specs.cells.Ways.{Flow, onward, broke, continued, returned, go_on, turn_on, turns, repeat, with_item, walk_on, walk_along, object_of, after_body, attempt, unless_left, and_last, finally, bind_caught, forget_caught, handled_as, handling, handle}
+use Rattle.kishu_meaning.specs.cells.Ways.{Flow, onward, broke, continued, returned, go_on, turn_on, turns, repeat, with_item, walk_on, walk_along, after_body, attempt, unless_left, and_last, finally, handled_as, handling, handle}
 use Rattle.kishu_meaning.specs.cells.Meaning.{in_block}
 use Rattle.kishu_objects.specs.State.{IsValue, AreValues, IsName, values_in}
 use Rattle.kishu_state_laws.specs.Moments.{Maybe, IsMoment, IsWalk}
-use Rattle.kishu_state_laws.specs.keeping.Logic.{Any, IsThrown, SafeEnds, fines, raiseds, stoppeds, Safe, safe_later, bind_s, so_s, give_s, if_s, tick_s, deeper_s, then_s, at_depth, value_later, values_later}
+use Rattle.kishu_state_laws.specs.keeping.Logic.{Any, IsThrown, SafeEnds, fines, raiseds, stoppeds, Safe, safe_later, bind_s, so_s, tick_s, deeper_s, then_s, at_depth, value_later, values_later}
 use Rattle.kishu_state_laws.specs.keeping.Leaves.{MaybeValue, truth_s}
 use Rattle.kishu_state_laws.specs.keeping.Operating.{walk_later, item_for_s}
 use Rattle.kishu_state_laws.specs.keeping.Names.{with_locals, frame_s}
-use Rattle.kishu_state_laws.specs.keeping.Flows.{IsFlow, onward_s, flow_s, go_on_s, repeat_s, walk_along_s, attempt_s, finally_s, object_of_s, bind_caught_s, forget_caught_s, handling_s, with_handled}
-use Rattle.kishu_state_laws.specs.keeping.Parts.{in_block_s}
+use Rattle.kishu_state_laws.specs.keeping.Flows.{IsFlow, onward_s, flow_s, repeat_s, walk_along_s, attempt_s, finally_s, object_of_s, bind_caught_s, forget_caught_s, handling_s, with_handled}
 
 -- from moments with k nodes or more, at depth d or deeper
 pub record Same {A : Type 0} (d k : ℕ) (m m' : M A) : Type 0 where

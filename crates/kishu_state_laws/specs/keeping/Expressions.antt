@@ -13,7 +13,7 @@ use Rattle.kishu_meaning.specs.calls.Callees.{nothing_given, and_plain, and_name
 use Rattle.kishu_meaning.specs.cells.Meaning.{Calls, nodes_before_last, named, attribute_of, item_of, count, expr, part, trailers, trailer, bound_value, arguments, values, inner_values, pairs, first_that, operands, links, place_by, place_after, place, store, store_each, store_all, delete_all, update}
 use Rattle.kishu_objects.specs.State.{IsValue, AreValues}
 use Rattle.kishu_state_laws.specs.trees.Sound.{ExpressionSound, ExpressionsSound, OperandsSound, LinksSound, PairsSound, TrailersSound, TrailerSound, BoundSound, ArgumentsSound, ListSound}
-use Rattle.kishu_state_laws.specs.keeping.Logic.{Any, Safe, give_s, any_s, value_s, list_s, then_s, tick_s, make_s, value_later}
+use Rattle.kishu_state_laws.specs.keeping.Logic.{Any, Safe, give_s, any_s, value_s, list_s, tick_s, make_s, value_later}
 use Rattle.kishu_state_laws.specs.keeping.Leaves.{truth_s}
 use Rattle.kishu_state_laws.specs.keeping.Subscripts.{item_s, slice_s}
 use Rattle.kishu_state_laws.specs.keeping.Operating.{operate_s, signed_s, compare_s, unpacked_s}
