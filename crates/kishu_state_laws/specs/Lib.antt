@@ -8,3 +8,5 @@ pub mod Pictures
 pub mod Fitting
 pub mod HeldLaws
 pub mod Budgets
+pub mod Turns
+pub mod Depths

@@ -1,7 +1,10 @@
 -- The moments of a run: what holds of each, and what holds of each two, one after the other.
 use Rattle.std.specs.Prelude.{◌≡◌, ℕ, ◌≤◌, length, Option, Some, None}
 use Rattle.std.specs.List.{AllByRecursion as Each}
-use Rattle.kishu_meaning.specs.moments.Moment.{Locals, Moment}
+use Rattle.kishu_meaning.specs.values.Values.{Value, integer, text}
+use Rattle.kishu_meaning.specs.moments.Moment.{Locals, Moment, M}
+use Rattle.kishu_meaning.specs.items.Walks.{Walk, along_list, along_dict, along_tuple, along_text, along_range}
+use Rattle.kishu_pairing_laws.specs.World.{end_of}
 use Rattle.kishu_objects.specs.State.{IsValue, AreValues, IsNode, AreNames, values_in, Grown}
 
 abbrev pub Maybe : {A : Type 0} → (A → Type 0) → Option A → Type 0
@@ -29,3 +32,18 @@ pub record Leads (s t : Moment) : Type 0 where
   pub holds : Holds t
   pub left : t.left ≤ s.left
   pub grown : Grown s.nodes t.nodes
+
+-- what leads on from each moment of a run, and what does so with each value
+abbrev pub LeadsOn : {A : Type 0} → M A → Type 0
+LeadsOn m = (s : Moment) → Holds s → Leads s (end_of (m s))
+
+abbrev pub LeadsWith : {A : Type 0} → (Value → M A) → Type 0
+LeadsWith turn = (v : Value) (s : Moment) → IsValue (length s.nodes) v → Holds s → Leads s (end_of (turn v s))
+
+-- among k nodes: what is walked gives values
+abbrev pub IsWalk : ℕ → Walk → Type 0
+IsWalk k (along_list i) = Unit {0}
+IsWalk k (along_dict i n view) = Unit {0}
+IsWalk k (along_tuple vs) = AreValues k vs
+IsWalk k (along_text cs) = IsValue k (text cs)
+IsWalk k (along_range a b c) = IsValue k (integer a) × IsValue k (integer b)

@@ -13,6 +13,8 @@ pub mod Callees
 pub mod Names
 pub mod Flows
 pub mod Parts
+pub mod Agreeing
+pub mod CallsAgreeing
 pub mod Expressions
 pub mod Acts
 pub mod Running

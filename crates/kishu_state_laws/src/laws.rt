@@ -2,12 +2,18 @@
 
 ghost use Rattle.kishu_language.specs.Limits.{longest_text};
 ghost use Rattle.kishu_language.specs.declared.profile.Profile.{Profile};
+ghost use Rattle.kishu_language.specs.declared.tree.Comparison.{Comparison};
 ghost use Rattle.kishu_language.specs.reading.ReadText.{read_chars, ReadsDef};
+ghost use Rattle.kishu_language.specs.trees.Tree as t;
 ghost use Rattle.kishu_language.specs.trees.Tree.{Definition, Expression, Statement, Statements, Text, statements};
-ghost use Rattle.kishu_meaning.specs.cells.Meaning.{acts, all_calls, cell, expr, run};
-ghost use Rattle.kishu_meaning.specs.moments.Moment.{Moment, most_steps};
+ghost use Rattle.kishu_meaning.specs.calls.Builtins.{Call, best_of, builtin_call, decide};
+ghost use Rattle.kishu_meaning.specs.cells.Meaning.{act, acts, all_calls, call, cell, expr, run};
+ghost use Rattle.kishu_meaning.specs.cells.Ways.{Flow, repeat, turns, walk_along, walk_on};
+ghost use Rattle.kishu_meaning.specs.items.Walks.{Walk};
+ghost use Rattle.kishu_meaning.specs.moments.Moment.{M, Moment, most_depth, most_steps};
 ghost use Rattle.kishu_meaning.specs.values.Sound.{default_count};
-ghost use Rattle.kishu_meaning.specs.values.Values.{State, empty};
+ghost use Rattle.kishu_meaning.specs.values.BuiltinNames as builtins;
+ghost use Rattle.kishu_meaning.specs.values.Values.{State, Value, empty};
 ghost use Rattle.kishu_replay.specs.Replay.{after_cells, replay};
 ghost use Rattle.kishu_objects.specs.Same.{Same};
 ghost use Rattle.kishu_objects.specs.States.{IsSoundState};
@@ -19,13 +25,14 @@ ghost use Rattle.kishu_objects.specs.Picture.{picture, whole};
 ghost use Rattle.kishu_meaning.specs.moments.Accesses.{unbind};
 ghost use Rattle.kishu_pairing_laws.specs.World.{end_of};
 ghost use Rattle.kishu_state_laws.specs.Budgets.{IsStopped, Start, run_by, run_of};
-ghost use Rattle.kishu_state_laws.specs.Moments.{Holds, Leads, widest_budget};
-ghost use Rattle.kishu_objects.specs.State.{Grown, IsCell, IsCode, IsState};
-ghost use Rattle.kishu_state_laws.specs.trees.Sound.{ExpressionSound, StatementsSound};
+ghost use Rattle.kishu_state_laws.specs.Moments.{Holds, IsWalk, Leads, LeadsOn, LeadsWith, widest_budget};
+ghost use Rattle.kishu_state_laws.specs.Turns.{Outlasts, best_within, decide_within, for_within, sum_within, while_within};
+ghost use Rattle.kishu_objects.specs.State.{Grown, IsCell, IsCode, IsState, IsValue};
+ghost use Rattle.kishu_state_laws.specs.trees.Sound.{ExpressionSound, StatementSound, StatementsSound};
 ghost use Rattle.kishu_store.specs.Graph.{Commit, Graph, path};
 ghost use Rattle.kishu_store.specs.Holds.{Holds as HoldsGraph};
 ghost use Rattle.std.specs.List.{AllByRecursion};
-ghost use Rattle.std.specs.Prelude.{List, Ok, length, ℕ, ◌+◌, ◌≡◌, ◌↔◌, ◌≤◌, ◌<◌, ◌^◌};
+ghost use Rattle.std.specs.Prelude.{Bool, List, Ok, [], length, suc, ℕ, ◌∷◌, ◌+◌, ◌≡◌, ◌↔◌, ◌≤◌, ◌<◌, ◌^◌};
 ghost use Rattle.std.specs.Str.{IsUtf8, chars};
 
 /// The empty state is a state, and a run leads from a state to a state.
@@ -102,4 +109,26 @@ pub fn budgets_stop_runs()
     ensures whole { (c : Start) (n : ℕ) → n < widest_budget → IsStopped (run_by n c) → (run_by n c).charge ≡ n }
     ensures further { (c : Start) (n : ℕ) → n < widest_budget → (IsStopped (run_by n c) ↔ (run_by (n + 1) c).charge ≡ n + 1) }
     ensures larger { (c : Start) (n m : ℕ) → n ≤ m → m ≤ widest_budget → (IsStopped (run_by n c) → ⊥) → run_by m c ≡ run_by n c }
+{}
+
+/// A loop never runs out of turns. Each turn takes a step, so a loop with any number of turns above the
+/// steps that are left goes as the meaning has it: it ends by its test, behind its last item, by a way
+/// out, or where the budget is spent. First for all that leads on, then for statements as they run
+/// within d calls, and for `all` and `any`, `max` and `min`, and `sum`.
+pub fn turns_never_run_out()
+    ensures tests { (test : M Value) (body : M Flow) (n : ℕ) (s : Moment) → LeadsOn test → LeadsOn body → Outlasts n s → repeat test body s ≡ turns n test body s }
+    ensures walks { (walk : Walk) (turn : Value → M Flow) (n : ℕ) (s : Moment) → LeadsWith turn → IsWalk (length s.nodes) walk → Outlasts n s → walk_along walk turn s ≡ walk_on n walk 0 turn s }
+    ensures whiles { (d n : ℕ) (e : Expression) (body : Statements) (s : Moment) → StatementSound (t.while e body) → Outlasts n s → act (call d) (t.while e body) s ≡ while_within n (call d) e body s }
+    ensures fors { (d n : ℕ) (e walked : Expression) (body : Statements) (s : Moment) → StatementSound (t.for e walked body) → Outlasts n s → act (call d) (t.for e walked body) s ≡ for_within n (call d) e walked body s }
+    ensures decisions { (which : Bool) (n : ℕ) (v : Value) (s : Moment) → IsValue (length s.nodes) v → Outlasts n s → decide which v s ≡ decide_within n which v s }
+    ensures bests { (comparison : Comparison) (n : ℕ) (walk : Walk) (s : Moment) → IsWalk (length s.nodes) walk → Outlasts n s → best_of comparison walk s ≡ best_within n comparison walk s }
+    ensures sums { (print : Call) (n : ℕ) (v : Value) (s : Moment) → IsValue (length s.nodes) v → Outlasts n s → builtin_call print builtins.sum (v ∷ []) s ≡ sum_within n v s }
+{}
+
+/// Calls never run out: each lies a level deeper, so with any number of them above the levels that are
+/// left a run goes as the meaning has it, with a RecursionError at the deepest level alone. `call n` has
+/// n calls in one another, and `all_calls` one more than there are levels.
+pub fn calls_never_run_out()
+    ensures expressions { (n : ℕ) (e : Expression) (s : Moment) → ExpressionSound e → Holds s → most_depth ≤ n + s.depth → expr (call (suc n)) e s ≡ expr all_calls e s }
+    ensures statements { (n : ℕ) (ss : Statements) (s : Moment) → StatementsSound ss → Holds s → most_depth ≤ n + s.depth → acts (call (suc n)) ss s ≡ acts all_calls ss s }
 {}

@@ -7,7 +7,7 @@ ghost use Rattle.kishu_language.specs.grammar.Targets.{is_place, is_target};
 ghost use Rattle.kishu_language.specs.reading.ReadText.{read_chars};
 ghost use Rattle.kishu_language.specs.trees.Tree.{Definition, Expression, Text};
 ghost use Rattle.kishu_meaning.specs.calls.Functions.{function_in};
-ghost use Rattle.kishu_meaning.specs.cells.Meaning.{Place, all_calls, place, store};
+ghost use Rattle.kishu_meaning.specs.cells.Meaning.{Calls, Place, place, store};
 ghost use Rattle.kishu_meaning.specs.moments.Moment.{M};
 ghost use Rattle.kishu_meaning.specs.values.Values.{Value};
 ghost use Rattle.kishu_objects.specs.State.{IsCode};
@@ -17,7 +17,7 @@ ghost use Rattle.kishu_state_laws.specs.trees.Places.{place_or, store_or};
 /// code of a function reads as one. In the tree of a text the places are places and the targets
 /// targets (`kishu_language_laws::trees_have_places`), so no run meets these rules.
 pub fn places_are_found()
-    ensures places { (other : M Place) (e : Expression) → IsTrue (is_place e) → place_or all_calls other e ≡ place all_calls e }
-    ensures targets { (other : M Place) (nothing : M (Unit {0})) (e : Expression) → IsTrue (is_target e) → (v : Value) → store_or all_calls other nothing e v ≡ store all_calls e v }
+    ensures places { (calls : Calls) (other : M Place) (e : Expression) → IsTrue (is_place e) → place_or calls other e ≡ place calls e }
+    ensures targets { (calls : Calls) (other : M Place) (nothing : M (Unit {0})) (e : Expression) → IsTrue (is_target e) → (v : Value) → store_or calls other nothing e v ≡ store calls e v }
     ensures codes { (profile : Profile) (code : Text) (n : ℕ) → IsCode profile code n → (d : Definition) × (function_in (read_chars profile (chars code)) ≡ Some d) }
 {}

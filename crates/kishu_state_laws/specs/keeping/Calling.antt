@@ -1,5 +1,5 @@
 -- Builtin functions and classes keep what holds of every state.
-use Rattle.std.specs.Prelude.{◌≡◌, ℕ, zero, suc, ◌≤◌, ℤ, pos, negsuc, unsigned_abs, Bool, true, false, not, if◌then◌else◌, List, [], ◌∷◌, length, map, codes, Option, Some, None, is_some}
+use Rattle.std.specs.Prelude.{◌≡◌, ℕ, suc, ◌≤◌, ℤ, pos, negsuc, unsigned_abs, Bool, true, false, not, if◌then◌else◌, List, [], ◌∷◌, length, map, codes, Option, Some, None, is_some}
 use Rattle.std.specs.Bool.{beq}
 use Rattle.std.specs.List.{AllByRecursion as Each, list_all, list_any}
 use Rattle.std.specs.Ordering.{int_eq}
@@ -23,13 +23,14 @@ use Rattle.kishu_meaning.specs.values.PlainClasses as plains
 use Rattle.kishu_meaning.specs.values.PlainClasses.{PlainClass, plain_classes}
 use Rattle.kishu_meaning.specs.calls.Builtins.{Call, of_one, of_two, by_number, of_number, and_next, decided, decide, folded, fold, better, or_empty_argument, best_of, best, added, is_character, character, code_point, divided_by, node_length, length_of, is_of_one, is_of_tuple, is_instance, is_of_class, class_in, sorted, builtin_call, builtin_calls, of_none_or_one, copied_dict, or_no_number, number_from, tuple_of, all_items, range_from, class_call, class_calls}
 use Rattle.kishu_objects.specs.State.{IsValue, AreValues, IsNode}
+use Rattle.kishu_state_laws.specs.Moments.{IsWalk}
 use Rattle.kishu_state_laws.specs.keeping.Logic.{each_map, Maybe, IsText, Safe, bind_s, with_s, plain_s, then_s, give_s, value_s, raise_s, if_s, when_s, or_else_s, node_now_s, spend_s, make_s, value_later, values_later, optional_later}
 use Rattle.kishu_state_laws.specs.keeping.Texts.{one_text, each_scalar}
 use Rattle.kishu_state_laws.specs.keeping.Numbers.{IsWhole, whole_number, whole_read, whole_scalar}
 use Rattle.kishu_state_laws.specs.keeping.Counting.{repr_s, show_s}
 use Rattle.kishu_state_laws.specs.keeping.Loops.{Both, both_safe, if_both, bind_both, tick_both, loop_s}
 use Rattle.kishu_state_laws.specs.keeping.Leaves.{MaybeValue, bad_arguments_s, truth_s, count_of_s, items_of_s, walked_s}
-use Rattle.kishu_state_laws.specs.keeping.Operating.{whole_s, operate_s, compare_s, IsWalk, walk_later, walk_of_s, item_for_s}
+use Rattle.kishu_state_laws.specs.keeping.Operating.{whole_s, operate_s, compare_s, walk_later, walk_of_s, item_for_s}
 use Rattle.kishu_state_laws.specs.keeping.Methods.{order_values}
 
 -- ---- builtin functions
@@ -74,7 +75,7 @@ chosen_s : {k : ℕ} (b : Bool) (v w : Value) → IsValue k v → IsValue k w �
 chosen_s {k = k} true v w p q = give_s MaybeValue (λ l le. value_later k l le v p)
 chosen_s {k = k} false v w p q = give_s MaybeValue (λ l le. value_later k l le w q)
 
-better_s : (comparison : Comparison) (k : ℕ) (o : Option Value) (v : Value) → MaybeValue k o → IsValue k v → Safe k MaybeValue (better comparison o v)
+pub better_s : (comparison : Comparison) (k : ℕ) (o : Option Value) (v : Value) → MaybeValue k o → IsValue k v → Safe k MaybeValue (better comparison o v)
 better_s comparison k None v p q = give_s MaybeValue (λ l le. value_later k l le v q)
 better_s comparison k (Some w) v p q = plain_s (compare_s comparison v w q) (λ b. chosen_s b v w q p)
 
@@ -90,7 +91,7 @@ best_s name comparison t k [] a = bad_arguments_s name t
 best_s name comparison t k (v ∷ []) a = bind_s (walk_of_s v a.0) (λ l le u q. best_of_s l comparison u q)
 best_s name comparison t k (v ∷ (w ∷ vs)) a = best_of_s k comparison (along_tuple (v ∷ w ∷ vs)) a
 
-added_s : (k : ℕ) (a v : Value) → IsValue k a → IsValue k v → Safe k IsValue (added a v)
+pub added_s : (k : ℕ) (a v : Value) → IsValue k a → IsValue k v → Safe k IsValue (added a v)
 added_s k a v p q = by_number_s k (codes "sum") (number_in v) _ refl (whole_number k v q) (λ z r. operate_s operators.Add a (integer z) p r)
 
 -- The characters are the Unicode scalar values.

@@ -10,9 +10,10 @@ use Rattle.kishu_meaning.specs.cells.Ways.{Flow, onward, broke, continued, retur
 use Rattle.kishu_objects.specs.State.{IsValue, IsName}
 use Rattle.kishu_pairing_laws.specs.World.{end_of}
 use Rattle.kishu_state_laws.specs.Moments.{widest_budget}
+use Rattle.kishu_state_laws.specs.Moments.{IsWalk}
 use Rattle.kishu_state_laws.specs.keeping.Logic.{Maybe, Any, IsThrown, IsMoment, SafeEnds, fines, raiseds, stoppeds, more, more_good, WiderEnds, both_fine, both_raised, one_stopped, falls_in, Safe, safe_later, ends_later, bind_s, plain_s, then_s, give_s, any_s, value_s, throw_s, raise_s, if_s, when_s, asking_s, look_any, node_now_s, make_s, value_later, thrown_later, optional_later}
 use Rattle.kishu_state_laws.specs.keeping.Leaves.{MaybeValue, truth_s}
-use Rattle.kishu_state_laws.specs.keeping.Operating.{IsWalk, walk_later, item_for_s}
+use Rattle.kishu_state_laws.specs.keeping.Operating.{walk_later, item_for_s}
 use Rattle.kishu_state_laws.specs.keeping.Loops.{Both, both_safe, if_both, bind_both, turn_both, loop_s}
 use Rattle.kishu_state_laws.specs.keeping.Names.{assign_s, forget_s}
 
@@ -34,7 +35,7 @@ onward_s = flow_s onward tt
 
 -- ---- exceptions
 
-object_of_s : {k : ℕ} (x : Thrown) → IsThrown k x → Safe k IsValue (object_of x)
+pub object_of_s : {k : ℕ} (x : Thrown) → IsThrown k x → Safe k IsValue (object_of x)
 object_of_s (fresh kind vs) h = make_s (exception kind vs) h
 object_of_s (thrown_object i) h = value_s (node i) h
 
@@ -126,7 +127,7 @@ walk_along_s k u {turn = turn} p h =
 abbrev HandlerSafe : ℕ → (Thrown → M Flow) → Type 0
 HandlerSafe k handler = (l : ℕ) → k ≤ l → (x : Thrown) → IsThrown l x → Safe l IsFlow (handler x)
 
-after_s : {k l n : ℕ} {ns : List Node} {e : Ends Flow} {handler : Thrown → M Flow} {other : M Flow} → k ≤ l → SafeEnds l n ns IsFlow e → HandlerSafe k handler → Safe k IsFlow other → SafeEnds l n ns IsFlow (after_body e handler other)
+after_s : {k l n : ℕ} {ns : List Node} {deep : ℕ} {e : Ends Flow} {handler : Thrown → M Flow} {other : M Flow} → k ≤ l → SafeEnds l n ns deep IsFlow e → HandlerSafe k handler → Safe k IsFlow other → SafeEnds l n ns deep IsFlow (after_body e handler other)
 after_s kl (fines n {a = onward} {s = s} le after q g) h e = ends_later s le after (e.go n (omega (arith, kl, le)) s g)
 after_s kl (fines n {a = broke} le after q g) h e = fines n le after tt g
 after_s kl (fines n {a = continued} le after q g) h e = fines n le after tt g
@@ -135,7 +136,7 @@ after_s kl (raiseds n {x = x} {s = s} le after q g) h e = ends_later s le after 
 after_s kl (stoppeds n le after g) h e = stoppeds n le after g
 
 -- what ends with fewer than d steps left goes on so
-after_short : {k l d n : ℕ} {ns : List Node} {e : Ends Flow} {handler : Thrown → M Flow} {other : M Flow} → k ≤ l → SafeEnds l n ns IsFlow e → (end_of e).left < d → HandlerSafe k handler → Safe k IsFlow other → (end_of (after_body e handler other)).left < d
+after_short : {k l d n : ℕ} {ns : List Node} {deep : ℕ} {e : Ends Flow} {handler : Thrown → M Flow} {other : M Flow} → k ≤ l → SafeEnds l n ns deep IsFlow e → (end_of e).left < d → HandlerSafe k handler → Safe k IsFlow other → (end_of (after_body e handler other)).left < d
 after_short kl (fines n {a = onward} {s = s} le after q g) short h e = let p = falls_in (e.go n (omega (arith, kl, le)) s g) in omega (arith, p, short)
 after_short kl (fines n {a = broke} le after q g) short h e = short
 after_short kl (fines n {a = continued} le after q g) short h e = short
@@ -143,7 +144,7 @@ after_short kl (fines n {a = returned v} le after q g) short h e = short
 after_short kl (raiseds n {x = x} {s = s} le after q g) short h e = let p = falls_in ((h n (omega (arith, kl, le)) x q).go n (omega arith) s g) in omega (arith, p, short)
 after_short kl (stoppeds n le after g) short h e = short
 
-after_wide : {k l d n n' : ℕ} {ns ns' : List Node} {e e' : Ends Flow} {handler : Thrown → M Flow} {other : M Flow} → k ≤ l → 0 < d → n + d ≤ widest_budget → WiderEnds d e e' → SafeEnds l n ns IsFlow e → SafeEnds l n' ns' IsFlow e' → HandlerSafe k handler → Safe k IsFlow other → WiderEnds d (after_body e handler other) (after_body e' handler other)
+after_wide : {k l d n n' : ℕ} {ns ns' : List Node} {deep deep' : ℕ} {e e' : Ends Flow} {handler : Thrown → M Flow} {other : M Flow} → k ≤ l → 0 < d → n + d ≤ widest_budget → WiderEnds d e e' → SafeEnds l n ns deep IsFlow e → SafeEnds l n' ns' deep' IsFlow e' → HandlerSafe k handler → Safe k IsFlow other → WiderEnds d (after_body e handler other) (after_body e' handler other)
 after_wide {d = d} {n = most} kl pos fits both_fine (fines n {a = onward} {s = s} le after q g) two h e = let p : s.left ≤ most = after.0 in e.wide n (omega (arith, kl, le)) s g d pos (omega (arith, p, fits))
 after_wide kl pos fits both_fine (fines n {a = broke} le after q g) two h e = both_fine
 after_wide kl pos fits both_fine (fines n {a = continued} le after q g) two h e = both_fine
@@ -164,17 +165,17 @@ last_flow {n = n} f q h = bind_s h (λ m le f' r. unless_s f' r (flow_s f (flow_
 last_thrown : {n : ℕ} (x : Thrown) {last : M Flow} → IsThrown n x → Safe n IsFlow last → Safe n IsFlow (last >>= λ g. unless_left g (throw x))
 last_thrown {n = n} x q h = bind_s h (λ m le f' r. unless_s f' r (throw_s x (thrown_later n m le x q)))
 
-last_s : {k l n : ℕ} {ns : List Node} {e : Ends Flow} {last : M Flow} → k ≤ l → SafeEnds l n ns IsFlow e → Safe k IsFlow last → SafeEnds l n ns IsFlow (and_last e last)
+last_s : {k l n : ℕ} {ns : List Node} {deep : ℕ} {e : Ends Flow} {last : M Flow} → k ≤ l → SafeEnds l n ns deep IsFlow e → Safe k IsFlow last → SafeEnds l n ns deep IsFlow (and_last e last)
 last_s kl (fines n {a = f} {s = s} le after q g) h = ends_later s le after ((last_flow f q (safe_later (omega (arith, kl, le)) h)).go n (omega arith) s g)
 last_s kl (raiseds n {x = x} {s = s} le after q g) h = ends_later s le after ((last_thrown x q (safe_later (omega (arith, kl, le)) h)).go n (omega arith) s g)
 last_s kl (stoppeds n le after g) h = stoppeds n le after g
 
-last_short : {k l d n : ℕ} {ns : List Node} {e : Ends Flow} {last : M Flow} → k ≤ l → SafeEnds l n ns IsFlow e → (end_of e).left < d → Safe k IsFlow last → (end_of (and_last e last)).left < d
+last_short : {k l d n : ℕ} {ns : List Node} {deep : ℕ} {e : Ends Flow} {last : M Flow} → k ≤ l → SafeEnds l n ns deep IsFlow e → (end_of e).left < d → Safe k IsFlow last → (end_of (and_last e last)).left < d
 last_short kl (fines n {a = f} {s = s} le after q g) short h = let p = falls_in ((last_flow f q (safe_later (omega (arith, kl, le)) h)).go n (omega arith) s g) in omega (arith, p, short)
 last_short kl (raiseds n {x = x} {s = s} le after q g) short h = let p = falls_in ((last_thrown x q (safe_later (omega (arith, kl, le)) h)).go n (omega arith) s g) in omega (arith, p, short)
 last_short kl (stoppeds n le after g) short h = short
 
-last_wide : {k l d n n' : ℕ} {ns ns' : List Node} {e e' : Ends Flow} {last : M Flow} → k ≤ l → 0 < d → n + d ≤ widest_budget → WiderEnds d e e' → SafeEnds l n ns IsFlow e → SafeEnds l n' ns' IsFlow e' → Safe k IsFlow last → WiderEnds d (and_last e last) (and_last e' last)
+last_wide : {k l d n n' : ℕ} {ns ns' : List Node} {deep deep' : ℕ} {e e' : Ends Flow} {last : M Flow} → k ≤ l → 0 < d → n + d ≤ widest_budget → WiderEnds d e e' → SafeEnds l n ns deep IsFlow e → SafeEnds l n' ns' deep' IsFlow e' → Safe k IsFlow last → WiderEnds d (and_last e last) (and_last e' last)
 last_wide {d = d} {n = most} kl pos fits both_fine (fines n {a = f} {s = s} le after q g) two h = let p : s.left ≤ most = after.0 in (last_flow f q (safe_later (omega (arith, kl, le)) h)).wide n (omega arith) s g d pos (omega (arith, p, fits))
 last_wide {d = d} {n = most} kl pos fits both_raised (raiseds n {x = x} {s = s} le after q g) two h = let p : s.left ≤ most = after.0 in (last_thrown x q (safe_later (omega (arith, kl, le)) h)).wide n (omega arith) s g d pos (omega (arith, p, fits))
 last_wide kl pos fits (one_stopped z short) one two h = one_stopped z (last_short kl two short h)
@@ -185,10 +186,10 @@ finally_s b h = record {
   wide = λ l le s g d pos fits. last_wide le pos fits (b.wide l le s g d pos fits) (b.go l le s g) (b.go l le (more d s) (more_good d fits g)) h;
 }
 
-with_handled : {l : ℕ} {s : Moment} (o : Option Value) → MaybeValue l o → IsMoment l s → IsMoment l (record s { handled = o })
+pub with_handled : {l : ℕ} {s : Moment} (o : Option Value) → MaybeValue l o → IsMoment l s → IsMoment l (record s { handled = o })
 with_handled o h g = record { many = g.many; nodes = g.nodes; names = g.names; locals = g.locals; handled = h; budget = g.budget }
 
-handled_ends : {A : Type 0} {k n : ℕ} {ns : List Node} (Q : ℕ → A → Type 0) (o : Option Value) {e : Ends A} → MaybeValue k o → SafeEnds k n ns Q e → SafeEnds k n ns Q (handled_as o e)
+handled_ends : {A : Type 0} {k n : ℕ} {ns : List Node} {deep : ℕ} (Q : ℕ → A → Type 0) (o : Option Value) {e : Ends A} → MaybeValue k o → SafeEnds k n ns deep Q e → SafeEnds k n ns deep Q (handled_as o e)
 handled_ends {k = k} Q o h (fines l le after q g) = fines l le after q (with_handled o (optional_later k l le o h) g)
 handled_ends {k = k} Q o h (raiseds l le after q g) = raiseds l le after q (with_handled o (optional_later k l le o h) g)
 handled_ends {k = k} Q o h (stoppeds l le after g) = stoppeds l le after (with_handled o (optional_later k l le o h) g)
@@ -203,17 +204,17 @@ handled_wide o both_fine = both_fine
 handled_wide o both_raised = both_raised
 handled_wide {d = d} o (one_stopped {e = e} z short) = one_stopped z (subst (λ (j : ℕ). j < d) (sym (handled_left o e)) short)
 
-handling_s : {k : ℕ} (v : Value) {m : M Flow} → IsValue k v → Safe k IsFlow m → Safe k IsFlow (handling v m)
+pub handling_s : {k : ℕ} (v : Value) {m : M Flow} → IsValue k v → Safe k IsFlow m → Safe k IsFlow (handling v m)
 handling_s {k = k} v p h = record {
   go = λ l le s g. handled_ends IsFlow s.handled g.handled (h.go l le (record s { handled = Some v }) (with_handled (Some v) (value_later k l le v p) g));
   wide = λ l le s g d pos fits. handled_wide s.handled (h.wide l le (record s { handled = Some v }) (with_handled (Some v) (value_later k l le v p) g) d pos fits);
 }
 
-bind_caught_s : {k : ℕ} (o : Option (List ℕ)) (v : Value) → Maybe IsName o → IsValue k v → Safe k Any (bind_caught o v)
+pub bind_caught_s : {k : ℕ} (o : Option (List ℕ)) (v : Value) → Maybe IsName o → IsValue k v → Safe k Any (bind_caught o v)
 bind_caught_s None v n p = any_s
 bind_caught_s (Some x) v n p = assign_s x v n p
 
-forget_caught_s : {k : ℕ} (o : Option (List ℕ)) → Safe k Any (forget_caught o)
+pub forget_caught_s : {k : ℕ} (o : Option (List ℕ)) → Safe k Any (forget_caught o)
 forget_caught_s None = any_s
 forget_caught_s (Some x) = forget_s x
 

@@ -125,20 +125,20 @@ optional_later k l h o p = maybe_later (IsValue k) (IsValue l) (value_later k l 
 pub at_left : {l : ℕ} {s : Moment} (n : ℕ) → n ≤ widest_budget → IsMoment l s → IsMoment l (record s { left = n })
 at_left n h g = record { many = g.many; nodes = g.nodes; names = g.names; locals = g.locals; handled = g.handled; budget = h }
 
-at_depth : {l : ℕ} {s : Moment} (d : ℕ) → IsMoment l s → IsMoment l (record s { depth = d })
+pub at_depth : {l : ℕ} {s : Moment} (d : ℕ) → IsMoment l s → IsMoment l (record s { depth = d })
 at_depth d g = record { many = g.many; nodes = g.nodes; names = g.names; locals = g.locals; handled = g.handled; budget = g.budget }
 
--- at a moment that follows one with n steps left and these nodes
-abbrev pub After : ℕ → List Node → Moment → Type 0
-After n ns s = (s.left ≤ n) × Grown ns s.nodes
+-- at a moment that follows one with n steps left and these nodes, at the same depth
+abbrev pub After : ℕ → List Node → ℕ → Moment → Type 0
+After n ns deep s = (s.left ≤ n) × Grown ns s.nodes × (s.depth ≡ deep)
 
-pub stay : (s : Moment) → After s.left s.nodes s
-stay s = (omega arith, grown_self s.nodes)
+pub stay : (s : Moment) → After s.left s.nodes s.depth s
+stay s = (omega arith, grown_self s.nodes, refl)
 
-pub data SafeEnds {A : Type 0} (k n : ℕ) (ns : List Node) (Q : ℕ → A → Type 0) : Ends A → Type 0 where
-  fines : (l : ℕ) {a : A} {s : Moment} → k ≤ l → After n ns s → Q l a → IsMoment l s → SafeEnds k n ns Q (fine a s)
-  raiseds : (l : ℕ) {x : Thrown} {s : Moment} → k ≤ l → After n ns s → IsThrown l x → IsMoment l s → SafeEnds k n ns Q (raised x s)
-  stoppeds : (l : ℕ) {s : Moment} → k ≤ l → After n ns s → IsMoment l s → SafeEnds k n ns Q (stopped s)
+pub data SafeEnds {A : Type 0} (k n : ℕ) (ns : List Node) (deep : ℕ) (Q : ℕ → A → Type 0) : Ends A → Type 0 where
+  fines : (l : ℕ) {a : A} {s : Moment} → k ≤ l → After n ns deep s → Q l a → IsMoment l s → SafeEnds k n ns deep Q (fine a s)
+  raiseds : (l : ℕ) {x : Thrown} {s : Moment} → k ≤ l → After n ns deep s → IsThrown l x → IsMoment l s → SafeEnds k n ns deep Q (raised x s)
+  stoppeds : (l : ℕ) {s : Moment} → k ≤ l → After n ns deep s → IsMoment l s → SafeEnds k n ns deep Q (stopped s)
 
 -- ---- with more steps to spend
 
@@ -155,40 +155,40 @@ pub data WiderEnds {A : Type 0} (d : ℕ) : Ends A → Ends A → Type 0 where
   one_stopped : {s : Moment} {e : Ends A} → s.left ≡ 0 → (end_of e).left < d → WiderEnds d (stopped s) e
 
 -- No step is given back.
-pub falls_in : {A : Type 0} {k n : ℕ} {ns : List Node} {Q : ℕ → A → Type 0} {e : Ends A} → SafeEnds k n ns Q e → (end_of e).left ≤ n
+pub falls_in : {A : Type 0} {k n : ℕ} {ns : List Node} {deep : ℕ} {Q : ℕ → A → Type 0} {e : Ends A} → SafeEnds k n ns deep Q e → (end_of e).left ≤ n
 falls_in (fines l le after q g) = after.0
 falls_in (raiseds l le after q g) = after.0
 falls_in (stoppeds l le after g) = after.0
 
 -- from moments with k nodes or more
 pub record Safe {A : Type 0} (k : ℕ) (Q : ℕ → A → Type 0) (m : M A) : Type 0 where
-  pub go : (l : ℕ) → k ≤ l → (s : Moment) → IsMoment l s → SafeEnds l s.left s.nodes Q (m s)
+  pub go : (l : ℕ) → k ≤ l → (s : Moment) → IsMoment l s → SafeEnds l s.left s.nodes s.depth Q (m s)
   pub wide : (l : ℕ) → k ≤ l → (s : Moment) → IsMoment l s → (d : ℕ) → 0 < d → s.left + d ≤ widest_budget → WiderEnds d (m s) (m (more d s))
 
 pub safe_later : {A : Type 0} {k l : ℕ} {Q : ℕ → A → Type 0} {m : M A} → k ≤ l → Safe k Q m → Safe l Q m
 safe_later h m = record { go = λ n le s g. m.go n (omega (arith, h, le)) s g; wide = λ n le s g. m.wide n (omega (arith, h, le)) s g }
 
-pub after_on : (n : ℕ) (ns : List Node) (s t : Moment) → After n ns s → After s.left s.nodes t → After n ns t
-after_on n ns s t g h = let p : s.left ≤ n = g.0 in let q : t.left ≤ s.left = h.0 in (omega (arith, p, q), grown_on ns s.nodes t.nodes g.1 h.1)
+pub after_on : (n : ℕ) (ns : List Node) (deep : ℕ) (s t : Moment) → After n ns deep s → After s.left s.nodes s.depth t → After n ns deep t
+after_on n ns deep s t g h = let p : s.left ≤ n = g.0 in let q : t.left ≤ s.left = h.0 in (omega (arith, p, q), grown_on ns s.nodes t.nodes g.1 h.1, h.2 ∙ g.2)
 
 -- of ends from a moment that itself is a later one
-pub ends_later : {A : Type 0} {k l n : ℕ} {ns : List Node} {Q : ℕ → A → Type 0} {e : Ends A} (s : Moment) → k ≤ l → After n ns s → SafeEnds l s.left s.nodes Q e → SafeEnds k n ns Q e
-ends_later {n = most} {ns = ns} s h after (fines n {s = t} le a q g) = fines n (omega (arith, h, le)) (after_on most ns s t after a) q g
-ends_later {n = most} {ns = ns} s h after (raiseds n {s = t} le a q g) = raiseds n (omega (arith, h, le)) (after_on most ns s t after a) q g
-ends_later {n = most} {ns = ns} s h after (stoppeds n {s = t} le a g) = stoppeds n (omega (arith, h, le)) (after_on most ns s t after a) g
+pub ends_later : {A : Type 0} {k l n : ℕ} {ns : List Node} {deep : ℕ} {Q : ℕ → A → Type 0} {e : Ends A} (s : Moment) → k ≤ l → After n ns deep s → SafeEnds l s.left s.nodes s.depth Q e → SafeEnds k n ns deep Q e
+ends_later {n = most} {ns = ns} {deep = deep} s h after (fines n {s = t} le a q g) = fines n (omega (arith, h, le)) (after_on most ns deep s t after a) q g
+ends_later {n = most} {ns = ns} {deep = deep} s h after (raiseds n {s = t} le a q g) = raiseds n (omega (arith, h, le)) (after_on most ns deep s t after a) q g
+ends_later {n = most} {ns = ns} {deep = deep} s h after (stoppeds n {s = t} le a g) = stoppeds n (omega (arith, h, le)) (after_on most ns deep s t after a) g
 
-bind_ends : {A B : Type 0} {k l n : ℕ} {ns : List Node} (Q : ℕ → A → Type 0) (S : ℕ → B → Type 0) (f : A → M B) {e : Ends A} → k ≤ l → SafeEnds l n ns Q e → ((n : ℕ) → k ≤ n → (a : A) → Q n a → Safe n S (f a)) → SafeEnds l n ns S (and_then e f)
+bind_ends : {A B : Type 0} {k l n : ℕ} {ns : List Node} {deep : ℕ} (Q : ℕ → A → Type 0) (S : ℕ → B → Type 0) (f : A → M B) {e : Ends A} → k ≤ l → SafeEnds l n ns deep Q e → ((n : ℕ) → k ≤ n → (a : A) → Q n a → Safe n S (f a)) → SafeEnds l n ns deep S (and_then e f)
 bind_ends Q S f kl (fines n {a = a} {s = s} le after q g) h = ends_later s le after ((h n (omega (arith, kl, le)) a q).go n (omega arith) s g)
 bind_ends Q S f kl (raiseds n {s = s} le after q g) h = raiseds n le after q g
 bind_ends Q S f kl (stoppeds n {s = s} le after g) h = stoppeds n le after g
 
 -- what ends with fewer than d steps left goes on so
-short_ends : {A B : Type 0} {k l d n : ℕ} {ns : List Node} (Q : ℕ → A → Type 0) (S : ℕ → B → Type 0) (f : A → M B) {e : Ends A} → k ≤ l → SafeEnds l n ns Q e → (end_of e).left < d → ((n : ℕ) → k ≤ n → (a : A) → Q n a → Safe n S (f a)) → (end_of (and_then e f)).left < d
+short_ends : {A B : Type 0} {k l d n : ℕ} {ns : List Node} {deep : ℕ} (Q : ℕ → A → Type 0) (S : ℕ → B → Type 0) (f : A → M B) {e : Ends A} → k ≤ l → SafeEnds l n ns deep Q e → (end_of e).left < d → ((n : ℕ) → k ≤ n → (a : A) → Q n a → Safe n S (f a)) → (end_of (and_then e f)).left < d
 short_ends Q S f kl (fines n {a = a} {s = s} le after q g) short h = let p = falls_in ((h n (omega (arith, kl, le)) a q).go n (omega arith) s g) in omega (arith, p, short)
 short_ends Q S f kl (raiseds n le after q g) short h = short
 short_ends Q S f kl (stoppeds n le after g) short h = short
 
-bind_wide : {A B : Type 0} {k l d n n' : ℕ} {ns ns' : List Node} (Q : ℕ → A → Type 0) (S : ℕ → B → Type 0) (f : A → M B) {e e' : Ends A} → k ≤ l → 0 < d → n + d ≤ widest_budget → WiderEnds d e e' → SafeEnds l n ns Q e → SafeEnds l n' ns' Q e' → ((n : ℕ) → k ≤ n → (a : A) → Q n a → Safe n S (f a)) → WiderEnds d (and_then e f) (and_then e' f)
+bind_wide : {A B : Type 0} {k l d n n' : ℕ} {ns ns' : List Node} {deep deep' : ℕ} (Q : ℕ → A → Type 0) (S : ℕ → B → Type 0) (f : A → M B) {e e' : Ends A} → k ≤ l → 0 < d → n + d ≤ widest_budget → WiderEnds d e e' → SafeEnds l n ns deep Q e → SafeEnds l n' ns' deep' Q e' → ((n : ℕ) → k ≤ n → (a : A) → Q n a → Safe n S (f a)) → WiderEnds d (and_then e f) (and_then e' f)
 bind_wide {d = d} {n = most} Q S f kl pos fits both_fine (fines n {a = a} {s = s} le after q g) other h = let p : s.left ≤ most = after.0 in (h n (omega (arith, kl, le)) a q).wide n (omega arith) s g d pos (omega (arith, p, fits))
 bind_wide Q S f kl pos fits both_raised one other h = both_raised
 bind_wide Q S f kl pos fits (one_stopped z short) one other h = one_stopped z (short_ends Q S f kl other short h)
@@ -274,12 +274,12 @@ abbrev pub spend_by : Bool → ℕ → M (Unit {0})
 spend_by b n s = if b then fine tt (record s { left = s.left - n }) else stopped (record s { left = 0 })
 
 -- What was spent was there.
-spend_ends : (b : Bool) (n l : ℕ) (s : Moment) → nat_le n s.left ≡ b → IsMoment l s → SafeEnds l s.left s.nodes (λ _ _. n ≤ widest_budget) (spend_by b n s)
+spend_ends : (b : Bool) (n l : ℕ) (s : Moment) → nat_le n s.left ≡ b → IsMoment l s → SafeEnds l s.left s.nodes s.depth (λ _ _. n ≤ widest_budget) (spend_by b n s)
 spend_ends true n l s e g =
     let p = g.budget in
     let fits : n ≤ s.left = leb-true n s.left e in
-    fines l (omega arith) (omega arith, grown_self s.nodes) (omega (arith, p, fits)) (at_left (s.left - n) (omega (arith, p)) g)
-spend_ends false n l s e g = stoppeds l (omega arith) (omega arith, grown_self s.nodes) (at_left 0 (omega arith) g)
+    fines l (omega arith) (omega arith, grown_self s.nodes, refl) (omega (arith, p, fits)) (at_left (s.left - n) (omega (arith, p)) g)
+spend_ends false n l s e g = stoppeds l (omega arith) (omega arith, grown_self s.nodes, refl) (at_left 0 (omega arith) g)
 
 spend_wide : (n d : ℕ) (s : Moment) (b c : Bool) → nat_le n s.left ≡ b → nat_le n (s.left + d) ≡ c → 0 < d → WiderEnds d (spend_by b n s) (spend_by c n (more d s))
 spend_wide n d s true true e f pos =
@@ -299,7 +299,7 @@ spend_wide n d s false false e f pos = one_stopped refl pos
 pub spend_s : {k : ℕ} (n : ℕ) → Safe k (λ _ _. n ≤ widest_budget) (spend n)
 spend_s n = record { go = λ l le s g. spend_ends (nat_le n s.left) n l s refl g; wide = λ l le s g d pos fits. spend_wide n d s (nat_le n s.left) (nat_le n (s.left + d)) refl refl pos }
 
-ends_so : {A : Type 0} {k n : ℕ} {ns : List Node} {Q S : ℕ → A → Type 0} {e : Ends A} → ((l : ℕ) (a : A) → Q l a → S l a) → SafeEnds k n ns Q e → SafeEnds k n ns S e
+ends_so : {A : Type 0} {k n : ℕ} {ns : List Node} {deep : ℕ} {Q S : ℕ → A → Type 0} {e : Ends A} → ((l : ℕ) (a : A) → Q l a → S l a) → SafeEnds k n ns deep Q e → SafeEnds k n ns deep S e
 ends_so h (fines l {a = a} le after q g) = fines l le after (h l a q) g
 ends_so h (raiseds l le after q g) = raiseds l le after q g
 ends_so h (stoppeds l le after g) = stoppeds l le after g
@@ -316,10 +316,10 @@ tick_s = spend_s 1
 pub out_s : {k : ℕ} (cs : List ℕ) → Safe k Any (put_out cs)
 out_s cs = record { go = λ l le s g. fines l (omega arith) (stay s) tt (record { many = g.many; nodes = g.nodes; names = g.names; locals = g.locals; handled = g.handled; budget = g.budget }); wide = λ l le s g d pos fits. both_fine }
 
-back_ends : {A : Type 0} {k n : ℕ} {ns : List Node} (Q : ℕ → A → Type 0) (d : ℕ) {e : Ends A} → SafeEnds k n ns Q e → SafeEnds k n ns Q (back_at d e)
-back_ends Q d (fines l le after q g) = fines l le after q (at_depth d g)
-back_ends Q d (raiseds l le after q g) = raiseds l le after q (at_depth d g)
-back_ends Q d (stoppeds l le after g) = stoppeds l le after (at_depth d g)
+back_ends : {A : Type 0} {k n : ℕ} {ns : List Node} {deep : ℕ} (Q : ℕ → A → Type 0) (d : ℕ) {e : Ends A} → SafeEnds k n ns deep Q e → SafeEnds k n ns d Q (back_at d e)
+back_ends Q d (fines l le after q g) = fines l le (after.0, after.1, refl) q (at_depth d g)
+back_ends Q d (raiseds l le after q g) = raiseds l le (after.0, after.1, refl) q (at_depth d g)
+back_ends Q d (stoppeds l le after g) = stoppeds l le (after.0, after.1, refl) (at_depth d g)
 
 back_left : {A : Type 0} (d : ℕ) (e : Ends A) → (end_of (back_at d e)).left ≡ (end_of e).left
 back_left d (fine a s) = refl
@@ -335,13 +335,13 @@ level_wide : {A : Type 0} {d : ℕ} (b : Bool) (n : ℕ) (s : Moment) {e e' : En
 level_wide true n s h = back_wide n h
 level_wide false n s h = both_raised
 
-level_ends : {A : Type 0} {k : ℕ} (Q : ℕ → A → Type 0) (b : Bool) (d : ℕ) {s : Moment} {e : Ends A} → IsMoment k s → SafeEnds k s.left s.nodes Q e → SafeEnds k s.left s.nodes Q (if b then back_at d e else recursion_error s)
-level_ends Q true d g h = back_ends Q d h
-level_ends {k = k} Q false d {s = s} g h = raiseds k (omega arith) (stay s) (refl, (refl, tt)) g
+level_ends : {A : Type 0} {k deep : ℕ} (Q : ℕ → A → Type 0) (b : Bool) {s : Moment} {e : Ends A} → IsMoment k s → SafeEnds k s.left s.nodes deep Q e → SafeEnds k s.left s.nodes s.depth Q (if b then back_at s.depth e else recursion_error s)
+level_ends Q true {s = s} g h = back_ends Q s.depth h
+level_ends {k = k} Q false {s = s} g h = raiseds k (omega arith) (stay s) (refl, (refl, tt)) g
 
 pub deeper_s : {A : Type 0} {k : ℕ} {Q : ℕ → A → Type 0} {m : M A} → Safe k Q m → Safe k Q (deeper m)
 deeper_s {Q = Q} {m = m} h = record {
-  go = λ l le s g. level_ends Q (nat_lt s.depth most_depth) s.depth g (h.go l le (record s { depth = suc s.depth }) (at_depth (suc s.depth) g));
+  go = λ l le s g. level_ends Q (nat_lt s.depth most_depth) g (h.go l le (record s { depth = suc s.depth }) (at_depth (suc s.depth) g));
   wide = λ l le s g d pos fits. level_wide (nat_lt s.depth most_depth) s.depth s (h.wide l le (record s { depth = suc s.depth }) (at_depth (suc s.depth) g) d pos fits);
 }
 
@@ -353,10 +353,10 @@ Answers P (answer a left) = P a left
 Answers P (too_deep left) = Unit {0}
 Answers P (spent left) = Unit {0}
 
-counted_ends : {A : Type 0} (Q : ℕ → A → Type 0) (r : Counted A) (l : ℕ) (s : Moment) → IsMoment l s → left_of r ≤ s.left → Answers (λ a left. Q l a) r → SafeEnds l s.left s.nodes Q (ended_in s r)
-counted_ends Q (answer a n) l s g h q = let p = g.budget in fines l (omega arith) (h, grown_self s.nodes) q (at_left n (omega (arith, p, h)) g)
-counted_ends Q (too_deep n) l s g h q = let p = g.budget in raiseds l (omega arith) (h, grown_self s.nodes) (refl, (refl, tt)) (at_left n (omega (arith, p, h)) g)
-counted_ends Q (spent n) l s g h q = let p = g.budget in stoppeds l (omega arith) (h, grown_self s.nodes) (at_left n (omega (arith, p, h)) g)
+counted_ends : {A : Type 0} (Q : ℕ → A → Type 0) (r : Counted A) (l : ℕ) (s : Moment) → IsMoment l s → left_of r ≤ s.left → Answers (λ a left. Q l a) r → SafeEnds l s.left s.nodes s.depth Q (ended_in s r)
+counted_ends Q (answer a n) l s g h q = let p = g.budget in fines l (omega arith) (h, grown_self s.nodes, refl) q (at_left n (omega (arith, p, h)) g)
+counted_ends Q (too_deep n) l s g h q = let p = g.budget in raiseds l (omega arith) (h, grown_self s.nodes, refl) (refl, (refl, tt)) (at_left n (omega (arith, p, h)) g)
+counted_ends Q (spent n) l s g h q = let p = g.budget in stoppeds l (omega arith) (h, grown_self s.nodes, refl) (at_left n (omega (arith, p, h)) g)
 
 ended_left : {A : Type 0} (s : Moment) (r : Counted A) → (end_of (ended_in s r)).left ≡ left_of r
 ended_left s (answer a n) = refl
@@ -386,7 +386,7 @@ counted_s c same h = counted_at Any c same h (λ l s le g. whatever (c s s.left)
 
 pub make_s : {k : ℕ} (n : Node) → IsNode k n → Safe k IsValue (make n)
 make_s {k = k} n h = record {
-  go = λ l le s g. fines (l + 1) (omega arith) (omega arith, grown_append s.nodes (n ∷ [])) (omega (arith, g.many)) (record {
+  go = λ l le s g. fines (l + 1) (omega arith) (omega arith, grown_append s.nodes (n ∷ []), refl) (omega (arith, g.many)) (record {
     many = omega (arith, g.many, length-append s.nodes (n ∷ []));
     nodes = each_append (IsNode (l + 1)) s.nodes (n ∷ []) (each_later (IsNode l) (IsNode (l + 1)) (node_later l (l + 1) (omega arith)) s.nodes g.nodes) (node_later k (l + 1) (omega (arith, le)) n h, tt);
     names = names_later l (l + 1) (omega arith) g.names;
@@ -414,7 +414,7 @@ pub record Edits (k : ℕ) (f : Node → Node) : Type 0 where
 
 pub change_s : {k : ℕ} (i : ℕ) (f : Node → Node) → Edits k f → Safe k Any (change i f)
 change_s i f h = record {
-  go = λ l le s g. fines l (omega arith) (omega arith, grown_changed f h.stays i s.nodes) tt (record {
+  go = λ l le s g. fines l (omega arith) (omega arith, grown_changed f h.stays i s.nodes, refl) tt (record {
     many = g.many ∙ sym (changed_length f i s.nodes);
     nodes = changed_each l f (h.keeps l le) i s.nodes g.nodes;
     names = g.names;

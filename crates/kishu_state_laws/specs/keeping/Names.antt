@@ -77,7 +77,7 @@ names_unbound k x ns h = record { titles = unbound_titles x ns h.titles; rise = 
 with_names : {l : ℕ} {s : Moment} (f : Names) (xs : List (List ℕ)) → AreNames l f → IsMoment l s → IsMoment l (record s { names = f; accessed = xs })
 with_names f xs h g = record { many = g.many; nodes = g.nodes; names = h; locals = g.locals; handled = g.handled; budget = g.budget }
 
-with_locals : {l : ℕ} {s : Moment} (o : Option Locals) → Maybe (λ (here : Locals). AreValues l (values_in here.values)) o → IsMoment l s → IsMoment l (record s { locals = o })
+pub with_locals : {l : ℕ} {s : Moment} (o : Option Locals) → Maybe (λ (here : Locals). AreValues l (values_in here.values)) o → IsMoment l s → IsMoment l (record s { locals = o })
 with_locals o h g = record { many = g.many; nodes = g.nodes; names = g.names; locals = h; handled = g.handled; budget = g.budget }
 
 -- ---- builtin functions and classes
@@ -125,11 +125,11 @@ taking_global x b s = if b then fine tt (record s { names = unbind x s.names }) 
 abbrev taking_local : List ℕ → Locals → Bool → M (Unit {0})
 taking_local x here b s = if b then fine tt (record s { locals = Some (record here { values = unbind x here.values }) }) else unbound_local x s
 
-taken_ends : (x : List ℕ) (b : Bool) (l : ℕ) (s : Moment) → IsName x → IsMoment l s → SafeEnds l s.left s.nodes Any (taking_global x b s)
+taken_ends : (x : List ℕ) (b : Bool) (l : ℕ) (s : Moment) → IsName x → IsMoment l s → SafeEnds l s.left s.nodes s.depth Any (taking_global x b s)
 taken_ends x true l s n g = fines l (omega arith) (stay s) tt (with_names (unbind x s.names) s.accessed (names_unbound l x s.names g.names) g)
 taken_ends x false l s n g = (name_error_s {k = l} {Q = Any} x n).go l (omega arith) s g
 
-local_ends : (x : List ℕ) (here : Locals) (b : Bool) (l : ℕ) (s : Moment) → IsName x → AreValues l (values_in here.values) → IsMoment l s → SafeEnds l s.left s.nodes Any (taking_local x here b s)
+local_ends : (x : List ℕ) (here : Locals) (b : Bool) (l : ℕ) (s : Moment) → IsName x → AreValues l (values_in here.values) → IsMoment l s → SafeEnds l s.left s.nodes s.depth Any (taking_local x here b s)
 local_ends x here true l s n h g = fines l (omega arith) (stay s) tt (with_locals (Some (record here { values = unbind x here.values })) (unbound_values_in l x here.values h) g)
 local_ends x here false l s n h g = (unbound_local_s {k = l} {Q = Any} x n).go l (omega arith) s g
 
@@ -193,7 +193,7 @@ module _ {k : ℕ} where
   pub forget_s : (x : List ℕ) → Safe k Any (forget x)
   forget_s x = asking_s (λ s. forget_in x s.locals) (λ d s. refl) (λ l s le g. forget_in_s x s.locals g.locals)
 
-  left_ends : {A : Type 0} {n : ℕ} {ns : List Node} (Q : ℕ → A → Type 0) (o : Option Locals) {e : Ends A} → AreLocals k o → SafeEnds k n ns Q e → SafeEnds k n ns Q (left_at o e)
+  left_ends : {A : Type 0} {n : ℕ} {ns : List Node} {deep : ℕ} (Q : ℕ → A → Type 0) (o : Option Locals) {e : Ends A} → AreLocals k o → SafeEnds k n ns deep Q e → SafeEnds k n ns deep Q (left_at o e)
   left_ends Q o h (fines l le after q g) = fines l le after q (with_locals o (locals_later k l le o h) g)
   left_ends Q o h (raiseds l le after q g) = raiseds l le after q (with_locals o (locals_later k l le o h) g)
   left_ends Q o h (stoppeds l le after g) = stoppeds l le after (with_locals o (locals_later k l le o h) g)

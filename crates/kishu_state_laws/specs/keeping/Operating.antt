@@ -21,6 +21,7 @@ use Rattle.kishu_meaning.specs.comparing.Comparing.{comparison_sign, or_unordere
 use Rattle.kishu_meaning.specs.calls.Operators.{bad_operands, list_from, tuple_from, whole, divided, raised_to, arithmetic, new_list, new_tuple, both, times, often, operator_sign, on_numbers, sum_of_nodes, sum_of, node_times, value_times, on_sequences, operate, signed_number, sign_text, signed_in, signed_value}
 use Rattle.kishu_meaning.specs.items.Walks.{unpacked, View, keys, values, items, Walk, along_list, along_dict, along_tuple, along_text, along_range, node_walk, walk_of, or_none_there, items_now, entries_now, walk_view, seen, entry_seen, item_for}
 use Rattle.kishu_objects.specs.State.{IsValue, AreValues, IsNode, IsKey, keys_in, values_in}
+use Rattle.kishu_state_laws.specs.Moments.{IsWalk}
 use Rattle.kishu_state_laws.specs.keeping.Logic.{Maybe, Any, IsText, Safe, safe_later, bind_s, with_s, plain_s, then_s, give_s, any_s, value_s, list_s, raise_s, if_s, when_s, node_now_s, spend_s, make_s, value_later, values_later, maybe_later, optional_later, node_later, each_append, each_get}
 use Rattle.kishu_state_laws.specs.keeping.Lists.{each_many}
 use Rattle.kishu_state_laws.specs.keeping.Texts.{scalars_append, text_many, text_decimal, IsScalar, each_scalar, one_text}
@@ -155,13 +156,6 @@ module _ {k : ℕ} where
   compare_s comparisons.IsNot v w h = negated_s (identical_s v w)
 
 -- ---- walks
-
-abbrev pub IsWalk : ℕ → Walk → Type 0
-IsWalk k (along_list i) = Unit {0}
-IsWalk k (along_dict i n view) = Unit {0}
-IsWalk k (along_tuple vs) = AreValues k vs
-IsWalk k (along_text cs) = IsText cs
-IsWalk k (along_range a b c) = IsWhole a × IsWhole b
 
 pub walk_later : (k l : ℕ) → k ≤ l → (u : Walk) → IsWalk k u → IsWalk l u
 walk_later k l h (along_list i) p = p

@@ -14,23 +14,20 @@ use Rattle.kishu_language.specs.trees.Tree as t
 use Rattle.kishu_meaning.specs.values.Keys.{Key, is_one}
 use Rattle.kishu_meaning.specs.values.Nodes.{with_entry}
 use Rattle.kishu_meaning.specs.values.Sound.{with_default}
-use Rattle.kishu_meaning.specs.values.Values.{Value, builtin, class, node, Node, dict, function}
+use Rattle.kishu_meaning.specs.values.Values.{Value, node, dict, function}
 use Rattle.kishu_meaning.specs.moments.Moment.{M, give, make}
 use Rattle.kishu_meaning.specs.calls.Operators.{list_from}
-use Rattle.kishu_meaning.specs.calls.Callees.{Given, nothing_given, and_plain, and_named, Part, whole, dotted, viewed, Callee, method, view}
-use Rattle.kishu_meaning.specs.calls.Callees as c
+use Rattle.kishu_meaning.specs.calls.Callees.{Given}
 use Rattle.kishu_meaning.specs.cells.Ways.{Flow}
-use Rattle.kishu_meaning.specs.cells.Meaning.{Calls, no_place, nodes, with_pairs, new_dict, Place, named, attribute_of, item_of, read_place, store_in, delete_place, add_to, updated, new_function, in_block, call_node, call_value, apply}
-use Rattle.kishu_objects.specs.State.{IsValue, AreValues, IsNode, IsName, IsCode, AreApart, keys_in, values_in}
+use Rattle.kishu_meaning.specs.cells.Meaning.{Calls, no_place, nodes, with_pairs, new_dict, Place, named, attribute_of, item_of, read_place, store_in, delete_place, add_to, updated, new_function, in_block}
+use Rattle.kishu_objects.specs.State.{IsValue, AreValues, IsName, IsCode, AreApart, keys_in, values_in}
 use Rattle.kishu_state_laws.specs.trees.Sound.{ArgumentsSound, CodeSound}
-use Rattle.kishu_state_laws.specs.keeping.Logic.{Maybe, Any, Safe, bind_s, with_s, then_s, give_s, any_s, value_s, raise_s, asking_s, node_now_s, tick_s, deeper_s, make_s, value_later, values_later}
+use Rattle.kishu_state_laws.specs.keeping.Logic.{Any, Safe, bind_s, with_s, then_s, give_s, any_s, value_s, raise_s, asking_s, node_now_s, tick_s, deeper_s, make_s, value_later, values_later}
 use Rattle.kishu_state_laws.specs.keeping.Lists.{AreEntries, no_entries, entries_with, dict_node}
-use Rattle.kishu_state_laws.specs.keeping.Texts.{text_title}
 use Rattle.kishu_state_laws.specs.keeping.Leaves.{key_s, extended_s}
 use Rattle.kishu_state_laws.specs.keeping.Subscripts.{item_s, attribute_s, store_item_s, store_attribute_s, delete_item_s, delete_attribute_s}
 use Rattle.kishu_state_laws.specs.keeping.Operating.{operate_s}
-use Rattle.kishu_state_laws.specs.keeping.Methods.{call_method_s}
-use Rattle.kishu_state_laws.specs.keeping.Callees.{IsGiven, given_later, IsPart, part_s, IsCallee, by_plain_s, call_builtin_s, construct_s, not_callable_s}
+use Rattle.kishu_state_laws.specs.keeping.Callees.{IsGiven}
 use Rattle.kishu_state_laws.specs.keeping.Names.{read_s, assign_s, delete_s}
 use Rattle.kishu_state_laws.specs.keeping.Flows.{IsFlow, onward_s}
 
@@ -146,22 +143,3 @@ given_sound k es g s d h = record {
 
 abbrev pub CallsSafe : Calls → Type 0
 CallsSafe calls = (k : ℕ) (profile : Profile) (code : List ℕ) (vs : List Value) (g : Given) → IsCode profile code (length vs) → AreValues k vs → IsGiven k g → Safe k IsValue (calls profile code vs g)
-
-module _ (calls : Calls) (cs : CallsSafe calls) where
-  call_node_s : {k : ℕ} (v : Value) (o : Option Node) (g : Given) → Maybe (IsNode k) o → IsGiven k g → Safe k IsValue (call_node calls v o g)
-  call_node_s {k = k} v (Some (function profile code vs)) g h e = cs k profile code vs g h.0 h.1 e
-  call_node_s v o g h e = not_callable_s v
-
-  call_value_s : {k : ℕ} (v : Value) (g : Given) → IsGiven k g → Safe k IsValue (call_value calls v g)
-  call_value_s (builtin m) g h = call_builtin_s m g h
-  call_value_s (class m) g h = construct_s m g h
-  call_value_s {k = k} (node i) g h = bind_s (node_now_s (node i)) (λ l le o q. call_node_s (node i) o g q (given_later k l le g h))
-  call_value_s v g h = not_callable_s v
-
-  whole_s : {k : ℕ} (v : Value) → IsValue k v → Safe k IsPart (give (whole v))
-  whole_s v h = part_s (whole v) h
-
-  pub apply_s : {k : ℕ} (f : Callee) (g : Given) → IsCallee k f → IsGiven k g → Safe k IsPart (apply calls f g)
-  apply_s (c.function v) g q h = bind_s (call_value_s v g h) (λ l le w q. whole_s w q)
-  apply_s (method v x) g q h = bind_s (by_plain_s x g.named (text_title x q.1) (call_method_s v x g.plain q.1 q.0 h.plain)) (λ l le w q. whole_s w q)
-  apply_s (view i found) g q h = part_s (viewed i found) tt

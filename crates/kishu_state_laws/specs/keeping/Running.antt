@@ -46,7 +46,7 @@ or_default_value : (k : ℕ) (o p : Option Value) → MaybeValue k o → MaybeVa
 or_default_value k (Some v) p h g = h
 or_default_value k None p h g = g
 
-abbrev MaybeNames : ℕ → Option Names → Type 0
+abbrev pub MaybeNames : ℕ → Option Names → Type 0
 MaybeNames k = Maybe (λ (f : Names). AreValues k (values_in f))
 
 with_value_names : (k : ℕ) (x : Text) (o : Option Value) (f : Option Names) → MaybeValue k o → MaybeNames k f → MaybeNames k (with_value x o f)
@@ -63,12 +63,12 @@ if_names : (k : ℕ) (b : Bool) (o : Option Names) → MaybeNames k o → MaybeN
 if_names k true o h = h
 if_names k false o h = tt
 
-bound_names : (k : ℕ) (d : Definition) (vs : List Value) (g : Given) → AreValues k vs → IsGiven k g → MaybeNames k (bound_values d vs g)
+pub bound_names : (k : ℕ) (d : Definition) (vs : List Value) (g : Given) → AreValues k vs → IsGiven k g → MaybeNames k (bound_values d vs g)
 bound_names k d vs g h e = if_names k (arguments_fit (parameter_titles d.parameters) g) (values_for (with_defaults d.parameters vs) g.plain g.named) (values_names k (with_defaults d.parameters vs) g.plain g.named (defaults_values k d.parameters vs h) e.plain e.named.values)
 
 -- ---- calls
 
-result_value : (k : ℕ) (f : Flow) → IsFlow k f → IsValue k (result_of f)
+pub result_value : (k : ℕ) (f : Flow) → IsFlow k f → IsValue k (result_of f)
 result_value k (returned v) h = h
 result_value k onward h = tt
 result_value k broke h = tt
@@ -78,7 +78,7 @@ enter_s : (calls : Calls) (cs : CallsSafe calls) (k : ℕ) (d : Definition) (o :
 enter_s calls cs k d (Some f) n b h = bind_s (deeper_s (frame_s IsFlow (record { own = own_names d; values = f }) h (in_block_s d.body (acts_s calls cs k d.body b)))) (λ l le x q. value_s (result_of x) (result_value l x q))
 enter_s calls cs k d None n b h = bad_arguments_s d.title (text_title d.title n)
 
-call_s : (n : ℕ) → CallsSafe (call n)
+pub call_s : (n : ℕ) → CallsSafe (call n)
 unfolding call
 call_s zero k profile code vs g c h e = raise_s _ (codes "depth limit reached") refl refl
 call_s (suc n) k profile code vs g c h e =
@@ -120,18 +120,18 @@ pub record Follows (ns : List Node) (s : State) : Type 0 where
 abbrev state_at : Moment → State
 state_at s = record { names = s.names; nodes = s.nodes }
 
-follows : {n : ℕ} {ns : List Node} (l : ℕ) (s : Moment) → After n ns s → IsMoment l s → Follows ns (state_at s)
+follows : {n : ℕ} {ns : List Node} {deep : ℕ} (l : ℕ) (s : Moment) → After n ns deep s → IsMoment l s → Follows ns (state_at s)
 follows l s after g = record {
   state = record { names = subst (λ k. AreNames k s.names) g.many g.names; nodes = subst (λ k. Each (IsNode k) s.nodes) g.many g.nodes };
   grown = after.1;
 }
 
-uncaught_follows : (x : Thrown) {k n : ℕ} {ns : List Node} {e : Ends (List ℕ)} → SafeEnds k n ns Any e → Follows ns (uncaught x e).state
+uncaught_follows : (x : Thrown) {k n : ℕ} {ns : List Node} {deep : ℕ} {e : Ends (List ℕ)} → SafeEnds k n ns deep Any e → Follows ns (uncaught x e).state
 uncaught_follows x (fines l {s = s} le after q g) = follows l s after g
 uncaught_follows x (raiseds l {s = s} le after q g) = follows l s after g
 uncaught_follows x (stoppeds l {s = s} le after g) = follows l s after g
 
-finished_follows : {k n : ℕ} {ns : List Node} {e : Ends (Option (List ℕ))} → SafeEnds k n ns Any e → Follows ns (finished e).state
+finished_follows : {k n : ℕ} {ns : List Node} {deep : ℕ} {e : Ends (Option (List ℕ))} → SafeEnds k n ns deep Any e → Follows ns (finished e).state
 finished_follows (fines l {s = s} le after q g) = follows l s after g
 finished_follows (raiseds l {x = x} {s = s} le after q g) = uncaught_follows x (ends_later s le after ((so_s (show_thrown_s {k = l} x q) (λ m cs r. tt)).go l (omega arith) s g))
 finished_follows (stoppeds l {s = s} le after g) = follows l s after g
