@@ -1,27 +1,22 @@
 -- What a text's run is, by its tree and by the line of its fault, and where it begins.
-use Rattle.std.proofs.Common.{◌≡◌, ◌∙◌, ap, sym, subst, arith, ℕ, ◌+◌, ◌-◌, ◌*◌, ◌≤◌, List, [], ◌∷◌, ◌++◌, length, Option, Some, None, Result, Ok, Err, IfOk}
-use Rattle.std.specs.Str.{chars, IsUtf8}
+use Rattle.std.proofs.Common.{◌≡◌, ◌∙◌, ap, sym, subst, arith, ℕ, ◌+◌, ◌-◌, ◌*◌, ◌≤◌, List, [], ◌∷◌, ◌++◌, length, Option, Some, None, Result, Ok}
+use Rattle.std.specs.Str.{chars}
 use Rattle.std.specs.declared.alloc.Global.{Global}
 use Rattle.std.specs.declared.string.String.{String}
 use Rattle.std.proofs.lemmas.Str.{chars-nil}
 use Rattle.kishu_language.specs.declared.profile.Profile.{Profile}
-use Rattle.kishu_language.specs.Limits.{longest_text}
-use Rattle.kishu_meaning.specs.declared.result.CellResult.{CellResult}
 use Rattle.kishu_meaning.specs.declared.result.Output as rust
 use Rattle.kishu_language_laws.specs.reading.ExactText.{read_only, line_only}
 use Rattle.kishu_meaning.specs.cells.Meaning.{run, run_tree, unread, begun, cell, printed}
 use Rattle.kishu_meaning.specs.moments.Moment.{Moment, most_steps}
 use Rattle.kishu_language.specs.grammar.Parse.{Parse, Line}
 use Rattle.kishu_language.specs.trees.Tree.{Text, Statement}
-use Rattle.kishu_meaning.specs.values.Values.{Names, Node, Output, Ran, Report, State, output_of, report_of}
+use Rattle.kishu_meaning.specs.values.Values.{Names, Node, Output, State, output_of}
 use Rattle.kishu_lexer.specs.declared.fault.SyntaxFault.{SyntaxFault}
 use Rattle.kishu_lexer.specs.declared.fault.SyntaxFault.TheVariants.{Syntax}
 use Rattle.kishu_parser.specs.Statements.{FaultOf}
 use Rattle.kishu_machine.specs.declared.fault.Fault.{Fault}
 use Rattle.kishu_machine.specs.declared.machine.Machine.{Machine}
-use Rattle.kishu_objects.specs.State.{IsState}
-use Rattle.kishu_state_laws.specs.Budgets.{Start, cell_spends_all, run_by, run_has_budget, stopped_asks_further}
-use Rattle.kishu_interp.specs.Running.{StopsAtBudget}
 use Rattle.kishu_machine.specs.Machine.{Gives, GrownBy, ReadsBy, outputs_in, shown_of}
 
 -- ---- a text and its tree
@@ -79,19 +74,3 @@ charged m2 m3 n a b c charge p q r h e = omega (arith, p, q, r, h.0, h.1, h.2, e
 
 pub charged_most : (m2 m3 : Machine) (n a b c charge : ℕ) → n ≤ length m2.heap → length m2.heap + 4 * m2.budget.left ≤ n + 4 * most_steps → b + 128 * m2.budget.left ≤ a + 128 * most_steps → GrownBy 0 m2 b m3 c → ReadsBy 32 m2 b m3 c → charge ≡ most_steps - m3.budget.left → c ≤ a + 128 * charge + 128
 charged_most m2 m3 n a b c charge p q r h k e = omega (arith, p, q, r, h.0, h.1, k, e)
-
--- ---- where a run stops
-
--- What has the report of a run tells where it stopped.
-pub stops_there : {E : Type 0} (profile : Profile) (text : Text) (s : State) (r : Result CellResult E) → IsUtf8 text → length text ≤ longest_text
-    → IfOk r (λ x. report_of x ≡ (run profile text s).report) → IfOk r (λ x. IsState s → StopsAtBudget x.outcome profile text s)
-stops_there profile text s (Ok x) utf8 short h = λ is.
-    let c : Start = record { profile = profile; text = text; state = s; is_cell = (utf8, short); is_state = is } in
-    let same : x.outcome ≡ (run profile text s).report.outcome = ap (λ (y : Report). y.outcome) h in
-    let full : (run_by most_steps c).report.outcome ≡ (run profile text s).report.outcome = ap (λ (y : Ran). y.report.outcome) (run_has_budget c) in
-    let law = stopped_asks_further c most_steps (omega arith) in
-    record {
-      spent = λ e. cell_spends_all c (sym same ∙ e);
-      asked = ((λ e. law.0 (full ∙ sym same ∙ e)), (λ e. same ∙ sym full ∙ law.1 e));
-    }
-stops_there profile text s (Err e) utf8 short h = tt

@@ -6,8 +6,7 @@ ghost use Rattle.kishu_meaning.specs.moments.Accesses.{with_accesses};
 ghost use Rattle.kishu_meaning.specs.values.Sound.{are_sound_names};
 ghost use Rattle.kishu_meaning.specs.values.Values.{State, report_of};
 ghost use Rattle.kishu_statements.specs.Handed.{FitBlock, LowBlock};
-ghost use Rattle.kishu_objects.specs.State.{IsState};
-ghost use Rattle.kishu_interp.specs.Running.{StopsAtBudget, state_in, text_run, tree_run};
+ghost use Rattle.kishu_interp.specs.Running.{state_in, text_run, tree_run};
 
 use kishu_calls::{ended, fault_output, finish};
 use kishu_heap::Heap;
@@ -101,7 +100,6 @@ pub fn run_cell<L: Ledger>(
     ensures state { OnOk result (state_in heap.new names.new ≡ (text_run profile text.now heap.old names.old).state) }
     ensures accessed { OnOk result (names.new.accessed ≡ with_accesses (text_run profile text.now heap.old names.old).accessed names.old.accessed) }
     ensures sound { IsTrue (are_sound_names (length heap.new) names.new.bound) }
-    ensures stopped { IfOk result (λ r. IsState (state_in heap.old names.old) → StopsAtBudget r.outcome profile text.now (state_in heap.old names.old)) }
     ensures least { OnOk result (steps.old + (text_run profile text.now heap.old names.old).charge ≤ steps.new) }
     ensures most { OnOk result (steps.new ≤ steps.old + 128 * (text_run profile text.now heap.old names.old).charge + 128) }
 {

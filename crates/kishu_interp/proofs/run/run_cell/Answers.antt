@@ -6,7 +6,7 @@ use Rattle.kishu_language.specs.grammar.Parse.{Line}
 use Rattle.kishu_language.specs.trees.Tree.{program_of}
 use Rattle.kishu_meaning.specs.values.Values.{report_of}
 use Rattle.kishu_machine.specs.Machine.{state_in}
-use Rattle.kishu_interp.proofs.Runs.{run_of_tree, run_of_fault, line_of, stops_there}
+use Rattle.kishu_interp.proofs.Runs.{run_of_tree, run_of_fault, line_of}
 use Rattle.kishu_interp.proofs.run.run_cell.Goals as goal
 
 pub run_program-requires-clause-fits : goal.run_program-requires-clause-fits
@@ -17,13 +17,11 @@ returns-in-Ok g c =
     let s = state_in c.args.heap.now c.args.names.now in
     let is = run_of_tree c.args.profile c.args.text.now s (program_of c.in-Ok.program) c.in-Ok.ensures.found in
     let ran = c.run_program.ensures in
-    let report : IfOk c.run_program.result (λ (r : CellResult). report_of r ≡ (run c.args.profile c.args.text.now s).report) = rw is ran.report in
     record {
-      report = report;
+      report = rw is ran.report;
       state = rw is ran.state;
       accessed = rw is ran.accessed;
       sound = ran.sound;
-      stopped = stops_there c.args.profile c.args.text.now s c.run_program.result c.utf8.text c.requires.short report;
       least = rw is ran.least;
       most = rw is ran.most;
     }
@@ -40,7 +38,6 @@ returns-in-Err-Syntax g c =
       state = rw is (search rules);
       accessed = rw is (search rules);
       sound = search rules;
-      stopped = stops_there c.args.profile c.args.text.now s c.syntax_fault.result c.utf8.text c.requires.short report;
       least = rw is (search rules);
       most = rw is (search rules);
     }
