@@ -1,6 +1,7 @@
 ghost use Rattle.std.specs.Prelude.{◌≡◌, ◌≤◌, ◌<◌, ◌^◌, ℕ, List, length, map, true, false, IfOk, IfSome, Ok, None};
 ghost use Rattle.std.specs.Rc.{rc_str_bytes};
 ghost use Rattle.kishu_store.specs.Graph.{Graph};
+ghost use Rattle.kishu_store.specs.Limits.{newest_profile};
 ghost use Rattle.kishu_store.specs.Record.{Entry as Record, commit, body_of, longest_body, IsCell, AreCells, Fits};
 ghost use Rattle.kishu_store_laws.specs.Laws.{IsLinear};
 ghost use Rattle.kishu_record.specs.Entries.{entry_of};
@@ -36,6 +37,17 @@ fn are_cells(cells: &[RcStr]) -> bool
     true
 }
 
+/// Whether commits of this profile are added.
+fn is_newest(profile: Profile) -> bool
+    ensures yes { result ≡ true → profile ≡ newest_profile }
+    ensures no { result ≡ false → profile ≡ newest_profile → ⊥ }
+{
+    match profile {
+        Profile::One => true,
+        Profile::Two => false,
+    }
+}
+
 /// Whether a commit record fits the graph of so many.
 fn fits(parent: u32, profile: Profile, cells: &[RcStr], count: u64) -> bool
     ensures yes { result ≡ true → (g : Graph) → IsLinear g count → Fits g (commit parent profile (map rc_str_bytes cells.now)) }
@@ -44,7 +56,7 @@ fn fits(parent: u32, profile: Profile, cells: &[RcStr], count: u64) -> bool
     if count >= MOST_RECORDS || parent as u64 != count {
         return false;
     }
-    if profile != Profile::One || cells.is_empty() {
+    if cells.is_empty() || !is_newest(profile) {
         return false;
     }
     are_cells(cells)

@@ -2,10 +2,9 @@
 use Rattle.std.proofs.Common.{◌≡◌, ◌≤◌, ◌<◌, ◌+◌, ◌^◌, ℕ, List, [], ◌∷◌, ◌++◌, length, refl, sym, ap, ◌∙◌, arith, length-append, append_assoc}
 use Rattle.std.proofs.lemmas.Str.{IsUtf8-from_is_utf8}
 use Rattle.kishu_language.specs.declared.profile.Profile.{Profile}
-use Rattle.kishu_language.specs.declared.profile.Profile.TheVariants.{One}
-use Rattle.kishu_bytes.specs.Numbers.{four}
+use Rattle.kishu_bytes.specs.Numbers.{four, profile_number}
 use Rattle.kishu_store.specs.Record.{Entry, commit, texts_bytes, head_of, body_of, AreCells}
-use Rattle.kishu_bytes_laws.specs.NumberLaws.{four-unique, append-unique}
+use Rattle.kishu_bytes_laws.specs.NumberLaws.{four-unique, append-unique, profile-unique}
 use Rattle.kishu_record.specs.Entries.{IsText, AreTexts, KeepsRules, BeginsText}
 
 -- the length of the head of a commit of one cell
@@ -80,14 +79,15 @@ texts_from_cells (c ∷ cs) h = (record { short = h.0.short; utf8 = IsUtf8-from_
 -- a head that a body of at most 2 ^ 30 bytes holds has fewer than 2 ^ 32 texts
 pub head-cut : (a b : Entry) → KeepsRules a → KeepsRules b → length (head_of a) < 2 ^ 32 → head_of a ≡ head_of b → a ≡ b
 unfolding head_of
-head-cut (commit p One ss) (commit q One ts) ha hb short e =
-    let short_b : length (head_of (commit q One ts)) < 2 ^ 32 = omega (arith, ap length e) in
-    let e1 : four p ++ (1 ∷ (four (length ss) ++ (texts_bytes ss ++ (four 0 ++ four 0)))) ≡ four q ++ (1 ∷ (four (length ts) ++ (texts_bytes ts ++ (four 0 ++ four 0)))) = cc in
+head-cut (commit p f ss) (commit q g ts) ha hb short e =
+    let short_b : length (head_of (commit q g ts)) < 2 ^ 32 = omega (arith, ap length e) in
+    let e1 : four p ++ (profile_number f ∷ (four (length ss) ++ (texts_bytes ss ++ (four 0 ++ four 0)))) ≡ four q ++ (profile_number g ∷ (four (length ts) ++ (texts_bytes ts ++ (four 0 ++ four 0)))) = cc in
     let c1 = four-unique p q _ _ ha.0 hb.0 e1 in
+    let profiles : f ≡ g = profile-unique f g (cc (c1.1)) in
     let e2 : four (length ss) ++ (texts_bytes ss ++ (four 0 ++ four 0)) ≡ four (length ts) ++ (texts_bytes ts ++ (four 0 ++ four 0)) = cc (c1.1) in
-    let c2 = four-unique (length ss) (length ts) _ _ (fit_from_head p One ss short).0 (fit_from_head q One ts short_b).0 e2 in
+    let c2 = four-unique (length ss) (length ts) _ _ (fit_from_head p f ss short).0 (fit_from_head q g ts short_b).0 e2 in
     let c3 = texts-cut ss ts (four 0 ++ four 0) (four 0 ++ four 0) c2.0 ha.2 hb.2 c2.1 in
-    cc (c1.0, c3.0)
+    cc (c1.0, profiles, c3.0)
 
 pub same_body : (a b : Entry) → KeepsRules a → KeepsRules b → length (body_of a) < 2 ^ 32 → body_of a ≡ body_of b → a ≡ b
 unfolding body_of

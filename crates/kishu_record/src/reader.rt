@@ -29,6 +29,7 @@ fn profile_of(number: u8) -> Option<Profile>
 {
     match number {
         1 => Some(Profile::One),
+        2 => Some(Profile::Two),
         _ => None,
     }
 }

@@ -66,6 +66,7 @@ fn number_of(profile: Profile) -> u8
 {
     match profile {
         Profile::One => 1,
+        Profile::Two => 2,
     }
 }
 

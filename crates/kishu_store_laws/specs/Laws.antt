@@ -7,7 +7,7 @@ use Rattle.std.proofs.lemmas.List.{append_cancel_left}
 use Rattle.std.proofs.lemmas.Nat.{from_be_bytes-to_be_bytes_8}
 use Rattle.kishu_language.specs.declared.profile.Profile.{Profile}
 use Rattle.kishu_bytes.specs.Numbers.{four, profile_number}
-use Rattle.kishu_bytes_laws.specs.NumberLaws.{append-unique, four-unique, profiles-one}
+use Rattle.kishu_bytes_laws.specs.NumberLaws.{append-unique, four-unique, profile-unique}
 use Rattle.kishu_store.specs.Graph.{Graph, new_graph}
 use Rattle.kishu_store.specs.Limits.{most_records}
 use Rattle.kishu_store.specs.Record.{Entry, commit, texts_bytes, head_of, body_of, longest_body, Fits, changed, changed_by, AreRecords}
@@ -74,6 +74,11 @@ module _ (p q : ℕ) (f g : Profile) (cs ds : List (List ℕ)) (e : body_of (com
   unfolding body_of head_of cells_part
   behind_one = let heads = append-unique (four (length (head_of (commit p f cs)))) (four (length (head_of (commit q g ds)))) (head_of (commit p f cs)) (head_of (commit q g ds)) refl e in cc (heads.1)
 
+  pub profiles-unique : f ≡ g
+  profiles-unique =
+      let rest : profile_number f ∷ cells_part cs ≡ profile_number g ∷ cells_part ds = (append-unique (four p) (four q) (profile_number f ∷ cells_part cs) (profile_number g ∷ cells_part ds) refl behind_one).1 in
+      profile-unique f g (cc (rest))
+
   pub parents-unique : p < 2 ^ 32 → q < 2 ^ 32 → p ≡ q
   parents-unique hp hq = (four-unique p q (profile_number f ∷ cells_part cs) (profile_number g ∷ cells_part ds) hp hq behind_one).0
 
@@ -91,7 +96,7 @@ module _ (p q : ℕ) (f g : Profile) (cs ds : List (List ℕ)) (e : body_of (com
 pub entry-unique : (g : Graph) (a b : Entry) → Fits g a → Fits g b → length (body_of a) ≤ longest_body → length (body_of b) ≤ longest_body → body_of a ≡ body_of b → a ≡ b
 entry-unique g (commit p f cs) (commit q h ds) fa fb la lb e =
     let parents : p ≡ q = fa.1 ∙ sym fb.1 in
-    let profiles : f ≡ h = profiles-one f h in
+    let profiles : f ≡ h = profiles-unique p q f h cs ds e in
     let cells : cs ≡ ds = cells-unique p q f h cs ds e la lb in
     cc
 
