@@ -1,4 +1,4 @@
--- Statements keep what holds of every state, where their trees are sound.
+-- Statements keep what holds of every state, where their trees are sound, and go the same way where the calls do.
 use Rattle.std.specs.Prelude.{◌≡◌, ℕ, suc, ◌+◌, List, [], ◌∷◌, length, Option, Some, None}
 use Rattle.std.proofs.Common.{refl, arith}
 use Rattle.kishu_language.specs.tokens.Names.{reserved_words}

@@ -1,4 +1,4 @@
--- Expressions, places and targets keep what holds of every state, where their trees are sound.
+-- Expressions, places and targets keep what holds of every state, where their trees are sound, and go the same way where the calls do.
 use Rattle.std.specs.Prelude.{ℕ, Bool, true, false, not, List, [], ◌∷◌}
 use Rattle.std.specs.Bool.{beq}
 use Rattle.std.specs.Str.{chars}

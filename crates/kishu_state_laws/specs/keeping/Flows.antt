@@ -6,12 +6,12 @@ use Rattle.kishu_meaning.specs.values.Values.{Value, class, node, Node, exceptio
 use Rattle.kishu_meaning.specs.moments.Moment.{Moment, Thrown, fresh, thrown_object, Ends, fine, raised, stopped, M, ◌>>=◌, ◌>>◌, give, throw, tick, node_now}
 use Rattle.kishu_meaning.specs.calls.Operators.{tuple_from, truth}
 use Rattle.kishu_meaning.specs.items.Walks.{Walk, item_for}
-use Rattle.kishu_meaning.specs.cells.Ways.{Flow, onward, broke, continued, returned, go_on, turn_on, turns, repeat, with_item, walk_on, walk_along, kind_of_thrown, no_exception, is_exception, object_of, throw_object, throw_value, throw_caught, throw_again, after_body, attempt, unless_left, and_last, finally, are_caught_by, caught_among, caught_by, is_caught, bind_caught, forget_caught, handled_as, handling, handle}
+use Rattle.kishu_meaning.specs.cells.Ways.{Flow, onward, broke, continued, returned, turn_on, turns, repeat, with_item, walk_on, walk_along, kind_of_thrown, no_exception, is_exception, object_of, throw_object, throw_value, throw_caught, throw_again, after_body, attempt, unless_left, and_last, finally, are_caught_by, caught_among, caught_by, is_caught, bind_caught, forget_caught, handled_as, handling}
 use Rattle.kishu_objects.specs.State.{IsValue, IsName}
 use Rattle.kishu_pairing_laws.specs.World.{end_of}
 use Rattle.kishu_state_laws.specs.Moments.{widest_budget}
 use Rattle.kishu_state_laws.specs.Moments.{IsWalk}
-use Rattle.kishu_state_laws.specs.keeping.Logic.{Maybe, Any, IsThrown, IsMoment, SafeEnds, fines, raiseds, stoppeds, more, more_good, WiderEnds, both_fine, both_raised, one_stopped, falls_in, Safe, safe_later, ends_later, bind_s, plain_s, then_s, give_s, any_s, value_s, throw_s, raise_s, if_s, when_s, asking_s, look_any, node_now_s, make_s, value_later, thrown_later, optional_later}
+use Rattle.kishu_state_laws.specs.keeping.Logic.{Maybe, Any, IsThrown, IsMoment, SafeEnds, fines, raiseds, stoppeds, more, more_good, WiderEnds, both_fine, both_raised, one_stopped, falls_in, Safe, safe_later, ends_later, bind_s, plain_s, give_s, any_s, value_s, throw_s, raise_s, if_s, when_s, asking_s, look_any, node_now_s, make_s, value_later, thrown_later, optional_later}
 use Rattle.kishu_state_laws.specs.keeping.Leaves.{MaybeValue, truth_s}
 use Rattle.kishu_state_laws.specs.keeping.Operating.{walk_later, item_for_s}
 use Rattle.kishu_state_laws.specs.keeping.Loops.{Both, both_safe, if_both, bind_both, turn_both, loop_s}
@@ -76,12 +76,6 @@ pub is_caught_s : {k : ℕ} (x : Thrown) (v : Value) → Safe k Any (is_caught x
 is_caught_s x v = plain_s (look_any (λ ns. kind_of_thrown ns x)) (λ kind. caught_by_s kind v)
 
 -- ---- what follows a way out
-
-pub go_on_s : {k : ℕ} (f : Flow) {m : M Flow} → IsFlow k f → Safe k IsFlow m → Safe k IsFlow (go_on f m)
-go_on_s onward h e = e
-go_on_s broke h e = flow_s broke tt
-go_on_s continued h e = flow_s continued tt
-go_on_s (returned v) h e = flow_s (returned v) h
 
 unless_s : {k : ℕ} (f : Flow) {m : M Flow} → IsFlow k f → Safe k IsFlow m → Safe k IsFlow (unless_left f m)
 unless_s onward h e = e
@@ -217,6 +211,3 @@ bind_caught_s (Some x) v n p = assign_s x v n p
 pub forget_caught_s : {k : ℕ} (o : Option (List ℕ)) → Safe k Any (forget_caught o)
 forget_caught_s None = any_s
 forget_caught_s (Some x) = forget_s x
-
-pub handle_s : {k : ℕ} (o : Option (List ℕ)) {block : M Flow} → Maybe IsName o → Safe k IsFlow block → HandlerSafe k (handle o block)
-handle_s o n h l le x p = bind_s (object_of_s x p) (λ m le' v q. then_s (bind_caught_s o v n q) (finally_s (handling_s v q (safe_later le' (safe_later le h))) (then_s (forget_caught_s o) onward_s)))

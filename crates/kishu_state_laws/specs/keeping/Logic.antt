@@ -1,4 +1,4 @@
--- Computations that keep what holds of every state: the nodes keep their numbers, no step is given back, and with more steps to spend they go the same way, or spend more than all that there were.
+-- Computations that keep what holds of every state: the nodes keep their numbers, no step is given back, the depth is kept, and with more steps to spend they go the same way, or spend more than all that there were.
 use Rattle.std.specs.Prelude.{◌≡◌, ℕ, zero, suc, ◌+◌, ◌-◌, ◌<◌, ◌≤◌, Bool, true, false, IsTrue, if◌then◌else◌, nat_le, nat_lt, List, [], ◌∷◌, ◌++◌, length, map, Option, Some, None, slice_get}
 use Rattle.std.specs.List.{AllByRecursion as Each}
 use Rattle.std.specs.Str.{all_scalars}
