@@ -1,7 +1,5 @@
 -- What a `def` makes of its tree.
-use Rattle.std.proofs.Common.{◌≡◌, refl, ap, map}
-use Rattle.kishu_language.specs.declared.profile.Profile.{Profile}
-use Rattle.kishu_language.specs.declared.profile.Profile.TheVariants as profiles
+use Rattle.std.proofs.Common.{◌≡◌, ap, map}
 use Rattle.kishu_language.specs.declared.tree.Def.{Def}
 use Rattle.kishu_language.specs.declared.tree.Stmt.TheFolds.{fold-roll-Def}
 use Rattle.kishu_language.specs.trees.Tree.{Statement, Arm, Definition, Handler, definition_of, statement_of, statement_step, arm_step, definition_step, handler_step, parameter_of}
@@ -9,7 +7,3 @@ use Rattle.kishu_language.specs.trees.Tree.{Statement, Arm, Definition, Handler,
 pub parameters_are : (d : Def) → (definition_of d).parameters ≡ map parameter_of d.params.items
 unfolding definition_of statement_of
 parameters_are d = ap (λ k. k.parameters) (fold-roll-Def Statement Arm Definition Handler statement_step arm_step definition_step handler_step (record { name = d.name; params = d.params; body = d.body }))
-
--- There is one profile.
-pub same_profile : (p q : Profile) → p ≡ q
-same_profile profiles.One profiles.One = refl

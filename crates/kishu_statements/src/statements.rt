@@ -9,18 +9,17 @@ ghost use Rattle.kishu_language.specs.trees.Height.{of_arms, of_parameters, of_s
 ghost use Rattle.kishu_meaning.specs.cells.Meaning.{act, acts, call, defaults, in_block, raise_by, returned_by};
 ghost use Rattle.kishu_meaning.specs.moments.Moment.{assign, give, ◌>>◌ as ◌▹◌};
 ghost use Rattle.kishu_language.specs.tokens.Names.{is_name};
-ghost use Rattle.kishu_language.specs.reading.ReadText.{ReadsDef};
 ghost use Rattle.kishu_meaning.specs.values.Sound.{with_default};
 ghost use Rattle.kishu_language.specs.trees.Tree.{definition_of, expression_of, parameter_of, statement_of, text_of, value_of as tree_value};
 ghost use Rattle.kishu_meaning.specs.values.Values.{class, value_of};
 ghost use Rattle.kishu_meaning.specs.cells.Ways.{onward};
 ghost use Rattle.kishu_calls.specs.Calls.{flow_of, SoundFlow};
 ghost use Rattle.kishu_language.specs.trees.Parts.{arms_of, statements_of};
-ghost use Rattle.kishu_language.specs.trees.Fits.{ArmsFit, ParametersFit, StatementFits, StatementsFit, TitleFits};
+ghost use Rattle.kishu_language.specs.trees.Fits.{ArmsFit, CodeFits, ParametersFit, StatementFits, StatementsFit, TitleFits};
 ghost use Rattle.kishu_machine.specs.Machine.{Gives, GrownBy, HasRoom, HasRoomBy, ReadsBy, moment_of};
 ghost use Rattle.kishu_machine.specs.Clauses.{SoundValues};
 ghost use Rattle.kishu_statements.specs.Handed.{FitBlock, FitExpression, FitOptional, FitTargets, LowBlock, LowExpression, LowOptional, LowTargets};
-ghost use Rattle.kishu_language.specs.Limits.{height_limit, longest_text};
+ghost use Rattle.kishu_language.specs.Limits.{height_limit};
 ghost use Rattle.kishu_language.specs.trees.Tree as t;
 
 use crate::expressions::{deeper_value, evaluate};
@@ -398,10 +397,9 @@ fn run_def<L: Ledger>(
 ) -> Result<Flow, Fault>
     requires small { of_parameters (definition_of def.now.value).parameters < height_limit }
     requires fits { ParametersFit (definition_of def.now.value).parameters }
-    requires short { length (rc_str_bytes code.now) ≤ longest_text }
     requires body { StatementsFit (definition_of def.now.value).body }
     requires low { of_statements (definition_of def.now.value).body < height_limit }
-    requires read { ∥ ReadsDef machine.old.profile (rc_str_bytes code.now) (definition_of def.now.value) ∥₁ }
+    requires code { CodeFits (rc_str_bytes code.now) (definition_of def.now.value) }
     requires name { IsTrue (is_name (definition_of def.now.value).title) }
     requires room { HasRoomBy 4 machine.old }
     ensures gives { Gives flow_of result (moment_of machine.new) (act (call calls_left) (t.define (definition_of def.now.value).title (definition_of def.now.value).parameters (definition_of def.now.value).body (rc_str_bytes code.now)) (moment_of machine.old)) }

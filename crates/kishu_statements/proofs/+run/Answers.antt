@@ -22,7 +22,6 @@ use Rattle.kishu_meaning.specs.values.Sound.{are_sound, with_default, is_sound}
 use Rattle.kishu_language.specs.trees.Tree.{Text, Arguments, expression_of, Operands, Links, Expressions, more_expressions, Pairs, Trailer, bound_of, value_of as tree_value, Definition, definition_of, Statements, parameter_of, Parameter}
 use Rattle.kishu_meaning.specs.values.Values.{Value, value_of, Names, function, node, Node}
 use Rattle.kishu_meaning.specs.cells.Ways.{Flow, broke, continued, onward, returned, walk_along, walk_on, turns}
-use Rattle.kishu_language.specs.declared.profile.Profile.{Profile}
 use Rattle.kishu_language.specs.declared.tree.Def.{Def}
 use Rattle.kishu_language.specs.declared.tree.Expr.{Expr}
 use Rattle.kishu_language.specs.declared.tree.Pair.{Pair}
@@ -36,7 +35,7 @@ use Rattle.kishu_statements.proofs.Arguments.{plain_here, keyword_here, plain_on
 use Rattle.kishu_statements.proofs.Arms.{arm_fails, arms_fit, arms_low, next_arm, no_arm, this_arm}
 use Rattle.kishu_statements.proofs.Bodies.{title_is, called_bound, called_refused, body_is, sound_left, entered_fine, entered_fails}
 use Rattle.kishu_statements.proofs.Calling.{AreSoundNames, bound_sound}
-use Rattle.kishu_statements.proofs.Defining.{parameters_are, same_profile}
+use Rattle.kishu_statements.proofs.Defining.{parameters_are}
 use Rattle.kishu_statements.proofs.Displaying.{pairs_on, pair_pushed, seen_pairs}
 use Rattle.kishu_statements.proofs.Functions.{function_holds, called_node, defined_code}
 use Rattle.kishu_statements.proofs.Handlers.{handlers_fit, handlers_low, not_this, not_told, this_one}
@@ -275,7 +274,7 @@ calls::call_node-returns-in-Some-clause-gives g falls c =
 pub primaries::called_part-returns-in-Ok-arguments_given-clause-reads : goal.primaries::called_part-returns-in-Ok-arguments_given-clause-reads
 primaries::called_part-returns-in-Ok-arguments_given-clause-reads g falls c =
     owes_reads_on 64 40 (2 * length c.in-Ok-arguments_given.given.plain.items) c.args.machine.now c.arguments_given.new.machine c.apply.new.machine c.args.steps.now c.arguments_given.new.steps c.apply.new.steps c.apply.result
-    (omega (arith, c.in-Ok.ensures.reads, c.in-Ok-arguments_given.ensures.paid)) c.apply.ensures.reads
+    (omega (arith, c.in-Ok.ensures.costs.reads, c.in-Ok-arguments_given.ensures.paid)) c.apply.ensures.reads
 
 -- ---- combined_value
 
@@ -1561,16 +1560,16 @@ statements::run_def-returns-in_err-defaults-clause-gives g falls c =
 pub statements::run_def-invariant_of-function : goal.statements::run_def-invariant_of-function
 statements::run_def-invariant_of-function g falls c =
     let d = c.args.def.now.value in
+    let profile = c.default_values.new.machine.profile in
     let code_is : rc_str_bytes c.in_ok-clone.field-0 ≡ rc_str_bytes c.args.code.now = c.in_ok-clone.ensures.cases in
     let def_is : c.in_ok-clone-2.field-0.value ≡ d = c.in_ok-clone-2.ensures.cases in
     let is : map parameter_of c.as_slice.result.now ≡ (definition_of d).parameters = ap (map parameter_of) (c.as_slice.ensures.value ∙ ap (λ (d : Def). d.params.items) c.deref.ensures) ∙ sym (parameters_are d) in
     record {
-      short = subst (λ (x : Text). length x ≤ longest_text) (sym code_is) c.requires.short;
+      short = subst (λ (x : Text). length x ≤ longest_text) (sym code_is) c.requires.code.0;
       read =
-          subst (λ (p : Profile). ∥ IsCodeOf p (rc_str_bytes c.in_ok-clone.field-0) (definition_of c.in_ok-clone-2.field-0.value) ∥₁) (same_profile c.args.machine.now.profile c.default_values.new.machine.profile)
-          (subst (λ (x : Text). ∥ IsCodeOf c.args.machine.now.profile x (definition_of c.in_ok-clone-2.field-0.value) ∥₁) (sym code_is)
-          (subst (λ (k : Def). ∥ IsCodeOf c.args.machine.now.profile (rc_str_bytes c.args.code.now) (definition_of k) ∥₁) (sym def_is)
-          (defined_code c.args.machine.now.profile (rc_str_bytes c.args.code.now) (definition_of d) c.requires.name c.requires.fits c.requires.body c.requires.low c.requires.read)));
+          subst (λ (x : Text). ∥ IsCodeOf profile x (definition_of c.in_ok-clone-2.field-0.value) ∥₁) (sym code_is)
+          (subst (λ (k : Def). ∥ IsCodeOf profile (rc_str_bytes c.args.code.now) (definition_of k) ∥₁) (sym def_is)
+          (defined_code profile (rc_str_bytes c.args.code.now) (definition_of d) c.requires.name c.requires.fits c.requires.body c.requires.low (c.requires.code.1 profile)));
       filled = c.in_ok-defaults.ensures.count ∙ ap with_default is ∙ ap (λ (k : Def). with_default (definition_of k).parameters) (sym def_is);
     }
 
