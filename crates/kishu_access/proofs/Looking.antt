@@ -1,4 +1,5 @@
 -- A map in order of insertion finds its entries as the definitions say.
+use denote.Bor.{Bor}
 use Rattle.std.proofs.Common.{◌≡◌, ◌∙◌, refl, ap, ℕ, Bool, true, false, cond, ◌&&◌, IsTrue, List, [], ◌∷◌, map, Option, Some, None, Result, Ok, Err, IfOk}
 use Rattle.std.specs.Prelude.{option_map, option_and_then, is_some, IfSome}
 use Rattle.std.specs.List.{list_all}

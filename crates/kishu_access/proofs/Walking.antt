@@ -92,9 +92,7 @@ module _ (n : ℕ) (s : Moment) where
   not_walked (Some (exception kind vs)) h k l = refl
   not_walked None h k l = refl
 
--- ---- the item for a turn
-
-module _ (n start : ℕ) (view : View) (k : ℕ) (s : Moment) (es : List (Key × Value)) (now : es ≡ or_none_there (option_and_then dict_in (slice_get s.nodes n))) where
+-- ---- an entry of a dict
 
 pair_sound : (n : ℕ) (es : List (Key × Value)) (i : ℕ) (e : Key × Value) → slice_get es i ≡ Some e → IsTrue (list_all (λ e. is_sound n e.1) es) → IsTrue (is_sound n e.1)
 pair_sound n [] i e h w = absurd cc

@@ -1,5 +1,5 @@
 // Items that are read (Python Language Reference 3, "Subscriptions").
-ghost use Rattle.std.specs.Prelude.{IfOk, IfSome, IsTrue, Some, [], is_some, length, map, option_and_then, option_map, slice_get, ℕ, ◌<◌, ◌∷◌, ◌≡◌};
+ghost use Rattle.std.specs.Prelude.{IfOk, IfSome, IsTrue, Some, [], is_some, length, map, option_and_then, option_map, slice_get, true, ℕ, ◌<◌, ◌∷◌, ◌≡◌};
 ghost use Rattle.std.specs.Str.{chars};
 ghost use Rattle.kishu_meaning.specs.comparing.Equal.{range_length};
 ghost use Rattle.kishu_meaning.specs.items.Indexes.{index_of, place_in, place_of};

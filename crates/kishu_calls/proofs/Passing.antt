@@ -72,7 +72,3 @@ module _ {X : Type 0} (s : Moment) (r : Result X Fault) (v : Value) (x : List �
 
   pub unnamed_sound : (holds : X → Bool) (n : ℕ) → Gives {X = X} {A = X} (λ y. y) r s (no_attribute v x s) → IsSound holds n r
   unnamed_sound holds n h = raised_sound (λ (y : X). y) holds n r (without_attribute s v x) s s h refl
-
--- ---- what is walked
-
-module _ (n : ℕ) where

@@ -1,5 +1,6 @@
--- Places that lie among so many: the first of them, the second, and the rest.
-use Rattle.std.proofs.Common.{◌≡◌, ◌<◌, ◌^◌, sym, refl, arith, subst, ℕ, zero, suc, ℤ, pos, negsuc, ◌+ℤ◌, ◌≤ℤ◌, ◌<ℤ◌, nat_abs, T, Fits, w64}
+-- Places that lie among so many: the first of them, the second, and the rest; and what stands at them.
+use Rattle.std.proofs.Common.{◌≡◌, ◌∙◌, ◌<◌, ◌^◌, ap, sym, refl, arith, subst, ℕ, zero, suc, ℤ, pos, negsuc, ◌+ℤ◌, ◌≤ℤ◌, ◌<ℤ◌, nat_abs, T, Fits, w64, List, ◌∷◌, Option, Some}
+use Rattle.std.specs.List.{cons_option, filter_map}
 use lib.Signed.{non_neg}
 use Rattle.std.proofs.lemmas.Int.{ints}
 use Rattle.kishu_meaning.specs.values.Texts.{places, LieWithin}
@@ -26,3 +27,21 @@ fits (negsuc n) size small h = absurd (omega (arith, ints, h.0))
 pub same_place : (z : ℤ) → pos 0 ≤ℤ z → pos (nat_abs z) ≡ z
 same_place (pos n) h = refl
 same_place (negsuc n) h = absurd (omega (arith, ints))
+
+-- the same places, however their number, start and step are told
+pub moved : (size other : ℕ) (y z a b : ℤ) (m : ℕ) → size ≡ other → y ≡ z → a ≡ b → LieWithin other (places z b m) → LieWithin size (places y a m)
+moved size other y z a b m e f g h =
+    subst (λ (n : ℕ). LieWithin n (places y a m)) (sym e)
+    (subst (λ (i : ℤ). LieWithin other (places i a m)) (sym f) (subst (λ (i : ℤ). LieWithin other (places z i m)) (sym g) h))
+
+-- ---- what stands at places
+
+rest_there : {A : Type 0} (at : ℤ → Option A) (start next step : ℤ) (n : ℕ) → (0 < n → next ≡ start +ℤ step) → filter_map at (places (start +ℤ step) step n) ≡ filter_map at (places next step n)
+rest_there at start next step zero on = refl
+rest_there at start next step (suc k) on = ap (λ (z : ℤ). filter_map at (places z step (suc k))) (sym (on (omega arith)))
+
+pub first_there : {A : Type 0} (at : ℤ → Option A) (start next step : ℤ) (m n : ℕ) (x : A) → m ≡ suc n → at start ≡ Some x → (0 < n → next ≡ start +ℤ step)
+    → filter_map at (places start step m) ≡ x ∷ filter_map at (places next step n)
+first_there {A = A} at start next step m n x e there on =
+    ap (λ (i : ℕ). filter_map at (places start step i)) e
+    ∙ (ap (λ (o : Option A). cons_option o (filter_map at (places (start +ℤ step) step n))) there ∙ ap (λ (l : List A). x ∷ l) (rest_there at start next step n on))

@@ -5,8 +5,8 @@ use Rattle.std.proofs.lemmas.List.{append_assoc, map-append}
 use Rattle.kishu_meaning.specs.declared.value.Value as rust
 use Rattle.kishu_meaning.specs.values.Texts.{places, LieWithin}
 use Rattle.kishu_meaning.specs.values.Values.{Value, value_of}
-use Rattle.kishu_text.specs.PlaceLaws.{first_within, second_within, rest_within}
-use Rattle.kishu_access.proofs.Placing.{seen_at, seen_more, moved}
+use Rattle.kishu_text.specs.PlaceLaws.{first_within, second_within, rest_within, moved}
+use Rattle.kishu_access.proofs.Placing.{seen_at, seen_more}
 use Rattle.kishu_access.proofs.slices.pick.Goals as goal
 use Rattle.kishu_access.proofs.slices.pick.Goals.{then-k-len, else-k-len}
 
@@ -16,7 +16,7 @@ loop-k-init c =
     let xs = c.args.items.now in
     let same : step ≡ c.args.step = to_z-of_z w128 c.args.step (search rules) in
     let all : c.args.len - 0 ≡ c.args.len = omega arith in
-    let lie : LieWithin (length xs) (places (pos c.args.first) step c.args.len) = moved (length xs) (pos c.args.first) (pos c.args.first) step c.args.step c.args.len refl same c.requires in (
+    let lie : LieWithin (length xs) (places (pos c.args.first) step c.args.len) = moved (length xs) (length xs) (pos c.args.first) (pos c.args.first) step c.args.step c.args.len refl refl same c.requires in (
       subst (λ (m : ℕ). LieWithin (length xs) (places (pos c.args.first) step m)) (sym all) lie,
       ap (λ (ys : List rust.Value). map value_of ys ++ seen_at xs (places (pos c.args.first) step (c.args.len - 0))) c.new-found.ensures.items ∙ ap (λ (m : ℕ). seen_at xs (places (pos c.args.first) step m)) all,
     )

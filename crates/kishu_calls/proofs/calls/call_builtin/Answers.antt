@@ -11,8 +11,8 @@ use Rattle.kishu_calls.proofs.Prints.{print_by_none, printed_sound}
 use Rattle.kishu_calls.proofs.Refused.{refused_builtin}
 use Rattle.kishu_calls.proofs.calls.call_builtin.Goals as goal
 
-pub returns-then-builtin-eq-PRINT-clause-sound : goal.returns-then-builtin-eq-PRINT-clause-sound
-returns-then-builtin-eq-PRINT-clause-sound g c =
+pub returns-then-builtin-clause-sound : goal.returns-then-builtin-clause-sound
+returns-then-builtin-clause-sound g c =
     let s = moment_of c.args.machine.now in
     let ks = named_of c.args.given.now.named.items in
     let vs = map value_of c.args.given.now.plain.items in

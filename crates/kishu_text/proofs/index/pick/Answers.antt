@@ -6,8 +6,8 @@ use Rattle.std.proofs.lemmas.Int.{ints, to_z-of_z}
 use Rattle.std.proofs.lemmas.List.{append_assoc}
 use Rattle.std.proofs.lemmas.Str.{chars-nil}
 use Rattle.kishu_meaning.specs.values.Texts.{places, LieWithin, picked}
-use Rattle.kishu_text.specs.PlaceLaws.{first_within, second_within, rest_within}
-use Rattle.kishu_text.proofs.Places.{picked_more, moved}
+use Rattle.kishu_text.specs.PlaceLaws.{first_within, second_within, rest_within, moved}
+use Rattle.kishu_text.proofs.Places.{picked_more}
 use Rattle.kishu_text.proofs.index.pick.Goals as goal
 use Rattle.kishu_text.proofs.index.pick.Goals.{then-k-len, else-k-len}
 
@@ -17,7 +17,7 @@ loop-k-init c =
     let cs = c.args.characters.now in
     let same : step ≡ c.args.step = to_z-of_z w128 c.args.step (search rules) in
     let all : c.args.len - 0 ≡ c.args.len = omega arith in
-    let lie : LieWithin (length cs) (places (pos c.args.first) step c.args.len) = moved cs cs (pos c.args.first) (pos c.args.first) step c.args.step c.args.len refl refl same c.requires in
+    let lie : LieWithin (length cs) (places (pos c.args.first) step c.args.len) = moved (length cs) (length cs) (pos c.args.first) (pos c.args.first) step c.args.step c.args.len refl refl same c.requires in
     let front : chars (string_bytes c.new-picked.result) ≡ [] = ap chars c.new-picked.ensures.bytes ∙ chars-nil in (
       subst (λ (m : ℕ). LieWithin (length cs) (places (pos c.args.first) step m)) (sym all) lie,
       ap (λ (l : List ℕ). l ++ picked cs (places (pos c.args.first) step (c.args.len - 0))) front ∙ ap (λ (m : ℕ). picked cs (places (pos c.args.first) step m)) all,

@@ -6,8 +6,8 @@ use Rattle.std.proofs.lemmas.Bool.Decides.{nat_tests}
 use Rattle.std.proofs.lemmas.Int.{to_z-of_z}
 use Rattle.std.proofs.lemmas.Str.{chars-nil}
 use Rattle.kishu_meaning.specs.values.Texts.{places, picked}
-use Rattle.kishu_text.specs.PlaceLaws.{first_within, fits, same_place}
-use Rattle.kishu_text.proofs.Places.{moved, same_picked}
+use Rattle.kishu_text.specs.PlaceLaws.{first_within, fits, same_place, moved}
+use Rattle.kishu_text.proofs.Places.{same_picked}
 use Rattle.kishu_text.proofs.index.slice.Goals as goal
 
 pub overflow_cast-start : goal.overflow_cast-start
@@ -27,8 +27,8 @@ pick-requires c =
     let some : 0 < c.args.len = grind (arith, nat_tests, c.if-len-eq0.false) in
     let items : c.in_ok-characters.characters.items ≡ chars c.args.text.now = c.in_ok-characters.ensures in
     let in_range = first_within (length (chars c.args.text.now)) start c.args.step c.args.len some c.requires in
-    moved c.deref.result.now (chars c.args.text.now) (pos (nat_abs (to_z w128 (of_z w128 start)))) start (to_z w128 (of_z w128 c.args.step)) c.args.step c.args.len
-    (c.deref.ensures.value ∙ items) (ap (λ (z : ℤ). pos (nat_abs z)) same ∙ same_place start in_range.0) (to_z-of_z w128 c.args.step (search rules)) c.requires
+    moved (length c.deref.result.now) (length (chars c.args.text.now)) (pos (nat_abs (to_z w128 (of_z w128 start)))) start (to_z w128 (of_z w128 c.args.step)) c.args.step c.args.len
+    (ap (λ (l : List ℕ). length l) (c.deref.ensures.value ∙ items)) (ap (λ (z : ℤ). pos (nat_abs z)) same ∙ same_place start in_range.0) (to_z-of_z w128 c.args.step (search rules)) c.requires
 
 pub returns : goal.returns
 returns c =
