@@ -37,10 +37,7 @@ use std::sync::ledger::Ledger;
 fn no_place<T>(alloc: Global) -> Result<T, Fault>
     ensures { IsRaised result syntax_error_class (codes "invalid syntax") }
 {
-    raise(
-        ClassId::SYNTAX_ERROR,
-        plain_text(alloc, "invalid syntax")?,
-    )
+    raise(ClassId::SYNTAX_ERROR, plain_text(alloc, "invalid syntax")?)
 }
 
 /// The place that an expression is: its container is evaluated, and then the index.
