@@ -1,0 +1,4 @@
+pub mod notebooks
+pub mod Places
+pub mod Values
+pub mod Views
