@@ -440,6 +440,15 @@ class Maker:
 
     # ---- the program
 
+    def laid_out(self):
+        """The text of the lines."""
+        unit, text = self.pick("    ", "    ", "  ", "\t", " "), ""
+        for pad, lines in self.lines:
+            for line in lines.split("\n"):
+                bare = line.lstrip(" ")
+                text += unit * (pad + (len(line) - len(bare)) // 4) + bare + self.pick(*[""] * 40, "  # note", "\n", "\n   # more", ";" if bare[-1] != ":" else " ") + "\n"
+        return text
+
     def program(self):
         """The program's text, and a cell that prints its names."""
         self.out("from types import SimpleNamespace")
@@ -459,11 +468,7 @@ class Maker:
             self.statement()
         for name in self.functions:
             self.out(f"try: print({self.call(name)})\nexcept {self.pick('Exception', 'Exception', 'Exception as e', 'TypeError')}: print({self.word()})")
-        unit, text = self.pick("    ", "    ", "  ", "\t", " "), ""
-        for pad, lines in self.lines:
-            for line in lines.split("\n"):
-                bare = line.lstrip(" ")
-                text += unit * (pad + (len(line) - len(bare)) // 4) + bare + self.pick(*[""] * 40, "  # note", "\n", "\n   # more", ";" if bare[-1] != ":" else " ") + "\n"
+        text = self.laid_out()
         nodes = [f"{one} is {two}" for one, kind in self.scope.items() for two in self.scope if one < two and kind == self.scope[two] and kind in ("li", "ws", "ds", "ns", "rows")]
         unsure = [name for name in [*self.names, *"ijnvx", "late"] if name not in self.scope]
         listed = "".join(f"try: print('{name}', repr({name}))\nexcept NameError: print('-')\n" for name in dict.fromkeys(unsure + list(self.scope)))

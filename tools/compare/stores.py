@@ -3,203 +3,130 @@
 
 Usage: tools/compare/stores.py PROGRAM [COUNT [SEED]]      1000 cases of seed 1 where no numbers are given
 
-PROGRAM is the built program. A case is a store file, the words of a command line and an input. Its files have records that fit
-and ones that don't, gates, lengths and headers that were changed, bytes taken out and put in, and ends cut off. Compared are the
-status, its text, the output and every byte of the file afterwards. The exit is 1 where something differed. A store of 1,000,000
+PROGRAM is the built program. A case is a store file, the words of a command line and an input. Its files have records of every kind
+that fit and ones that don't, gates, lengths and headers that were changed, bytes taken out and put in, and ends cut off. Compared are
+the status, its text, the output and every byte of the file afterwards. The exit is 1 where something differed. A store of 1,000,000
 records and a body of 2^30 bytes aren't tried.
 
-`expected` and what it calls stand on docs/STORE.md and on the rules of docs/RULES.md, and on nothing of the program. The cells
-are ones that CPython runs alike, so their outputs are its.
+What is expected comes of session_rules.py and store_rules.py, which stand on the documents and on nothing of the program. The cells
+are ones that CPython runs alike, so their outputs are its; a case that would run another, since a byte in a cell was changed, is left
+out. Sessions are compared by sessions.py.
 """
-import contextlib
-import io
-import json
 import os
 import random
-import struct
 import subprocess
 import sys
 import tempfile
 
-HEADER = b"KISHU-JOURNAL-1\n"
-OPEN, CLOSED = b"\xa5", b"\0"
-LONGEST_CELL = 1_048_576
-LONGEST_BODY = 2**30
-USAGE = b"usage: kishu STORE COMMAND\n"
+import python_cells
+import session_rules
+from store_rules import CLOSED, HEADER, LONGEST_CELL, OPEN, Graph, body_of, commit_body, entry_of, in_eight, in_four, record
 
 CELLS = [
     "", "# \u00fc", "x = 1", "x = x + 1", "print(7)", "print(x)", 'print("\u00e9")', "x = 3\nprint(x, x)",
     "y = x * 2\nprint(y)", 'z = "a" * 3\nprint(z)', "print(1 // 0)", "x = = 1",
 ]
+LENGTHS = [LONGEST_CELL - 1, LONGEST_CELL]
+KNOWN = {*CELLS, *("#" * length for length in LENGTHS)}
 NO_TEXTS = [b"\xff", b"print(1)\xc3", b"\xed\xa0\x80", b"\xf4\x90\x80\x80", b"\xc0\x80"]
+NO_NAMES = [b"", b"9", b"-a", b"a b", b"a.b", "\u00e9".encode(), b"a" * 65, b"a" * 255, b"\xff", b"a\n"]
+FORMS = ["cell"] * 8 + ["log"] * 3 + ["status"] * 2 + ["checkout"] * 3 + ["branch"] * 3
 
 
-class Damaged(Exception):
-    """No record that fits stands behind the open gate at the place that is the argument."""
+# Bodies.
 
 
-class Reader:
-    """Takes fields from the front of some bytes. ValueError: they end before."""
-
-    def __init__(self, data):
-        self.data, self.at = data, 0
-
-    def take(self, count):
-        if self.at + count > len(self.data):
-            raise ValueError
-        self.at += count
-        return self.data[self.at - count : self.at]
-
-    def number(self, size):
-        return int.from_bytes(self.take(size), "big")
-
-    def at_end(self):
-        return self.at == len(self.data)
+def commit_head(parent, texts, kind=1, profile=1, dropped=b"", stored=b"", more=b""):
+    """A commit's head. Groups, and more of a head, are given where a wrong one is meant."""
+    cells = b"".join(in_four(len(text)) + text for text in texts)
+    groups = in_four(min(1, len(dropped))) + dropped + in_four(min(1, len(stored))) + stored
+    return bytes([kind]) + in_four(parent) + bytes([profile]) + in_four(len(texts)) + cells + groups + more
 
 
-def u32(number):
-    return struct.pack(">I", number)
+def named(title):
+    """A branch's name with its length."""
+    return bytes([len(title)]) + title
 
 
-def u64(number):
-    return struct.pack(">Q", number)
+def wrong_commit(rng, parent, texts):
+    """A commit that breaks one rule, or at the most one that only just keeps it."""
+    group = in_four(1) + b"\x01x"
+    return rng.choice([
+        lambda: commit_head(rng.choice([parent + 1, parent // 2, 2**32 - 1]), texts),
+        lambda: commit_head(parent, texts, kind=rng.choice([0, 2, 3, 4])),
+        lambda: commit_head(parent, texts, profile=rng.choice([0, 2, 255])),
+        lambda: commit_head(parent, texts, dropped=group),
+        lambda: commit_head(parent, texts, stored=group + in_eight(0)),
+        lambda: commit_head(parent, texts, more=CLOSED),
+        lambda: commit_head(parent, []),
+        lambda: commit_head(parent, [rng.choice(NO_TEXTS)]),
+        lambda: commit_head(parent, [b"#" * rng.choice([LONGEST_CELL, LONGEST_CELL + 1])]),
+    ])()
 
 
-# What the rules ask.
+def wrong_move(rng, graph):
+    newest = len(graph.parents) - 1
+    return rng.choice([
+        lambda: b"\x02\x00" + in_four(rng.choice([newest, newest + 1, 2**32 - 1])),
+        lambda: b"\x02\x01" + named(rng.choice([b"none", b"Main", *NO_NAMES])),
+        lambda: bytes([2, rng.choice([2, 255])]) + in_four(0),
+        lambda: b"\x02\x00" + in_four(0) + CLOSED,
+        lambda: b"\x02\x01" + named(b"main") + CLOSED,
+        lambda: b"\x02\x01\x05main",
+        lambda: b"\x02\x00\x00\x00\x00",
+        lambda: b"\x02",
+    ])()
 
 
-def texts_of(body, parent):
-    """The cells of a commit's body. ValueError: it is none, or has another parent or profile."""
-    fields = Reader(body)
-    if fields.number(4) != len(body) - 4 or fields.number(1) != 1 or fields.number(4) != parent or fields.number(1) != 1:
-        raise ValueError
-    count = fields.number(4)
-    if count == 0:
-        raise ValueError
-    texts = []
-    for _ in range(count):
-        length = fields.number(4)
-        if length > LONGEST_CELL:
-            raise ValueError
-        texts.append(fields.take(length).decode("utf-8"))
-    if fields.number(4) != 0 or fields.number(4) != 0 or not fields.at_end():
-        raise ValueError
-    return texts
+def wrong_name(rng, graph):
+    newest = len(graph.parents) - 1
+    return rng.choice([
+        lambda: b"\x03" + named(rng.choice([name.encode() for name in graph.branches])) + in_four(0),
+        lambda: b"\x03" + named(rng.choice(NO_NAMES)) + in_four(0),
+        lambda: b"\x03" + named(b"new") + in_four(rng.choice([newest, newest + 1, 2**32 - 1])),
+        lambda: b"\x03" + named(b"new") + in_four(0) + CLOSED,
+        lambda: b"\x03" + named(b"new") + b"\x00\x00\x00",
+        lambda: b"\x03\x0fnew" + in_four(0),
+    ])()
 
 
-def commits_of(file):
-    """The cells of each commit of a longer file, and the place of the closed gate at which they end."""
-    commits, at = [], len(HEADER)
-    while file[at : at + 1] == OPEN:
-        record = Reader(file[at + 1 :])
-        try:
-            length = record.number(8)
-            if length > LONGEST_BODY:
-                raise ValueError
-            texts = texts_of(record.take(length), len(commits))
-            record.take(1)
-        except ValueError:
-            raise Damaged(at) from None
-        commits.append(texts)
-        at += 1 + 8 + length
-    return commits, at
+def wrong_body(rng, graph, texts):
+    """A body that breaks one rule, or at the most one that only just keeps it."""
+    head = rng.choice([
+        lambda: wrong_commit(rng, graph.commit, texts), lambda: wrong_commit(rng, graph.commit, texts),
+        lambda: wrong_move(rng, graph), lambda: wrong_name(rng, graph), lambda: b"",
+    ])()
+    body = body_of(head)
+    return rng.choice([body] * 8 + [body + CLOSED, in_four(len(head) + 1) + head, body[:-1]])
 
 
-def run_cell(text, names):
-    """The outcome and the outputs of a cell, by CPython."""
-    printed, fault = io.StringIO(), None
-    try:
-        with contextlib.redirect_stdout(printed):
-            exec(compile(text, "cell", "exec"), names)
-    except SyntaxError:
-        fault = ("SyntaxError", "invalid syntax, line 1")
-    except ZeroDivisionError:
-        fault = ("ZeroDivisionError", "division by zero")
-    except NameError as error:
-        fault = ("NameError", str(error))
-    outputs = []
-    if printed.getvalue():
-        outputs.append({"name": "stdout", "output_type": "stream", "text": printed.getvalue()})
-    if fault is not None:
-        name, value = fault
-        outputs.append({"ename": name, "evalue": value, "output_type": "error", "traceback": [f"{name}: {value}"]})
-    return ("ok" if fault is None else "error"), outputs
-
-
-def answer_line(answer):
-    return json.dumps(answer, sort_keys=True, separators=(",", ":"), ensure_ascii=False).encode() + b"\n"
-
-
-def appended(file, at, body):
-    """The file with a record behind the closed gate at a place, which is opened."""
-    record = OPEN + u64(len(body)) + body + CLOSED
-    return file[:at] + record + file[at + len(record) :]
-
-
-def has_form(words):
-    return len(words) == 2 and words[1] == "cell" and words[0] != "" and not words[0].startswith("-")
-
-
-def expected(words, data, file):
-    """Status, its text, output and file of a run. None is a file that isn't there."""
-    if not has_form(words):
-        return 2, USAGE, b"", file
-    if len(data) > LONGEST_CELL:
-        return 9, b"input too long\n", b"", file
-    opened = file if file is not None and len(file) > 17 else HEADER + CLOSED
-    if not opened.startswith(HEADER):
-        return 3, b"not a journal\n", b"", file
-    try:
-        commits, at = commits_of(opened)
-    except Damaged as damage:
-        return 3, b"damaged at %d\n" % damage.args[0], b"", file
-    try:
-        text = data.decode("utf-8")
-    except UnicodeDecodeError:
-        return 0, b"", answer_line({"answer": "refused", "number": 1, "reason": "BadRequest"}), opened
-    names = {}
-    before = [run_cell(cell, names) for cells in commits for cell in cells]
-    outcome, outputs = run_cell(text, names)
-    commit, count = len(commits) + 1, len(before) + 1
-    answer = {"answer": "cell", "commit": commit, "count": count, "outcome": outcome, "outputs": outputs}
-    return 0, b"", answer_line(answer), appended(opened, at, body_of(commit - 1, [data]))
+def good_body(rng, graph, texts):
+    """A body that fits the graph."""
+    newest, kind = len(graph.parents) - 1, rng.random()
+    if kind < 0.55:
+        return commit_body(graph.commit, texts)
+    if kind < 0.7:
+        return body_of(b"\x02\x00" + in_four(rng.randint(0, newest)))
+    if kind < 0.85:
+        return body_of(b"\x02\x01" + named(rng.choice(list(graph.branches)).encode()))
+    title = rng.choice([b"b%d" % graph.records, b"_-%d" % graph.records, b"A" * 62 + b"%02d" % graph.records])
+    return body_of(b"\x03" + named(title) + in_four(rng.randint(0, newest)))
 
 
 # Cases.
 
 
-def body_of(parent, texts, kind=1, profile=1, dropped=b"", stored=b"", more=b"", behind_head=b""):
-    """A commit's body. Groups, more of a head and what stands behind it are given where a wrong body is meant."""
-    cells = b"".join(u32(len(text)) + text for text in texts)
-    groups = u32(min(1, len(dropped))) + dropped + u32(min(1, len(stored))) + stored
-    head = bytes([kind]) + u32(parent) + bytes([profile]) + u32(len(texts)) + cells + groups + more
-    return u32(len(head)) + head + behind_head
-
-
-def wrong_body(rng, parent, texts):
-    """A body that breaks one rule, or at the most one that only just keeps it."""
-    group = u32(1) + b"\x01x"
-    return rng.choice([
-        lambda: body_of(rng.choice([parent + 1, parent // 2, 2**32 - 1]), texts),
-        lambda: body_of(parent, texts, kind=rng.choice([0, 2, 3])),
-        lambda: body_of(parent, texts, profile=rng.choice([0, 2, 255])),
-        lambda: body_of(parent, texts, dropped=group),
-        lambda: body_of(parent, texts, stored=group + u64(0)),
-        lambda: body_of(parent, texts, more=CLOSED),
-        lambda: body_of(parent, texts, behind_head=CLOSED),
-        lambda: body_of(parent, []),
-        lambda: body_of(parent, [rng.choice(NO_TEXTS)]),
-        lambda: body_of(parent, [b"#" * rng.choice([LONGEST_CELL, LONGEST_CELL + 1])]),
-    ])()
-
-
 def chain(rng):
     """A file of some records, the most of which fit."""
-    file = HEADER
-    for parent in range(rng.choice([0, 1, 1, 2, 3, 4])):
+    file, graph = HEADER, Graph()
+    for _ in range(rng.choice([0, 1, 1, 2, 3, 4, 6, 9])):
         texts = [rng.choice(CELLS).encode() for _ in range(rng.choice([1, 1, 1, 2, 3]))]
-        body = wrong_body(rng, parent, texts) if rng.random() < 0.12 else body_of(parent, texts)
-        file += OPEN + u64(len(body)) + body
+        if rng.random() < 0.07:
+            file += record(wrong_body(rng, graph, texts))
+        else:
+            body = good_body(rng, graph, texts)
+            graph.add(entry_of(body))
+            file += record(body)
     file += rng.choice([CLOSED, CLOSED, CLOSED, b"<", b"\xa4", b"\xff", OPEN])
     if rng.random() < 0.3:
         file += bytes(rng.choice([0, 1, 0xA5, 0xFF]) for _ in range(rng.randrange(1, 60)))
@@ -232,11 +159,15 @@ def file_of(rng):
 
 def words_of(rng, store):
     if rng.random() < 0.95:
-        return [store, "cell"]
+        form = rng.choice(FORMS)
+        reference = rng.choice(["0", "1", "2", "3", "main", "b0", "b1", "00", "01", "007", "none"])
+        more = {"checkout": [reference], "branch": rng.choice([["new"], ["b1"], ["main"], ["9"], ["new", reference]])}
+        return [store, form, *more.get(form, [])]
     return rng.choice([
         [], [store], ["cell"], [store, "Cell"], [store, "cell "], [store, "cell", ""], [store, "cell", "x"], ["", "cell"],
         ["", store, "cell"], ["-x", store, "cell"], [store, "cell", "-"], ["--together", store, "cell"],
-        [store, "cell", "--together"], ["--", store, "cell"], [store, "--", "cell"],
+        [store, "cell", "--together"], ["--", store, "cell"], [store, "--", "cell"], [store, "log", "1"], [store, "checkout"],
+        [store, "branch"], [store, "branch", "a", "0", "1"], [store, "checkout", "0", "1"], [store, "status", "-"],
     ])
 
 
@@ -245,7 +176,7 @@ def input_of(rng):
     if chance < 0.03:
         return rng.choice(NO_TEXTS)
     if chance < 0.05:
-        return b"#" * rng.choice([LONGEST_CELL - 1, LONGEST_CELL, LONGEST_CELL + 1, LONGEST_CELL + 4097, 2_000_000])
+        return b"#" * rng.choice([*LENGTHS, LONGEST_CELL + 1, LONGEST_CELL + 4097, 2_000_000])
     return rng.choice(CELLS).encode()
 
 
@@ -265,17 +196,28 @@ def found(program, folder, store, words, data, file):
     return run.returncode, run.stderr, run.stdout, after
 
 
+def wanted(words, data, file):
+    """What is expected, or None where a cell would be run that isn't known to be meant alike."""
+    try:
+        return session_rules.expected(words, data, file, KNOWN)
+    except python_cells.Unlike:
+        return None
+
+
 def main():
     if len(sys.argv) < 2:
         sys.exit(__doc__)
     program = os.path.abspath(sys.argv[1])
     count = int(sys.argv[2]) if len(sys.argv) > 2 else 1000
     seed = int(sys.argv[3]) if len(sys.argv) > 3 else 1
-    rng, differ, statuses = random.Random(seed), 0, {}
+    rng, differ, left_out, statuses = random.Random(seed), 0, 0, {}
     with tempfile.TemporaryDirectory() as folder:
         for case in range(count):
             file, words, data = file_of(rng), words_of(rng, "store"), input_of(rng)
-            want = expected(words, data, file)
+            want = wanted(words, data, file)
+            if want is None:
+                left_out += 1
+                continue
             got = found(program, folder, "store", words, data, file)
             statuses[want[0]] = statuses.get(want[0], 0) + 1
             if got != want:
@@ -284,7 +226,7 @@ def main():
                 print(f"  found    {got[:3]}, and {'the' if got[3] == want[3] else 'another'} file")
                 print(f"  expected {want[:3]}")
     told = ", ".join(f"{statuses[code]} with status {code}" for code in sorted(statuses))
-    print(f"{count} cases of seed {seed} ({told}): {differ} differ")
+    print(f"{count} cases of seed {seed} ({told}), {left_out} left out: {differ} differ")
     sys.exit(differ > 0)
 
 

@@ -6,11 +6,8 @@ use Rattle.std.specs.Cmp.Lexicographic.{pointwise}
 use Rattle.kishu_meaning.specs.values.Values.{State}
 use Rattle.kishu_objects.specs.Picture.{picture}
 use Rattle.kishu_objects.specs.Groups.{groups_of}
+pub use Rattle.kishu_store.specs.Groups.{Group}
 use Rattle.kishu_history.specs.Alike.{is_state}
-
--- names that stand together, in byte order
-abbrev pub Group : Type 0
-Group = List (List ℕ)
 
 abbrev pub is_group : Group → Group → Bool
 is_group = pointwise bytes_eq

@@ -5,6 +5,7 @@ use Rattle.std.specs.Ordering.{nat_cmp, match_ordering}
 use Rattle.std.specs.Cmp.Lexicographic.{slice_cmp}
 use Rattle.kishu_objects.specs.Lists.{In, Rise}
 use Rattle.kishu_objects.specs.Groups.{groups_of}
+pub use Rattle.kishu_store.specs.Groups.{first_name}
 use Rattle.kishu_history.specs.Changed.{Group, is_one_of}
 use Rattle.kishu_history.specs.Versions.{Stop, at_end, version, stored, dropped}
 
@@ -24,10 +25,6 @@ group_in r = r.group
 
 abbrev pub groups_in : Table → List Group
 groups_in = map group_in
-
-abbrev pub first_name : Group → List ℕ
-first_name [] = []
-first_name (x ∷ xs) = x
 
 abbrev pub first_in : Row → List ℕ
 first_in r = first_name r.group

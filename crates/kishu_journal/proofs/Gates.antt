@@ -4,7 +4,9 @@ use Rattle.std.specs.Int.{w64, to_be_bytes, from_be_bytes}
 use Rattle.std.proofs.lemmas.List.{take_at, drop_more, drop-drop, get_or-take, get_or-drop, length-take-le}
 use Rattle.std.proofs.lemmas.Nat.{from_be_bytes-to_be_bytes_8}
 use Rattle.kishu_store.specs.Graph.{Graph}
-use Rattle.kishu_store.specs.Record.{Entry, body_of, longest_body, Fits}
+use Rattle.kishu_store.specs.Entries.{Record}
+use Rattle.kishu_store.specs.EntryBytes.{body_of}
+use Rattle.kishu_store.specs.Limits.{longest_body}
 use Rattle.kishu_store.specs.Holds.{open_gate, framed, BeginsRecord}
 use Rattle.kishu_store_laws.specs.Laws.{length-framed, framed-unique}
 use Rattle.kishu_journal.specs.Found.{BeginsBody}
@@ -62,15 +64,11 @@ module _ (file : List ℕ) (at : ℕ) where
         )
 
 -- a record is a body
-pub body_there : (bytes : List ℕ) (g : Graph) (e : Entry) → BeginsRecord bytes g e → BeginsBody bytes (body_of e)
-body_there bytes g e b = (b.0, b.1, b.2, b.3)
+pub body_there : (bytes : List ℕ) (g : Graph) (r : Record) → BeginsRecord bytes g r → BeginsBody bytes (body_of r)
+body_there bytes g r b = (b.0, b.1, b.2, b.3.small)
 
 -- one body stands there
 pub one_body : (bytes a b : List ℕ) → BeginsBody bytes a → BeginsBody bytes b → a ≡ b
 one_body bytes a b p q =
     let same : framed a ++ p.0 ≡ framed b ++ q.0 = cc (p.1, q.1) in
     (framed-unique a b p.0 q.0 p.3 q.3 same).0
-
--- a body that no record that fits has
-pub none_fits : (bytes body : List ℕ) (g : Graph) → BeginsBody bytes body → ((e : Entry) → Fits g e → body ≡ body_of e → ⊥) → (e : Entry) → BeginsRecord bytes g e → ⊥
-none_fits bytes body g here none e b = none e b.4 (one_body bytes body (body_of e) here (body_there bytes g e b))

@@ -5,6 +5,11 @@ mod Steps
 mod Anew
 mod Gates
 mod Walks
-mod Fitting
+mod Reached
+mod Openings
 mod Faults
+mod ByKind
+mod Follows
+mod Cuts
+mod Appending
 mod OneSum

@@ -1,12 +1,18 @@
--- What the opening of a store finds: records and the places of their bodies.
-use Rattle.std.specs.Prelude.{◌≡◌, ◌<◌, ◌≤◌, ℕ, ◌+◌, List, [], ◌∷◌, ◌++◌, length, map}
+-- What the opening of a store finds: what its records say, and the places of their bodies.
+use Rattle.std.specs.Prelude.{◌≡◌, ◌≢◌, ◌<◌, ◌≤◌, ℕ, ◌+◌, List, [], ◌∷◌, ◌++◌, length, take, drop, map}
+use Rattle.kishu_bytes.specs.Numbers.{four}
 use Rattle.kishu_record.specs.declared.entry.Entry as program
 use Rattle.kishu_record.specs.Entries.{entry_of}
-use Rattle.kishu_store.specs.Record.{Entry, longest_body}
-use Rattle.kishu_store.specs.Holds.{open_gate, framed, end_of}
-use Rattle.kishu_journal.specs.Stands.{with_entry}
+use Rattle.kishu_store.specs.Entries.{Entry, Record}
+use Rattle.kishu_store.specs.EntryBytes.{body_of}
+use Rattle.kishu_store.specs.Fitting.{Fits, changed}
+use Rattle.kishu_store.specs.Graph.{Graph}
+use Rattle.kishu_store.specs.Holds.{open_gate, framed, end_of, BeginsRecord}
+use Rattle.kishu_store.specs.Limits.{longest_body}
+use Rattle.kishu_store.specs.Rules.{IsRecord}
+use Rattle.kishu_journal.specs.Stands.{with_record}
 
--- the records of a list of places and records
+-- what was found, without the places
 abbrev pub entries_of : List (ℕ × program.Entry) → List Entry
 entries_of found = map (λ p. entry_of p.1) found
 
@@ -14,16 +20,56 @@ entries_of found = map (λ p. entry_of p.1) found
 abbrev pub before_body : ℕ
 before_body = 9
 
--- Behind these records each of these stands with the place of its body.
-abbrev pub ArePlaced : List Entry → List (ℕ × program.Entry) → Type 0
-ArePlaced before [] = Unit {0}
-ArePlaced before (p ∷ ps) = (p.0 ≡ end_of before + before_body) × ArePlaced (with_entry before (entry_of p.1)) ps
+-- and up to its head: four bytes more
+abbrev pub before_head : ℕ
+before_head = 13
+
+-- Behind the records before, these say what was found, each at the place of its body.
+abbrev pub ArePlaced : List Record → List (ℕ × program.Entry) → List Record → Type 0
+ArePlaced before [] [] = Unit {0}
+ArePlaced before [] (r ∷ rs) = ⊥
+ArePlaced before (p ∷ ps) [] = ⊥
+ArePlaced before (p ∷ ps) (r ∷ rs) = (r.entry ≡ entry_of p.1) × (p.0 ≡ end_of before + before_body) × ArePlaced (with_record before r) ps rs
 
 -- all places are below this
 abbrev pub AreBelow : ℕ → List (ℕ × program.Entry) → Type 0
 AreBelow most [] = Unit {0}
 AreBelow most (p ∷ ps) = (p.0 < most) × AreBelow most ps
 
--- at an open gate: a whole body, and a byte behind it
+-- each entry fits the graph of those before it
+abbrev pub AllFit : Graph → List Entry → Type 0
+AllFit g [] = Unit {0}
+AllFit g (e ∷ es) = Fits g e × AllFit (changed g e) es
+
+-- ---- what stands at a gate
+
+-- an open gate: a whole body, and a byte behind it
 abbrev pub BeginsBody : List ℕ → List ℕ → Type 0
 BeginsBody bytes body = (rest : List ℕ) × (bytes ≡ open_gate ∷ (framed body ++ rest)) × (0 < length rest) × (length body ≤ longest_body)
+
+-- the body of that length behind the gate at a place
+abbrev pub body_at : List ℕ → ℕ → ℕ → List ℕ
+body_at file at size = take size (drop (at + before_body) file)
+
+-- an open gate: a whole body with this head, and with so many bytes of pictures
+abbrev pub BeginsHead : List ℕ → List ℕ → ℕ → Type 0
+BeginsHead bytes head size = (pictures : List ℕ) × (length pictures ≡ size) × BeginsBody bytes (four (length head) ++ (head ++ pictures))
+
+-- the gate there is closed
+pub record IsShut (file : List ℕ) (at : ℕ) : Type 0 where
+  pub gate : ℕ
+  pub rest : List ℕ
+  pub split : drop at file ≡ gate ∷ rest
+  pub closed : gate ≢ open_gate
+
+-- the gate there is open, and no whole record stands behind it
+pub record HasNoBody (file : List ℕ) (at : ℕ) : Type 0 where
+  pub rest : List ℕ
+  pub split : drop at file ≡ open_gate ∷ rest
+  pub none : (r : Record) → IsRecord r → BeginsBody (open_gate ∷ rest) (body_of r) → ⊥
+
+-- the gate there is open, and no whole record that fits this graph stands behind it
+pub record HasNoRecord (file : List ℕ) (at : ℕ) (g : Graph) : Type 0 where
+  pub rest : List ℕ
+  pub split : drop at file ≡ open_gate ∷ rest
+  pub none : (r : Record) → BeginsRecord (open_gate ∷ rest) g r → ⊥

@@ -1,7 +1,8 @@
 -- What the calls of a journal leave of a host.
 use Rattle.std.specs.Prelude.{◌≡◌, ◌≤◌, ◌⊎◌, ℕ, ◌+◌, List, length, Option, Some, IfSome}
 use Rattle.kishu_host.specs.Host.{State, Now, Keeps, Elapses}
-use Rattle.kishu_store.specs.Record.{Entry, changed}
+use Rattle.kishu_store.specs.Entries.{Entry}
+use Rattle.kishu_store.specs.Fitting.{changed}
 use Rattle.kishu_store.specs.Holds.{Holds, graph_of, fresh_length}
 
 -- a stop leaves the output as it was, and the graph of these records, or that graph changed by the new one

@@ -1,4 +1,6 @@
 pub mod Stands
+pub mod Following
 pub mod Bytes
 pub mod Found
 pub mod Going
+pub mod Opened

@@ -1,9 +1,10 @@
 ghost use Rattle.std.specs.Prelude.{◌≡◌, ◌≤◌, ◌<◌, ◌⊎◌, ◌+◌, ◌^◌, ◌++◌, ◌∷◌, [], ℕ, List, length, true, false, IfOk, OnOk, IfErr, IsErrOf, IsTrue, ◌↔◌};
 ghost use Rattle.kishu_host.specs.Host.{Told, Only, Elapses, ReadsMore, Rises, HasCause, overwrite};
-ghost use Rattle.kishu_store.specs.Record.{Entry as Record, longest_body};
+ghost use Rattle.kishu_store.specs.Entries.{Entry as Said, Record, entries_in};
+ghost use Rattle.kishu_store.specs.Limits.{longest_body};
 ghost use Rattle.kishu_store.specs.Holds.{Ends, framed, end_of, open_gate};
 ghost use Rattle.kishu_journal.specs.Going.{WithOrWithout};
-ghost use Rattle.kishu_journal.specs.Stands.{Stands, IsNext, IsWhole, with_entry};
+ghost use Rattle.kishu_journal.specs.Stands.{Stands, IsNext, IsWhole, with_entry, with_record};
 ghost use Rattle.kishu_journal.specs.Found.{before_body};
 ghost use Rattle.kishu_journal.specs.Bytes.{appended};
 ghost use Rattle.kishu_journal.specs.declared.journal.JournalFault.TheVariants.{DiskFault, NoMemory};
@@ -36,13 +37,13 @@ fn write_record<H: Host>(host: &mut H, place: u64, bytes: &[u8]) -> Result<(), F
     requires room { place + 1 < 2 ^ 64 }
     requires inside { Told (H.state host.old) (place + 1 ≤ length (H.state host.old).file) }
 
-    ensures written { OnOk result (Told (H.state host.old) ((entries : List Record) (e : Record) → IsWhole (H.state host.old).file place bytes.now entries e
-        → Ends (H.state host.new).file (with_entry entries e))) }
+    ensures written { OnOk result (Told (H.state host.old) ((rs : List Record) (r : Record) → IsWhole (H.state host.old).file place bytes.now rs r
+        → Ends (H.state host.new).file (with_record rs r))) }
     ensures bytes { OnOk result (Told (H.state host.old) ((H.state host.new).file ≡ overwrite place (open_gate ∷ bytes.now) (H.state host.old).file)) }
     ensures durable { OnOk result (Told (H.state host.old) (Only (H.state host.new).file (H.state host.new).may_leave)) }
     ensures kept { (H.state host.new).out ≡ (H.state host.old).out }
-    ensures stop { Told (H.state host.old) (Only (H.state host.old).file (H.state host.old).may_leave → (entries : List Record) (e : Record) → IsWhole (H.state host.old).file place bytes.now entries e
-        → Elapses (H.state host.old) (H.state host.new) (WithOrWithout (H.state host.old) entries e)) }
+    ensures stop { Told (H.state host.old) (Only (H.state host.old).file (H.state host.old).may_leave → (rs : List Record) (r : Record) → IsWhole (H.state host.old).file place bytes.now rs r
+        → Elapses (H.state host.old) (H.state host.new) (WithOrWithout (H.state host.old) (entries_in rs) r.entry)) }
     ensures tells { (H.state host.new).tells ≡ (H.state host.old).tells }
     ensures reads { ReadsMore (H.state host.old).reads (H.state host.new).reads 0 }
     ensures disk { HasCause (H.state host.old).disk_faults (H.state host.new).disk_faults result }
@@ -74,9 +75,9 @@ impl Journal {
     ) -> Result<u64, JournalFault>
         requires open { self.old.closed ≡ false }
         requires short { length body.now ≤ longest_body }
-        requires next { Told (H.state host.old) ((entries : List Record) × (e : Record) × IsNext self.old (H.state host.old).file body.now entries e) }
+        requires next { Told (H.state host.old) ((entries : List Said) × (e : Said) × IsNext self.old (H.state host.old).file body.now entries e) }
 
-        ensures stands { OnOk result (Told (H.state host.old) ((entries : List Record) (e : Record) → IsNext self.old (H.state host.old).file body.now entries e
+        ensures stands { OnOk result (Told (H.state host.old) ((entries : List Said) (e : Said) → IsNext self.old (H.state host.old).file body.now entries e
             → Stands self.new (H.state host.new).file (with_entry entries e))) }
 
         // The record's bytes stand from the gate on, and the gate behind it is 0. What stood further behind stays.
@@ -85,7 +86,7 @@ impl Journal {
         ensures out { (H.state host.new).out ≡ (H.state host.old).out }
 
         // A stop at any moment leaves the records before, with or without the new one.
-        ensures stop { Told (H.state host.old) (Only (H.state host.old).file (H.state host.old).may_leave → (entries : List Record) (e : Record) → IsNext self.old (H.state host.old).file body.now entries e
+        ensures stop { Told (H.state host.old) (Only (H.state host.old).file (H.state host.old).may_leave → (entries : List Said) (e : Said) → IsNext self.old (H.state host.old).file body.now entries e
             → Elapses (H.state host.old) (H.state host.new) (WithOrWithout (H.state host.old) entries e)) }
         ensures tells { (H.state host.new).tells ≡ (H.state host.old).tells }
 

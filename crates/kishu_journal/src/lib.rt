@@ -4,18 +4,24 @@
 //! behind a closed gate is no record of the store. `Journal::attach` opens a store and answers its
 //! records; it opens only a file that holds a graph. `Journal::append` writes a record behind the
 //! closed gate, and opens the gate once the record is on the disk: a stop at any moment leaves the
-//! records before, with or without the new one. `one_graph` says what holds of every store file.
+//! records before, with or without the new one. `Journal::read_part` reads a part of the store by its
+//! place. `graph_of` makes the graph of records. `one_graph` says what holds of every store file.
 #![tactic(auto)]
 
 mod append;
-mod fit;
+mod follow;
+mod graph;
+mod head;
 mod journal;
 mod laws;
 mod opening;
+mod part;
 mod read;
+mod take;
 
+pub use graph::graph_of;
 pub use journal::{Journal, JournalFault};
-pub use kishu_record::Entry;
+pub use kishu_record::{Entry, MoveTo};
 pub use laws::one_graph;
 
 #[cfg(test)]

@@ -1,20 +1,28 @@
 ghost use Rattle.std.specs.Prelude.{◌≡◌, ◌≢◌, ◌≤◌, ◌<◌, ◌⊎◌, ◌+◌, ◌-◌, ◌^◌, ◌++◌, ◌∷◌, [], ℕ, List, length, take, drop, true, false, IfOk, IfSome, OnOk, IfErr, IsErr, IsErrOf, None, Ok};
 ghost use Rattle.kishu_host.specs.Host.{Told, Now, Only, Keeps, Elapses, Rises, HasCause};
-ghost use Rattle.kishu_store.specs.Graph.{Graph, new_graph};
-ghost use Rattle.kishu_store.specs.Record.{Entry as Record, body_of, longest_body, Fits, AreRecords};
-ghost use Rattle.kishu_store.specs.Limits.{most_records};
-ghost use Rattle.kishu_store.specs.Holds.{header, fresh_length, open_gate, Ends, Holds, IsGood, end_of, graph_of, BeginsRecord, IsBroken, IsForeign};
-ghost use Rattle.kishu_store_laws.specs.Laws.{IsLinear};
+ghost use Rattle.kishu_store.specs.Graph as model;
+ghost use Rattle.kishu_store.specs.Graph.{new_graph};
+ghost use Rattle.std.specs.List.{AllByRecursion};
+ghost use Rattle.kishu_graph.specs.Kept.{StandsFor};
+ghost use Rattle.kishu_store.specs.Entries.{Record, plain};
+ghost use Rattle.kishu_store.specs.EntryBytes.{body_of};
+ghost use Rattle.kishu_store.specs.Limits.{most_records, longest_body};
+ghost use Rattle.kishu_store.specs.Rules.{IsEntry, IsRecord};
+ghost use Rattle.kishu_store.specs.Holds.{header, fresh_length, open_gate, Holds, IsGood, graph_of, BeginsRecord, IsBroken, IsForeign};
 ghost use Rattle.kishu_record.specs.Entries.{entry_of};
+ghost use Rattle.kishu_journal.specs.Following.{GoesOn};
 ghost use Rattle.kishu_journal.specs.Going.{IsQuiet, LeavesShort, ReadsAtMost};
-ghost use Rattle.kishu_journal.specs.Found.{BeginsBody, before_body, entries_of, ArePlaced, AreBelow};
+ghost use Rattle.kishu_journal.specs.Found.{BeginsBody, before_body, IsShut, HasNoRecord, entries_of, AllFit, AreBelow};
+ghost use Rattle.kishu_journal.specs.Opened.{IsFound, IsOpened};
 ghost use Rattle.kishu_journal.specs.Stands.{Stands};
 ghost use Rattle.kishu_journal.specs.Bytes.{fresh};
 ghost use Rattle.kishu_journal.specs.declared.journal.JournalFault.TheVariants.{DiskFault, NoMemory, NotAJournal, Damaged};
 
-use crate::fit::fitting;
-use crate::read::{read_body, read_exact, settle};
+use crate::head::read_head;
+use crate::read::{read_exact, settle};
+use crate::take::take_record;
 use crate::{Entry, Journal, JournalFault};
+use kishu_graph::Graph;
 use kishu_host::{Failed, Host};
 use std::alloc::Global;
 
@@ -42,35 +50,34 @@ fn begin<H: Host>(host: &mut H) -> Result<(), Failed>
     Ok(())
 }
 
-/// The record behind the gate at a place, which fits behind so many, and its body's length.
+/// What the record behind the gate at a place says, and its body's length. The graph is changed by it.
 fn next_record<H: Host>(
     alloc: Global,
     host: &mut H,
+    graph: &mut Graph,
     at: u64,
     len: u64,
-    count: u64,
 ) -> Result<Option<(Entry, u64)>, JournalFault>
     requires len { Told (H.state host.old) (len ≡ length (H.state host.old).file) }
     requires inside { at < len }
     ensures quiet { IsQuiet (H.state host.old) (H.state host.new) }
-    ensures record { IfOk result (λ o. IfSome o (λ r. Told (H.state host.old) (BeginsBody (drop at (H.state host.old).file) (body_of (entry_of r.0))))) }
-    ensures fits { IfOk result (λ o. IfSome o (λ r. (g : Graph) → IsLinear g count → Fits g (entry_of r.0))) }
-    ensures size { IfOk result (λ o. IfSome o (λ r. r.1 ≡ length (body_of (entry_of r.0)))) }
-    ensures small { IfOk result (λ o. IfSome o (λ r. r.1 ≤ longest_body)) }
+    ensures record { IfOk result (λ o. IfSome o (λ r. Told (H.state host.old) (BeginsBody (drop at (H.state host.old).file) (body_of (plain (entry_of r.0)))))) }
+    ensures rules { IfOk result (λ o. IfSome o (λ r. IsRecord (plain (entry_of r.0)))) }
+    ensures made { IfOk result (λ o. IfSome o (λ r. (g : model.Graph) → StandsFor graph.old g → GoesOn g (entry_of r.0) graph.new)) }
+    ensures size { IfOk result (λ o. IfSome o (λ r. r.1 ≡ length (body_of (plain (entry_of r.0))))) }
     ensures within { IfOk result (λ o. IfSome o (λ r. at + before_body + r.1 < len)) }
-    ensures closed { result ≡ Ok None → Told (H.state host.old) ((gate : ℕ) × (rest : List ℕ) × (drop at (H.state host.old).file ≡ gate ∷ rest) × (gate ≢ open_gate)) }
-    ensures damaged { (g : Graph) → IsLinear g count → (place : ℕ) → IsErrOf result (Damaged place) → Told (H.state host.old) ((place ≡ at) × (rest : List ℕ) × (drop at (H.state host.old).file ≡ open_gate ∷ rest)
-        × ((e : Record) → BeginsRecord (open_gate ∷ rest) g e → ⊥)) }
+    ensures closed { result ≡ Ok None → Told (H.state host.old) (IsShut (H.state host.old).file at) }
+    ensures damaged { (g : model.Graph) → StandsFor graph.old g → (place : ℕ) → IsErrOf result (Damaged place) → Told (H.state host.old) ((place ≡ at) × HasNoRecord (H.state host.old).file at g) }
     ensures disk_fault { IsErrOf result DiskFault → Rises (H.state host.old).disk_faults (H.state host.new).disk_faults }
     ensures not_foreign { IsErrOf result NotAJournal → ⊥ }
     ensures reads { ReadsAtMost (H.state host.old).reads (H.state host.new).reads (len - at) }
     ensures reads_record { IfOk result (λ o. IfSome o (λ r. ReadsAtMost (H.state host.old).reads (H.state host.new).reads (before_body + r.1))) }
 {
-    let Some(body) = read_body(alloc, host, at, len)? else {
+    let Some(head) = read_head(alloc, host, at, len)? else {
         return Ok(None);
     };
-    match fitting(alloc, &body, count) {
-        Ok(Some(entry)) => Ok(Some((entry, body.len() as u64))),
+    match take_record(alloc, graph, &head.bytes, head.pictures) {
+        Ok(Some(entry)) => Ok(Some((entry, 4 + head.bytes.len() as u64 + head.pictures))),
         Ok(None) => Err(JournalFault::Damaged { at }),
         Err(_) => Err(JournalFault::NoMemory),
     }
@@ -86,18 +93,18 @@ fn read_records<H: Host>(
     requires long { fresh_length < len }
     requires head { Told (H.state host.old) (take 16 (H.state host.old).file ≡ header) }
     ensures quiet { IsQuiet (H.state host.old) (H.state host.new) }
-    ensures found { IfOk result (λ r. Told (H.state host.old) (Ends (H.state host.old).file (entries_of r.0.items))) }
-    ensures fit { IfOk result (λ r. AreRecords new_graph (entries_of r.0.items)) }
-    ensures place { IfOk result (λ r. r.1 ≡ end_of (entries_of r.0.items)) }
-    ensures placed { IfOk result (λ r. ArePlaced [] r.0.items) }
+    ensures found { IfOk result (λ r. IsOpened (H.state host.old) r.1 r.0.items) }
     ensures damaged { (at : ℕ) → IsErrOf result (Damaged at) → Told (H.state host.old) (IsBroken (H.state host.old).file at) }
     ensures disk_fault { IsErrOf result DiskFault → Rises (H.state host.old).disk_faults (H.state host.new).disk_faults }
     ensures not_foreign { IsErrOf result NotAJournal → ⊥ }
     ensures reads { ReadsAtMost (H.state host.old).reads (H.state host.new).reads (len - 16) }
 {
+    let Ok(mut graph) = Graph::new(alloc) else {
+        return Err(JournalFault::NoMemory);
+    };
     let mut found = Vec::new(alloc);
     let mut at = 16;
-    while let Some((entry, size)) = next_record(alloc, host, at, len, found.len() as u64)? {
+    while let Some((entry, size)) = next_record(alloc, host, &mut graph, at, len)? {
         let place = at + 9;
         at = place + size;
         let Ok(()) = found.push((place, entry)) else {
@@ -125,10 +132,7 @@ fn read_store<H: Host>(
     requires len { Told (H.state host.old) (len ≡ length (H.state host.old).file) }
     requires long { fresh_length < len }
     ensures quiet { IsQuiet (H.state host.old) (H.state host.new) }
-    ensures found { IfOk result (λ r. Told (H.state host.old) (Ends (H.state host.old).file (entries_of r.0.items))) }
-    ensures fit { IfOk result (λ r. AreRecords new_graph (entries_of r.0.items)) }
-    ensures place { IfOk result (λ r. r.1 ≡ end_of (entries_of r.0.items)) }
-    ensures placed { IfOk result (λ r. ArePlaced [] r.0.items) }
+    ensures found { IfOk result (λ r. IsOpened (H.state host.old) r.1 r.0.items) }
     ensures foreign { IsErrOf result NotAJournal → Told (H.state host.old) (IsForeign (H.state host.old).file) }
     ensures damaged { (at : ℕ) → IsErrOf result (Damaged at) → Told (H.state host.old) (IsBroken (H.state host.old).file at) }
     ensures disk_fault { IsErrOf result DiskFault → Rises (H.state host.old).disk_faults (H.state host.new).disk_faults }
@@ -164,9 +168,13 @@ impl Journal {
         // It opens only a file that holds a graph, and finds its records.
         ensures good { IfOk result (λ r. Told (H.state host.old) (Holds (H.state host.old).file (graph_of (entries_of r.1.items)))) }
         ensures stands { IfOk result (λ r. Told (H.state host.old) (Stands r.0 (H.state host.new).file (entries_of r.1.items))) }
-        ensures fit { IfOk result (λ r. AreRecords new_graph (entries_of r.1.items)) }
+        ensures found { IfOk result (λ r. IsFound (H.state host.new) r.0 r.1.items) }
+
+        // They keep the rules and fit, whatever the host tells.
+        ensures fit { IfOk result (λ r. AllFit new_graph (entries_of r.1.items)) }
+        ensures rules { IfOk result (λ r. AllByRecursion IsEntry (entries_of r.1.items)) }
         ensures most { IfOk result (λ r. length r.1.items ≤ most_records) }
-        ensures placed { IfOk result (λ r. ArePlaced [] r.1.items × AreBelow (2 ^ 63) r.1.items) }
+        ensures near { IfOk result (λ r. AreBelow (2 ^ 63) r.1.items) }
         ensures opened { IfOk result (λ r. r.0.closed ≡ false) }
         ensures durable { IsErrOf result DiskFault ⊎ Told (H.state host.old) (Only (H.state host.new).file (H.state host.new).may_leave) }
         ensures out { (H.state host.new).out ≡ (H.state host.old).out }

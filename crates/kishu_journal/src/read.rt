@@ -1,16 +1,15 @@
 ghost use Rattle.std.specs.Prelude.{◌≡◌, ◌≢◌, ◌≤◌, ◌<◌, ◌+◌, ◌-◌, ◌∷◌, ℕ, List, length, take, drop, true, false, IfOk, IfSome, OnOk, IsErr, IsErrOf, None, Ok};
 ghost use Rattle.std.specs.Int.{w64, to_be_bytes, from_be_bytes};
-ghost use Rattle.kishu_host.specs.Host.{Told, Only, Rises};
-ghost use Rattle.kishu_store.specs.Record.{longest_body};
+ghost use Rattle.kishu_host.specs.Host.{Told, Only, Rises, ReadsMore};
+ghost use Rattle.kishu_store.specs.Limits.{longest_body};
 ghost use Rattle.kishu_store.specs.Holds.{open_gate};
 ghost use Rattle.kishu_journal.specs.Going.{IsQuiet, ReadsAtMost};
-ghost use Rattle.kishu_journal.specs.Found.{BeginsBody, before_body};
+ghost use Rattle.kishu_journal.specs.Found.{BeginsBody, before_body, body_at, IsShut, HasNoBody};
 ghost use Rattle.kishu_journal.specs.declared.journal.JournalFault.TheVariants.{DiskFault, NotAJournal, Damaged};
 
 use crate::JournalFault;
 use crate::append::OPEN;
 use kishu_host::{Failed, Host};
-use std::alloc::Global;
 
 const LONGEST_BODY: u64 = 1 << 30;
 
@@ -34,6 +33,7 @@ pub(crate) fn read_exact<H: Host>(host: &mut H, at: u64, into: &mut [u8]) -> Res
     ensures short { IfOk result (λ b. b ≡ false → Told (H.state host.old) (length (H.state host.old).file - at < length into.old)) }
     ensures failed { IsErr result → Rises (H.state host.old).disk_faults (H.state host.new).disk_faults }
     ensures reads { ReadsAtMost (H.state host.old).reads (H.state host.new).reads (length into.old) }
+    ensures exact { IfOk result (λ b. b ≡ true → ReadsMore (H.state host.old).reads (H.state host.new).reads (length into.old)) }
 {
     let n = host.read_at(at, into)?;
     Ok(n == into.len())
@@ -50,26 +50,24 @@ fn number(bytes: &[u8]) -> u64
     u64::from_be_bytes(eight)
 }
 
-/// The body behind the gate at a place, or none where that gate is closed.
-pub(crate) fn read_body<H: Host>(
-    alloc: Global,
+/// The length of the body behind the gate at a place, or none where that gate is closed.
+pub(crate) fn read_size<H: Host>(
     host: &mut H,
     at: u64,
     len: u64,
-) -> Result<Option<Vec<u8>>, JournalFault>
+) -> Result<Option<u64>, JournalFault>
     requires len { Told (H.state host.old) (len ≡ length (H.state host.old).file) }
     requires inside { at < len }
     ensures quiet { IsQuiet (H.state host.old) (H.state host.new) }
-    ensures body { IfOk result (λ o. IfSome o (λ b. Told (H.state host.old) (BeginsBody (drop at (H.state host.old).file) b.items))) }
-    ensures fits { IfOk result (λ o. IfSome o (λ b. at + before_body + length b.items < len)) }
-    ensures small { IfOk result (λ o. IfSome o (λ b. length b.items ≤ longest_body)) }
-    ensures closed { result ≡ Ok None → Told (H.state host.old) ((gate : ℕ) × (rest : List ℕ) × (drop at (H.state host.old).file ≡ gate ∷ rest) × (gate ≢ open_gate)) }
-    ensures damaged { (place : ℕ) → IsErrOf result (Damaged place) → Told (H.state host.old) ((place ≡ at) × (rest : List ℕ) × (drop at (H.state host.old).file ≡ open_gate ∷ rest)
-        × ((body : List ℕ) → BeginsBody (open_gate ∷ rest) body → ⊥)) }
+    ensures body { IfOk result (λ o. IfSome o (λ n. Told (H.state host.old) (BeginsBody (drop at (H.state host.old).file) (body_at (H.state host.old).file at n)))) }
+    ensures within { IfOk result (λ o. IfSome o (λ n. at + before_body + n < len)) }
+    ensures small { IfOk result (λ o. IfSome o (λ n. n ≤ longest_body)) }
+    ensures closed { result ≡ Ok None → Told (H.state host.old) (IsShut (H.state host.old).file at) }
+    ensures damaged { (place : ℕ) → IsErrOf result (Damaged place) → Told (H.state host.old) ((place ≡ at) × HasNoBody (H.state host.old).file at) }
     ensures disk_fault { IsErrOf result DiskFault → Rises (H.state host.old).disk_faults (H.state host.new).disk_faults }
     ensures not_foreign { IsErrOf result NotAJournal → ⊥ }
     ensures reads { ReadsAtMost (H.state host.old).reads (H.state host.new).reads (len - at) }
-    ensures reads_body { IfOk result (λ o. IfSome o (λ b. ReadsAtMost (H.state host.old).reads (H.state host.new).reads (before_body + length b.items))) }
+    ensures reads_size { IfOk result (λ o. IfSome o (λ n. ReadsAtMost (H.state host.old).reads (H.state host.new).reads before_body)) }
 {
     let mut gate = [0; 1];
     match read_exact(host, at, &mut gate) {
@@ -93,12 +91,5 @@ pub(crate) fn read_body<H: Host>(
     if size > LONGEST_BODY || size > len - at - 10 {
         return Err(JournalFault::Damaged { at });
     }
-    let Ok(mut body) = vec![in alloc; 0u8; size as usize] else {
-        return Err(JournalFault::NoMemory);
-    };
-    match read_exact(host, at + 9, &mut body) {
-        Ok(true) => Ok(Some(body)),
-        Ok(false) => Err(JournalFault::Damaged { at }),
-        Err(Failed) => Err(JournalFault::DiskFault),
-    }
+    Ok(Some(size))
 }

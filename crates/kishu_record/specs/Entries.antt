@@ -1,44 +1,45 @@
--- Which entry a value of the program is, and which rules each entry keeps.
-use Rattle.std.specs.Prelude.{◌≡◌, ℕ, List, [], ◌∷◌, ◌++◌, ◌<◌, ◌≤◌, ◌^◌, length, map}
-use Rattle.kishu_language.specs.declared.profile.Profile.{Profile}
-use Rattle.std.specs.Str.{IsUtf8}
+-- Which entry a value of the program is.
+use Rattle.std.specs.Prelude.{ℕ, List, map}
 use Rattle.std.specs.Rc.{rc_str_bytes}
-use Rattle.kishu_bytes.specs.Numbers.{profile_number, four}
-use Rattle.kishu_store.specs.Record.{Entry, commit, longest_cell}
+use Rattle.std.specs.declared.alloc.Global.{Global}
+use Rattle.std.specs.declared.rc.RcStr.{RcStr}
+use Rattle.std.specs.declared.vec.Vec.{Vec}
+use Rattle.kishu_store.specs.Groups.{Group, first_name}
+use Rattle.kishu_store.specs.Entries.{Entry, MoveTo, commit, move, name, to_commit, to_branch, Record}
 use Rattle.kishu_record.specs.declared.entry.Entry as rust
-use Rattle.kishu_record.specs.declared.entry.Entry.TheVariants as rust_entry
+use Rattle.kishu_record.specs.declared.entry.Entry.TheVariants as e
+use Rattle.kishu_record.specs.declared.entry.MoveTo as rust_to
+use Rattle.kishu_record.specs.declared.entry.MoveTo.TheVariants as m
+
+abbrev pub texts_of : Vec (RcStr Global) Global → List (List ℕ)
+texts_of v = map rc_str_bytes v.items
+
+-- a group's first name
+abbrev pub first_of : Vec (RcStr Global) Global → List ℕ
+first_of v = first_name (texts_of v)
+
+abbrev pub first_stored : Vec (RcStr Global) Global × ℕ → List ℕ
+first_stored s = first_of s.0
+
+abbrev pub groups_of : Vec (Vec (RcStr Global) Global) Global → List Group
+groups_of v = map texts_of v.items
+
+-- a group with the length of its picture
+abbrev pub stored_of : Vec (RcStr Global) Global × ℕ → Group × ℕ
+stored_of s = (texts_of s.0, s.1)
+
+abbrev pub all_stored_of : Vec (Vec (RcStr Global) Global × ℕ) Global → List (Group × ℕ)
+all_stored_of v = map stored_of v.items
+
+abbrev pub move_of : rust_to.MoveTo → MoveTo
+move_of (m.Commit number) = to_commit number
+move_of (m.Branch title) = to_branch (rc_str_bytes title)
 
 abbrev pub entry_of : rust.Entry → Entry
-entry_of (rust_entry.Commit parent profile cells) = commit parent profile (map rc_str_bytes cells.items)
+entry_of (e.Commit parent profile cells dropped stored) = commit parent profile (texts_of cells) (groups_of dropped) (all_stored_of stored)
+entry_of (e.Move to) = move (move_of to)
+entry_of (e.Name title number) = name (rc_str_bytes title) number
 
--- the text of a cell that a record may hold
-pub record IsText (text : List ℕ) : Type 0 where
-  pub short : length text ≤ longest_cell
-  pub utf8 : IsUtf8 text
-
-abbrev pub AreTexts : List (List ℕ) → Type 0
-AreTexts [] = Unit {0}
-AreTexts (text ∷ texts) = IsText text × AreTexts texts
-
--- the rules that an entry keeps whatever the graph is
-abbrev pub KeepsRules : Entry → Type 0
-KeepsRules (commit parent profile cells) = (parent < 2 ^ 32) × (0 < length cells) × AreTexts cells
-
--- ---- what the bytes that are read begin with
-
--- the bytes begin with a cell's text behind its length
-pub record BeginsText (bytes : List ℕ) : Type 0 where
-  pub text : List ℕ
-  pub rest : List ℕ
-  pub fits : IsText text
-  pub is : bytes ≡ four (length text) ++ (text ++ rest)
-
--- the bytes begin with what a commit of some cells says before their texts
-pub record BeginsCommit (bytes : List ℕ) : Type 0 where
-  pub parent : ℕ
-  pub profile : Profile
-  pub count : ℕ
-  pub rest : List ℕ
-  pub count_fits : count < 2 ^ 32
-  pub some_cells : 0 < count
-  pub is : bytes ≡ 1 ∷ (four parent ++ (profile_number profile ∷ (four count ++ rest)))
+-- an entry with its pictures
+abbrev pub record_of : rust.Entry → List (Vec ℕ Global) → Record
+record_of e pictures = record { entry = entry_of e; pictures = map (λ p. p.items) pictures }

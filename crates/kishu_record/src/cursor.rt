@@ -1,22 +1,30 @@
-ghost use Rattle.std.specs.Prelude.{◌≡◌, ◌<◌, ◌≤◌, ◌++◌, ◌∷◌, [], List, ℕ, length, map, Ok, None, IfOk, IfSome};
+ghost use Rattle.std.specs.Prelude.{◌≡◌, ◌<◌, ◌≤◌, ◌^◌, ◌++◌, ◌∷◌, [], List, ℕ, length, true, false, Ok, None, IfOk, IfSome};
 ghost use Rattle.std.specs.Rc.{rc_str_bytes};
 ghost use Rattle.kishu_bytes.specs.Numbers.{four};
-ghost use Rattle.kishu_store.specs.Record.{texts_bytes};
-ghost use Rattle.kishu_record.specs.Entries.{IsText, AreTexts, BeginsText};
+ghost use Rattle.kishu_store.specs.EntryBytes.{eight, text_bytes, name_bytes, many};
+ghost use Rattle.kishu_store.specs.Rules.{IsCell, AreCells, IsTitle};
+ghost use Rattle.kishu_record.specs.Entries.{texts_of};
+ghost use Rattle.kishu_record.specs.Readings.{Begins};
 
+use kishu_language::LONGEST_TEXT;
 use std::alloc::{AllocError, Global};
 use std::rc::RcStr;
 
-/// The longest text of a cell, in bytes.
-const LONGEST_CELL: u32 = 1_048_576;
-
-/// What is left to read of some bytes.
+/// What is left to read of a head.
 #[derive(Drop)]
 pub(crate) struct Cursor<'a> {
     pub(crate) rest: &'a [u8],
 }
 
 impl<'a> Cursor<'a> {
+    /// Whether nothing is left.
+    pub(crate) fn is_at_end(&self) -> bool
+        ensures yes { result ≡ true → self.now.rest.now ≡ [] }
+        ensures no { result ≡ false → self.now.rest.now ≡ [] → ⊥ }
+    {
+        self.rest.is_empty()
+    }
+
     /// The next byte, or none at the end.
     pub(crate) fn byte(&mut self) -> Option<u8>
         ensures found { IfSome result (λ b. self.old.rest.now ≡ b ∷ self.new.rest.now) }
@@ -54,19 +62,29 @@ impl<'a> Cursor<'a> {
         Some(number_of(bytes))
     }
 
+    /// The next number of eight bytes, or none where fewer are left.
+    pub(crate) fn length(&mut self) -> Option<u64>
+        ensures found { IfSome result (λ n. self.old.rest.now ≡ eight n ++ self.new.rest.now) }
+        ensures none { result ≡ None → length self.old.rest.now < 8 }
+    {
+        let bytes = self.bytes(8)?;
+        Some(length_of(bytes))
+    }
+
     /// The next cell's text, or none where no such text follows.
-    pub(crate) fn text(&mut self, alloc: Global) -> Result<Option<RcStr>, AllocError>
-        ensures found { IfOk result (λ o. IfSome o (λ t. self.old.rest.now ≡ four (length (rc_str_bytes t)) ++ (rc_str_bytes t ++ self.new.rest.now))) }
-        ensures fits { IfOk result (λ o. IfSome o (λ t. IsText (rc_str_bytes t))) }
-        ensures none { result ≡ Ok None → BeginsText self.old.rest.now → ⊥ }
+    fn text(&mut self, alloc: Global) -> Result<Option<RcStr>, AllocError>
+        ensures found { IfOk result (λ o. IfSome o (λ t. self.old.rest.now ≡ text_bytes (rc_str_bytes t) ++ self.new.rest.now)) }
+        ensures fits { IfOk result (λ o. IfSome o (λ t. IsCell (rc_str_bytes t))) }
+        ensures none { result ≡ Ok None → Begins text_bytes IsCell self.old.rest.now → ⊥ }
     {
         let Some(length) = self.number() else {
             return Ok(None);
         };
-        if length > LONGEST_CELL {
+        let length = length as usize;
+        if length > LONGEST_TEXT {
             return Ok(None);
         }
-        let Some(bytes) = self.bytes(length as usize) else {
+        let Some(bytes) = self.bytes(length) else {
             return Ok(None);
         };
         let Ok(text) = str::from_utf8(bytes) else {
@@ -75,17 +93,16 @@ impl<'a> Cursor<'a> {
         Ok(Some(RcStr::from_str(alloc, text)?))
     }
 
-    /// The texts of `count` cells, or none where not so many follow.
-    pub(crate) fn texts(
-        &mut self,
-        alloc: Global,
-        count: u32,
-    ) -> Result<Option<Vec<RcStr>>, AllocError>
-        ensures found { IfOk result (λ o. IfSome o (λ v. self.old.rest.now ≡ texts_bytes (map rc_str_bytes v.items) ++ self.new.rest.now)) }
-        ensures count { IfOk result (λ o. IfSome o (λ v. length v.items ≡ count)) }
-        ensures fit { IfOk result (λ o. IfSome o (λ v. AreTexts (map rc_str_bytes v.items))) }
-        ensures none { result ≡ Ok None → (cells : List (List ℕ)) (rest : List ℕ) → length cells ≡ count → AreTexts cells → self.old.rest.now ≡ texts_bytes cells ++ rest → ⊥ }
+    /// The texts of the next cells behind their number, or none where no such texts follow.
+    pub(crate) fn texts(&mut self, alloc: Global) -> Result<Option<Vec<RcStr>>, AllocError>
+        requires { length self.old.rest.now < 2 ^ 32 }
+        ensures found { IfOk result (λ o. IfSome o (λ v. self.old.rest.now ≡ many text_bytes (texts_of v) ++ self.new.rest.now)) }
+        ensures fit { IfOk result (λ o. IfSome o (λ v. AreCells (texts_of v))) }
+        ensures none { result ≡ Ok None → Begins (many text_bytes) AreCells self.old.rest.now → ⊥ }
     {
+        let Some(count) = self.number() else {
+            return Ok(None);
+        };
         let mut texts = Vec::new(alloc);
         for _ in 0..count {
             let Some(text) = self.text(alloc)? else {
@@ -94,6 +111,24 @@ impl<'a> Cursor<'a> {
             texts.push(text)?;
         }
         Ok(Some(texts))
+    }
+
+    /// The next name of a branch, or none where no text of at most 255 bytes follows.
+    pub(crate) fn title(&mut self, alloc: Global) -> Result<Option<RcStr>, AllocError>
+        ensures found { IfOk result (λ o. IfSome o (λ t. self.old.rest.now ≡ name_bytes (rc_str_bytes t) ++ self.new.rest.now)) }
+        ensures fits { IfOk result (λ o. IfSome o (λ t. IsTitle (rc_str_bytes t))) }
+        ensures none { result ≡ Ok None → Begins name_bytes IsTitle self.old.rest.now → ⊥ }
+    {
+        let Some(length) = self.byte() else {
+            return Ok(None);
+        };
+        let Some(bytes) = self.bytes(length as usize) else {
+            return Ok(None);
+        };
+        let Ok(title) = str::from_utf8(bytes) else {
+            return Ok(None);
+        };
+        Ok(Some(RcStr::from_str(alloc, title)?))
     }
 }
 
@@ -105,4 +140,14 @@ fn number_of(bytes: &[u8]) -> u32
     let mut array = [0; 4];
     array.copy_from_slice(bytes);
     u32::from_be_bytes(array)
+}
+
+/// The number that eight bytes spell.
+fn length_of(bytes: &[u8]) -> u64
+    requires { length bytes.now ≡ 8 }
+    ensures { eight result ≡ bytes.now }
+{
+    let mut array = [0; 8];
+    array.copy_from_slice(bytes);
+    u64::from_be_bytes(array)
 }

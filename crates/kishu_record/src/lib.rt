@@ -1,19 +1,32 @@
 //! The bytes of a store's records.
 //!
-//! `encode` gives the body of an entry, and `decode` the entry within the rules (at least one cell,
-//! each of at most 1,048,576 bytes of UTF-8) that a body spells, or none where no such entry has it.
+//! A record's body is its head behind the head's length, and then the pictures of the groups that it
+//! stores. `encode` gives the body of an entry and its pictures. `decode` gives the entry that a head
+//! spells, or tells that no entry within the rules has that head and pictures of that length.
 #![tactic(auto)]
 
 mod cursor;
 mod entry;
+mod groups;
+mod order;
+mod parts;
 mod reader;
 #[cfg(test)]
 mod tests;
 mod writer;
 
-pub use entry::Entry;
+pub use entry::{Entry, EntryFault, MoveTo};
 pub use reader::decode;
 pub use writer::encode;
 
-/// The first byte of a commit's head.
+/// The first byte of a head: the kind of the record.
 const COMMIT: u8 = 1;
+
+const MOVE: u8 = 2;
+
+const NAME: u8 = 3;
+
+/// The second byte of a move's head: whether it goes to a commit or to a branch.
+const TO_COMMIT: u8 = 0;
+
+const TO_BRANCH: u8 = 1;

@@ -1,22 +1,37 @@
-ghost use Rattle.std.specs.Prelude.{◌≡◌, ◌<◌, ◌^◌, ◌++◌, ◌∷◌, [], length, map, IfOk, OnOk};
+ghost use Rattle.std.specs.Prelude.{◌≡◌, ◌<◌, ◌≤◌, ◌^◌, ◌++◌, ◌∷◌, [], length, map, flat_map, IfOk, OnOk};
 ghost use Rattle.std.specs.Rc.{rc_str_bytes};
 ghost use Rattle.kishu_bytes.specs.Numbers.{four, profile_number};
-ghost use Rattle.kishu_store.specs.Record.{texts_bytes, head_of, body_of, commit};
-ghost use Rattle.kishu_record.specs.Entries.{entry_of};
+ghost use Rattle.kishu_store.specs.Entries.{commit, move, name};
+ghost use Rattle.kishu_store.specs.EntryBytes.{head_of, body_of};
+ghost use Rattle.kishu_store.specs.Rules.{IsEntry, IsTitle};
+ghost use Rattle.kishu_record.specs.Entries.{entry_of, record_of, move_of, texts_of, groups_of, all_stored_of};
 
-use crate::COMMIT;
-use crate::entry::Entry;
+use crate::entry::{Entry, MoveTo};
+use crate::parts::{put_groups, put_name, put_number, put_pictures, put_stored, put_texts};
+use crate::{COMMIT, MOVE, NAME, TO_BRANCH, TO_COMMIT};
 use kishu_language::Profile;
 use std::alloc::{AllocError, Global};
 use std::rc::RcStr;
 
-/// The body of an entry's record.
+/// The body of an entry's record: its head behind the head's length, and then the pictures of the
+/// groups that it stores.
 ///
-/// Its condition is that the entry's head has fewer than 2^32 bytes. The error is want of memory.
-#[tactic(auto, unfolding(kishu_store::specs::Record::body_of))]
-pub fn encode(alloc: Global, entry: &Entry) -> Result<Vec<u8>, AllocError>
-    requires { length (head_of (entry_of entry.now)) < 2 ^ 32 }
-    ensures { IfOk result (λ v. v.items ≡ body_of (entry_of entry.now)) }
+/// Its conditions are that the entry keeps the rules of records, that its head has fewer than 2^32
+/// bytes, and that the pictures have the lengths that it tells. The error is want of memory.
+#[tactic(auto, unfolding(kishu_store::specs::EntryBytes::body_of))]
+pub fn encode(alloc: Global, entry: &Entry, pictures: &[Vec<u8>]) -> Result<Vec<u8>, AllocError>
+    requires { IsEntry (entry_of entry.now) }
+    ensures { IfOk result (λ v. v.items ≡ body_of (record_of entry.now pictures.now)) }
+{
+    let mut body = headed(alloc, entry)?;
+    put_pictures(&mut body, pictures)?;
+    Ok(body)
+}
+
+/// What the record says, behind its length.
+fn headed(alloc: Global, entry: &Entry) -> Result<Vec<u8>, AllocError>
+    requires { IsEntry (entry_of entry.now) }
+    ensures { IfOk result (λ v. v.items ≡ four (length (head_of (entry_of entry.now))) ++ head_of (entry_of entry.now)) }
 {
     let head = head_bytes(alloc, entry)?;
     let mut body = Vec::new(alloc);
@@ -27,7 +42,7 @@ pub fn encode(alloc: Global, entry: &Entry) -> Result<Vec<u8>, AllocError>
 
 /// What the record says.
 fn head_bytes(alloc: Global, entry: &Entry) -> Result<Vec<u8>, AllocError>
-    requires { length (head_of (entry_of entry.now)) < 2 ^ 32 }
+    requires { IsEntry (entry_of entry.now) }
     ensures { IfOk result (λ v. v.items ≡ head_of (entry_of entry.now)) }
 {
     match entry {
@@ -35,29 +50,68 @@ fn head_bytes(alloc: Global, entry: &Entry) -> Result<Vec<u8>, AllocError>
             parent,
             profile,
             cells,
-        } => commit_head(alloc, *parent, *profile, cells),
+            dropped,
+            stored,
+        } => commit_head(alloc, *parent, *profile, cells, dropped, stored),
+        Entry::Move { to } => move_head(alloc, to),
+        Entry::Name { name, commit } => name_head(alloc, name, *commit),
     }
 }
 
-/// The head of a commit that drops and stores no groups.
-#[tactic(auto, unfolding(kishu_store::specs::Record::head_of))]
+/// The head of a commit.
+#[tactic(auto, unfolding(kishu_store::specs::EntryBytes::head_of))]
 fn commit_head(
     alloc: Global,
     parent: u32,
     profile: Profile,
-    cells: &[RcStr],
+    cells: &Vec<RcStr>,
+    dropped: &Vec<Vec<RcStr>>,
+    stored: &Vec<(Vec<RcStr>, u64)>,
 ) -> Result<Vec<u8>, AllocError>
-    requires { length (head_of (commit parent profile (map rc_str_bytes cells.now))) < 2 ^ 32 }
-    ensures { IfOk result (λ v. v.items ≡ head_of (commit parent profile (map rc_str_bytes cells.now))) }
+    requires { IsEntry (commit parent profile (texts_of cells.now) (groups_of dropped.now) (all_stored_of stored.now)) }
+    ensures { IfOk result (λ v. v.items ≡ head_of (commit parent profile (texts_of cells.now) (groups_of dropped.now) (all_stored_of stored.now))) }
 {
     let mut head = Vec::new(alloc);
     head.push(COMMIT)?;
     put_number(&mut head, parent)?;
     head.push(number_of(profile))?;
-    put_number(&mut head, cells.len() as u32)?;
     put_texts(&mut head, cells)?;
-    put_number(&mut head, 0)?;
-    put_number(&mut head, 0)?;
+    put_groups(&mut head, dropped)?;
+    put_stored(&mut head, stored)?;
+    Ok(head)
+}
+
+/// The head of a move.
+#[tactic(auto, unfolding(kishu_store::specs::EntryBytes::head_of))]
+fn move_head(alloc: Global, to: &MoveTo) -> Result<Vec<u8>, AllocError>
+    requires { IsEntry (move (move_of to.now)) }
+    ensures { IfOk result (λ v. v.items ≡ head_of (move (move_of to.now))) }
+{
+    let mut head = Vec::new(alloc);
+    head.push(MOVE)?;
+    match to {
+        MoveTo::Commit(number) => {
+            head.push(TO_COMMIT)?;
+            put_number(&mut head, *number)?;
+        }
+        MoveTo::Branch(title) => {
+            head.push(TO_BRANCH)?;
+            put_name(&mut head, title)?;
+        }
+    }
+    Ok(head)
+}
+
+/// The head of a name.
+#[tactic(auto, unfolding(kishu_store::specs::EntryBytes::head_of))]
+fn name_head(alloc: Global, title: &RcStr, commit: u32) -> Result<Vec<u8>, AllocError>
+    requires { IsTitle (rc_str_bytes title.now) }
+    ensures { IfOk result (λ v. v.items ≡ head_of (name (rc_str_bytes title.now) commit)) }
+{
+    let mut head = Vec::new(alloc);
+    head.push(NAME)?;
+    put_name(&mut head, title)?;
+    put_number(&mut head, commit)?;
     Ok(head)
 }
 
@@ -68,23 +122,4 @@ fn number_of(profile: Profile) -> u8
         Profile::One => 1,
         Profile::Two => 2,
     }
-}
-
-/// Appends a number in four bytes, the highest first.
-fn put_number(out: &mut Vec<u8>, n: u32) -> Result<(), AllocError>
-    ensures { OnOk result (out.new.items ≡ out.old.items ++ four n) }
-{
-    out.extend_from_slice(&n.to_be_bytes())
-}
-
-/// Appends texts, each behind its length.
-fn put_texts(out: &mut Vec<u8>, texts: &[RcStr]) -> Result<(), AllocError>
-    requires { length (texts_bytes (map rc_str_bytes texts.now)) < 2 ^ 32 }
-    ensures { OnOk result (out.new.items ≡ out.old.items ++ texts_bytes (map rc_str_bytes texts.now)) }
-{
-    for text in texts {
-        put_number(out, text.len() as u32)?;
-        out.extend_from_slice(text.as_str().as_bytes())?;
-    }
-    Ok(())
 }

@@ -2,8 +2,10 @@
 use Rattle.std.proofs.Common.{◌≡◌, inl, inr, [], ◌∷◌, ◌++◌, length, codes, Some, None, refl, ap, arith, slice_index}
 use Rattle.serde_json.proofs.OnLiterals.{serde_json_on_literals}
 use Rattle.std.proofs.lemmas.Bool.{false≢true}
+use Rattle.std.proofs.lemmas.Str.{IsUtf8-from_is_utf8, is_utf8-from_IsUtf8}
 use Rattle.std.specs.Char.{encode_utf8}
 use Rattle.std.specs.Fmt.{digits}
+use Rattle.std.specs.List.Sorted.{IsStrictlySortedBy}
 use Rattle.std.specs.Str.{chars, is_utf8}
 use Rattle.kishu_language.specs.declared.profile.Profile.TheVariants.{One}
 use Rattle.kishu_language.specs.tokens.Names.{reserved_words}
@@ -13,20 +15,23 @@ use Rattle.kishu_model.specs.Answers.{answer_line}
 use Rattle.kishu_model.specs.Request.{cell, unreadable}
 use Rattle.kishu_model.specs.Step.{step}
 use Rattle.kishu_model.specs.Task.{task, one_cell}
-use Rattle.kishu_store.specs.Record.{commit, head_of, body_of, IsCell, Fits}
+use Rattle.kishu_store.specs.Entries.{commit, plain}
+use Rattle.kishu_store.specs.EntryBytes.{head_of, body_of}
+use Rattle.kishu_store.specs.Fitting.{Fits}
+use Rattle.kishu_store.specs.Rules.{IsCell, IsRecord}
 use Rattle.kishu_store.specs.Holds.{header, framed, front, Holds, IsForeign}
 
 all_keywords : length reserved_words ≡ 35
 unfolding reserved_words
 all_keywords = refl
 
-first_file : front (commit 0 One (codes "print(1 + 2)" ∷ []) ∷ []) ++ 0 ∷ []
+first_file : front (plain (commit 0 One (codes "print(1 + 2)" ∷ []) [] []) ∷ []) ++ 0 ∷ []
     ≡ codes "KISHU-JOURNAL-1\n" ++ 165 ∷ 0 ∷ 0 ∷ 0 ∷ 0 ∷ 0 ∷ 0 ∷ 0 ∷ 38 ∷ 0 ∷ 0 ∷ 0 ∷ 34 ∷ 1 ∷ 0 ∷ 0 ∷ 0 ∷ 0 ∷ 1 ∷ 0 ∷ 0 ∷ 0 ∷ 1 ∷ 0 ∷ 0 ∷ 0 ∷ 12
     ∷ codes "print(1 + 2)" ++ 0 ∷ 0 ∷ 0 ∷ 0 ∷ 0 ∷ 0 ∷ 0 ∷ 0 ∷ 0 ∷ []
 unfolding header framed head_of body_of
 first_file = refl
 
-first_length : length (front (commit 0 One (codes "print(1 + 2)" ∷ []) ∷ []) ++ 0 ∷ []) ≡ 64
+first_length : length (front (plain (commit 0 One (codes "print(1 + 2)" ∷ []) [] []) ∷ []) ++ 0 ∷ []) ≡ 64
 unfolding header framed head_of body_of
 first_length = refl
 
@@ -90,23 +95,31 @@ eighteen_bytes = (omega arith, λ rest e. let d : 120 ≡ 75 = ap (λ l. slice_i
 -- Any text within the limit is a cell, also one without a tree.
 first_cell : IsCell (codes "print(1 + 2)")
 unfolding is_utf8 chars encode_utf8
-first_cell = record { short = omega arith; utf8 = refl }
+first_cell = record { short = omega arith; utf8 = IsUtf8-from_is_utf8 (codes "print(1 + 2)") refl }
 
 empty_cell : IsCell []
 unfolding is_utf8 chars encode_utf8
-empty_cell = record { short = omega arith; utf8 = refl }
+empty_cell = record { short = omega arith; utf8 = IsUtf8-from_is_utf8 [] refl }
 
 faulty_cell : IsCell (codes "a = = 1\ndef f")
 unfolding is_utf8 chars encode_utf8
-faulty_cell = record { short = omega arith; utf8 = refl }
+faulty_cell = record { short = omega arith; utf8 = IsUtf8-from_is_utf8 (codes "a = = 1\ndef f") refl }
 
 no_cell : IsCell (255 ∷ []) → ⊥
 unfolding is_utf8 chars encode_utf8
-no_cell c = false≢true c.utf8
+no_cell c = false≢true (is_utf8-from_IsUtf8 (255 ∷ []) c.utf8)
 
-first_fits : Fits new_graph (commit 0 One (codes "print(1 + 2)" ∷ []))
-first_fits = (omega arith, refl, refl, omega arith, (first_cell, tt))
+first_fits : Fits new_graph (commit 0 One (codes "print(1 + 2)" ∷ []) [] [])
+first_fits = record { room = omega arith; goes_on = (refl, refl, refl) }
 
-first_holds : Holds (front (commit 0 One (codes "print(1 + 2)" ∷ []) ∷ []) ++ 0 ∷ []) (step new_graph (cell (codes "print(1 + 2)"))).graph
+first_record : IsRecord (plain (commit 0 One (codes "print(1 + 2)" ∷ []) [] []))
+unfolding head_of body_of IsStrictlySortedBy
+first_record = record {
+  rules = record { parent = omega arith; profile = refl; some = omega arith; cells = (first_cell, tt); dropped = record { each = tt; rise = tt }; stored = record { each = tt; rise = tt } };
+  pictures = refl;
+  small = omega arith;
+}
+
+first_holds : Holds (front (plain (commit 0 One (codes "print(1 + 2)" ∷ []) [] []) ∷ []) ++ 0 ∷ []) (step new_graph (cell (codes "print(1 + 2)"))).graph
 unfolding header framed head_of body_of
-first_holds = inr (omega arith, commit 0 One (codes "print(1 + 2)" ∷ []) ∷ [], record { gate = 0; rest = []; split = refl; closed = λ e. absurd (omega arith); fit = (omega arith, first_fits, tt) }, refl)
+first_holds = inr (omega arith, plain (commit 0 One (codes "print(1 + 2)" ∷ []) [] []) ∷ [], record { gate = 0; rest = []; split = refl; closed = λ e. absurd (omega arith); fit = (first_record, first_fits, tt) }, refl)

@@ -1,5 +1,5 @@
 -- The requests of inputs, and the readings of lines, computed on the definitions.
-use Rattle.std.proofs.Common.{◌≡◌, ℕ, [], ◌∷◌, ◌++◌, codes, Option, Some, None, refl}
+use Rattle.std.proofs.Common.{◌≡◌, [], ◌∷◌, ◌++◌, codes, Some, None, refl}
 use Rattle.kishu_model.specs.Reading.{reading}
 use Rattle.kishu_model.specs.Request.{cell, checkout, branch, log, status, unreadable}
 use Rattle.kishu_model.specs.Task.{task, session, one_request, Limits, limit_place, session_lines}

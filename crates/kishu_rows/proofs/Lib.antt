@@ -1,4 +1,5 @@
 pub mod OnLiterals
 mod FirstCell
+mod Records
 mod Sessions
 mod Inputs

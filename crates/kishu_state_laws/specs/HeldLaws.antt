@@ -1,12 +1,14 @@
 -- The cells of a graph that a file holds are texts, so each of its replays gives a state.
-use Rattle.std.specs.Prelude.{◌==◌, ℕ, suc, List, [], ◌∷◌, ◌++◌, length}
+use Rattle.std.specs.Prelude.{◌==◌, ℕ, suc, List, [], ◌∷◌, ◌++◌, length, Option, Some, None}
 use Rattle.std.specs.List.{AllByRecursion as Each}
 use Rattle.std.proofs.Common.{sym, subst, inl, inr}
 use Rattle.std.proofs.lemmas.Bool.{cases_Bool}
-use Rattle.std.proofs.lemmas.Str.{IsUtf8-from_is_utf8}
+use Rattle.kishu_store.specs.Entries.{Entry, commit, move, name, to_commit, to_branch, Record, entries_in}
+use Rattle.kishu_store.specs.Fitting.{AreRecords, on_branch, changed, changed_by}
+use Rattle.kishu_store.specs.Branches.{commit_of}
 use Rattle.kishu_store.specs.Graph.{Commit, Graph, new_graph, path_in}
 use Rattle.kishu_store.specs.Holds.{Holds}
-use Rattle.kishu_store.specs.Record.{Entry, commit, AreCells, AreRecords, changed, changed_by}
+use Rattle.kishu_store.specs.Rules.{KeepsRules, AreCells}
 use Rattle.kishu_replay.specs.Replay.{replay}
 use Rattle.kishu_objects.specs.State.{IsCell, IsState}
 use Rattle.kishu_state_laws.specs.Whole.{replay_is_state}
@@ -17,11 +19,21 @@ AreTexts ks = Each (λ (k : Commit). Each IsCell k.cells) ks
 
 texts_of : (cells : List (List ℕ)) → AreCells cells → Each IsCell cells
 texts_of [] h = tt
-texts_of (cell ∷ cells) h = ((IsUtf8-from_is_utf8 cell h.0.utf8, h.0.short), texts_of cells h.1)
+texts_of (cell ∷ cells) h = ((h.0.utf8, h.0.short), texts_of cells h.1)
 
-texts_by : (entries : List Entry) (g : Graph) → AreRecords g entries → AreTexts g.commits → AreTexts (changed_by g entries).commits
+texts_on : (title : List ℕ) (o : Option ℕ) (g : Graph) → AreTexts g.commits → AreTexts (on_branch title o g).commits
+texts_on title None g t = t
+texts_on title (Some number) g t = t
+
+texts_changed : (e : Entry) (g : Graph) → KeepsRules e → AreTexts g.commits → AreTexts (changed g e).commits
+texts_changed (commit parent profile cells dropped stored) g keeps t = (texts_of cells keeps.cells, t)
+texts_changed (move (to_commit number)) g keeps t = t
+texts_changed (move (to_branch title)) g keeps t = texts_on title (commit_of title g.branches) g t
+texts_changed (name title number) g keeps t = t
+
+texts_by : (rs : List Record) (g : Graph) → AreRecords g rs → AreTexts g.commits → AreTexts (changed_by g (entries_in rs)).commits
 texts_by [] g h t = t
-texts_by (commit parent profile cells ∷ entries) g h t = texts_by entries (changed g (commit parent profile cells)) h.2 (texts_of cells h.1.4, t)
+texts_by (r ∷ rs) g h t = texts_by rs (changed g r.entry) h.2 (texts_changed r.entry g h.0.rules t)
 
 pub held_texts : (file : List ℕ) (g : Graph) → Holds file g → AreTexts g.commits
 held_texts file g (inl h) = subst (λ z. AreTexts z.commits) (sym h.1) tt

@@ -1,8 +1,10 @@
 -- What a store file holds.
 use Rattle.std.specs.Prelude.{◌≡◌, ◌≢◌, ◌<◌, ◌≤◌, ◌⊎◌, ℕ, List, [], ◌∷◌, ◌++◌, length}
-use Rattle.std.specs.Int.{w64, to_be_bytes}
+use Rattle.kishu_store.specs.Entries.{Entry, Record, entries_in}
+use Rattle.kishu_store.specs.EntryBytes.{eight, body_of}
+use Rattle.kishu_store.specs.Fitting.{Fits, changed_by, AreRecords}
 use Rattle.kishu_store.specs.Graph.{Graph, new_graph}
-use Rattle.kishu_store.specs.Record.{Entry, body_of, longest_body, Fits, changed_by, AreRecords}
+use Rattle.kishu_store.specs.Rules.{IsRecord}
 
 -- KISHU-JOURNAL-1 and a line feed
 unfoldable pub header : List ℕ
@@ -18,54 +20,58 @@ fresh_length = 17
 
 -- a body behind its length in eight bytes
 unfoldable pub framed : List ℕ → List ℕ
-framed body = to_be_bytes w64 (length body) ++ body
+framed body = eight (length body) ++ body
 
 -- records, each behind an open gate
-abbrev pub records : List Entry → List ℕ
+abbrev pub records : List Record → List ℕ
 records [] = []
-records (e ∷ es) = open_gate ∷ framed (body_of e) ++ records es
+records (r ∷ rs) = open_gate ∷ framed (body_of r) ++ records rs
 
 -- the header and these records
-abbrev pub front : List Entry → List ℕ
-front entries = header ++ records entries
+abbrev pub front : List Record → List ℕ
+front rs = header ++ records rs
 
 -- where the gate behind these records stands
-abbrev pub end_of : List Entry → ℕ
-end_of entries = length (front entries)
+abbrev pub end_of : List Record → ℕ
+end_of rs = length (front rs)
 
 -- The file begins with the header, and these records, which fit, end at a closed gate inside it. Whatever follows isn't read.
-pub record Ends (file : List ℕ) (entries : List Entry) : Type 0 where
+pub record Ends (file : List ℕ) (rs : List Record) : Type 0 where
   pub gate : ℕ
   pub rest : List ℕ
-  pub split : file ≡ front entries ++ (gate ∷ rest)
+  pub split : file ≡ front rs ++ (gate ∷ rest)
   pub closed : gate ≢ open_gate
-  pub fit : AreRecords new_graph entries
+  pub fit : AreRecords new_graph rs
 
--- the graph of these records
+-- the graph of records that say this
 abbrev pub graph_of : List Entry → Graph
 graph_of entries = changed_by new_graph entries
 
+-- that of these records
+abbrev pub graph_by : List Record → Graph
+graph_by rs = graph_of (entries_in rs)
+
 -- A file of at most 17 bytes holds the new graph, whatever they are.
 abbrev pub Holds : List ℕ → Graph → Type 0
-Holds file g = ((length file ≤ fresh_length) × (g ≡ new_graph)) ⊎ ((fresh_length < length file) × (entries : List Entry) × Ends file entries × (g ≡ graph_of entries))
+Holds file g = ((length file ≤ fresh_length) × (g ≡ new_graph)) ⊎ ((fresh_length < length file) × (rs : List Record) × Ends file rs × (g ≡ graph_by rs))
 
 -- A good store. Later stages ask more than that it holds a graph.
 abbrev pub IsGood : List ℕ → Type 0
 IsGood file = (g : Graph) × Holds file g
 
 -- at an open gate: a whole record that fits the graph, and a byte behind it
-abbrev pub BeginsRecord : List ℕ → Graph → Entry → Type 0
-BeginsRecord bytes g e = (rest : List ℕ) × (bytes ≡ open_gate ∷ (framed (body_of e) ++ rest)) × (0 < length rest) × (length (body_of e) ≤ longest_body) × Fits g e
+abbrev pub BeginsRecord : List ℕ → Graph → Record → Type 0
+BeginsRecord bytes g r = (rest : List ℕ) × (bytes ≡ open_gate ∷ (framed (body_of r) ++ rest)) × (0 < length rest) × IsRecord r × Fits g r.entry
 
 -- The gate at that place is open, and no record that fits follows.
 pub record IsBroken (file : List ℕ) (at : ℕ) : Type 0 where
   pub long : fresh_length < length file
-  pub entries : List Entry
+  pub before : List Record
   pub rest : List ℕ
-  pub split : file ≡ front entries ++ (open_gate ∷ rest)
-  pub fit : AreRecords new_graph entries
-  pub place : at ≡ end_of entries
-  pub none : (e : Entry) → BeginsRecord (open_gate ∷ rest) (graph_of entries) e → ⊥
+  pub split : file ≡ front before ++ (open_gate ∷ rest)
+  pub fit : AreRecords new_graph before
+  pub place : at ≡ end_of before
+  pub none : (r : Record) → BeginsRecord (open_gate ∷ rest) (graph_by before) r → ⊥
 
 -- a longer file with another header
 abbrev pub IsForeign : List ℕ → Type 0

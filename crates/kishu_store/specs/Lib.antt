@@ -4,5 +4,9 @@ pub mod Graph
 pub mod Targets
 pub mod References
 pub mod CommitLines
-pub mod Record
+pub mod Groups
+pub mod Entries
+pub mod EntryBytes
+pub mod Rules
+pub mod Fitting
 pub mod Holds

@@ -1,9 +1,9 @@
 -- One cell: it runs on the state of the head's commit, and is committed.
 use Rattle.std.specs.Prelude.{ℕ, suc, nat_le, nat_lt, ◌||◌, if◌then◌else◌, List, [], ◌∷◌, length}
+use Rattle.kishu_language.specs.Limits.{longest_text}
 use Rattle.kishu_meaning.specs.cells.Meaning.{run}
 use Rattle.kishu_store.specs.Limits.{most_records, newest_profile}
 use Rattle.kishu_store.specs.Graph.{Graph, newest, with_commit, count_of}
-use Rattle.kishu_store.specs.Record.{longest_cell}
 use Rattle.kishu_replay.specs.Replay.{replay}
 use Rattle.kishu_model.specs.Answers.{ran_cell, cell_too_long, store_full}
 use Rattle.kishu_model.specs.Request.{Stepped, refused_with}
@@ -21,10 +21,10 @@ charge_for text g = (run newest_profile text (replay g g.head.commit)).charge
 -- A text that is too long is no cell, and a store that is full takes none.
 abbrev pub step_cell : List ℕ → Graph → Stepped
 step_cell text g =
-    if nat_lt longest_cell (length text) then refused_with cell_too_long g
+    if nat_lt longest_text (length text) then refused_with cell_too_long g
     else if nat_le most_records g.records then refused_with store_full g
     else committed text g
 
 -- A refused cell takes no step.
 abbrev pub charge_of_cell : List ℕ → Graph → ℕ
-charge_of_cell text g = if nat_lt longest_cell (length text) || nat_le most_records g.records then 0 else charge_for text g
+charge_of_cell text g = if nat_lt longest_text (length text) || nat_le most_records g.records then 0 else charge_for text g

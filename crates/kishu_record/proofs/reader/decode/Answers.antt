@@ -1,18 +1,25 @@
-use Rattle.std.proofs.Common.{◌≡◌, ◌<◌, ◌^◌, length, arith, ap, ◌∙◌, sym}
-use Rattle.kishu_store.specs.Record.{head_of, commit}
-use Rattle.kishu_record.proofs.Heads.{head_from_body, keeps_from_cells, only_entry}
+use Rattle.std.proofs.Common.{◌≡◌, ◌∙◌, length, ap, sym, arith}
+use Rattle.std.specs.List.{sum}
+use Rattle.kishu_store.specs.Entries.{lengths_in}
+use Rattle.kishu_store.specs.EntryBytes.{head_of}
+use Rattle.kishu_store.specs.Rules.{KeepsRules, IsEntry}
+use Rattle.kishu_store_laws.specs.EntryLaws.{head-unique}
+use Rattle.kishu_record.specs.Entries.{entry_of}
 use Rattle.kishu_record.proofs.reader.decode.Goals as goal
 
-pub returns-clause-exact : goal.returns-clause-exact
-returns-clause-exact c same entry keeps is =
-    let head = c.number.new.self.rest.now in
-    let e : head ≡ head_of entry = head_from_body c.in-Some.size head entry (sym c.in-Some.ensures.found ∙ is) in
-    let short : length (head_of entry) < 2 ^ 32 = omega (arith, ap length e, ap length c.in-Some.ensures.found) in
-    c.commit_of.ensures.none same entry keeps short e
-
-pub returns-clause-none : goal.returns-clause-none
-returns-clause-none c same parent profile cells fits some are is = returns-clause-exact c same (commit parent profile cells) (keeps_from_cells parent profile cells fits some are) is
+pub returns-then-not-has_pictures-clause-no_entry : goal.returns-then-not-has_pictures-clause-no_entry
+returns-then-not-has_pictures-clause-no_entry c same a h =
+    let entry = entry_of c.in-Some.entry in
+    let found : c.args.head.now ≡ head_of entry = rw c.in-Some.is at c.in-Ok.ensures.found in
+    let rules : KeepsRules entry = rw c.in-Some.is at c.in-Ok.ensures.rules in
+    let is : IsEntry entry = record { rules = rules; short = omega (arith, ap length found) } in
+    let one : entry ≡ a = head-unique entry a is h.entry (sym found ∙ h.is) in
+    c.has_pictures.ensures.no c.if-not-has_pictures.true (ap (λ e. sum (lengths_in e)) one ∙ h.sum)
 
 pub returns-clause-only : goal.returns-clause-only
-returns-clause-only c =
-    only_entry c.commit_of.result c.in-Some.size c.number.new.self.rest.now c.args.body.now c.in-Some.ensures.found (omega (arith, ap length c.in-Some.ensures.found)) c.commit_of.ensures.found c.commit_of.ensures.rules
+returns-clause-only c a k same =
+    let entry = entry_of c.in-Some.entry in
+    let found : c.args.head.now ≡ head_of entry = rw c.in-Some.is at c.in-Ok.ensures.found in
+    let rules : KeepsRules entry = rw c.in-Some.is at c.in-Ok.ensures.rules in
+    let is : IsEntry entry = record { rules = rules; short = omega (arith, ap length found) } in
+    head-unique entry a is k (sym found ∙ same)

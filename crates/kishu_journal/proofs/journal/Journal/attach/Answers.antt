@@ -1,27 +1,25 @@
-use Rattle.std.proofs.Common.{◌≡◌, ◌∷◌, ◌++◌, ◌^◌, [], ℕ, List, IsErrOf, sym, ◌∙◌, ap, subst, arith, rules}
-use Rattle.std.proofs.lemmas.List.{length-map}
-use Rattle.kishu_record.specs.declared.entry.Entry as program
-use Rattle.kishu_record.specs.Entries.{entry_of}
-use Rattle.kishu_store.specs.Holds.{Ends, end_of, front, IsBroken, IsForeign}
-use Rattle.kishu_store_laws.specs.Laws.{records-most, broken-ends, broken-holds, foreign-holds, foreign-broken, one_place}
+use Rattle.std.proofs.Common.{ℕ, List, IsErrOf, sym, ◌∙◌, ap, subst, arith, rules}
+use Rattle.kishu_store.specs.Holds.{Ends, Holds, graph_of, IsBroken, IsForeign}
+use Rattle.kishu_journal.specs.Found.{entries_of}
+use Rattle.kishu_store_laws.specs.Laws.{broken-ends, broken-holds, foreign-holds, foreign-broken, one_place}
 use Rattle.kishu_journal.specs.declared.journal.JournalFault.TheVariants.{NotAJournal, Damaged}
 use Rattle.kishu_journal.specs.Stands.{JournalState}
-use Rattle.kishu_journal.specs.Found.{entries_of}
-use Rattle.kishu_journal.proofs.Anew.{anew-ends}
-use Rattle.kishu_journal.proofs.Behind.{end-none, end-below}
-use Rattle.kishu_journal.proofs.Walks.{placed-below}
+use Rattle.kishu_journal.specs.Opened.{IsOpened}
 use Rattle.kishu_journal.proofs.Faults.{not_damaged, damaged_there, only_outside}
+use Rattle.kishu_journal.proofs.Openings.{opened-still, opened-anew, opened-stands, opened-holds, opened-fit, opened-rules, opened-most, opened-below, opened-near}
 use Rattle.kishu_journal.proofs.journal.Journal.attach.Goals as goal
+
+pub returns-then-len-le17-clause-found : goal.returns-then-len-le17-clause-found
+returns-then-len-le17-clause-found g c =
+    let s = g.H.Host.state c.begin.new.host in
+    let o = opened-anew s c.new.result.items c.new.ensures.items (λ told. c.in-Ok-begin.ensures.fresh (sym c.begin.ensures.tells ∙ told)) in
+    subst (λ (n : ℕ). IsOpened s n c.new.result.items) (sym (ap (λ (j : JournalState). j.place) c.at.ensures)) o
 
 pub returns-then-len-le17-clause-stands : goal.returns-then-len-le17-clause-stands
 returns-then-len-le17-clause-stands g c told =
-    let file = (g.H.Host.state c.begin.new.host).file in
-    let none : c.new.result.items ≡ [] = c.new.ensures.items in
-    let fresh : file ≡ front [] ++ (0 ∷ []) = c.in-Ok-begin.ensures.fresh (c.settle.ensures.quiet.time.tells ∙ told) in
-    record {
-      ends = subst (λ (ps : List (ℕ × program.Entry)). Ends file (entries_of ps)) (sym none) (anew-ends file fresh);
-      place = ap (λ (j : JournalState). j.place) c.at.ensures ∙ sym (ap (λ (ps : List (ℕ × program.Entry)). end_of (entries_of ps)) none ∙ end-none);
-    }
+    let s = g.H.Host.state c.begin.new.host in
+    let o = opened-anew s c.new.result.items c.new.ensures.items (λ told. c.in-Ok-begin.ensures.fresh (sym c.begin.ensures.tells ∙ told)) in
+    opened-stands s 16 c.new.result.items o c.at.result (ap (λ (j : JournalState). j.place) c.at.ensures) (c.begin.ensures.tells ∙ c.settle.ensures.quiet.time.tells ∙ told)
 
 pub returns-in_err-found-clause-foreign_file : goal.returns-in_err-found-clause-foreign_file
 returns-in_err-found-clause-foreign_file g c told foreign =
@@ -66,19 +64,41 @@ returns-in_err-found-clause-good_file g c told good =
     broken-holds file at good.0 (subst (λ (f : List ℕ). IsBroken f at) same (c.read_store.ensures.damaged at was told1)) good.1)
 
 pub at-requires-2 : goal.at-requires-2
-at-requires-2 g c = omega (arith, c.in_ok-found.ensures.place, end-below (entries_of c.in_ok-found.found.items) c.in_ok-found.ensures.fit)
+at-requires-2 g c = omega (arith, opened-below _ _ _ c.in_ok-found.ensures.found)
+
+pub returns-clause-found : goal.returns-clause-found
+returns-clause-found g c =
+    let st = g.H.Host.state in
+    let o = opened-still (st c.settle.new.host) (st c.read_store.new.host) c.in_ok-found.place c.in_ok-found.found.items c.read_store.ensures.quiet c.in_ok-found.ensures.found in
+    subst (λ (n : ℕ). IsOpened (st c.read_store.new.host) n c.in_ok-found.found.items) (sym (ap (λ (j : JournalState). j.place) c.at-2.ensures)) o
+
+pub returns-clause-stands : goal.returns-clause-stands
+returns-clause-stands g c told =
+    let st = g.H.Host.state in
+    let o = opened-still (st c.settle.new.host) (st c.read_store.new.host) c.in_ok-found.place c.in_ok-found.found.items c.read_store.ensures.quiet c.in_ok-found.ensures.found in
+    opened-stands (st c.read_store.new.host) c.in_ok-found.place c.in_ok-found.found.items o c.at-2.result (ap (λ (j : JournalState). j.place) c.at-2.ensures) (c.read_store.ensures.quiet.time.tells ∙ c.settle.ensures.quiet.time.tells ∙ told)
+
+pub returns-clause-good : goal.returns-clause-good
+returns-clause-good g c told =
+    let st = g.H.Host.state in
+    subst (λ (f : List ℕ). Holds f (graph_of (entries_of c.in_ok-found.found.items))) c.settle.ensures.quiet.keeps.file
+    (opened-holds (st c.settle.new.host) c.in_ok-found.place c.in_ok-found.found.items c.in_ok-found.ensures.found (c.settle.ensures.quiet.time.tells ∙ told))
+
+pub returns-clause-fit : goal.returns-clause-fit
+returns-clause-fit g c = opened-fit _ _ _ c.in_ok-found.ensures.found
+
+pub returns-clause-rules : goal.returns-clause-rules
+returns-clause-rules g c = opened-rules _ _ _ c.in_ok-found.ensures.found
 
 pub returns-clause-most : goal.returns-clause-most
-returns-clause-most g c = omega (arith, records-most (entries_of c.in_ok-found.found.items) c.in_ok-found.ensures.fit, length-map c.in_ok-found.found.items (λ p. entry_of p.1))
+returns-clause-most g c = opened-most _ _ _ c.in_ok-found.ensures.found
 
-pub returns-clause-placed : goal.returns-clause-placed
-returns-clause-placed g c =
-    let found = c.in_ok-found.found.items in
-    (c.in_ok-found.ensures.placed, placed-below (2 ^ 63) [] found c.in_ok-found.ensures.placed (omega (arith, end-below (entries_of found) c.in_ok-found.ensures.fit)))
+pub returns-clause-near : goal.returns-clause-near
+returns-clause-near g c = opened-near _ _ _ c.in_ok-found.ensures.found
 
 pub returns-clause-broken_file : goal.returns-clause-broken_file
 returns-clause-broken_file g c told at broken =
     let file = (g.H.Host.state c.args.host.now).file in
-    let entries = entries_of c.in_ok-found.found.items in
-    let ends = subst (λ (f : List ℕ). Ends f entries) c.settle.ensures.quiet.keeps.file (c.in_ok-found.ensures.found (c.settle.ensures.quiet.time.tells ∙ told)) in
-    absurd (broken-ends file at entries broken ends)
+    let o = c.in_ok-found.ensures.found in
+    let ends = subst (λ (f : List ℕ). Ends f o.records) c.settle.ensures.quiet.keeps.file (o.ends (c.settle.ensures.quiet.time.tells ∙ told)) in
+    absurd (broken-ends file at o.records broken ends)

@@ -1,0 +1,34 @@
+// The graph of the records of a store.
+ghost use Rattle.std.specs.Prelude.{◌≡◌, ◌^◌, Ok, None, IfOk, IfSome};
+ghost use Rattle.std.specs.List.{AllByRecursion};
+ghost use Rattle.kishu_graph.specs.Kept.{StandsFor};
+ghost use Rattle.kishu_store.specs.Graph.{new_graph};
+ghost use Rattle.kishu_store.specs.Holds.{graph_of};
+ghost use Rattle.kishu_store.specs.Rules.{IsEntry};
+ghost use Rattle.kishu_journal.specs.Found.{entries_of, AllFit, AreBelow};
+
+use crate::Entry;
+use crate::follow::follow;
+use kishu_graph::Graph;
+use std::alloc::{AllocError, Global};
+
+/// The graph of records, or none where one of them doesn't fit the graph of those before it.
+///
+/// Its condition is that each entry keeps the rules of a record, with a head of fewer than 2^32 bytes,
+/// and that each place is below 2^63, as `Journal::attach` answers them. An error says that no memory is
+/// left.
+pub fn graph_of(alloc: Global, entries: &[(u64, Entry)]) -> Result<Option<Graph>, AllocError>
+    requires rules { AllByRecursion IsEntry (entries_of entries.now) }
+    requires places { AreBelow (2 ^ 63) entries.now }
+    ensures stands { IfOk result (λ o. IfSome o (λ graph. StandsFor graph (graph_of (entries_of entries.now)))) }
+    ensures fit { IfOk result (λ o. IfSome o (λ graph. AllFit new_graph (entries_of entries.now))) }
+    ensures none { result ≡ Ok None → AllFit new_graph (entries_of entries.now) → ⊥ }
+{
+    let mut graph = Graph::new(alloc)?;
+    for (_, entry) in entries {
+        if !follow(alloc, &mut graph, entry)? {
+            return Ok(None);
+        }
+    }
+    Ok(Some(graph))
+}

@@ -1,0 +1,41 @@
+// What a record's head says, where the graph goes on with it.
+ghost use Rattle.std.specs.Prelude.{◌≡◌, [], Ok, None, IfOk, IfSome};
+ghost use Rattle.kishu_graph.specs.Kept.{StandsFor};
+ghost use Rattle.kishu_record.specs.Entries.{entry_of};
+ghost use Rattle.kishu_record.specs.Readings.{IsHead};
+ghost use Rattle.kishu_store.specs.Graph as model;
+ghost use Rattle.kishu_store.specs.Entries as said;
+ghost use Rattle.kishu_store.specs.Entries.{lengths_in};
+ghost use Rattle.kishu_store.specs.Fitting.{Fits};
+ghost use Rattle.kishu_journal.specs.Following.{GoesOn};
+
+use crate::Entry;
+use crate::follow::follow;
+use kishu_graph::Graph;
+use kishu_record::{EntryFault, decode};
+use std::alloc::{AllocError, Global};
+
+/// What a record's head says, where the graph goes on with it; it is changed so then. Else none, and
+/// the graph stays.
+pub(crate) fn take_record(
+    alloc: Global,
+    graph: &mut Graph,
+    head: &[u8],
+    pictures: u64,
+) -> Result<Option<Entry>, AllocError>
+    ensures head { IfOk result (λ o. IfSome o (λ e. IsHead head.now pictures (entry_of e))) }
+    ensures plain { IfOk result (λ o. IfSome o (λ e. lengths_in (entry_of e) ≡ [])) }
+    ensures made { IfOk result (λ o. IfSome o (λ e. (g : model.Graph) → StandsFor graph.old g → GoesOn g (entry_of e) graph.new)) }
+    ensures none { result ≡ Ok None → (g : model.Graph) (e : said.Entry) → StandsFor graph.old g → IsHead head.now pictures e → Fits g e → ⊥ }
+{
+    let entry = match decode(alloc, head, pictures) {
+        Ok(entry) => entry,
+        Err(EntryFault::NoEntry) => return Ok(None),
+        Err(EntryFault::NoMemory) => return Err(AllocError),
+    };
+    if follow(alloc, graph, &entry)? {
+        Ok(Some(entry))
+    } else {
+        Ok(None)
+    }
+}

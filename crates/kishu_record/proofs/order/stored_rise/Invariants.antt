@@ -1,0 +1,7 @@
+use Rattle.std.proofs.Common.{ℕ, suc, ◌<◌, map}
+use Rattle.kishu_record.specs.Entries.{first_stored}
+use Rattle.kishu_record.proofs.Rising.{RisesAt}
+use Rattle.kishu_record.proofs.order.stored_rise.Given as goal
+
+abbrev pub invariant-loop-i : goal.invariant-loop-i
+invariant-loop-i l = (k : ℕ) → suc k < l.i → RisesAt (map first_stored l.stored) k

@@ -1,0 +1,38 @@
+use Rattle.std.proofs.Common.{◌≡◌, ◌<◌, ◌^◌, ◌++◌, ◌∙◌, length, map, flat_map, take, ap, sym, subst, arith, length-append}
+use Rattle.std.specs.List.{AllByRecursion}
+use Rattle.std.proofs.lemmas.List.{take_all}
+use Rattle.kishu_bytes.specs.Numbers.{four}
+use Rattle.kishu_store.specs.EntryBytes.{eight, group_bytes, stored_bytes}
+use Rattle.kishu_store.specs.Groups.{IsGroup, IsStored}
+use Rattle.kishu_store_laws.specs.Cuts.{stored-cut}
+use Rattle.kishu_record.specs.Entries.{texts_of, stored_of}
+use Rattle.kishu_record.proofs.Lists.{few_items, all_at, short_at, all_put, stored_full}
+use Rattle.kishu_record.proofs.parts.put_stored.Goals as goal
+
+pub overflow_cast-len : goal.overflow_cast-len
+overflow_cast-len c = omega (arith, few_items stored_of stored_bytes IsStored stored-cut stored_full c.args.stored.now.items c.requires.short, c.args.stored.now.ok.0)
+
+pub put_group-requires-clause-group : goal.put_group-requires-clause-group
+put_group-requires-clause-group c =
+    let slice = c.deref-group-items.result.now in
+    let item = c.loop-group-item.result in
+    let groups : AllByRecursion IsStored (map stored_of slice) = subst (λ l. AllByRecursion IsStored (map stored_of l)) (sym c.deref-group-items.ensures.value) c.requires.groups in
+    subst (λ r. IsGroup (texts_of r.0)) (sym c.loop-group-item.is) (all_at stored_of IsStored slice c.loop-group.group-index item c.loop-group-test.true groups).0
+
+pub put_group-requires-clause-short : goal.put_group-requires-clause-short
+put_group-requires-clause-short c =
+    let slice = c.deref-group-items.result.now in
+    let item = c.loop-group-item.result in
+    let whole : length (flat_map stored_bytes (map stored_of slice)) < 2 ^ 32 = subst (λ l. length (flat_map stored_bytes (map stored_of l)) < 2 ^ 32) (sym c.deref-group-items.ensures.value) (omega (arith, c.requires.short)) in
+    let here : length (stored_bytes (stored_of item)) < 2 ^ 32 = subst (λ r. length (stored_bytes (stored_of r)) < 2 ^ 32) (sym c.loop-group-item.is) (short_at stored_of stored_bytes slice c.loop-group.group-index item c.loop-group-test.true whole) in
+    omega (arith, here, length-append (group_bytes (texts_of item.0)) (eight item.1))
+
+pub returns : goal.returns
+returns c =
+    let items = c.args.stored.now.items in
+    let old = c.args.out.now.items in
+    let start = c.put_number.new.out.items in
+    let at = c.loop-group.group-index in
+    let size : c.len.result ≡ length items = omega (arith, c.len.ensures, c.args.stored.now.ok.0) in
+    let all : take at items ≡ items = ap (take at) (sym c.deref-group-items.ensures.value) ∙ take_all at c.deref-group-items.result.now c.loop-group-test.false ∙ c.deref-group-items.ensures.value in
+    all_put stored_of stored_bytes IsStored items old start c.loop-group.out.items (c.in_ok-put_number.ensures ∙ ap (λ n. old ++ four n) size) (c.loop-group.invariant ∙ ap (λ l. start ++ flat_map (λ r. stored_bytes (stored_of r)) l) all)

@@ -1,0 +1,33 @@
+use Rattle.std.proofs.Common.{◌<◌, ℕ, List, ◌∙◌, ap, subst}
+use Rattle.std.specs.Rc.{rc_str_bytes}
+use Rattle.kishu_language.specs.declared.profile.Profile.TheVariants.{One}
+use Rattle.kishu_meaning.specs.cells.Meaning.{run}
+use Rattle.kishu_meaning.specs.values.Values.{State, report_of}
+use Rattle.kishu_store.specs.Limits.{most_records}
+use Rattle.kishu_session.specs.Lives.{state_of}
+use Rattle.kishu_session.proofs.CellSteps.{answer-cell, at-cell}
+use Rattle.kishu_session.proofs.head.Head.commit_cell.Goals as goal
+
+pub returns-clause-answered : goal.returns-clause-answered
+returns-clause-answered g c g' a =
+    let text = rc_str_bytes c.args.text.now in
+    let short = c.requires.short in
+    let room = subst (λ (n : ℕ). n < most_records) a.keeps.graph.stands.records c.requires.room in
+    let cleared = state_of c.clear_record.new.self in
+    record {
+      answer =
+          answer-cell g' text short room c.in_ok-commit.commit c.add_cell.new.self.cells (report_of c.in_ok-result.result)
+          (c.in_ok-commit.ensures.number g' a.keeps.graph.stands)
+          (c.in_ok-commit.ensures.count g' a.keeps a.count)
+          (c.in_ok-result.ensures.report
+          ∙ ap (λ (t : List ℕ). (run One t cleared).report) c.as_str.ensures.value
+          ∙ ap (λ (s : State). (run One text s).report) (c.clear_record.ensures.state ∙ a.live));
+      at =
+          at-cell g' text short room c.args.self.now c.add_cell.new.self a
+          (c.in_ok-commit.ensures.keeps g' a.keeps)
+          (c.in_ok-commit.ensures.count g' a.keeps a.count)
+          (ap state_of c.in_ok-commit.ensures.live
+          ∙ c.in_ok-result.ensures.state
+          ∙ ap (λ (t : List ℕ). (run One t cleared).state) c.as_str.ensures.value
+          ∙ ap (λ (s : State). (run One text s).state) c.clear_record.ensures.state);
+    }

@@ -1,0 +1,69 @@
+use Rattle.std.proofs.Common.{refl}
+use Rattle.kishu_model.specs.Serve.{after}
+use Rattle.kishu_model.specs.Values.{request_of, answer_of}
+use Rattle.kishu_session.specs.Known.{IsGraphOf}
+use Rattle.kishu_session.proofs.Applied.{at-same, known-after, known-some}
+use Rattle.kishu_session.proofs.Recordings.{journal-good}
+use Rattle.kishu_session.proofs.Silent.{refused-silent}
+use Rattle.kishu_session.proofs.session.Session.apply.Goals as goal
+
+pub record-requires-clause-next : goal.record-requires-clause-next
+record-requires-clause-next g c told =
+    let self = c.args.self.now in
+    let a = c.requires.at_end c.if-self.false told in
+    let of : IsGraphOf self.head.graph a.0 = record { stands = a.1.graph; good = journal-good self.journal (g.H.Host.state c.args.host.now).file a.0 a.1.journal } in
+    (a.0, after a.0 (request_of c.args.request.now), a.1.journal, (c.in-Ok.ensures.prepared a.0 of).leads)
+
+pub returns-in-Err-clause-stop : goal.returns-in-Err-clause-stop
+returns-in-Err-clause-stop g c told only g' a =
+    let self = c.args.self.now in
+    let of : IsGraphOf self.head.graph g' = record { stands = a.graph; good = journal-good self.journal (g.H.Host.state c.args.host.now).file g' a.journal } in
+    c.record.ensures.stop told only g' (after g' (request_of c.args.request.now)) a.journal (c.in-Ok.ensures.prepared g' of).leads
+
+pub invariant_of-self-2 : goal.invariant_of-self-2
+invariant_of-self-2 g c =
+    let self = c.args.self.now in
+    record {
+      going = λ _. c.in-Ok-record.ensures.open;
+      known = λ _. known-after self.head.graph c.prepare.new.self.graph (request_of c.args.request.now) c.in-Ok.prepared (self.known c.if-self.false) c.in-Ok.ensures.prepared;
+    }
+
+pub returns-clause-is_one : goal.returns-clause-is_one
+returns-clause-is_one g c =
+    let self = c.args.self.now in
+    known-some self.head.graph (request_of c.args.request.now) (answer_of c.in-Ok.prepared.answer) (self.known c.if-self.false) c.in-Ok.ensures.refuses
+
+pub returns-clause-attached : goal.returns-clause-attached
+returns-clause-attached g c told g' a =
+    let now = after g' (request_of c.args.request.now) in
+    let prepared = c.in-Ok.ensures.prepared g' a.at.keeps.graph in
+    let answered = c.in-Ok.ensures.answered g' a.at in
+    record {
+      going = refl;
+      durable = c.in-Ok-record.ensures.durable told a.durable;
+      at_end = record { journal = c.in-Ok-record.ensures.stands told g' now a.at_end.journal prepared.leads; graph = prepared.stands };
+      same = at-same c.prepare.new.self now answered.at;
+      at = answered.at;
+    }
+
+pub returns-clause-at_end : goal.returns-clause-at_end
+returns-clause-at_end g c told g' a =
+    let self = c.args.self.now in
+    let of : IsGraphOf self.head.graph g' = record { stands = a.graph; good = journal-good self.journal (g.H.Host.state c.args.host.now).file g' a.journal } in
+    let prepared = c.in-Ok.ensures.prepared g' of in
+    record { journal = c.in-Ok-record.ensures.stands told g' (after g' (request_of c.args.request.now)) a.journal prepared.leads; graph = prepared.stands }
+
+pub returns-clause-bytes : goal.returns-clause-bytes
+returns-clause-bytes g c told g' a = c.in-Ok-record.ensures.bytes told g' a.journal
+
+pub returns-clause-refused : goal.returns-clause-refused
+returns-clause-refused g c refusal =
+    let self = c.args.self.now in
+    let none = refused-silent self.head.graph c.prepare.new.self.graph (request_of c.args.request.now) c.in-Ok.prepared (self.known c.if-self.false) c.in-Ok.ensures.prepared c.in-Ok.ensures.refuses refusal in
+    (c.in-Ok-record.ensures.quiet none, c.in-Ok.ensures.stays none)
+
+pub returns-clause-stop : goal.returns-clause-stop
+returns-clause-stop g c told only g' a =
+    let self = c.args.self.now in
+    let of : IsGraphOf self.head.graph g' = record { stands = a.graph; good = journal-good self.journal (g.H.Host.state c.args.host.now).file g' a.journal } in
+    c.record.ensures.stop told only g' (after g' (request_of c.args.request.now)) a.journal (c.in-Ok.ensures.prepared g' of).leads

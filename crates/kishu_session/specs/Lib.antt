@@ -1,0 +1,15 @@
+pub mod TextLists
+pub mod Texts
+pub mod Growth
+pub mod Known
+pub mod Lives
+pub mod Cells
+pub mod Moves
+pub mod Refusing
+pub mod Filling
+pub mod Head
+pub mod Prepared
+pub mod LogRows
+pub mod Written
+pub mod Journals
+pub mod Attached

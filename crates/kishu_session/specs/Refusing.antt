@@ -1,0 +1,28 @@
+-- Which refusal says that a graph doesn't take a request, and which refusal an answer is.
+use Rattle.std.specs.Prelude.{◌≡◌, Option, Some, None, option_map}
+use Rattle.kishu_graph.specs.declared.fault.GraphFault.{GraphFault}
+use Rattle.kishu_graph.specs.declared.fault.GraphFault.TheVariants.{NoSuchRef, BadName, NameTaken, StoreFull, NoMemory}
+use Rattle.kishu_model.specs.Answers.{Answer, ran_cell, checked_out, branched, logged, told_status, refused, Refusal, no_such_ref, bad_name, name_taken, store_full}
+
+abbrev pub refusal_by : GraphFault → Option Refusal
+refusal_by NoSuchRef = Some no_such_ref
+refusal_by BadName = Some bad_name
+refusal_by NameTaken = Some name_taken
+refusal_by StoreFull = Some store_full
+refusal_by NoMemory = None
+
+-- what an answer refuses; None is an answer that refuses nothing
+abbrev pub refusal_in : Answer → Option Refusal
+refusal_in (ran_cell commit count report) = None
+refusal_in (checked_out commit branch) = None
+refusal_in (branched commit name) = None
+refusal_in (logged branches path) = None
+refusal_in (told_status s) = None
+refusal_in (refused r) = Some r
+
+-- One answer refuses what the other does.
+abbrev pub RefusesAs : Option Answer → Answer → Type 0
+RefusesAs a b = option_map refusal_in a ≡ Some (refusal_in b)
+
+abbrev pub IsRefusal : Option Answer → Type 0
+IsRefusal a = (r : Refusal) × (option_map refusal_in a ≡ Some (Some r))

@@ -1,0 +1,90 @@
+// The answering of requests.
+ghost use Rattle.std.specs.Prelude.{◌≡◌, ◌≤◌, ◌⊎◌, ◌↔◌, ◌+◌, true, false, IfOk, IfErr, OnOk, IsErr, IsErrOf, IsSome, Some};
+ghost use Rattle.kishu_host.specs.Host.{Told, Only, Elapses, Rises};
+ghost use Rattle.kishu_store.specs.Graph.{Graph};
+ghost use Rattle.kishu_graph.specs.Kept.{StandsFor};
+ghost use Rattle.kishu_replay.specs.Replay.{IsFull};
+ghost use Rattle.kishu_model.specs.Serve.{after};
+ghost use Rattle.kishu_model.specs.Step.{step, charge_of};
+ghost use Rattle.kishu_model.specs.Values.{request_of, answer_of};
+ghost use Rattle.kishu_session.specs.Attached.{IsAtEnd, IsAttached};
+ghost use Rattle.kishu_session.specs.Filling.{FillsBy};
+ghost use Rattle.kishu_session.specs.Journals.{BeforeOrAfter};
+ghost use Rattle.kishu_session.specs.Lives.{state_of};
+ghost use Rattle.kishu_session.specs.Refusing.{RefusesAs, IsRefusal};
+ghost use Rattle.kishu_session.specs.Written.{IsRecorded};
+ghost use Rattle.kishu_session.specs.declared.halt.Halt.TheVariants.{DiskFault, NoMemory, HeapFull, Closed};
+
+use crate::live::Unrun;
+use crate::recording::record;
+use crate::{Halt, Session};
+use kishu_host::Host;
+use kishu_model::{Answer, Request, Steps};
+use std::sync::ledger::Ledger;
+
+impl Session {
+    /// Answers a request, and records it where it changes the store. A refusal is an answer.
+    ///
+    /// After an error the session is closed.
+    ///
+    /// - `Closed`: an earlier call ended the session. The host isn't called.
+    /// - `DiskFault`: a call of the host failed. The store holds the graph before or after the request.
+    /// - `HeapFull`: a cell would have begun with more than 2^31 nodes.
+    /// - `NoMemory`: there was no memory.
+    pub fn apply<H: Host, L: Ledger>(
+        &mut self,
+        host: &mut H,
+        request: &Request,
+        steps: &mut Steps<L>,
+    ) -> Result<Answer, Halt>
+        requires at_end { self.old.halted ≡ false → Told (H.state host.old) ((g : Graph) × IsAtEnd self.old (H.state host.old) g) }
+
+        // The answer is the request's, the file's graph becomes the one after it, and the session stays attached.
+        ensures answered { IfOk result (λ a. Told (H.state host.old) ((g : Graph) → IsAttached self.old (H.state host.old) g → answer_of a ≡ Some (step g (request_of request.now)).answer)) }
+        ensures attached { OnOk result (Told (H.state host.old) ((g : Graph) → IsAttached self.old (H.state host.old) g → IsAttached self.new (H.state host.new) (after g (request_of request.now)))) }
+        ensures at_end { OnOk result (Told (H.state host.old) ((g : Graph) → IsAtEnd self.old (H.state host.old) g → IsAtEnd self.new (H.state host.new) (after g (request_of request.now)))) }
+        ensures bytes { OnOk result (Told (H.state host.old) ((g : Graph) → IsAtEnd self.old (H.state host.old) g
+            → ((H.state host.new).file ≡ (H.state host.old).file) ⊎ IsRecorded (H.state host.old).file (H.state host.new).file)) }
+
+        // On every host the answer is one, a request is refused just for the causes that the session's graph gives, and a refusal leaves host, graph, nodes and names as they were.
+        ensures is_one { IfOk result (λ a. IsSome (answer_of a)) }
+        ensures refuses { IfOk result (λ a. (g : Graph) → StandsFor self.old.head.graph g → RefusesAs (answer_of a) (step g (request_of request.now)).answer) }
+        ensures refused { IfOk result (λ a. IsRefusal (answer_of a) → (host.new ≡ host.old) × (self.new.head ≡ self.old.head)) }
+
+        // A stop at any moment leaves the graph before or after the request, and no output.
+        ensures stop { Told (H.state host.old) (Only (H.state host.old).file (H.state host.old).may_leave → (g : Graph) → IsAtEnd self.old (H.state host.old) g
+            → Elapses (H.state host.old) (H.state host.new) (BeforeOrAfter (H.state host.old) g (after g (request_of request.now)))) }
+        ensures out { (H.state host.new).out ≡ (H.state host.old).out }
+        ensures tells { (H.state host.new).tells ≡ (H.state host.old).tells }
+
+        // Each halt has its cause, and closes the session.
+        ensures closed { IsErrOf result Closed ↔ (self.old.halted ≡ true) }
+        ensures untouched { IsErrOf result Closed → host.new ≡ host.old }
+        ensures halted { (self.new.halted ≡ true) ↔ IsErr result }
+        ensures disk_fault { IsErrOf result DiskFault → Rises (H.state host.old).disk_faults (H.state host.new).disk_faults }
+        ensures heap_full { IsErrOf result HeapFull → Told (H.state host.old) ((g : Graph) → IsAttached self.old (H.state host.old) g → FillsBy g (request_of request.now)) }
+        ensures beyond { IsErrOf result HeapFull → IsFull (state_of self.new.head.live) }
+        ensures only_these { IfErr result (λ e. (e ≡ DiskFault) ⊎ (e ≡ NoMemory) ⊎ (e ≡ HeapFull) ⊎ (e ≡ Closed)) }
+        ensures disk { (H.state host.old).disk_faults ≤ (H.state host.new).disk_faults }
+        ensures outs { (H.state host.old).out_faults ≤ (H.state host.new).out_faults }
+
+        // Each step of the request's own cells is counted.
+        ensures least { OnOk result (Told (H.state host.old) ((g : Graph) → IsAttached self.old (H.state host.old) g → steps.old + charge_of g (request_of request.now) ≤ steps.new)) }
+    {
+        if self.halted {
+            return Err(Halt::Closed);
+        }
+        self.halted = true;
+        let prepared = match self.head.prepare(request, steps) {
+            Ok(prepared) => prepared,
+            Err(Unrun::HeapFull) => return Err(Halt::HeapFull),
+            Err(Unrun::NoMemory) => return Err(Halt::NoMemory),
+        };
+        match record(self.alloc, &mut self.journal, host, &prepared.entry) {
+            Ok(()) => {}
+            Err(halt) => return Err(halt),
+        }
+        self.halted = false;
+        Ok(prepared.answer)
+    }
+}

@@ -1,0 +1,83 @@
+// The texts of cells: those of each commit, and those on a path.
+ghost use Rattle.std.specs.Prelude.{◌≡◌, ◌≤◌, ◌<◌, ◌^◌, ◌++◌, ◌∷◌, [], IsTrue, length, map, IfOk, OnOk};
+ghost use Rattle.std.specs.Rc.{rc_str_bytes};
+ghost use Rattle.kishu_language.specs.Limits.{longest_text};
+ghost use Rattle.kishu_session.specs.Cells.{cells_of};
+ghost use Rattle.kishu_session.specs.TextLists.{texts_of, are_short};
+ghost use Rattle.kishu_session.specs.Texts.{cells_at, cells_along};
+
+use crate::commit_cells::CommitCells;
+use std::alloc::{AllocError, Global};
+use std::rc::RcStr;
+
+/// Puts more texts behind these. They are shared.
+fn push_all(texts: &mut Vec<RcStr>, more: &[RcStr]) -> Result<(), AllocError>
+    ensures { OnOk result (texts_of texts.new.items ≡ texts_of texts.old.items ++ texts_of more.now) }
+{
+    for text in more {
+        texts.push(text.clone()?)?;
+    }
+    Ok(())
+}
+
+impl CommitCells {
+    /// The cells of a commit.
+    pub(crate) fn of(alloc: Global, cells: &[RcStr]) -> Result<CommitCells, AllocError>
+        requires short { IsTrue (are_short (texts_of cells.now)) }
+        requires few { length cells.now < 2 ^ 32 }
+        ensures { IfOk result (λ c. cells_of c ≡ texts_of cells.now) }
+    {
+        let mut texts = Vec::new(alloc);
+        push_all(&mut texts, cells)?;
+        Ok(CommitCells { texts })
+    }
+}
+
+/// Puts a commit of one cell behind these.
+pub(crate) fn push_one(
+    alloc: Global,
+    stored: &mut Vec<CommitCells>,
+    text: &RcStr,
+) -> Result<(), AllocError>
+    requires { length (rc_str_bytes text.now) ≤ longest_text }
+    ensures { OnOk result (map cells_of stored.new.items ≡ map cells_of stored.old.items ++ (rc_str_bytes text.now ∷ []) ∷ []) }
+{
+    let mut texts = Vec::new(alloc);
+    texts.push(text.clone()?)?;
+    stored.push(CommitCells { texts })?;
+    Ok(())
+}
+
+/// Puts the texts of the commit of a number behind these. The root has none.
+fn push_commit(
+    texts: &mut Vec<RcStr>,
+    stored: &[CommitCells],
+    number: u32,
+) -> Result<(), AllocError>
+    ensures texts { OnOk result (texts_of texts.new.items ≡ texts_of texts.old.items ++ cells_at (map cells_of stored.now) number) }
+    ensures short { OnOk result (IsTrue (are_short (texts_of texts.old.items)) → IsTrue (are_short (texts_of texts.new.items))) }
+{
+    let Some(index) = number.checked_sub(1) else {
+        return Ok(());
+    };
+    match stored.get(index as usize) {
+        Some(commit) => push_all(texts, &commit.texts),
+        None => Ok(()),
+    }
+}
+
+/// The texts of the commits of these numbers, in this order.
+pub(crate) fn texts_along(
+    alloc: Global,
+    stored: &[CommitCells],
+    numbers: &[u32],
+) -> Result<Vec<RcStr>, AllocError>
+    ensures texts { IfOk result (λ v. texts_of v.items ≡ cells_along (map cells_of stored.now) numbers.now) }
+    ensures short { IfOk result (λ v. IsTrue (are_short (texts_of v.items))) }
+{
+    let mut texts = Vec::new(alloc);
+    for number in numbers {
+        push_commit(&mut texts, stored, *number)?;
+    }
+    Ok(texts)
+}

@@ -1,0 +1,24 @@
+use thiserror::Error;
+
+/// Why a session ends. It answers nothing from then on.
+#[derive(Clone, Copy, Debug, PartialEq, Eq, Error)]
+pub enum Halt {
+    /// The file has more than 17 bytes and another header.
+    #[error("not a journal")]
+    NotAJournal,
+    /// The gate at byte `at` of the file is open, and no whole record that fits stands behind it.
+    #[error("damaged at {at}")]
+    Damaged { at: u64 },
+    /// A call of the host failed.
+    #[error("disk fault")]
+    DiskFault,
+    /// There was no memory.
+    #[error("no memory")]
+    NoMemory,
+    /// A cell would have begun with more than 2^31 nodes.
+    #[error("heap full")]
+    HeapFull,
+    /// An earlier call of the session ended it.
+    #[error("closed")]
+    Closed,
+}

@@ -1,0 +1,48 @@
+// What a session keeps of its store's graph, and the state at its head.
+ghost use Rattle.std.specs.Prelude.{◌≡◌, ◌≤◌, ◌+◌, OnOk, IsErrOf};
+ghost use Rattle.kishu_store.specs.Graph as model;
+ghost use Rattle.kishu_replay.specs.Replay.{replay_charge, IsFull};
+ghost use Rattle.kishu_session.specs.Filling.{FillsOnPath};
+ghost use Rattle.kishu_session.specs.Head.{IsAt, KeepsGraph};
+ghost use Rattle.kishu_session.specs.Lives.{state_of};
+ghost use Rattle.kishu_session.specs.declared.live.Unrun.TheVariants.{HeapFull};
+
+use crate::cells::texts_along;
+use crate::commit_cells::CommitCells;
+use crate::live::{Live, Unrun};
+use crate::replaying::run_all;
+use kishu_graph::Graph;
+use kishu_model::Steps;
+use std::alloc::Global;
+use std::sync::ledger::Ledger;
+
+/// A store's graph, the cells of all its commits by their numbers, how many cells are on the path to the
+/// head, and the state at the head.
+#[derive(Drop)]
+pub(crate) struct Head {
+    pub(crate) alloc: Global,
+    pub(crate) graph: Graph,
+    pub(crate) stored: Vec<CommitCells>,
+    pub(crate) cells: u64,
+    pub(crate) live: Live,
+}
+
+impl Head {
+    /// Replays the head's commit: runs the cells on its path from empty.
+    pub(crate) fn replay<L: Ledger>(&mut self, steps: &mut Steps<L>) -> Result<(), Unrun>
+        ensures at { OnOk result ((g : model.Graph) → KeepsGraph self.old.graph self.old.stored.items g → IsAt self.new g) }
+        ensures least { OnOk result ((g : model.Graph) → KeepsGraph self.old.graph self.old.stored.items g → steps.old + replay_charge g g.head.commit ≤ steps.new) }
+        ensures counted { OnOk result (steps.old ≤ steps.new) }
+        ensures full { IsErrOf result HeapFull → (g : model.Graph) → KeepsGraph self.old.graph self.old.stored.items g → FillsOnPath g }
+        ensures beyond { IsErrOf result HeapFull → IsFull (state_of self.new.live) }
+        ensures graph { self.new.graph ≡ self.old.graph }
+        ensures stored { self.new.stored ≡ self.old.stored }
+    {
+        let numbers = self.graph.path(self.graph.head().commit)?;
+        let texts = texts_along(self.alloc, &self.stored, &numbers)?;
+        self.live = Live::new(self.alloc);
+        run_all(self.alloc, &texts, &mut self.live, steps)?;
+        self.cells = texts.len() as u64;
+        Ok(())
+    }
+}

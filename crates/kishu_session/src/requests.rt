@@ -1,0 +1,7 @@
+// What each request leads to.
+
+pub(crate) mod branch;
+pub(crate) mod cell;
+pub(crate) mod checkout;
+pub(crate) mod log;
+pub(crate) mod status;

@@ -1,0 +1,145 @@
+"""What a cell gives that Kishu and CPython mean alike: by CPython's `exec`, with the texts of exceptions that docs/LANGUAGE.md tells."""
+import ast
+import builtins
+import contextlib
+import io
+import re
+import signal
+import sys
+import types
+import warnings
+
+SECONDS = 5
+NAMES = (
+    "abs all any chr divmod isinstance len max min ord print repr sorted sum bool dict int list range str tuple Exception ArithmeticError "
+    "OverflowError ZeroDivisionError AssertionError AttributeError LookupError IndexError KeyError NameError UnboundLocalError "
+    "RuntimeError NotImplementedError RecursionError SyntaxError TypeError ValueError __import__"
+).split()
+BUILTINS = {name: getattr(builtins, name) for name in NAMES} | {"SimpleNamespace": types.SimpleNamespace}
+
+# Cells that have no tree, with the line of the fault. CPython takes some of them.
+WRONG = {
+    "x = = 1": 1, "'abc": 1, "x = 1\nif x:\n    y = ": 2, "print(1)\n\nlambda: 1": 3, "return 1": 1, "x = 1.5": 1, "x = 1 / 2": 1,
+    "print(2)\nwith x: pass": 2, "one = [1\ntwo = 2": 1, "break": 1, "\f": 1, "x = 1\nimport os\ny = 2": 2, "\u00e9 = 1": 1,
+}
+# Cells that spend all their steps, with a cell that leaves the same state.
+SPENT = {"n = 0\nwhile True: n += 1": "n = 666666"}
+
+KIND = "(NoneType|bool|int|str|range|list|tuple|dict|SimpleNamespace|function)"
+# The class of an exception that the language raises, CPython's text and Kishu's.
+TEXTS = [
+    ("ZeroDivisionError", "integer division or modulo by zero|integer modulo by zero|division by zero", "division by zero"),
+    ("NameError", r"name '(\w+)' is not defined", r"name '\1' is not defined"),
+    ("UnboundLocalError", r"cannot access local variable '(\w+)' where it is not associated with a value", r"local name '\1' has no value"),
+    ("IndexError", "pop from empty list", "pop from empty list"),
+    ("IndexError", ".*index out of range", "index out of range"),
+    ("TypeError", rf"unsupported operand type\(s\) for (\+|-|\*|//|%): '{KIND}' and '{KIND}'", r"bad operand types for \1: '\2' and '\3'"),
+    ("TypeError", rf"bad operand type for unary (\+|-): '{KIND}'", r"bad operand type for \1: '\2'"),
+    ("TypeError", rf"'{KIND}' object is not (callable|iterable|subscriptable)", r"'\1' object is not \2"),
+    ("TypeError", rf"unhashable type: '{KIND}'", r"unhashable key: '\1'"),
+    ("AttributeError", rf"'{KIND}' object has no attribute '(\w+)'", r"'\1' object has no attribute '\2'"),
+    ("RuntimeError", "dictionary changed size during iteration", "dictionary changed size during iteration"),
+    ("RecursionError", "maximum recursion depth exceeded.*", "depth limit reached"),
+    ("ValueError", r"(?:not enough|too many) values to unpack \(expected (\d+).*", r"cannot unpack into \1"),
+    ("ValueError", r"(?:max|min)\(\) arg is an empty sequence", "empty argument"),
+    ("ValueError", r"invalid literal for int\(\) with base 10: .*", "not a whole number"),
+    ("ValueError", "empty separator", "empty separator"),
+]
+
+
+class Unlike(Exception):
+    """It isn't known that both languages mean this cell alike."""
+
+
+class Late(BaseException):
+    """The cell took too long."""
+
+
+def empty_space():
+    """A namespace without names. The builtins aren't in it."""
+    return {"__builtins__": BUILTINS}
+
+
+def names_in(space):
+    return sorted(name for name in space if name != "__builtins__")
+
+
+def plain(text):
+    """A text of CPython's without addresses and without the module of SimpleNamespace."""
+    return re.sub(r" at 0x[0-9a-f]+>", ">", text).replace("types.SimpleNamespace", "SimpleNamespace")
+
+
+def text_of(error):
+    """The text that Kishu gives an exception."""
+    name, text = type(error).__name__, plain(str(error))
+    if not error.args or name in ("KeyError", "AssertionError") or re.match(r"\(?['\"]?!", text):
+        return text
+    for of, pattern, ours in TEXTS:
+        found = re.fullmatch(pattern, text, re.DOTALL) if of == name else None
+        if found:
+            return found.expand(ours)
+    raise Unlike(f"{name}: {text}")
+
+
+def parsed(text):
+    """The code of a cell, and that of its last expression where it ends with one."""
+    try:
+        tree = ast.parse(text)
+        last = tree.body.pop() if tree.body and isinstance(tree.body[-1], ast.Expr) else None
+        return compile(tree, "cell", "exec"), last and compile(ast.Expression(last.value), "cell", "eval")
+    except (SyntaxError, ValueError) as error:
+        raise Unlike(str(error)) from None
+
+
+@contextlib.contextmanager
+def in_time():
+    def late(*_):
+        raise Late
+    before = signal.signal(signal.SIGALRM, late)
+    signal.setitimer(signal.ITIMER_REAL, SECONDS, 0.5)
+    try:
+        yield
+    except (Late, MemoryError):
+        raise Unlike("it takes too much") from None
+    finally:
+        signal.setitimer(signal.ITIMER_REAL, 0)
+        signal.signal(signal.SIGALRM, before)
+
+
+def run(text, space):
+    """Runs a cell in a namespace: its outcome, what it printed, the shown value or None, and the class and text of a fault or None."""
+    if text in WRONG:
+        return "error", "", None, ("SyntaxError", f"invalid syntax, line {WRONG[text]}")
+    if text in SPENT:
+        exec(SPENT[text], space)
+        return "stopped", "", None, ("Stopped", "step budget spent")
+    printed, shown, fault = io.StringIO(), None, None
+    with warnings.catch_warnings():
+        warnings.simplefilter("ignore")
+        code, last = parsed(text)
+    with in_time(), contextlib.redirect_stdout(printed):
+        try:
+            exec(code, space)
+            value = eval(last, space) if last else None
+            shown = None if value is None else plain(repr(value))
+        except Exception as error:
+            fault = type(error).__name__, text_of(error)
+    return ("ok" if fault is None else "error"), plain(printed.getvalue()), shown, fault
+
+
+def outputs_of(printed, shown, fault, count):
+    """The outputs of a cell in a notebook."""
+    outputs = []
+    if printed:
+        outputs.append({"name": "stdout", "output_type": "stream", "text": printed})
+    if shown is not None:
+        outputs.append({"data": {"text/plain": shown}, "execution_count": count, "metadata": {}, "output_type": "execute_result"})
+    if fault is not None:
+        name, text = fault
+        outputs.append({"ename": name, "evalue": text, "output_type": "error", "traceback": [f"{name}: {text}"]})
+    return outputs
+
+
+def is_release():
+    """Whether this is a release of Python whose texts are known here."""
+    return sys.version_info[:2] == (3, 11)
