@@ -3,3 +3,4 @@ mod FirstCell
 mod Records
 mod Sessions
 mod Inputs
+mod Files
