@@ -1,0 +1,50 @@
+// An input that is read whole.
+ghost use Rattle.std.specs.Prelude.{◌≡◌, ◌≤◌, ◌<◌, ◌+◌, ◌-◌, ◌++◌, [], length, take, drop, true, IfOk, IsErrOf};
+ghost use Rattle.kishu_host.specs.Host.{Rises};
+ghost use Rattle.kishu_language.specs.Limits.{longest_text};
+ghost use Rattle.kishu_input.specs.declared.whole.InputStop.TheVariants.{Fault, TooLong};
+
+use kishu_host::Source;
+use kishu_language::LONGEST_TEXT;
+use std::alloc::Global;
+
+/// Why an input isn't read to its end.
+#[derive(Clone, Copy, Debug, PartialEq, Eq)]
+pub enum InputStop {
+    /// The source failed.
+    Fault,
+    /// A limit was reached.
+    TooLong,
+    /// There was no memory.
+    NoMemory,
+}
+
+/// All that a source has left. Reading stops once more than the longest text of a cell was taken.
+///
+/// - `Fault`: the source failed.
+/// - `TooLong`: it has more than 1,048,576 bytes left. At most 4,096 bytes more than that were taken.
+/// - `NoMemory`: there was no memory.
+pub fn read_input<S: Source>(alloc: Global, source: &mut S) -> Result<Vec<u8>, InputStop>
+    ensures whole { IfOk result (λ v. (S.source source.old).tells ≡ true → (v.items ≡ (S.source source.old).left) × ((S.source source.new).left ≡ [])) }
+    ensures short { IfOk result (λ v. length v.items ≤ longest_text) }
+    ensures too_long { IsErrOf result TooLong → (S.source source.old).tells ≡ true → longest_text + length (S.source source.new).left < length (S.source source.old).left }
+    ensures taken { (S.source source.old).tells ≡ true → length (S.source source.old).left ≤ longest_text + 4096 + length (S.source source.new).left }
+    ensures fault { IsErrOf result Fault → Rises (S.source source.old).in_faults (S.source source.new).in_faults }
+    ensures faults { (S.source source.old).in_faults ≤ (S.source source.new).in_faults }
+    ensures tells { (S.source source.new).tells ≡ (S.source source.old).tells }
+{
+    let mut bytes = Vec::new(alloc);
+    let mut buffer = [0; 4096];
+    while bytes.len() <= LONGEST_TEXT {
+        let Ok(n) = source.take(&mut buffer) else {
+            return Err(InputStop::Fault);
+        };
+        if n == 0 {
+            return Ok(bytes);
+        }
+        let Ok(()) = bytes.extend_from_slice(&buffer[..n]) else {
+            return Err(InputStop::NoMemory);
+        };
+    }
+    Err(InputStop::TooLong)
+}
