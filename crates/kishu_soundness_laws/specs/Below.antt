@@ -1,14 +1,11 @@
 -- When node numbers are those of nodes: in a value, in a node, and in a state.
 use Rattle.std.specs.Prelude.{ℕ, ◌<◌, List, [], ◌∷◌, length, map, Option, Some, None}
+-- each item of a list
+pub use Rattle.std.specs.List.{AllByRecursion as Each}
 use Rattle.kishu_meaning.specs.moments.Moment.{Thrown, fresh, thrown_object}
 use Rattle.kishu_meaning.specs.values.Values.{Value, node, Node, State}
 use Rattle.kishu_meaning.specs.values.Keys.{Key}
 use Rattle.kishu_objects.specs.Shape.{children}
-
--- each item of a list
-abbrev pub Each : {A : Type 0} → (A → Type 0) → List A → Type 0
-Each P [] = Unit {0}
-Each P (a ∷ as') = P a × Each P as'
 
 -- what stands there, if anything does
 abbrev pub Maybe : {A : Type 0} → (A → Type 0) → Option A → Type 0

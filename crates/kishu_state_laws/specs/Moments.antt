@@ -1,15 +1,13 @@
 -- The moments of a run: what holds of each, and what holds of each two, one after the other.
-use Rattle.std.specs.Prelude.{◌≡◌, ℕ, ◌≤◌, length, Option, Some, None}
+use Rattle.std.specs.Prelude.{◌≡◌, ℕ, ◌≤◌, length}
 use Rattle.std.specs.List.{AllByRecursion as Each}
 use Rattle.kishu_meaning.specs.values.Values.{Value, integer, text}
 use Rattle.kishu_meaning.specs.moments.Moment.{Locals, Moment, M}
 use Rattle.kishu_meaning.specs.items.Walks.{Walk, along_list, along_dict, along_tuple, along_text, along_range}
 use Rattle.kishu_pairing_laws.specs.World.{end_of}
 use Rattle.kishu_objects.specs.State.{IsValue, AreValues, IsNode, AreNames, values_in, Grown}
-
-abbrev pub Maybe : {A : Type 0} → (A → Type 0) → Option A → Type 0
-Maybe P None = Unit {0}
-Maybe P (Some a) = P a
+-- what stands there, if anything does
+pub use Rattle.kishu_soundness_laws.specs.Below.{Maybe}
 
 -- A budget has at most as many steps as 64 bits hold.
 abbrev pub widest_budget : ℕ

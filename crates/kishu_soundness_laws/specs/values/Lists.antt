@@ -63,7 +63,7 @@ module _ {A : Type 0} (P : A → Type 0) where
   each_picked [] as' h = tt
   each_picked (z ∷ zs) as' h = each_option (at_place as' z) (filter_map (at_place as') zs) (each_at_place z as' h) (each_picked zs as' h)
 
-  each_if : (b : Bool) (as' bs : List A) → Each P as' → Each P bs → Each P (if b then as' else bs)
+  pub each_if : (b : Bool) (as' bs : List A) → Each P as' → Each P bs → Each P (if b then as' else bs)
   each_if true as' bs h k = h
   each_if false as' bs h k = k
 

@@ -1,5 +1,5 @@
 -- Computations that keep what holds of every state: the nodes keep their numbers, no step is given back, the depth is kept, and with more steps to spend they go the same way, or spend more than all that there were.
-use Rattle.std.specs.Prelude.{◌≡◌, ℕ, zero, suc, ◌+◌, ◌-◌, ◌<◌, ◌≤◌, Bool, true, false, IsTrue, if◌then◌else◌, nat_le, nat_lt, List, [], ◌∷◌, ◌++◌, length, map, Option, Some, None, slice_get}
+use Rattle.std.specs.Prelude.{◌≡◌, ℕ, zero, suc, ◌+◌, ◌-◌, ◌<◌, ◌≤◌, Bool, true, false, IsTrue, if◌then◌else◌, nat_le, nat_lt, List, [], ◌∷◌, ◌++◌, length, map, Option, Some, None}
 use Rattle.std.specs.List.{AllByRecursion as Each}
 use Rattle.std.specs.Str.{all_scalars}
 use Rattle.std.proofs.Common.{refl, ap, sym, subst, ◌∙◌, arith, length-append, leb-true}
@@ -11,6 +11,7 @@ use Rattle.kishu_meaning.specs.moments.Moment.{Locals, Moment, Thrown, fresh, th
 use Rattle.kishu_meaning.specs.moments.Counting.{Counted, answer, too_deep, spent, Count, ended_in, counted}
 use Rattle.kishu_meaning_laws.specs.CountLaws.{Falls, left_of, Wider, both_answer, both_deep, one_spent}
 pub use Rattle.kishu_state_laws.specs.Moments.{Maybe, IsMoment, widest_budget}
+pub use Rattle.kishu_soundness_laws.specs.BelowLaws.{each_append, each_get}
 use Rattle.kishu_pairing_laws.specs.World.{end_of}
 use Rattle.kishu_objects.specs.State.{IsValue, AreValues, IsNode, AreNames, values_in, Stays, the_same, lists, dicts, objects, Grown}
 
@@ -34,15 +35,6 @@ maybe_later P Q h (Some a) p = h a p
 pub each_map : {A B : Type 0} (P : B → Type 0) (f : A → B) → ((a : A) → P (f a)) → (as' : List A) → Each P (map f as')
 each_map P f h [] = tt
 each_map P f h (a ∷ as') = (h a, each_map P f h as')
-
-pub each_append : {A : Type 0} (P : A → Type 0) (as' bs : List A) → Each P as' → Each P bs → Each P (as' ++ bs)
-each_append P [] bs p q = q
-each_append P (a ∷ as') bs p q = (p.0, each_append P as' bs p.1 q)
-
-pub each_get : {A : Type 0} (P : A → Type 0) (as' : List A) (i : ℕ) → Each P as' → Maybe P (slice_get as' i)
-each_get P [] i p = tt
-each_get P (a ∷ as') zero p = p.0
-each_get P (a ∷ as') (suc i) p = each_get P as' i p.1
 
 -- ---- with more nodes
 
