@@ -12,7 +12,7 @@ use Rattle.std.specs.declared.cmp.Ordering.TheVariants.{Less, Equal, Greater}
 use Rattle.kishu_store.specs.Branches.{Branches, commit_of, with_branch_at}
 use Rattle.kishu_store.specs.Graph.{Target, moved_with}
 use Rattle.kishu_store.specs.Limits.{most_records}
-use Rattle.kishu_graph.specs.Kept.{Kept, Outline, HaveParents, AreBelow, IsSound, outline}
+use Rattle.kishu_graph.specs.Kept.{Kept, Outline, HaveParents, AreBelow, IsSound, root, outline}
 use Rattle.kishu_graph.proofs.Changing.{Commits}
 use Rattle.std.proofs.lemmas.List.{length-map, map_push}
 use Rattle.std.specs.Rc.{rc_str_bytes}
@@ -68,6 +68,7 @@ sound-committed old new k s room m =
     let there : k.parent < length old.commits = omega (arith, m.parent, s.head) in
     let below = moved_below (length new.commits) old.head.branch (length old.commits) old.branches (omega (arith, more)) (below_more (length old.commits) (length new.commits) old.branches (omega (arith, more)) s.branches) in
     record {
+      root_is = ap (λ (l : List Outline). get_or l 0 root) m.commits ∙ get_or_append_left old.commits (k ∷ []) root 0 (omega (arith, s.head)) ∙ s.root_is;
       parents = subst HaveParents (sym m.commits) (parents_more old.commits k s.parents there);
       head = omega (arith, number, more);
       branches = subst (AreBelow (length new.commits)) (sym m.branches) below;

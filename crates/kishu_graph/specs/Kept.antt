@@ -7,10 +7,11 @@ use Rattle.std.specs.Rc.{rc_str_bytes}
 use Rattle.std.specs.declared.alloc.Global.{Global}
 use Rattle.std.specs.declared.rc.RcStr.{RcStr}
 use Rattle.kishu_language.specs.declared.profile.Profile.{Profile}
+use Rattle.kishu_language.specs.declared.profile.Profile.TheVariants.{One}
 use Rattle.kishu_store.specs.Branches.{Branches}
 use Rattle.kishu_store.specs.CommitLines.{line_of}
 use Rattle.kishu_store.specs.Graph.{Graph, Commit, Target, back_in}
-use Rattle.kishu_store.specs.Limits.{most_records, newest_profile}
+use Rattle.kishu_store.specs.Limits.{most_records}
 use Rattle.kishu_graph.specs.declared.commits.Commit as rust
 
 -- what is kept of a commit: its parent's number, its profile, how many cells it has, and its line
@@ -29,9 +30,9 @@ pub record Kept : Type 0 where
 
 -- ---- the graph that is meant
 
--- the root, which has no cells, and is its own parent here
+-- the root, which is of the first profile, has no cells, and is its own parent here
 abbrev pub root : Outline
-root = record { parent = 0; profile = newest_profile; cells = 0; line = [] }
+root = record { parent = 0; profile = One; cells = 0; line = [] }
 
 abbrev pub outline_of : Commit → Outline
 outline_of k = record { parent = k.parent; profile = k.profile; cells = length k.cells; line = line_of k }
@@ -41,12 +42,53 @@ abbrev pub outlines : List Commit → List Outline
 outlines [] = root ∷ []
 outlines (k ∷ ks) = outlines ks ++ (outline_of k ∷ [])
 
--- what is kept is the graph's
-pub record StandsFor (kept : Kept) (g : Graph) : Type 0 where
-  pub commits : kept.commits ≡ outlines g.commits
+abbrev pub parents_of : List Outline → List ℕ
+parents_of = map (λ o. o.parent)
+
+abbrev pub profiles_of : List Outline → List Profile
+profiles_of = map (λ o. o.profile)
+
+abbrev pub counts_of : List Outline → List ℕ
+counts_of = map (λ o. o.cells)
+
+abbrev pub lines_of : List Outline → List (List ℕ)
+lines_of = map (λ o. o.line)
+
+-- All that the graph says but of its commits' cells is kept.
+pub record HasShapeOf (kept : Kept) (g : Graph) : Type 0 where
+  pub parents : parents_of kept.commits ≡ parents_of (outlines g.commits)
+  pub profiles : profiles_of kept.commits ≡ profiles_of (outlines g.commits)
   pub branches : kept.branches ≡ g.branches
   pub head : kept.head ≡ g.head
   pub records : kept.records ≡ g.records
+
+-- How many cells the graph's commits have, and their lines, are kept.
+pub record TellsCellsOf (kept : Kept) (g : Graph) : Type 0 where
+  pub counts : counts_of kept.commits ≡ counts_of (outlines g.commits)
+  pub lines : lines_of kept.commits ≡ lines_of (outlines g.commits)
+
+-- What is kept is the graph's.
+pub record StandsFor (kept : Kept) (g : Graph) : Type 0 where
+  pub shape : HasShapeOf kept g
+  pub cells : TellsCellsOf kept g
+
+-- a commit as it is kept, without cells
+abbrev pub bare_commit : Outline → Commit
+bare_commit o = record { parent = o.parent; profile = o.profile; cells = [] }
+
+-- these commits, and then those as they are kept
+abbrev pub bare_after : List Commit → List Outline → List Commit
+bare_after ks [] = ks
+bare_after ks (o ∷ os) = bare_after (bare_commit o ∷ ks) os
+
+-- the commits behind the root
+abbrev pub bare_commits : List Outline → List Commit
+bare_commits [] = []
+bare_commits (o ∷ os) = bare_after [] os
+
+-- the graph of this shape whose commits have no cells
+abbrev pub bare_graph : Kept → Graph
+bare_graph kept = record { commits = bare_commits kept.commits; branches = kept.branches; head = kept.head; records = kept.records }
 
 -- the outline of the commit of a number
 abbrev pub outline_in : List Commit → ℕ → Outline
@@ -80,8 +122,9 @@ abbrev pub AreBelow : ℕ → Branches → Type 0
 AreBelow most [] = Unit {0}
 AreBelow most (b ∷ bs) = (b.1 < most) × AreBelow most bs
 
--- Parents, head and branches are there, and there are no more commits than records.
+-- The root comes first. Parents, head and branches are there, and there are no more commits than records.
 pub record IsSound (kept : Kept) : Type 0 where
+  pub root_is : get_or kept.commits 0 root ≡ root
   pub parents : HaveParents kept.commits
   pub head : kept.head.commit < length kept.commits
   pub branches : AreBelow (length kept.commits) kept.branches

@@ -6,7 +6,7 @@ use Rattle.kishu_store.specs.Limits.{most_records}
 use Rattle.kishu_store.specs.References.{resolve}
 use Rattle.kishu_graph.specs.declared.fault.GraphFault.{GraphFault}
 use Rattle.kishu_graph.specs.declared.fault.GraphFault.TheVariants.{BadName, NameTaken, NoSuchRef, StoreFull}
-use Rattle.kishu_graph.specs.Kept.{Kept, StandsFor}
+use Rattle.kishu_graph.specs.Kept.{Kept, HasShapeOf}
 
 -- A store that is full takes no record.
 abbrev pub full : Graph → Option GraphFault
@@ -41,16 +41,18 @@ start_of (Some to) g = option_map (λ target. target.commit) (resolve g to)
 
 -- ---- changed graphs
 
--- The head stands at the target, and there is one record more.
-pub record HasMoved (target : Option Target) (g : Graph) (commit : ℕ) (new : Kept) : Type 0 where
+-- The head stands at the target, and there is one record more. No commit changes.
+pub record HasMoved (target : Option Target) (g : Graph) (commit : ℕ) (old new : Kept) : Type 0 where
   pub there : Target
   pub target_is : target ≡ Some there
   pub commit_is : commit ≡ there.commit
   pub accepted : unless_there target g ≡ None
-  pub stands : StandsFor new (with_head there g)
+  pub shape : HasShapeOf new (with_head there g)
+  pub commits : new.commits ≡ old.commits
 
--- The branch stands at its start, and there is one record more.
-pub record HasBranched (name : List ℕ) (start : Option ℕ) (g : Graph) (commit : ℕ) (new : Kept) : Type 0 where
+-- The branch stands at its start, and there is one record more. No commit changes.
+pub record HasBranched (name : List ℕ) (start : Option ℕ) (g : Graph) (commit : ℕ) (old new : Kept) : Type 0 where
   pub start_is : start ≡ Some commit
   pub accepted : unless_named name start g ≡ None
-  pub stands : StandsFor new (with_branch name commit g)
+  pub shape : HasShapeOf new (with_branch name commit g)
+  pub commits : new.commits ≡ old.commits

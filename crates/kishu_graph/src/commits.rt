@@ -3,7 +3,7 @@ ghost use Rattle.std.specs.Prelude.{◌≡◌, ◌<◌, ◌++◌, ◌∷◌, [],
 ghost use Rattle.std.specs.Vec.{vec_len, vec_capacity};
 ghost use Rattle.kishu_store.specs.Graph as model;
 ghost use Rattle.kishu_store.specs.Graph.{back_in};
-ghost use Rattle.kishu_graph.specs.Kept.{outline, outlines, HaveParents, path_numbers};
+ghost use Rattle.kishu_graph.specs.Kept.{outline, outlines, HaveParents, parents_of, path_numbers};
 
 use kishu_language::Profile;
 use std::alloc::{AllocError, Global};
@@ -30,7 +30,7 @@ pub(crate) fn push_in_room(commits: &mut Vec<Commit>, commit: Commit)
 fn numbers_back(alloc: Global, commits: &[Commit], commit: u32) -> Result<Vec<u32>, AllocError>
     requires there { commit < length commits.now }
     requires parents { HaveParents (map outline commits.now) }
-    ensures { IfOk result (λ v. (ks : List model.Commit) → map outline commits.now ≡ outlines ks → v.items ≡ map (λ k. k.number) (back_in ks commit)) }
+    ensures { IfOk result (λ v. (ks : List model.Commit) → parents_of (map outline commits.now) ≡ parents_of (outlines ks) → v.items ≡ map (λ k. k.number) (back_in ks commit)) }
 {
     let mut numbers = Vec::new(alloc);
     let mut at = commit;
@@ -49,7 +49,7 @@ pub(crate) fn path_to(
 ) -> Result<Vec<u32>, AllocError>
     requires there { commit < length commits.now }
     requires parents { HaveParents (map outline commits.now) }
-    ensures { IfOk result (λ v. (ks : List model.Commit) → map outline commits.now ≡ outlines ks → v.items ≡ path_numbers ks commit) }
+    ensures { IfOk result (λ v. (ks : List model.Commit) → parents_of (map outline commits.now) ≡ parents_of (outlines ks) → v.items ≡ path_numbers ks commit) }
 {
     let mut numbers = numbers_back(alloc, commits, commit)?;
     numbers.push(0)?;

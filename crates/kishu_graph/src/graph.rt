@@ -1,5 +1,5 @@
 // A graph, and what is read of it.
-ghost use Rattle.std.specs.Prelude.{◌≡◌, ◌<◌, ◌≤◌, suc, nat_lt, if◌then◌else◌, IsTrue, IfOk, IfSome, MatchOption, Some, None, length, map, option_map};
+ghost use Rattle.std.specs.Prelude.{◌≡◌, ◌<◌, ◌≤◌, suc, nat_lt, if◌then◌else◌, IsTrue, IfOk, IfSome, MatchOption, Some, None, length, get_or, map, option_map};
 ghost use Rattle.std.specs.List.{list_all};
 ghost use Rattle.std.specs.Rc.{rc_str_bytes};
 ghost use Rattle.kishu_store.specs.Graph as model;
@@ -8,7 +8,7 @@ ghost use Rattle.kishu_store.specs.Limits.{most_records};
 ghost use Rattle.kishu_language.specs.tokens.Names.{is_digit};
 ghost use Rattle.kishu_store.specs.References.{resolve, number_from};
 ghost use Rattle.kishu_store.specs.Targets.{target_of};
-ghost use Rattle.kishu_graph.specs.Kept.{StandsFor, IsSound, outline_in, path_numbers, branches_of, Rises};
+ghost use Rattle.kishu_graph.specs.Kept.{HasShapeOf, TellsCellsOf, StandsFor, IsSound, root, bare_graph, outline_in, path_numbers, branches_of, Rises};
 ghost use Rattle.kishu_graph.specs.Refusals.{start_of};
 
 use crate::branches;
@@ -74,8 +74,9 @@ impl Graph {
     /// How many commits there are, the root counted.
     pub fn commits(&self) -> u32
         ensures value { result ≡ length self.now.commits }
-        ensures newest { (g : model.Graph) → StandsFor self.now g → result ≡ suc (newest g) }
+        ensures newest { (g : model.Graph) → HasShapeOf self.now g → result ≡ suc (newest g) }
         ensures sound { IsSound self.now }
+        ensures shape { HasShapeOf self.now (bare_graph self.now) }
     {
         self.commits.len() as u32
     }
@@ -92,7 +93,7 @@ impl Graph {
     pub fn parent(&self, commit: u32) -> u32
         requires there { commit < length self.now.commits }
         requires not_root { 0 < commit }
-        ensures value { (g : model.Graph) → StandsFor self.now g → result ≡ (outline_in g.commits commit).parent }
+        ensures value { (g : model.Graph) → HasShapeOf self.now g → result ≡ (outline_in g.commits commit).parent }
         ensures older { result < commit }
     {
         self.commits[commit as usize].parent
@@ -101,7 +102,7 @@ impl Graph {
     /// The profile under which a commit's cells run. The commit is there.
     pub fn profile(&self, commit: u32) -> Profile
         requires { commit < length self.now.commits }
-        ensures { (g : model.Graph) → StandsFor self.now g → result ≡ (outline_in g.commits commit).profile }
+        ensures { (g : model.Graph) → HasShapeOf self.now g → result ≡ (outline_in g.commits commit).profile }
     {
         self.commits[commit as usize].profile
     }
@@ -109,7 +110,8 @@ impl Graph {
     /// How many cells a commit has. The commit is there.
     pub fn cells(&self, commit: u32) -> u32
         requires { commit < length self.now.commits }
-        ensures { (g : model.Graph) → StandsFor self.now g → result ≡ (outline_in g.commits commit).cells }
+        ensures kept { result ≡ (get_or self.now.commits commit root).cells }
+        ensures told { (g : model.Graph) → TellsCellsOf self.now g → result ≡ (outline_in g.commits commit).cells }
     {
         self.commits[commit as usize].cells
     }
@@ -117,7 +119,8 @@ impl Graph {
     /// The line by which a commit is told. The commit is there.
     pub fn line(&self, commit: u32) -> &RcStr
         requires { commit < length self.now.commits }
-        ensures { (g : model.Graph) → StandsFor self.now g → rc_str_bytes result.now ≡ (outline_in g.commits commit).line }
+        ensures kept { rc_str_bytes result.now ≡ (get_or self.now.commits commit root).line }
+        ensures told { (g : model.Graph) → TellsCellsOf self.now g → rc_str_bytes result.now ≡ (outline_in g.commits commit).line }
     {
         &self.commits[commit as usize].line
     }
@@ -142,7 +145,7 @@ impl Graph {
     /// What a text names: decimal digits without leading zeros the commit of that number, any other
     /// text the branch of that name; or none. An error says that no memory is left.
     pub fn resolve(&self, to: &str) -> Result<Option<Target>, AllocError>
-        ensures value { IfOk result (λ o. (g : model.Graph) → StandsFor self.now g → option_map target_of o ≡ resolve g to.now) }
+        ensures value { IfOk result (λ o. (g : model.Graph) → HasShapeOf self.now g → option_map target_of o ≡ resolve g to.now) }
         ensures there { IfOk result (λ o. IfSome o (λ t. t.commit < length self.now.commits)) }
     {
         let digits = to.as_bytes();
@@ -156,7 +159,7 @@ impl Graph {
     /// An error says that no memory is left.
     pub fn path(&self, commit: u32) -> Result<Vec<u32>, AllocError>
         requires { commit < length self.now.commits }
-        ensures { IfOk result (λ v. (g : model.Graph) → StandsFor self.now g → v.items ≡ path_numbers g.commits commit) }
+        ensures { IfOk result (λ v. (g : model.Graph) → HasShapeOf self.now g → v.items ≡ path_numbers g.commits commit) }
     {
         path_to(self.alloc, &self.commits, commit)
     }
@@ -179,7 +182,7 @@ impl Graph {
 
     /// The commit of what a text names.
     pub(crate) fn find(&self, to: &str) -> Option<u32>
-        ensures value { (g : model.Graph) → StandsFor self.now g → result ≡ option_map (λ t. t.commit) (resolve g to.now) }
+        ensures value { (g : model.Graph) → HasShapeOf self.now g → result ≡ option_map (λ t. t.commit) (resolve g to.now) }
         ensures there { IfSome result (λ c. c < length self.now.commits) }
     {
         let digits = to.as_bytes();
@@ -192,7 +195,7 @@ impl Graph {
 
     /// Where a branch begins: at the commit of what a text names, or else at the head's.
     pub(crate) fn start(&self, at: Option<&str>) -> Option<u32>
-        ensures value { (g : model.Graph) → StandsFor self.now g → result ≡ start_of (option_map (λ to. to.now) at.entry) g }
+        ensures value { (g : model.Graph) → HasShapeOf self.now g → result ≡ start_of (option_map (λ to. to.now) at.entry) g }
         ensures there { IfSome result (λ c. c < length self.now.commits) }
     {
         match at {

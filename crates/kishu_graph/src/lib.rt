@@ -1,8 +1,9 @@
 //! The graph of commits, its branches and its head, as a session keeps it: of each commit its parent,
 //! its profile, the number of its cells and its line. Their texts stay in the store's file.
 //!
-//! What the calls promise is said of each graph of the definition that a `Graph` stands for
-//! (`StandsFor`): they answer what it says, and stand for the changed one then.
+//! What the calls promise is said of each graph of the definition whose shape a `Graph` has
+//! (`HasShapeOf`: all but the cells of its commits): they answer what it says, and have the shape of
+//! the changed one then. There always is one. Of cells a `Graph` tells what it was given.
 #![tactic(auto)]
 
 mod branches;

@@ -9,6 +9,7 @@ use Rattle.std.specs.declared.rc.RcStr.{RcStr}
 use Rattle.kishu_graph.specs.declared.fault.GraphFault.{GraphFault}
 use Rattle.kishu_graph.specs.declared.fault.GraphFault.TheVariants.{BadName, NameTaken, StoreFull, NoMemory}
 use Rattle.kishu_graph.specs.Kept.{Kept, StandsFor}
+use Rattle.kishu_graph.specs.Laws.{moved-stands, branched-stands}
 use Rattle.kishu_graph.specs.Refusals.{full, unless_there, unless_named, at_commit, at_branch, HasMoved, HasBranched}
 use Rattle.kishu_bytes.specs.Numbers.{four}
 use Rattle.kishu_language.specs.declared.profile.Profile.{Profile}
@@ -52,14 +53,14 @@ refused-plainly (Err e) not_ok q = (e, q)
 pub not-full : (old : Kept) (r : Result ℕ GraphFault) → (IsOk r → ⊥) → IfErr r (λ e. e ≢ NoMemory) → IfErr r (λ e. (e ≡ StoreFull) ⊎ (e ≡ NoMemory)) → (IsErrOf r StoreFull ↔ (old.records ≡ most_records))
     → (g : Graph) → StandsFor old g → g.records < most_records → ⊥
 not-full old (Ok x) not_ok other why stored g s room = not_ok refl
-not-full old (Err e) not_ok other (inl p) stored g s room = (let at = stored.0 (ap Err p) in omega (arith, at, s.records, room))
+not-full old (Err e) not_ok other (inl p) stored g s room = (let at = stored.0 (ap Err p) in omega (arith, at, s.shape.records, room))
 not-full old (Err e) not_ok other (inr p) stored g s room = other p
 
 -- a commit was added
 pub added : (old new : Kept) (r : Result ℕ GraphFault) (profile : Profile) (texts : List (List ℕ)) (cells : ℕ) (line : List ℕ) → IsOk r → OnOk r (old.records < most_records)
     → IfOk r (λ c. (g : Graph) (ts : List (List ℕ)) → StandsFor old g → length ts ≡ cells → line_in ts ≡ line → StandsFor new (with_commit profile ts g))
     → length texts ≡ cells → line_in texts ≡ line → (g : Graph) → StandsFor old g → (g.records < most_records) × StandsFor new (with_commit profile texts g)
-added old new r profile texts cells line ok room stands count is g s = (let free = ok-fact r ok room in omega (arith, free, s.records), (ok-value r ok stands).1 g texts s count is)
+added old new r profile texts cells line ok room stands count is g s = (let free = ok-fact r ok room in omega (arith, free, s.shape.records), (ok-value r ok stands).1 g texts s count is)
 
 -- ---- room
 
@@ -87,12 +88,12 @@ commit-known n g t h =
 
 -- ---- moves
 
-pub moved-commit : (n : ℕ) (g : Graph) (c : ℕ) (new : Kept) → HasMoved (at_commit n g) g c new → GoesOn g (move (to_commit n)) new
-moved-commit n g c new h =
+pub moved-commit : (n : ℕ) (g : Graph) (c : ℕ) (old new : Kept) → StandsFor old g → HasMoved (at_commit n g) g c old new → GoesOn g (move (to_commit n)) new
+moved-commit n g c old new s h =
     let known = commit-known n g h.there h.target_is in
     record {
       fits = record { room = full-none g (sym (ap (λ (o : Option Target). unless_there o g) h.target_is) ∙ h.accepted); goes_on = known.0 };
-      stands = subst (λ (t : Target). StandsFor new (with_head t g)) known.1 h.stands;
+      stands = subst (λ (t : Target). StandsFor new (with_head t g)) known.1 (moved-stands (at_commit n g) g c old new s h);
     }
 
 pub refused-commit : (n : ℕ) (g : Graph) (e : GraphFault) → unless_there (at_commit n g) g ≡ Some e → Fits g (move (to_commit n)) → ⊥
@@ -104,11 +105,11 @@ branch-known : (title : List ℕ) (g : Graph) (o : Option ℕ) (t : Target) → 
 branch-known title g None t h = absurd (cc (h))
 branch-known title g (Some c) t h = (c, refl, cc (h))
 
-pub moved-branch : (title : List ℕ) (g : Graph) (c : ℕ) (new : Kept) → HasMoved (at_branch title g) g c new → GoesOn g (move (to_branch title)) new
-moved-branch title g c new h =
+pub moved-branch : (title : List ℕ) (g : Graph) (c : ℕ) (old new : Kept) → StandsFor old g → HasMoved (at_branch title g) g c old new → GoesOn g (move (to_branch title)) new
+moved-branch title g c old new s h =
     let known = branch-known title g (commit_of title g.branches) h.there h.target_is in
     let there : IsTrue (is_some (commit_of title g.branches)) = rw known.1 refl in
-    let stands = subst (λ (t : Target). StandsFor new (with_head t g)) known.2 h.stands in
+    let stands = subst (λ (t : Target). StandsFor new (with_head t g)) known.2 (moved-stands (at_branch title g) g c old new s h) in
     record {
       fits = record { room = full-none g (sym (ap (λ (o : Option Target). unless_there o g) h.target_is) ∙ h.accepted); goes_on = there };
       stands = rw known.1 stands;
@@ -149,15 +150,15 @@ number-known n c g h =
     (λ p. let is : option_map (λ (t : Target). t.commit) (at_commit n g) ≡ None = rw p.0 refl in absurd (cc (h, is)))
     (leb_tells n (newest g))
 
-pub made-name : (title : List ℕ) (n : ℕ) (g : Graph) (c : ℕ) (new : Kept) → HasBranched title (option_map (λ t. t.commit) (at_commit n g)) g c new → GoesOn g (name title n) new
-made-name title n g c new h =
+pub made-name : (title : List ℕ) (n : ℕ) (g : Graph) (c : ℕ) (old new : Kept) → StandsFor old g → HasBranched title (option_map (λ t. t.commit) (at_commit n g)) g c old new → GoesOn g (name title n) new
+made-name title n g c old new s h =
     let start = option_map (λ (t : Target). t.commit) (at_commit n g) in
     let known = number-known n c g h.start_is in
     let accepted = accepted-name (is_branch_name title) (commit_of title g.branches) (unless_there start g) h.accepted in
     let room : full g ≡ None = sym (ap (λ (o : Option ℕ). unless_there o g) h.start_is) ∙ accepted.2 in
     record {
       fits = record { room = full-none g room; goes_on = (accepted.0, accepted.1, known.0) };
-      stands = subst (λ (x : ℕ). StandsFor new (with_branch title x g)) known.1 h.stands;
+      stands = subst (λ (x : ℕ). StandsFor new (with_branch title x g)) known.1 (branched-stands title start g c old new s h);
     }
 
 -- ---- the line of a first cell

@@ -23,7 +23,7 @@ keeps-add old new stored more g text k room is stands = record {
     stands = stands;
     good =
         changed-graph g (commit g.head.commit One (text ∷ []) [] [])
-        (record { room = subst (λ (n : ℕ). n < most_records) k.graph.stands.records room; goes_on = (refl, refl, refl) }) k.graph.good;
+        (record { room = subst (λ (n : ℕ). n < most_records) k.graph.stands.shape.records room; goes_on = (refl, refl, refl) }) k.graph.good;
   };
 }
 

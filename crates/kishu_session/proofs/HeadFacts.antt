@@ -19,7 +19,7 @@ module _ (kept : Kept) (stored : List CommitCells) (g : Graph) (k : KeepsGraph k
       ∙ ap (λ (l : List ℕ). cells_along (map cells_of stored) l) numbers
       ∙ ap (λ (l : List (List (List ℕ))). cells_along l (path_numbers g.commits kept.head.commit)) k.cells
       ∙ sym (path-texts g.commits kept.head.commit)
-      ∙ ap (λ (t : Target). texts_on g t.commit) k.graph.stands.head
+      ∙ ap (λ (t : Target). texts_on g t.commit) k.graph.stands.shape.head
 
 module _ (g : Graph) (profiles : AreNewest g.commits) (texts : List (List ℕ)) (are : texts ≡ texts_on g g.head.commit) where
   pub live-is : (s : State) → s ≡ after_cells One texts empty → s ≡ replay g g.head.commit

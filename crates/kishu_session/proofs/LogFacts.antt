@@ -5,8 +5,8 @@ use Rattle.std.proofs.lemmas.List.{append-nil}
 use Rattle.std.specs.List.{AllByRecursion}
 use Rattle.kishu_store.specs.Graph.{Commit, Graph, Numbered, back_in}
 use Rattle.kishu_store_laws.specs.GraphLaws.{AreOrdered}
-use Rattle.kishu_graph.specs.Kept.{Kept, Outline, outline_in, StandsFor}
-use Rattle.kishu_graph.specs.Laws.{length-outlines, back-older, back-root, outline-older, outline-newest}
+use Rattle.kishu_graph.specs.Kept.{Kept, Outline, outline_in, HasShapeOf}
+use Rattle.kishu_graph.specs.Laws.{count-shape, back-older, back-root, outline-older, outline-newest}
 use Rattle.kishu_graph.specs.PathLaws.{IsNamed, back-named}
 use Rattle.kishu_model.specs.Answers.{PathRow}
 use Rattle.kishu_model.specs.requests.Log.{row_of as told}
@@ -75,5 +75,5 @@ rows-end ks c now whole e before =
     ∙ ap (λ (n : ℕ). now ++ rows_at ks n) (sym e)
     ∙ before
 
-pub there-is : (kept : Kept) (g : Graph) (c : ℕ) → StandsFor kept g → c < length kept.commits → c < suc (length g.commits)
-there-is kept g c k there = omega (arith, there, ap length k.commits, length-outlines g.commits)
+pub there-is : (kept : Kept) (g : Graph) (c : ℕ) → HasShapeOf kept g → c < length kept.commits → c < suc (length g.commits)
+there-is kept g c k there = omega (arith, there, count-shape kept g k)

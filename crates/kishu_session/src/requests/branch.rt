@@ -4,7 +4,7 @@ ghost use Rattle.std.specs.Rc.{rc_str_bytes};
 ghost use Rattle.kishu_store.specs.Entries.{plain};
 ghost use Rattle.kishu_store.specs.Graph as model;
 ghost use Rattle.kishu_store.specs.Rules.{IsRecord};
-ghost use Rattle.kishu_graph.specs.Kept.{StandsFor};
+ghost use Rattle.kishu_graph.specs.Kept.{HasShapeOf, StandsFor};
 ghost use Rattle.kishu_graph.specs.Refusals.{unless_named, start_of, HasBranched};
 ghost use Rattle.kishu_graph.specs.declared.fault.GraphFault.TheVariants.{NoMemory};
 ghost use Rattle.kishu_model.specs.Request.{branch};
@@ -28,8 +28,8 @@ use std::rc::RcStr;
 
 /// Adds a branch at what a reference names, or at the head's commit.
 fn add_branch(graph: &mut Graph, name: &str, at: &Option<RcStr>) -> Result<u32, GraphFault>
-    ensures branched { IfOk result (λ c. (g : model.Graph) → StandsFor graph.old g → HasBranched name.now (start_of (option_map rc_str_bytes at.now) g) g c graph.new) }
-    ensures refused { IfErr result (λ e. (e ≡ NoMemory) ⊎ ((g : model.Graph) → StandsFor graph.old g → unless_named name.now (start_of (option_map rc_str_bytes at.now) g) g ≡ Some e)) }
+    ensures branched { IfOk result (λ c. (g : model.Graph) → HasShapeOf graph.old g → HasBranched name.now (start_of (option_map rc_str_bytes at.now) g) g c graph.old graph.new) }
+    ensures refused { IfErr result (λ e. (e ≡ NoMemory) ⊎ ((g : model.Graph) → HasShapeOf graph.old g → unless_named name.now (start_of (option_map rc_str_bytes at.now) g) g ≡ Some e)) }
     ensures err { OnErr result (graph.new ≡ graph.old) }
 {
     match at {

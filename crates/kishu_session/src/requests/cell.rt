@@ -7,7 +7,7 @@ ghost use Rattle.kishu_store.specs.Entries.{commit, plain};
 ghost use Rattle.kishu_store.specs.Graph.{Graph, newest, with_commit, count_of};
 ghost use Rattle.kishu_store.specs.Limits.{most_records};
 ghost use Rattle.kishu_store.specs.Rules.{IsRecord};
-ghost use Rattle.kishu_graph.specs.Kept.{StandsFor};
+ghost use Rattle.kishu_graph.specs.Kept.{HasShapeOf, StandsFor};
 ghost use Rattle.kishu_replay.specs.Replay.{replay, IsFull};
 ghost use Rattle.kishu_model.specs.Request.{cell};
 ghost use Rattle.kishu_model.specs.Step.{charge_of, step};
@@ -55,7 +55,7 @@ impl Head {
     fn add_cell(&mut self, text: &RcStr) -> Result<u32, Unrun>
         requires short { length (rc_str_bytes text.now) ≤ longest_text }
         requires room { self.old.graph.records < most_records }
-        ensures number { IfOk result (λ n. (g : Graph) → StandsFor self.old.graph g → n ≡ suc (newest g)) }
+        ensures number { IfOk result (λ n. (g : Graph) → HasShapeOf self.old.graph g → n ≡ suc (newest g)) }
         ensures stands { OnOk result ((g : Graph) → StandsFor self.old.graph g → StandsFor self.new.graph (with_commit One (rc_str_bytes text.now ∷ []) g)) }
         ensures keeps { OnOk result ((g : Graph) → Keeps self.old g → Keeps self.new (with_commit One (rc_str_bytes text.now ∷ []) g)) }
         ensures count { OnOk result ((g : Graph) → Keeps self.old g → self.old.cells ≡ count_of g g.head.commit → self.new.cells ≡ suc (count_of g g.head.commit)) }

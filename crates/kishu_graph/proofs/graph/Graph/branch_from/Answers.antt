@@ -11,6 +11,7 @@ invariant_of-self-2 c =
     let below : c.in-Some.commit < most = omega (arith, there, ap (λ (k : Kept). length k.commits) c.self.view_is) in
     let branches = stay_below most (rc_str_bytes c.in-Ok.text) c.in-Some.commit (branches_of c.self.inside.branches.entries) below c.self.invariant.branches in
     record {
+      root_is = c.self.invariant.root_is;
       parents = c.self.invariant.parents;
       head = c.self.invariant.head;
       branches = subst (AreBelow most) (sym c.in-Ok-put.ensures.ok) branches;

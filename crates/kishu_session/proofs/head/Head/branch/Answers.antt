@@ -3,7 +3,7 @@ use Rattle.std.specs.Prelude.{option_map}
 use Rattle.std.specs.Rc.{rc_str_bytes}
 use Rattle.kishu_store.specs.Entries.{name}
 use Rattle.kishu_store.specs.Graph.{Graph}
-use Rattle.kishu_graph.specs.Kept.{Kept, StandsFor}
+use Rattle.kishu_graph.specs.Kept.{Kept, HasShapeOf, StandsFor}
 use Rattle.kishu_graph.specs.Refusals.{HasBranched, start_of, unless_named}
 use Rattle.kishu_graph.specs.declared.fault.GraphFault.TheVariants.{NoMemory}
 use Rattle.kishu_model.specs.Answers.{branched}
@@ -22,16 +22,16 @@ returns-in_ok-clone-in-Ok-2-clause-prepared c g k =
     let title = rc_str_bytes c.args.name.now in
     let at = option_map rc_str_bytes c.args.at.now in
     let commit = c.in-Ok.commit in
-    let made = subst (λ (t : List ℕ). HasBranched t (start_of at g) g commit c.add_branch.new.graph) c.as_str.ensures.value (c.in-Ok.ensures.branched g k.stands) in
-    branch-prepared g title at commit c.add_branch.new.graph made _ k.good (ap (λ (t : List ℕ). Some (name t commit)) c.in_ok-clone-in-Ok-2.ensures.cases)
+    let made = subst (λ (t : List ℕ). HasBranched t (start_of at g) g commit c.args.self.now.graph c.add_branch.new.graph) c.as_str.ensures.value (c.in-Ok.ensures.branched g k.stands.shape) in
+    branch-prepared g title at commit c.args.self.now.graph c.add_branch.new.graph k.stands made _ k.good (ap (λ (t : List ℕ). Some (name t commit)) c.in_ok-clone-in-Ok-2.ensures.cases)
 
 pub returns-in_ok-clone-in-Ok-2-clause-answered : goal.returns-in_ok-clone-in-Ok-2-clause-answered
 returns-in_ok-clone-in-Ok-2-clause-answered c g a =
     let title = rc_str_bytes c.args.name.now in
     let at = option_map rc_str_bytes c.args.at.now in
     let commit = c.in-Ok.commit in
-    let made = subst (λ (t : List ℕ). HasBranched t (start_of at g) g commit c.add_branch.new.graph) c.as_str.ensures.value (c.in-Ok.ensures.branched g a.keeps.graph.stands) in
-    branch-answered g title at commit c.add_branch.new.graph made _ c.args.self.now _ a (ap (λ (t : List ℕ). Some (branched commit t)) c.in_ok-clone-in-Ok.ensures.cases) refl refl refl refl
+    let made = subst (λ (t : List ℕ). HasBranched t (start_of at g) g commit c.args.self.now.graph c.add_branch.new.graph) c.as_str.ensures.value (c.in-Ok.ensures.branched g a.keeps.graph.stands.shape) in
+    branch-answered g title at commit c.args.self.now.graph c.add_branch.new.graph a.keeps.graph.stands made _ c.args.self.now _ a (ap (λ (t : List ℕ). Some (branched commit t)) c.in_ok-clone-in-Ok.ensures.cases) refl refl refl refl
 
 pub returns-in_ok-clone-in-Ok-2-clause-record : goal.returns-in_ok-clone-in-Ok-2-clause-record
 returns-in_ok-clone-in-Ok-2-clause-record c =
@@ -49,8 +49,8 @@ returns-in_ok-refusal-in-Err-clause-refuses c g k =
     let old = c.args.self.now.graph in
     let fault = c.in-Err.fault in
     let refusal = refusal_of c.in_ok-refusal-in-Err.field-0 in
-    let cause = subst (λ (t : List ℕ). (fault ≡ NoMemory) ⊎ ((h : Graph) → StandsFor old h → unless_named t (start_of at h) h ≡ Some fault)) c.as_str.ensures.value c.in-Err.ensures.refused in
-    let is = branch-fault g title at old fault refusal c.in_ok-refusal-in-Err.ensures.refusal cause k in
+    let cause = subst (λ (t : List ℕ). (fault ≡ NoMemory) ⊎ ((h : Graph) → HasShapeOf old h → unless_named t (start_of at h) h ≡ Some fault)) c.as_str.ensures.value c.in-Err.ensures.refused in
+    let is = branch-fault g title at old fault refusal c.in_ok-refusal-in-Err.ensures.refusal cause k.shape in
     refused-alike g (branch title at) refusal is (answer_of c.refused.result.answer) c.refused.ensures.answer
 
 pub returns-in_ok-refusal-in-Err-clause-prepared : goal.returns-in_ok-refusal-in-Err-clause-prepared
@@ -60,8 +60,8 @@ returns-in_ok-refusal-in-Err-clause-prepared c g k =
     let old = c.args.self.now.graph in
     let fault = c.in-Err.fault in
     let refusal = refusal_of c.in_ok-refusal-in-Err.field-0 in
-    let cause = subst (λ (t : List ℕ). (fault ≡ NoMemory) ⊎ ((h : Graph) → StandsFor old h → unless_named t (start_of at h) h ≡ Some fault)) c.as_str.ensures.value c.in-Err.ensures.refused in
-    let is = branch-fault g title at old fault refusal c.in_ok-refusal-in-Err.ensures.refusal cause k.stands in
+    let cause = subst (λ (t : List ℕ). (fault ≡ NoMemory) ⊎ ((h : Graph) → HasShapeOf old h → unless_named t (start_of at h) h ≡ Some fault)) c.as_str.ensures.value c.in-Err.ensures.refused in
+    let is = branch-fault g title at old fault refusal c.in_ok-refusal-in-Err.ensures.refusal cause k.stands.shape in
     refused-prepared g (branch title at) refusal is c.refused.result c.add_branch.new.graph c.refused.ensures.entry (subst (λ (x : Kept). StandsFor x g) (sym c.in-Err.ensures.err) k.stands)
 
 pub returns-in_ok-refusal-in-Err-clause-answered : goal.returns-in_ok-refusal-in-Err-clause-answered
@@ -71,6 +71,6 @@ returns-in_ok-refusal-in-Err-clause-answered c g a =
     let old = c.args.self.now.graph in
     let fault = c.in-Err.fault in
     let refusal = refusal_of c.in_ok-refusal-in-Err.field-0 in
-    let cause = subst (λ (t : List ℕ). (fault ≡ NoMemory) ⊎ ((h : Graph) → StandsFor old h → unless_named t (start_of at h) h ≡ Some fault)) c.as_str.ensures.value c.in-Err.ensures.refused in
-    let is = branch-fault g title at old fault refusal c.in_ok-refusal-in-Err.ensures.refusal cause a.keeps.graph.stands in
+    let cause = subst (λ (t : List ℕ). (fault ≡ NoMemory) ⊎ ((h : Graph) → HasShapeOf old h → unless_named t (start_of at h) h ≡ Some fault)) c.as_str.ensures.value c.in-Err.ensures.refused in
+    let is = branch-fault g title at old fault refusal c.in_ok-refusal-in-Err.ensures.refusal cause a.keeps.graph.stands.shape in
     refused-answered g (branch title at) refusal is c.refused.result _ c.refused.ensures.answer (subst (λ (x : Kept). IsAt (record c.args.self.now { graph = x }) g) (sym c.in-Err.ensures.err) a)

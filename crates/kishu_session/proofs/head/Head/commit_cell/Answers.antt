@@ -12,12 +12,12 @@ pub returns-clause-answered : goal.returns-clause-answered
 returns-clause-answered g c g' a =
     let text = rc_str_bytes c.args.text.now in
     let short = c.requires.short in
-    let room = subst (λ (n : ℕ). n < most_records) a.keeps.graph.stands.records c.requires.room in
+    let room = subst (λ (n : ℕ). n < most_records) a.keeps.graph.stands.shape.records c.requires.room in
     let cleared = state_of c.clear_record.new.self in
     record {
       answer =
           answer-cell g' text short room c.in_ok-commit.commit c.add_cell.new.self.cells (report_of c.in_ok-result.result)
-          (c.in_ok-commit.ensures.number g' a.keeps.graph.stands)
+          (c.in_ok-commit.ensures.number g' a.keeps.graph.stands.shape)
           (c.in_ok-commit.ensures.count g' a.keeps a.count)
           (c.in_ok-result.ensures.report
           ∙ ap (λ (t : List ℕ). (run One t cleared).report) c.as_str.ensures.value

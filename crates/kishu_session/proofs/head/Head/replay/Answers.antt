@@ -22,7 +22,7 @@ returns-clause-at g c g' k =
     let self = c.args.self.now in
     let numbers = c.in_ok-numbers.numbers.items in
     let texts = c.in_ok-texts.texts.items in
-    let by_number : numbers ≡ path_numbers g'.commits self.graph.head.commit = c.in_ok-numbers.ensures g' k.graph.stands ∙ ap (λ (t : Target). path_numbers g'.commits t.commit) c.head.ensures.value in
+    let by_number : numbers ≡ path_numbers g'.commits self.graph.head.commit = c.in_ok-numbers.ensures g' k.graph.stands.shape ∙ ap (λ (t : Target). path_numbers g'.commits t.commit) c.head.ensures.value in
     let along : texts_of texts ≡ cells_along (map cells_of self.stored.items) numbers =
     c.in_ok-texts.ensures.texts
     ∙ ap (λ (l : List CommitCells). cells_along (map cells_of l) c.deref-2.result.now) c.deref.ensures.value
@@ -39,7 +39,7 @@ returns-clause-least g c g' k =
     let self = c.args.self.now in
     let numbers = c.in_ok-numbers.numbers.items in
     let texts = c.in_ok-texts.texts.items in
-    let by_number : numbers ≡ path_numbers g'.commits self.graph.head.commit = c.in_ok-numbers.ensures g' k.graph.stands ∙ ap (λ (t : Target). path_numbers g'.commits t.commit) c.head.ensures.value in
+    let by_number : numbers ≡ path_numbers g'.commits self.graph.head.commit = c.in_ok-numbers.ensures g' k.graph.stands.shape ∙ ap (λ (t : Target). path_numbers g'.commits t.commit) c.head.ensures.value in
     let along : texts_of texts ≡ cells_along (map cells_of self.stored.items) numbers =
     c.in_ok-texts.ensures.texts
     ∙ ap (λ (l : List CommitCells). cells_along (map cells_of l) c.deref-2.result.now) c.deref.ensures.value
@@ -58,7 +58,7 @@ returns-in_err-run_all-clause-full g c err g' k =
     let self = c.args.self.now in
     let numbers = c.in_ok-numbers.numbers.items in
     let texts = c.in_ok-texts.texts.items in
-    let by_number : numbers ≡ path_numbers g'.commits self.graph.head.commit = c.in_ok-numbers.ensures g' k.graph.stands ∙ ap (λ (t : Target). path_numbers g'.commits t.commit) c.head.ensures.value in
+    let by_number : numbers ≡ path_numbers g'.commits self.graph.head.commit = c.in_ok-numbers.ensures g' k.graph.stands.shape ∙ ap (λ (t : Target). path_numbers g'.commits t.commit) c.head.ensures.value in
     let along : texts_of texts ≡ cells_along (map cells_of self.stored.items) numbers =
     c.in_ok-texts.ensures.texts
     ∙ ap (λ (l : List CommitCells). cells_along (map cells_of l) c.deref-2.result.now) c.deref.ensures.value

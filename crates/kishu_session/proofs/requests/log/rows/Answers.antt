@@ -16,7 +16,7 @@ loop-commit-preserved c =
       rows = λ g k.
           let is = c.in_ok-row.ensures.row g k.stands in
           rows-on g.commits at row.parent (row_of row) (map row_of c.loop-commit.rows.items) (map row_of c.push.new.self.items) (rows_at g.commits g.head.commit)
-          k.good.parents positive (there-is graph g at k.stands c.loop-commit.invariant.there) (ap (λ (r : PathRow). r.parent) is) is
+          k.good.parents positive (there-is graph g at k.stands.shape c.loop-commit.invariant.there) (ap (λ (r : PathRow). r.parent) is) is
           (ap (map row_of) c.in_ok-push.ensures.items ∙ map-append row_of c.loop-commit.rows.items (row ∷ []))
           (c.loop-commit.invariant.rows g k);
     }
