@@ -1,7 +1,6 @@
-mod Items
-mod Bodies
-mod Readings
 mod Parts
-mod Commits
 mod Runs
+mod Askings
+mod Utf8
+mod Chain
 mod Rows

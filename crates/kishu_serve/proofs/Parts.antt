@@ -1,14 +1,34 @@
 -- One request, as part of a run.
-use Rattle.std.proofs.Common.{◌≡◌, inl, inr, ⊎_elim, ℕ, List, [], ◌∷◌, ◌++◌, refl, sym, ◌∙◌, ap, subst}
+use Rattle.std.proofs.Common.{◌≡◌, ◌⊎◌, inl, inr, ⊎_elim, ℕ, List, [], ◌∷◌, ◌++◌, refl, sym, ◌∙◌, ap, subst, Result, Ok, Err, OnOk}
 use Rattle.std.proofs.lemmas.List.{append-nil}
-use Rattle.kishu_host.specs.Host.{State, Now, Only, DuringPut}
+use Rattle.kishu_host.specs.Host.{State, Only, Elapses, DuringPut}
+use Rattle.kishu_host.specs.Going.{weaker, goes_on}
+use Rattle.kishu_store.specs.Entries.{Entry}
 use Rattle.kishu_store.specs.Graph.{Graph}
-use Rattle.kishu_model.specs.Request.{Request}
-use Rattle.kishu_store.specs.Record.{Entry, changed}
 use Rattle.kishu_store.specs.Holds.{Holds, graph_of}
+use Rattle.kishu_store_laws.specs.Laws.{ends-holds}
+use Rattle.kishu_model.specs.Request.{Request}
 use Rattle.kishu_model.specs.Serve.{after, answer_of, IsPrefix}
-use Rattle.kishu_journal.specs.Going.{WithOrWithout}
+use Rattle.kishu_session.specs.Attached.{IsAttached}
+use Rattle.kishu_session.specs.Journals.{IsJournalOf, BeforeOrAfter}
+use Rattle.kishu_session.specs.Written.{IsRecorded}
+use Rattle.kishu_session.specs.declared.session.Session.{Session}
 use Rattle.kishu_serve.specs.Headline.{IsPart}
+
+pub attached-holds : (session : Session) (s : State) (g : Graph) → IsAttached session s g → Holds s.file g
+attached-holds session s g a =
+    let journal = a.at_end.journal in
+    subst (λ (x : Graph). Holds s.file x) (ap (λ (es : List Entry). graph_of es) journal.stands.says ∙ sym journal.graph) (ends-holds s.file journal.stands.found journal.stands.ends)
+
+-- A session stays attached where the output alone changes.
+pub attached-kept : (session : Session) (s0 s1 : State) (g : Graph) → s1.file ≡ s0.file → ((c : List ℕ) → s1.may_leave c → s0.may_leave c) → IsAttached session s0 g → IsAttached session s1 g
+attached-kept session s0 s1 g same crash a = record {
+  going = a.going;
+  durable = λ c now. a.durable c (crash c now) ∙ sym same;
+  at_end = record { journal = subst (λ (f : List ℕ). IsJournalOf session.journal f g) (sym same) a.at_end.journal; graph = a.at_end.graph };
+  same = a.same;
+  at = a.at;
+}
 
 module _ (s : State) (g : Graph) (q : Request) where
   -- nothing is done yet
@@ -19,17 +39,44 @@ module _ (s : State) (g : Graph) (q : Request) where
   pub part-done : (file out p : List ℕ) → Holds file (after g q) → out ≡ s.out ++ p → IsPrefix p (answer_of g q) → IsPart s g (q ∷ []) file out
   part-done file out p holds is prefix = record { now = after g q; printed = p; holds = holds; out_is = is; reached = inr (inl (refl, prefix)) }
 
-  pub part-append : (entries : List Entry) (e : Entry) → g ≡ graph_of entries → after g q ≡ changed (graph_of entries) e
-      → (file out : List ℕ) → WithOrWithout s entries e file out → IsPart s g (q ∷ []) file out
-  part-append entries e is moves file out w =
-      ⊎_elim (λ (h : Holds file (graph_of entries)). part-none file out (subst (λ (x : Graph). Holds file x) (sym is) h) w.0)
-      (λ (h : Holds file (changed (graph_of entries) e)). part-done file out [] (subst (λ (x : Graph). Holds file x) (sym moves) h) (w.0 ∙ sym (append-nil s.out)) (answer_of g q, refl)) w.1
+  -- while it is applied
+  pub part-applied : (file out : List ℕ) → BeforeOrAfter s g (after g q) file out → IsPart s g (q ∷ []) file out
+  part-applied file out w =
+      ⊎_elim (λ (h : Holds file g). part-none file out h w.0)
+      (λ (h : Holds file (after g q)). part-done file out [] h (w.0 ∙ sym (append-nil s.out)) (answer_of g q, refl)) w.1
 
+  -- while its answer goes out
   pub part-put : (s1 : State) (bytes : List ℕ) → bytes ≡ answer_of g q → Only s1.file s1.may_leave → Holds s1.file (after g q) → s1.out ≡ s.out
       → (file out : List ℕ) → DuringPut s1 bytes file out → IsPart s g (q ∷ []) file out
   part-put s1 bytes is only holds same file out d =
       part-done file out d.1 (subst (λ (f : List ℕ). Holds f (after g q)) (sym (only file d.0)) holds) (d.3 ∙ ap (λ (l : List ℕ). l ++ d.1) same) (d.2.0, sym is ∙ d.2.1)
 
-  -- as it reads at the start
-  pub part-now : Holds s.file g → Only s.file s.may_leave → (file out : List ℕ) → Now s file out → IsPart s g (q ∷ []) file out
-  part-now holds only file out now = part-none file out (subst (λ (f : List ℕ). Holds f g) (sym (only file now.0)) holds) now.1
+-- what holds of a call, where it succeeded
+pub held : {T E P : Type 0} (r : Result T E) → P → OnOk r P
+held (Ok x) p = p
+held (Err e) p = tt
+
+pub and_then : {T E P Q : Type 0} (r : Result T E) → OnOk r P → (P → Q) → OnOk r Q
+and_then (Ok x) p then = then p
+and_then (Err e) p then = tt
+
+pub recorded-kept : (old mid new : List ℕ) → new ≡ mid → (mid ≡ old) ⊎ IsRecorded old mid → (new ≡ old) ⊎ IsRecorded old new
+recorded-kept old mid new same recorded = subst (λ (f : List ℕ). (f ≡ old) ⊎ IsRecorded old f) (sym same) recorded
+
+-- The request is refused, or tells without being applied: the graph stays.
+pub told-stop : (session : Session) (s0 s1 : State) (g : Graph) (q : Request) (bytes : List ℕ) → IsAttached session s0 g → after g q ≡ g → bytes ≡ answer_of g q
+    → Elapses s0 s1 (DuringPut s0 bytes) → Elapses s0 s1 (IsPart s0 g (q ∷ []))
+told-stop session s0 s1 g q bytes a stays is put =
+    weaker s0 s1 (IsPart s0 g (q ∷ [])) (DuringPut s0 bytes) put
+    (part-put s0 g q s0 bytes is a.durable (subst (λ (x : Graph). Holds s0.file x) (sym stays) (attached-holds session s0 g a)) refl)
+
+-- It is applied.
+pub applied-stop : (s0 s1 : State) (g : Graph) (q : Request) → Elapses s0 s1 (BeforeOrAfter s0 g (after g q)) → Elapses s0 s1 (IsPart s0 g (q ∷ []))
+applied-stop s0 s1 g q applied = weaker s0 s1 (IsPart s0 g (q ∷ [])) (BeforeOrAfter s0 g (after g q)) applied (part-applied s0 g q)
+
+-- It is applied, and its answer goes out.
+pub served-stop : (session : Session) (s0 s1 s2 : State) (g : Graph) (q : Request) (bytes : List ℕ) → IsAttached session s1 (after g q) → bytes ≡ answer_of g q → s1.out ≡ s0.out
+    → Elapses s0 s1 (BeforeOrAfter s0 g (after g q)) → Elapses s1 s2 (DuringPut s1 bytes) → Elapses s0 s2 (IsPart s0 g (q ∷ []))
+served-stop session s0 s1 s2 g q bytes a is same applied put =
+    goes_on s0 s1 s2 (IsPart s0 g (q ∷ [])) (DuringPut s1 bytes) (applied-stop s0 s1 g q applied) put
+    (part-put s0 g q s1 bytes is a.durable (attached-holds session s1 (after g q) a) same)

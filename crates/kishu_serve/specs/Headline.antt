@@ -1,13 +1,15 @@
 -- What a run may leave.
-use Rattle.std.specs.Prelude.{◌≡◌, ◌⊎◌, ℕ, nat_le, true, if◌then◌else◌, List, ◌++◌, length}
+use Rattle.std.specs.Prelude.{◌≡◌, ◌⊎◌, ◌<◌, ℕ, ◌+◌, ◌^◌, true, Bool, false, List, [], ◌++◌, length, Option, Some, None, IsSome}
+use Rattle.kishu_language.specs.Limits.{longest_text}
 use Rattle.kishu_host.specs.Host.{State, Only}
 use Rattle.kishu_host.specs.Source.{SourceState}
 use Rattle.kishu_store.specs.Graph.{Graph}
+use Rattle.kishu_store.specs.Holds.{Holds}
 use Rattle.kishu_model.specs.Request.{Request}
-use Rattle.kishu_store.specs.Record.{Entry, body_of}
-use Rattle.kishu_store.specs.Holds.{Ends, Holds, end_of, fresh_length}
 use Rattle.kishu_model.specs.Serve.{Reached, after_all, answers}
-use Rattle.kishu_journal.specs.Bytes.{fresh, appended}
+use Rattle.kishu_model.specs.Task.{Form, one_cell, session, one_request, limit_place, session_limits}
+use Rattle.kishu_serve.specs.declared.status.Status.{Status}
+use Rattle.kishu_serve.specs.declared.status.Status.TheVariants.{Usage, InputFault, InputTooLong}
 
 -- The file holds the graph after the first k requests, for some k; the output has grown by the answers to the first k - 1 and a prefix of the k-th.
 pub record IsPart (s : State) (g : Graph) (requests : List Request) (file out : List ℕ) : Type 0 where
@@ -16,15 +18,6 @@ pub record IsPart (s : State) (g : Graph) (requests : List Request) (file out : 
   pub holds : Holds file now
   pub out_is : out ≡ s.out ++ printed
   pub reached : Reached g requests now printed
-
--- The file holds no graph.
-abbrev pub HoldsNone : List ℕ → Type 0
-HoldsNone file = (g : Graph) → Holds file g → ⊥
-
--- File and output are as they were.
-pub record Stays (old new : State) : Type 0 where
-  pub file : new.file ≡ old.file
-  pub out : new.out ≡ old.out
 
 -- All requests are answered, and each stop leaves so.
 pub record IsWhole (old new : State) (g : Graph) (requests : List Request) : Type 0 where
@@ -38,14 +31,34 @@ pub record IsGiven (host : State) (source : SourceState) (g : Graph) : Type 0 wh
   pub source_tells : source.tells ≡ true
   pub holds : Holds host.file g
 
--- a file as opening leaves it: a short one is begun anew
-abbrev pub begun : List ℕ → List ℕ
-begun file = if nat_le (length file) fresh_length then fresh else file
+-- A form that reads its input has read it to the end.
+abbrev pub IsRead : Option Form → List ℕ → Type 0
+IsRead None left = Unit {0}
+IsRead (Some one_cell) left = left ≡ []
+IsRead (Some session) left = left ≡ []
+IsRead (Some (one_request q)) left = Unit {0}
 
--- the file with one record more behind its records, and the gate 0 behind that
-abbrev pub IsRecorded : List ℕ → List ℕ → Type 0
-IsRecorded old new = (entries : List Entry) × (e : Entry) × Ends old entries × (new ≡ appended (end_of entries) (body_of e) old)
+-- The input of a form that reads it reaches a limit.
+abbrev pub IsTooLong : Option Form → List ℕ → Type 0
+IsTooLong None input = ⊥
+IsTooLong (Some one_cell) input = longest_text < length input
+IsTooLong (Some session) input = IsSome (limit_place session_limits input)
+IsTooLong (Some (one_request q)) input = ⊥
 
--- the file as opening leaves it, or with one record more
-abbrev pub IsWritten : List ℕ → List ℕ → Type 0
-IsWritten old new = (new ≡ begun old) ⊎ IsRecorded (begun old) new
+-- how many bytes of an input are taken at most
+abbrev pub most_taken : Option Form → ℕ
+most_taken None = 0
+most_taken (Some one_cell) = longest_text + 4096
+most_taken (Some session) = 2 ^ 30 + 4096
+most_taken (Some (one_request q)) = 0
+
+-- whether a form takes any number of requests
+abbrev pub takes_many : Option Form → Bool
+takes_many None = false
+takes_many (Some one_cell) = false
+takes_many (Some session) = true
+takes_many (Some (one_request q)) = false
+
+-- A run that ends so hasn't opened its store: for its words, or for the input that is a cell.
+abbrev pub IsUnopened : Option Form → Status → Type 0
+IsUnopened form status = (status ≡ Usage) ⊎ ((form ≡ Some one_cell) × ((status ≡ InputFault) ⊎ (status ≡ InputTooLong)))

@@ -1,9 +1,7 @@
 pub mod Statuses
 pub mod Words
-pub mod Requests
+pub mod Asking
+pub mod Recorded
 pub mod Headline
-pub mod Lives
-pub mod Attached
-pub mod Midway
-pub mod Texts
-pub mod Growth
+pub mod Filling
+pub mod Stops

@@ -6,7 +6,7 @@ use std::alloc::{AllocError, Global};
 /// How a run ended.
 #[derive(Clone, Copy, Debug, PartialEq, Eq)]
 pub enum Status {
-    /// All was answered, and the input was read to its end.
+    /// All was answered, and a form that reads has read its input to the end.
     Done,
     /// The words have no form.
     Usage,
@@ -22,7 +22,8 @@ pub enum Status {
     OutputFault,
     /// Memory ran out.
     NoMemory,
-    /// The input has more than 1,048,576 bytes, the most that a cell may have.
+    /// A line of a session reaches 2^24 bytes before its line feed, its input reaches 2^30 bytes, or
+    /// the input of `cell` has more than 1,048,576 bytes.
     InputTooLong,
     /// A cell would have begun with more than 2^31 nodes.
     HeapFull,

@@ -1,0 +1,121 @@
+use Rattle.std.proofs.Common.{◌≡◌, false, Ok, Err, sym, ◌∙◌, ap, arith}
+use Rattle.std.proofs.lemmas.Result.{err_from_is_err_and}
+use Rattle.kishu_serve.specs.Asking.{to_come, asked_of, reads_lines}
+use Rattle.kishu_serve.proofs.Chain.{Along, known-along, stopped-long, turn-stop, turn-full, served-more, served-whole, served-least, served-bytes}
+use Rattle.kishu_serve.proofs.running.serve_all.Given.{Over}
+use Rattle.kishu_serve.proofs.running.serve_all.Goals.{In_ok-serve}
+use Rattle.kishu_serve.proofs.running.serve_all.Goals as goal
+
+-- ---- a turn
+
+turn : (g : Over) (c : In_ok-serve g)
+    → Along (g.H.Host.state c.args.host.now) (g.H.Host.state c.serve.new.host) (g.S.Source.source c.args.source.now) (g.S.Source.source c.next.new.source) c.args.requests.now c.next.new.self
+    c.args.session.now c.serve.new.session c.args.steps.now c.serve.new.steps
+turn g c =
+    let before = c.loop-asked.invariant.along in
+    let next = rw c.in-Some.is at c.in_ok-asked.ensures.next in
+    let fewer = rw c.in-Some.is at c.in_ok-asked.ensures.one_more in
+    record {
+      going = c.in_ok-serve.ensures.going;
+      served = λ told graph a.
+          let now_told = before.host_tells ∙ told in
+          let served = before.served told graph a in
+          let answered = c.in_ok-serve.ensures in
+          served-more served (g.H.Host.state c.serve.new.host) (g.S.Source.source c.next.new.source) c.next.new.self c.serve.new.session (asked_of c.in-Some.asked) c.serve.new.steps
+          c.next.ensures.lines fewer (λ known. (next (known-along before known)).0)
+          (answered.attached now_told served.now served.attached)
+          (answered.answered now_told served.now served.attached)
+          (answered.bytes now_told served.now served.attached)
+          (answered.least now_told served.now served.attached)
+          (c.serve.ensures.stop now_told served.now served.attached);
+      limited = λ known.
+          let same = next (known-along before known) in
+          (λ limited. same.2 ((before.limited known).0 limited), λ limited. (before.limited known).1 (same.1 limited));
+      lines = c.next.ensures.lines ∙ before.lines;
+      taken = λ told. omega (arith, before.taken told, c.next.ensures.taken (before.source_tells ∙ told));
+      host_tells = c.serve.ensures.tells ∙ before.host_tells;
+      source_tells = c.next.ensures.tells ∙ before.source_tells;
+      disk = omega (arith, before.disk, c.serve.ensures.disk);
+      outs = omega (arith, before.outs, c.serve.ensures.outs);
+      ins = omega (arith, before.ins, c.next.ensures.faults);
+    }
+
+unread : (g : Over) (c : In_ok-serve g) → reads_lines c.args.requests.now ≡ false → c.next.new.source ≡ c.args.source.now
+unread g c none = c.next.ensures.alone (c.loop-asked.invariant.along.lines ∙ none) ∙ c.loop-asked.invariant.alone none
+
+-- a goal for each kind of what was asked
+pub loop-asked-preserved-in_ok-serve : goal.loop-asked-preserved-in_ok-serve
+loop-asked-preserved-in_ok-serve g c = let c = (goal.at.loop-asked-preserved-in_ok-serve g c).In_ok-serve in record { along = turn g c; alone = unread g c }
+
+pub loop-asked-preserved-in_ok-serve-2 : goal.loop-asked-preserved-in_ok-serve-2
+loop-asked-preserved-in_ok-serve-2 g c = let c = (goal.at.loop-asked-preserved-in_ok-serve-2 g c).In_ok-serve in record { along = turn g c; alone = unread g c }
+
+pub loop-asked-preserved-in_ok-serve-3 : goal.loop-asked-preserved-in_ok-serve-3
+loop-asked-preserved-in_ok-serve-3 g c = let c = (goal.at.loop-asked-preserved-in_ok-serve-3 g c).In_ok-serve in record { along = turn g c; alone = unread g c }
+
+pub loop-asked-preserved-in_ok-serve-4 : goal.loop-asked-preserved-in_ok-serve-4
+loop-asked-preserved-in_ok-serve-4 g c = let c = (goal.at.loop-asked-preserved-in_ok-serve-4 g c).In_ok-serve in record { along = turn g c; alone = unread g c }
+
+pub loop-asked-preserved-in_ok-serve-5 : goal.loop-asked-preserved-in_ok-serve-5
+loop-asked-preserved-in_ok-serve-5 g c = let c = (goal.at.loop-asked-preserved-in_ok-serve-5 g c).In_ok-serve in record { along = turn g c; alone = unread g c }
+
+pub loop-asked-preserved : goal.loop-asked-preserved
+loop-asked-preserved g c = let c = (goal.at.loop-asked-preserved g c).In_ok-serve in record { along = turn g c; alone = unread g c }
+
+pub serve-requires-clause-stands : goal.serve-requires-clause-stands
+serve-requires-clause-stands g c told =
+    let before = c.loop-asked.invariant.along in
+    let first_told = sym before.host_tells ∙ told in
+    let stands = c.requires.stands first_told in
+    let served = before.served first_told stands.0 stands.1 in
+    (served.now, served.attached)
+
+-- ---- a request that isn't answered
+
+pub returns-in_err-serve-clause-stop : goal.returns-in_err-serve-clause-stop
+returns-in_err-serve-clause-stop g c told known graph a =
+    let before = c.loop-asked.invariant.along in
+    let served = before.served told graph a in
+    let next = rw c.in-Some.is at c.in_ok-asked.ensures.next in
+    turn-stop served (g.H.Host.state c.serve.new.host) (asked_of c.in-Some.asked) (to_come c.next.new.self (g.S.Source.source c.next.new.source).left) (next (known-along before known)).0 known
+    (c.serve.ensures.stop (before.host_tells ∙ told) served.now served.attached)
+
+pub returns-in_err-serve-clause-full : goal.returns-in_err-serve-clause-full
+returns-in_err-serve-clause-full g c is_full told known graph a =
+    let before = c.loop-asked.invariant.along in
+    let served = before.served told graph a in
+    let next = rw c.in-Some.is at c.in_ok-asked.ensures.next in
+    let p = err_from_is_err_and c.from_residual-in_err-serve.result c.from_residual-in_err-serve.ensures.1 in
+    turn-full served (g.H.Host.state c.serve.new.host) (asked_of c.in-Some.asked) (to_come c.next.new.self (g.S.Source.source c.next.new.source).left) (next (known-along before known)).0 known
+    (c.in_err-serve.ensures.full (cc (is_full, p.1, p.2)) (before.host_tells ∙ told) served.now served.attached)
+
+-- ---- no request is to come
+
+pub returns-in_err-asked-clause-whole : goal.returns-in_err-asked-clause-whole
+returns-in_err-asked-clause-whole g c long told known graph a =
+    let before = c.loop-asked.invariant.along in
+    let p = err_from_is_err_and c.from_residual.result c.from_residual.ensures.1 in
+    let is = stopped-long c.from_residual.result c.in_err-asked.field-0.0 (p.1 ∙ ap Err p.2) long in
+    let none = (c.in_err-asked.ensures.too_long (ap Err is)).1 (known-along before known) in
+    served-whole (before.served told graph a) none.0 known
+
+pub returns-in_err-asked-clause-stop : goal.returns-in_err-asked-clause-stop
+returns-in_err-asked-clause-stop g c told known graph a = ((c.loop-asked.invariant.along.served told graph a).comes known).stop
+
+pub returns-clause-whole : goal.returns-clause-whole
+returns-clause-whole g c done told known graph a =
+    let before = c.loop-asked.invariant.along in
+    let none = c.in_ok-asked.ensures.end (ap Ok c.in_default.is) (known-along before known) in
+    served-whole (before.served told graph a) none.0 known
+
+pub returns-clause-stop : goal.returns-clause-stop
+returns-clause-stop g c told known graph a = ((c.loop-asked.invariant.along.served told graph a).comes known).stop
+
+pub returns-clause-bytes : goal.returns-clause-bytes
+returns-clause-bytes g c told graph a = served-bytes (c.loop-asked.invariant.along.served told graph a)
+
+pub returns-clause-least : goal.returns-clause-least
+returns-clause-least g c told known graph a =
+    let before = c.loop-asked.invariant.along in
+    let none = c.in_ok-asked.ensures.end (ap Ok c.in_default.is) (known-along before known) in
+    served-least (before.served told graph a) none.0 known

@@ -1,0 +1,90 @@
+use Rattle.std.proofs.Common.{◌≡◌, ◌≤◌, ◌+◌, ◌++◌, refl, sym, ◌∙◌, ap, subst, ℕ, List, [], ◌∷◌}
+use Rattle.kishu_host.specs.Host.{Elapses}
+use Rattle.kishu_model.specs.Answers.{bad_request, refused}
+use Rattle.kishu_model.specs.Request.{Request, unreadable}
+use Rattle.kishu_model.specs.Serve.{after, answer_of}
+use Rattle.kishu_model.specs.Step.{step, charge_of}
+use Rattle.kishu_model.specs.Values.{request_of}
+use Rattle.kishu_session.specs.Attached.{IsAttached}
+use Rattle.kishu_serve.specs.Asking.{asked_of}
+use Rattle.kishu_serve.specs.Headline.{IsPart}
+use Rattle.kishu_serve.proofs.Parts.{attached-kept, held, and_then, recorded-kept, told-stop, applied-stop, served-stop}
+use Rattle.kishu_serve.proofs.serving.serve.Goals as goal
+
+pub returns-in_default-clause-stop : goal.returns-in_default-clause-stop
+returns-in_default-clause-stop g c told g' a =
+    let st = g.H.Host.state in
+    let s0 = st c.args.host.now in
+    let s1 = st c.tell.new.host in
+    let stop = told-stop c.args.session.now s0 s1 g' unreadable _ a refl refl (c.tell.ensures.stop (refused bad_request) c.answer.ensures) in
+    subst (λ (q : Request). Elapses s0 s1 (IsPart s0 g' (q ∷ []))) (sym (ap asked_of c.in_default.is)) stop
+
+pub returns-in-Ok-clause-bytes : goal.returns-in-Ok-clause-bytes
+returns-in-Ok-clause-bytes g c =
+    let st = g.H.Host.state in
+    held c.tell-in-Ok.result
+    (λ told g' a. recorded-kept (st c.args.host.now).file (st c.apply.new.host).file (st c.tell-in-Ok.new.host).file c.tell-in-Ok.ensures.file (c.in-Ok.ensures.bytes told g' a.at_end))
+
+pub returns-in-Ok-clause-stop : goal.returns-in-Ok-clause-stop
+returns-in-Ok-clause-stop g c told g' a =
+    let st = g.H.Host.state in
+    let q = request_of c.in-Request.request in
+    let s0 = st c.args.host.now in
+    let s1 = st c.apply.new.host in
+    let s2 = st c.tell-in-Ok.new.host in
+    let stop =
+    served-stop c.apply.new.self s0 s1 s2 g' q _ (c.in-Ok.ensures.attached told g' a) refl c.apply.ensures.out (c.apply.ensures.stop told a.durable g' a.at_end)
+    (c.tell-in-Ok.ensures.stop (step g' q).answer (c.in-Ok.ensures.answered told g' a)) in
+    subst (λ (r : Request). Elapses s0 s2 (IsPart s0 g' (r ∷ []))) (sym (ap asked_of c.in-Request.is)) stop
+
+pub returns-in-Err-HeapFull-clause-stop : goal.returns-in-Err-HeapFull-clause-stop
+returns-in-Err-HeapFull-clause-stop g c told g' a =
+    let st = g.H.Host.state in
+    let s0 = st c.args.host.now in
+    let s1 = st c.apply.new.host in
+    subst (λ (r : Request). Elapses s0 s1 (IsPart s0 g' (r ∷ []))) (sym (ap asked_of c.in-Request.is))
+    (applied-stop s0 s1 g' (request_of c.in-Request.request) (c.apply.ensures.stop told a.durable g' a.at_end))
+
+pub returns-in-Err-DiskFault-clause-stop : goal.returns-in-Err-DiskFault-clause-stop
+returns-in-Err-DiskFault-clause-stop g c told g' a =
+    let st = g.H.Host.state in
+    let s0 = st c.args.host.now in
+    let s1 = st c.apply.new.host in
+    subst (λ (r : Request). Elapses s0 s1 (IsPart s0 g' (r ∷ []))) (sym (ap asked_of c.in-Request.is))
+    (applied-stop s0 s1 g' (request_of c.in-Request.request) (c.apply.ensures.stop told a.durable g' a.at_end))
+
+pub returns-in-Err-NoMemory-clause-stop : goal.returns-in-Err-NoMemory-clause-stop
+returns-in-Err-NoMemory-clause-stop g c told g' a =
+    let st = g.H.Host.state in
+    let s0 = st c.args.host.now in
+    let s1 = st c.apply.new.host in
+    subst (λ (r : Request). Elapses s0 s1 (IsPart s0 g' (r ∷ []))) (sym (ap asked_of c.in-Request.is))
+    (applied-stop s0 s1 g' (request_of c.in-Request.request) (c.apply.ensures.stop told a.durable g' a.at_end))
+
+pub returns-in-Ok-clause-attached : goal.returns-in-Ok-clause-attached
+returns-in-Ok-clause-attached g c =
+    let st = g.H.Host.state in
+    let q = request_of c.in-Request.request in
+    let s1 = st c.apply.new.host in
+    let s2 = st c.tell-in-Ok.new.host in
+    held c.tell-in-Ok.result
+    (λ told g' a.
+    subst (λ (r : Request). IsAttached c.apply.new.self s2 (after g' r)) (sym (ap asked_of c.in-Request.is))
+    (attached-kept c.apply.new.self s1 s2 (after g' q) c.tell-in-Ok.ensures.file c.tell-in-Ok.ensures.crash (c.in-Ok.ensures.attached told g' a)))
+
+pub returns-in-Ok-clause-answered : goal.returns-in-Ok-clause-answered
+returns-in-Ok-clause-answered g c =
+    let st = g.H.Host.state in
+    let q = request_of c.in-Request.request in
+    let s0 = st c.args.host.now in
+    let s2 = st c.tell-in-Ok.new.host in
+    and_then c.tell-in-Ok.result c.tell-in-Ok.ensures.answered
+    (λ out told g' a.
+    subst (λ (r : Request). s2.out ≡ s0.out ++ answer_of g' r) (sym (ap asked_of c.in-Request.is))
+    (out (c.apply.ensures.tells ∙ told) (step g' q).answer (c.in-Ok.ensures.answered told g' a) ∙ ap (λ (l : List ℕ). l ++ answer_of g' q) c.apply.ensures.out))
+
+pub returns-in-Ok-clause-least : goal.returns-in-Ok-clause-least
+returns-in-Ok-clause-least g c =
+    held c.tell-in-Ok.result
+    (λ told g' a.
+    subst (λ (r : Request). c.args.steps.now + charge_of g' r ≤ c.apply.new.steps) (sym (ap asked_of c.in-Request.is)) (c.in-Ok.ensures.least told g' a))
