@@ -2,6 +2,7 @@ ghost use Rattle.std.specs.Prelude.{◌≡◌, ◌<◌};
 
 mod cells;
 mod language;
+mod sessions;
 mod stops;
 mod values;
 
@@ -214,7 +215,7 @@ fn examples_that_spend_their_steps(rt: HostRuntime) -> Result<(), Fail> {
 #[test]
 fn words_and_statuses(rt: HostRuntime) -> Result<(), Fail> {
     let alloc = rt.alloc();
-    let forms: [&[&str]; 7] = [
+    let forms: [&[&str]; 13] = [
         &[],
         &["S"],
         &["S", "fly"],
@@ -222,6 +223,12 @@ fn words_and_statuses(rt: HostRuntime) -> Result<(), Fail> {
         &["-S", "cell"],
         &["S", "cell", "--together"],
         &["S", "-"],
+        &["S", "session", "x"],
+        &["S", "log", "x"],
+        &["S", "checkout"],
+        &["S", "checkout", "1", "2"],
+        &["S", "branch"],
+        &["S", "branch", "-try"],
     ];
     for form in &forms {
         let words = words_of(alloc, form)?;

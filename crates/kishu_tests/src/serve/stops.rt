@@ -89,7 +89,7 @@ fn each_call_stopped_and_failed(rt: HostRuntime) -> Result<(), Fail> {
             break;
         }
     }
-    // Opening makes ten calls over two records, the append four, and the answer one.
-    assert_eq!(rt; whole, 16);
+    // Opening makes twelve calls over two records, the append four, and the answer one.
+    assert_eq!(rt; whole, 18);
     Ok(())
 }

@@ -1,0 +1,405 @@
+// Sessions: request lines and their answers.
+ghost use Rattle.std.specs.Prelude.{◌≡◌, ◌<◌};
+
+use super::{FIRST, host_over, run_in_memory, words_of};
+use kishu_host::{MemHost, MemSource};
+use kishu_model::{Request, Steps};
+use kishu_serve::Status;
+use kishu_session::{Halt, Session};
+use std::alloc::{AllocError, Global};
+use std::marker::Brand;
+use std::process::Abort;
+use std::rc::RcStr;
+use std::sync::ledger::{Blank, Ledger};
+use std::test::Fail;
+
+/// Runs these words over an input.
+pub(super) fn run_words(
+    alloc: Global,
+    host: &mut MemHost,
+    texts: &[&str],
+    input: &[u8],
+) -> Result<Status, AllocError> {
+    let words = words_of(alloc, texts)?;
+    let mut source = MemSource::new(alloc, input.to_vec(alloc)?, Vec::new(alloc))?;
+    Ok(run_in_memory(alloc, &words, &mut source, host))
+}
+
+/// The lines of a session on an empty store, and the lines of its answers.
+const SESSIONS: [(&str, &str); 10] = [
+    ("", ""),
+    (
+        r#"{"op":"status"}"#,
+        r#"{"answer":"status","branch":"main","commit":0,"commits":1,"names":[],"records":0}
+"#,
+    ),
+    (
+        "\n",
+        r#"{"answer":"refused","number":1,"reason":"BadRequest"}
+"#,
+    ),
+    // Two ways from one state: what the first way changed isn't seen on the second, and names still share.
+    (
+        r#"{"op":"cell","text":"a = [1]; b = a"}
+{"op":"cell","text":"b.append(2)"}
+{"op":"checkout","to":"1"}
+{"op":"cell","text":"print(a, a is b)"}
+{"op":"log"}
+"#,
+        r#"{"answer":"cell","commit":1,"count":1,"outcome":"ok","outputs":[]}
+{"answer":"cell","commit":2,"count":2,"outcome":"ok","outputs":[]}
+{"answer":"checkout","commit":1,"head":null}
+{"answer":"cell","commit":3,"count":2,"outcome":"ok","outputs":[{"name":"stdout","output_type":"stream","text":"[1] True\n"}]}
+{"answer":"log","branches":[{"commit":2,"name":"main"}],"path":[{"cells":1,"commit":3,"line":"print(a, a is b)","parent":1},{"cells":1,"commit":1,"line":"a = [1]; b = a","parent":0}]}
+"#,
+    ),
+    // A list that holds itself, left and found again.
+    (
+        r#"{"op":"cell","text":"a = []"}
+{"op":"cell","text":"a.append(a)"}
+{"op":"cell","text":"print(a)"}
+{"op":"checkout","to":"0"}
+{"op":"cell","text":"a"}
+{"op":"checkout","to":"main"}
+{"op":"cell","text":"print(a, a[0] is a)"}
+"#,
+        r#"{"answer":"cell","commit":1,"count":1,"outcome":"ok","outputs":[]}
+{"answer":"cell","commit":2,"count":2,"outcome":"ok","outputs":[]}
+{"answer":"cell","commit":3,"count":3,"outcome":"ok","outputs":[{"name":"stdout","output_type":"stream","text":"[[...]]\n"}]}
+{"answer":"checkout","commit":0,"head":null}
+{"answer":"cell","commit":4,"count":1,"outcome":"error","outputs":[{"ename":"NameError","evalue":"name 'a' is not defined","output_type":"error","traceback":["NameError: name 'a' is not defined"]}]}
+{"answer":"checkout","commit":3,"head":"main"}
+{"answer":"cell","commit":5,"count":4,"outcome":"ok","outputs":[{"name":"stdout","output_type":"stream","text":"[[...]] True\n"}]}
+"#,
+    ),
+    // A default that is shared with a name.
+    (
+        r#"{"op":"cell","text":"def g(x, acc=[]): acc.append(x); return acc"}
+{"op":"cell","text":"p = g(1)"}
+{"op":"cell","text":"p = 0"}
+{"op":"checkout","to":"2"}
+{"op":"cell","text":"print(g(2) is p)"}
+"#,
+        r#"{"answer":"cell","commit":1,"count":1,"outcome":"ok","outputs":[]}
+{"answer":"cell","commit":2,"count":2,"outcome":"ok","outputs":[]}
+{"answer":"cell","commit":3,"count":3,"outcome":"ok","outputs":[]}
+{"answer":"checkout","commit":2,"head":null}
+{"answer":"cell","commit":4,"count":3,"outcome":"ok","outputs":[{"name":"stdout","output_type":"stream","text":"True\n"}]}
+"#,
+    ),
+    (
+        r#"{"op":"branch","name":"main"}
+{"op":"branch","name":"9"}
+{"op":"checkout","to":"999"}
+{"op":"checkout","to":"007"}
+{"op":"fly"}
+{"op":"branch","name":"try"}
+{"op":"branch","name":"old","at":"0"}
+{"op":"branch","name":"new","at":"1"}
+{"op":"status"}
+"#,
+        r#"{"answer":"refused","number":4,"reason":"NameTaken"}
+{"answer":"refused","number":3,"reason":"BadName"}
+{"answer":"refused","number":2,"reason":"NoSuchRef"}
+{"answer":"refused","number":2,"reason":"NoSuchRef"}
+{"answer":"refused","number":1,"reason":"BadRequest"}
+{"answer":"branch","commit":0,"name":"try"}
+{"answer":"branch","commit":0,"name":"old"}
+{"answer":"refused","number":2,"reason":"NoSuchRef"}
+{"answer":"status","branch":"main","commit":0,"commits":1,"names":[],"records":2}
+"#,
+    ),
+    (
+        r#"{"op":"cell","text":"try:\n    {}['k']\nexcept KeyError as e:\n    print(e, repr(e))\nfinally:\n    print('end')"}
+{"op":"status"}
+"#,
+        r#"{"answer":"cell","commit":1,"count":1,"outcome":"ok","outputs":[{"name":"stdout","output_type":"stream","text":"'k' KeyError('k')\nend\n"}]}
+{"answer":"status","branch":"main","commit":1,"commits":2,"names":[],"records":1}
+"#,
+    ),
+    // A checkout of the branch on which the head stands is recorded, and moves nothing.
+    (
+        r#"{"op":"cell","text":"b = 1"}
+{"op":"cell","text":"a = b"}
+{"op":"checkout","to":"main"}
+{"op":"status"}
+"#,
+        r#"{"answer":"cell","commit":1,"count":1,"outcome":"ok","outputs":[]}
+{"answer":"cell","commit":2,"count":2,"outcome":"ok","outputs":[]}
+{"answer":"checkout","commit":2,"head":"main"}
+{"answer":"status","branch":"main","commit":2,"commits":3,"names":["a","b"],"records":3}
+"#,
+    ),
+    // A branch moves with the head that stands on it, and stays where a checkout leaves it.
+    (
+        r#"{"op":"branch","name":"try"}
+{"op":"checkout","to":"try"}
+{"op":"cell","text":"x = 1"}
+{"op":"checkout","to":"main"}
+{"op":"cell","text":"y = 2"}
+{"op":"checkout","to":"1"}
+{"op":"cell","text":"x"}
+{"op":"log"}
+"#,
+        r#"{"answer":"branch","commit":0,"name":"try"}
+{"answer":"checkout","commit":0,"head":"try"}
+{"answer":"cell","commit":1,"count":1,"outcome":"ok","outputs":[]}
+{"answer":"checkout","commit":0,"head":"main"}
+{"answer":"cell","commit":2,"count":1,"outcome":"ok","outputs":[]}
+{"answer":"checkout","commit":1,"head":null}
+{"answer":"cell","commit":3,"count":2,"outcome":"ok","outputs":[{"data":{"text/plain":"1"},"execution_count":2,"metadata":{},"output_type":"execute_result"}]}
+{"answer":"log","branches":[{"commit":2,"name":"main"},{"commit":1,"name":"try"}],"path":[{"cells":1,"commit":3,"line":"x","parent":1},{"cells":1,"commit":1,"line":"x = 1","parent":0}]}
+"#,
+    ),
+];
+
+#[test]
+fn answers_sessions(rt: HostRuntime) -> Result<(), Fail> {
+    let alloc = rt.alloc();
+    for (input, want) in &SESSIONS {
+        let mut host = host_over(alloc, &[], Vec::new(alloc), None)?.ok_or("room")?;
+        let status = run_words(alloc, &mut host, &["S", "session"], input.as_bytes())?;
+        assert_eq!(rt; status, Status::Done);
+        assert_eq!(rt; host.out(), want.as_bytes());
+    }
+    Ok(())
+}
+
+/// One line of a session after another, each in a run of its own over what the runs before left.
+fn answers_line_by_line(alloc: Global, input: &str) -> Result<Vec<u8>, Fail> {
+    let mut file = Vec::new(alloc);
+    let mut out = Vec::new(alloc);
+    for line in input.split('\n') {
+        if line.is_empty() {
+            continue;
+        }
+        let mut host = host_over(alloc, &file, Vec::new(alloc), None)?.ok_or("room")?;
+        let _ = run_words(alloc, &mut host, &["S", "session"], line.as_bytes())?;
+        out.extend_from_slice(host.out())?;
+        file = host.file().to_vec(alloc)?;
+    }
+    Ok(out)
+}
+
+#[test]
+fn answers_the_same_in_many_runs(rt: HostRuntime) -> Result<(), Fail> {
+    let alloc = rt.alloc();
+    for (input, want) in &SESSIONS[3..] {
+        let out = answers_line_by_line(alloc, input)?;
+        assert_eq!(rt; out.as_slice(), want.as_bytes());
+    }
+    Ok(())
+}
+
+/// Words over the store of two commits with `try` at the first, and what is put out.
+const WORDS: [(&[&str], &str); 6] = [
+    (
+        &["S", "status"],
+        r#"{"answer":"status","branch":"main","commit":1,"commits":2,"names":[],"records":1}
+"#,
+    ),
+    (
+        &["S", "branch", "try", "0"],
+        r#"{"answer":"branch","commit":0,"name":"try"}
+"#,
+    ),
+    (
+        &["S", "checkout", "try"],
+        r#"{"answer":"checkout","commit":0,"head":"try"}
+"#,
+    ),
+    (
+        &["S", "branch", "a"],
+        r#"{"answer":"branch","commit":0,"name":"a"}
+"#,
+    ),
+    (
+        &["S", "checkout", "b"],
+        r#"{"answer":"refused","number":2,"reason":"NoSuchRef"}
+"#,
+    ),
+    (
+        &["S", "log"],
+        r#"{"answer":"log","branches":[{"commit":0,"name":"a"},{"commit":1,"name":"main"},{"commit":0,"name":"try"}],"path":[]}
+"#,
+    ),
+];
+
+#[test]
+fn answers_words(rt: HostRuntime) -> Result<(), Fail> {
+    let alloc = rt.alloc();
+    let mut file = FIRST.to_vec(alloc)?;
+    for (words, want) in &WORDS {
+        let mut host = host_over(alloc, &file, Vec::new(alloc), None)?.ok_or("room")?;
+        let status = run_words(alloc, &mut host, words, b"not read".as_slice())?;
+        assert_eq!(rt; status, Status::Done);
+        assert_eq!(rt; host.out(), want.as_bytes());
+        file = host.file().to_vec(alloc)?;
+    }
+    Ok(())
+}
+
+#[test]
+fn a_gate_that_is_closed_ends_the_store(rt: HostRuntime) -> Result<(), Fail> {
+    let alloc = rt.alloc();
+    let mut closed = FIRST;
+    closed[16] = 0x3c;
+    let rows: [(&[u8], &str); 2] = [
+        (
+            &closed,
+            r#"{"answer":"status","branch":"main","commit":0,"commits":1,"names":[],"records":0}
+{"answer":"cell","commit":1,"count":1,"outcome":"ok","outputs":[]}
+"#,
+        ),
+        (
+            &FIRST,
+            r#"{"answer":"status","branch":"main","commit":1,"commits":2,"names":[],"records":1}
+{"answer":"cell","commit":2,"count":2,"outcome":"ok","outputs":[]}
+"#,
+        ),
+    ];
+    for (file, want) in &rows {
+        let mut host = host_over(alloc, file, Vec::new(alloc), None)?.ok_or("room")?;
+        let input = r#"{"op":"status"}
+{"op":"cell","text":"a = 1"}"#;
+        let status = run_words(alloc, &mut host, &["S", "session"], input.as_bytes())?;
+        assert_eq!(rt; status, Status::Done);
+        assert_eq!(rt; host.out(), want.as_bytes());
+    }
+    Ok(())
+}
+
+/// A session of four requests, three of which are recorded.
+const FOUR: &str = r#"{"op":"cell","text":"a = [1]; b = a"}
+{"op":"branch","name":"try"}
+{"op":"status"}
+{"op":"checkout","to":"0"}
+"#;
+
+const FOUR_ANSWERS: [&str; 4] = [
+    r#"{"answer":"cell","commit":1,"count":1,"outcome":"ok","outputs":[]}
+"#,
+    r#"{"answer":"branch","commit":1,"name":"try"}
+"#,
+    r#"{"answer":"status","branch":"main","commit":1,"commits":2,"names":["a","b"],"records":2}
+"#,
+    r#"{"answer":"checkout","commit":0,"head":null}
+"#,
+];
+
+/// How many of the answers are out, where each of them is whole.
+fn answered(out: &[u8]) -> Option<usize> {
+    let mut rest = out;
+    let mut count: usize = 0;
+    for answer in &FOUR_ANSWERS {
+        if let Some(more) = rest.strip_prefix(answer.as_bytes()) {
+            rest = more;
+            count = count.wrapping_add(1);
+        }
+    }
+    if rest.is_empty() { Some(count) } else { None }
+}
+
+/// How many records a store holds, told by its status.
+fn records(alloc: Global, file: &[u8]) -> Result<Option<usize>, Fail> {
+    let mut host = host_over(alloc, file, Vec::new(alloc), None)?.ok_or("room")?;
+    let status = run_words(alloc, &mut host, &["S", "status"], b"".as_slice())?;
+    if status != Status::Done {
+        return Ok(None);
+    }
+    let text = String::from_utf8(host.out().to_vec(alloc)?)?;
+    for count in 0..4usize {
+        let tail = format!(in alloc; "\"records\":{count}}}\n")?;
+        if text.as_str().ends_with(tail.as_str()) {
+            return Ok(Some(count));
+        }
+    }
+    Ok(None)
+}
+
+/// The records that so many answers acknowledge.
+fn acknowledged(answers: usize) -> usize {
+    match answers {
+        0 => 0,
+        1 => 1,
+        2 => 2,
+        3 => 2,
+        _ => 3,
+    }
+}
+
+/// The session with its n-th host call failing, or stopped there: each store that may be left opens, with all that was
+/// acknowledged and at most one record more. Whether it came to its end.
+fn holds(
+    rt: &impl Abort,
+    alloc: Global,
+    fail: Vec<u64>,
+    stop: Option<u64>,
+) -> Result<bool, Fail> {
+    let mut host = host_over(alloc, &[], fail, stop)?.ok_or("room")?;
+    let status = run_words(alloc, &mut host, &["S", "session"], FOUR.as_bytes())?;
+    let answers = answered(host.out()).ok_or("no prefix of the answers")?;
+    assert_eq!(rt; status == Status::Done, answers == 4);
+    let least = acknowledged(answers);
+    for fill in [0u8, 0xa5, 0xff] {
+        let torn = host.torn_file(fill)?;
+        let found = records(alloc, &torn)?.ok_or("not opened")?;
+        assert!(rt; found == least || found == least.wrapping_add(1));
+    }
+    Ok(status == Status::Done)
+}
+
+#[test]
+fn each_call_of_a_session_stopped_and_failed(rt: HostRuntime) -> Result<(), Fail> {
+    let alloc = rt.alloc();
+    let mut whole = 0u64;
+    for n in 1..60u64 {
+        let stopped = holds(&rt, alloc, Vec::new(alloc), Some(n))?;
+        let failed = holds(&rt, alloc, vec![in alloc; n]?, None)?;
+        assert_eq!(rt; stopped, failed);
+        if stopped {
+            whole = n;
+            break;
+        }
+    }
+    // Opening makes four calls over an empty file, each of three records four, and each answer one.
+    assert_eq!(rt; whole, 21);
+    Ok(())
+}
+
+/// How a session's first request ends over this host, and where it meets a fault how the next one does.
+fn halts<L: Ledger>(
+    alloc: Global,
+    host: &mut MemHost,
+    blank: Blank,
+) -> Result<(Option<Halt>, Option<Halt>), AllocError>
+    requires name { blank.name ≡ L.name }
+    requires parts { blank.parts ≡ L.parts }
+    requires some { 0 < L.parts }
+{
+    let mut steps = Steps::<L>::new(blank);
+    let cell = Request::Cell {
+        text: RcStr::from_str(alloc, "a = 1")?,
+    };
+    let Ok(mut session) = Session::attach(alloc, host, &mut steps) else {
+        return Ok((None, None));
+    };
+    match session.apply(host, &cell, &mut steps) {
+        Ok(_) => Ok((None, None)),
+        Err(first) => match session.apply(host, &Request::Status, &mut steps) {
+            Ok(_) => Ok((Some(first), None)),
+            Err(second) => Ok((Some(first), Some(second))),
+        },
+    }
+}
+
+#[test]
+fn a_session_is_closed_by_a_fault(rt: HostRuntime) -> Result<(), Fail> {
+    let alloc = rt.alloc();
+    // The seventh call is the second write of the append, which opens the gate.
+    let mut host = host_over(alloc, &[], vec![in alloc; 7]?, None)?.ok_or("room")?;
+    let (first, second) = halts::<Brand>(alloc, &mut host, Blank::new(1))?;
+    assert_eq!(rt; first, Some(Halt::DiskFault));
+    assert_eq!(rt; second, Some(Halt::Closed));
+    Ok(())
+}
