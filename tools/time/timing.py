@@ -66,15 +66,16 @@ def copy_crates(folder, names):
         listed.writelines(line for name, line in lines.items() if name in copied)
 
 
-def built(folder, name, below, text):
-    """A program that is a crate of its own, over crates that were copied; `rt` proves and builds it."""
+def built(folder, name, below, text, proofs=None, given=None):
+    """A program that is a crate of its own, over crates that were copied; `rt` proves and builds it, and runs it on what is given."""
     crate = os.path.join(folder, "crates", name)
-    os.makedirs(os.path.join(crate, "src"))
-    with open(os.path.join(crate, "src", "main.rt"), "w") as source:
-        source.write(text)
+    for file, content in {"src/main.rt": text, **(proofs or {})}.items():
+        os.makedirs(os.path.dirname(os.path.join(crate, file)), exist_ok=True)
+        with open(os.path.join(crate, file), "w") as source:
+            source.write(content)
     with open(os.path.join(folder, "crates.txt"), "a") as listed:
         listed.write(f"{name}: {' '.join(below)}\n")
-    subprocess.run(["rt", "run"], cwd=crate, check=True, stdin=subprocess.DEVNULL, stdout=subprocess.DEVNULL)
+    subprocess.run(["rt", "run"], cwd=crate, check=True, input=given or b"", stdout=subprocess.DEVNULL)
     return os.path.join(crate, "out", name)
 
 
