@@ -1,4 +1,3 @@
-pub mod Items
 pub mod Written
 pub mod OfClasses
 pub mod Copies

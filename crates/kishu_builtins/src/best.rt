@@ -9,17 +9,18 @@ ghost use Rattle.kishu_meaning.specs.calls.Operators.{bad_operands};
 ghost use Rattle.kishu_meaning.specs.values.Sound.{is_sound, are_sound};
 ghost use Rattle.kishu_meaning.specs.values.Values.{Node, value_of};
 ghost use Rattle.kishu_meaning.specs.values.Values as model;
-ghost use Rattle.kishu_meaning.specs.items.Walks.{walk_of, along_tuple};
+ghost use Rattle.kishu_meaning.specs.items.Walks as walks;
+ghost use Rattle.kishu_meaning.specs.items.Walks.{along_tuple};
 ghost use Rattle.kishu_heap.specs.Compared.{Orders};
 ghost use Rattle.kishu_heap.specs.Costs.{GrowsPaid, Reads, Spends};
 ghost use Rattle.kishu_builtins.specs.Called.{moment_of, Gives};
 ghost use Rattle.kishu_builtins.specs.Extremes.{comparison_of, before_in, best_name};
-ghost use Rattle.kishu_builtins.specs.Walking.{walk_in, is_there};
+ghost use Rattle.kishu_items.specs.Walks.{is_sound_walk, nodes_for, walk_of};
 ghost use Rattle.kishu_meaning.specs.declared.budget.Budget.{Budget};
 
-use crate::walk::{Walk, visited, walk_of};
+use crate::walk::visited;
 use kishu_heap::{CallFault, CompareFault, Heap};
-use kishu_items::{bad_operands_text, copied_all, plain_text, raise};
+use kishu_items::{Walk, bad_operands_text, copied_all, plain_text, raise, walk_of};
 use kishu_meaning::{Budget, ClassId, Steps, Value};
 use std::alloc::Global;
 use std::sync::ledger::Ledger;
@@ -153,9 +154,10 @@ fn best_in<L: Ledger>(
     budget: &mut Budget,
     steps: &mut Steps<L>,
 ) -> Result<Option<Value>, CallFault>
-    requires there { IsTrue (is_there (length heap.old) walk.now) }
+    requires sound { IsTrue (is_sound_walk (length heap.old) (walk_of walk.now)) }
+    requires few { nodes_for (walk_of walk.now) ≤ 1 }
     requires room { length heap.old + budget.old.left < 2 ^ 32 - 16 }
-    ensures gives { Gives (option_map value_of) result (moment_of heap.new budget.new) (folded (better (comparison_of which)) (suc budget.old.left) (walk_in heap.old walk.now) 0 None (moment_of heap.old budget.old)) }
+    ensures gives { Gives (option_map value_of) result (moment_of heap.new budget.new) (folded (better (comparison_of which)) (suc budget.old.left) (walk_of walk.now) 0 None (moment_of heap.old budget.old)) }
     ensures sound { IfOk result (λ o. IfSome o (λ v. IsTrue (is_sound (length heap.new) (value_of v)))) }
     ensures grows { GrowsPaid 1 heap.old budget.old heap.new budget.new }
     ensures spends { Spends 1 budget.old steps.old budget.new steps.new }
@@ -178,9 +180,10 @@ fn best_of<L: Ledger>(
     budget: &mut Budget,
     steps: &mut Steps<L>,
 ) -> Result<Value, CallFault>
-    requires there { IsTrue (is_there (length heap.old) walk.now) }
+    requires sound { IsTrue (is_sound_walk (length heap.old) (walk_of walk.now)) }
+    requires few { nodes_for (walk_of walk.now) ≤ 1 }
     requires room { length heap.old + budget.old.left < 2 ^ 32 - 16 }
-    ensures gives { Gives value_of result (moment_of heap.new budget.new) (best_of (comparison_of which) (walk_in heap.old walk.now) (moment_of heap.old budget.old)) }
+    ensures gives { Gives value_of result (moment_of heap.new budget.new) (best_of (comparison_of which) (walk_of walk.now) (moment_of heap.old budget.old)) }
     ensures sound { IfOk result (λ v. IsTrue (is_sound (length heap.new) (value_of v))) }
     ensures grows { GrowsPaid 1 heap.old budget.old heap.new budget.new }
     ensures spends { Spends 1 budget.old steps.old budget.new steps.new }
@@ -202,7 +205,7 @@ pub(crate) fn best_of_items<L: Ledger>(
 ) -> Result<Value, CallFault>
     requires sound { IsTrue (is_sound (length heap.old) (value_of value.now)) }
     requires room { length heap.old + budget.old.left < 2 ^ 32 - 16 }
-    ensures gives { Gives value_of result (moment_of heap.new budget.new) (and_then (walk_of (value_of value.now) (moment_of heap.old budget.old)) (best_of (comparison_of which))) }
+    ensures gives { Gives value_of result (moment_of heap.new budget.new) (and_then (walks.walk_of (value_of value.now) (moment_of heap.old budget.old)) (best_of (comparison_of which))) }
     ensures sound { IfOk result (λ v. IsTrue (is_sound (length heap.new) (value_of v))) }
     ensures grows { GrowsPaid 1 heap.old budget.old heap.new budget.new }
     ensures spends { Spends 3 budget.old steps.old budget.new steps.new }
@@ -227,6 +230,6 @@ pub(crate) fn best_of_values<L: Ledger>(
     ensures grows { GrowsPaid 1 heap.old budget.old heap.new budget.new }
     ensures spends { Spends 1 budget.old steps.old budget.new steps.new }
 {
-    let walk = Walk::Values(copied_all(alloc, values)?);
+    let walk = Walk::Tuple(copied_all(alloc, values)?);
     best_of(alloc, which, &walk, heap, budget, steps)
 }

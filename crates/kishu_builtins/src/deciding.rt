@@ -5,11 +5,11 @@ ghost use Rattle.kishu_meaning.specs.values.Sound.{is_sound};
 ghost use Rattle.kishu_meaning.specs.values.Values.{value_of};
 ghost use Rattle.kishu_heap.specs.Costs.{GrowsPaid, Spends};
 ghost use Rattle.kishu_builtins.specs.Called.{moment_of, Gives};
-ghost use Rattle.kishu_builtins.specs.Walking.{walk_in, is_there};
+ghost use Rattle.kishu_items.specs.Walks.{is_sound_walk, nodes_for, walk_of};
 
-use crate::walk::{Walk, visited, walk_of};
+use crate::walk::visited;
 use kishu_heap::{CallFault, Heap};
-use kishu_items::is_true;
+use kishu_items::{Walk, is_true, walk_of};
 use kishu_meaning::{Budget, Steps, Value};
 use std::alloc::Global;
 use std::sync::ledger::Ledger;
@@ -23,9 +23,10 @@ fn decided<L: Ledger>(
     budget: &mut Budget,
     steps: &mut Steps<L>,
 ) -> Result<Value, CallFault>
-    requires there { IsTrue (is_there (length heap.old) walk.now) }
+    requires sound { IsTrue (is_sound_walk (length heap.old) (walk_of walk.now)) }
+    requires few { nodes_for (walk_of walk.now) ≤ 1 }
     requires room { length heap.old + budget.old.left < 2 ^ 32 - 16 }
-    ensures gives { Gives value_of result (moment_of heap.new budget.new) (decided which (suc budget.old.left) (walk_in heap.old walk.now) 0 (moment_of heap.old budget.old)) }
+    ensures gives { Gives value_of result (moment_of heap.new budget.new) (decided which (suc budget.old.left) (walk_of walk.now) 0 (moment_of heap.old budget.old)) }
     ensures grows { GrowsPaid 1 heap.old budget.old heap.new budget.new }
     ensures spends { Spends 1 budget.old steps.old budget.new steps.new }
 {

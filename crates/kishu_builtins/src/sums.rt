@@ -4,15 +4,15 @@ ghost use Rattle.kishu_meaning.specs.calls.Builtins.{folded, fold, added};
 ghost use Rattle.kishu_meaning.specs.moments.Moment.{Moment, and_then};
 ghost use Rattle.kishu_meaning.specs.values.Sound.{is_sound};
 ghost use Rattle.kishu_meaning.specs.values.Values.{value_of, integer};
-ghost use Rattle.kishu_meaning.specs.items.Walks.{walk_of};
+ghost use Rattle.kishu_meaning.specs.items.Walks as walks;
 ghost use Rattle.kishu_heap.specs.Costs.{GrowsPaid, Spends};
 ghost use Rattle.kishu_builtins.specs.Called.{moment_of, Gives};
-ghost use Rattle.kishu_builtins.specs.Walking.{walk_in, is_there};
+ghost use Rattle.kishu_items.specs.Walks.{is_sound_walk, nodes_for, walk_of};
 
 use crate::numbers::number_or_raise;
-use crate::walk::{Walk, visited, walk_of};
+use crate::walk::visited;
 use kishu_heap::{CallFault, Heap};
-use kishu_items::{bad_arguments_text, number_in, raise};
+use kishu_items::{Walk, bad_arguments_text, number_in, raise, walk_of};
 use kishu_meaning::{Budget, ClassId, Steps, Value};
 use kishu_num::add;
 use std::alloc::Global;
@@ -35,9 +35,10 @@ fn total<L: Ledger>(
     budget: &mut Budget,
     steps: &mut Steps<L>,
 ) -> Result<Value, CallFault>
-    requires there { IsTrue (is_there (length heap.old) walk.now) }
+    requires sound { IsTrue (is_sound_walk (length heap.old) (walk_of walk.now)) }
+    requires few { nodes_for (walk_of walk.now) ≤ 1 }
     requires room { length heap.old + budget.old.left < 2 ^ 32 - 16 }
-    ensures gives { Gives value_of result (moment_of heap.new budget.new) (folded added (suc budget.old.left) (walk_in heap.old walk.now) 0 (integer (pos 0)) (moment_of heap.old budget.old)) }
+    ensures gives { Gives value_of result (moment_of heap.new budget.new) (folded added (suc budget.old.left) (walk_of walk.now) 0 (integer (pos 0)) (moment_of heap.old budget.old)) }
     ensures grows { GrowsPaid 1 heap.old budget.old heap.new budget.new }
     ensures spends { Spends 1 budget.old steps.old budget.new steps.new }
 {
@@ -61,7 +62,7 @@ pub(crate) fn sum_of<L: Ledger>(
 ) -> Result<Value, CallFault>
     requires sound { IsTrue (is_sound (length heap.old) (value_of value.now)) }
     requires room { length heap.old + budget.old.left < 2 ^ 32 - 16 }
-    ensures gives { Gives value_of result (moment_of heap.new budget.new) (and_then (walk_of (value_of value.now) (moment_of heap.old budget.old)) (fold added (integer (pos 0)))) }
+    ensures gives { Gives value_of result (moment_of heap.new budget.new) (and_then (walks.walk_of (value_of value.now) (moment_of heap.old budget.old)) (fold added (integer (pos 0)))) }
     ensures grows { GrowsPaid 1 heap.old budget.old heap.new budget.new }
     ensures spends { Spends 3 budget.old steps.old budget.new steps.new }
 {

@@ -4,3 +4,4 @@ pub mod Parts
 pub mod Copying
 pub mod Items
 pub mod Pushing
+pub mod Found

@@ -6,3 +6,4 @@ pub mod Gathering
 pub mod Spends
 pub mod Orders
 pub mod Messages
+pub mod Walks

@@ -15,6 +15,7 @@ mod sequences;
 mod sorting;
 mod spending;
 mod truth;
+mod walks;
 
 pub use classes::is_within;
 pub use faults::{
@@ -32,3 +33,4 @@ pub use sequences::{
 pub use sorting::{in_order, sort_steps};
 pub use spending::spend;
 pub use truth::is_true;
+pub use walks::{View, Walk, item_for, walk_of, walk_view};

@@ -83,7 +83,8 @@ pub fn character_text(alloc: Global, c: char) -> Result<Value, AllocError>
     Ok(Value::Text(RcStr::from_string(one_character(alloc, c)?)?))
 }
 
-fn code_points(alloc: Global, text: &str) -> Result<Vec<char>, AllocError>
+/// The code points of a text.
+pub(crate) fn code_points(alloc: Global, text: &str) -> Result<Vec<char>, AllocError>
     ensures { IfOk result (λ v. v.items ≡ chars text.now) }
 {
     text.chars().collect(alloc)

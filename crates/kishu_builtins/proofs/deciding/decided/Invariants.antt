@@ -2,14 +2,13 @@ use Rattle.std.proofs.Common.{◌≡◌, suc, ◌+◌, ◌-◌, ◌≤◌, IsTru
 use Rattle.kishu_meaning.specs.calls.Builtins.{decided}
 use Rattle.kishu_heap.specs.Costs.{GrowsPaid, Spends}
 use Rattle.kishu_builtins.specs.Called.{moment_of}
-use Rattle.kishu_builtins.specs.Walking.{walk_in, is_there}
+use Rattle.kishu_items.specs.Walks.{is_sound_walk, walk_of}
 use Rattle.kishu_builtins.proofs.deciding.decided.Given as goal
 
 abbrev pub invariant-loop-at : goal.invariant-loop-at
 invariant-loop-at g l = record {
-  told : decided l.which (suc l.fn.budget.left) (walk_in l.fn.heap l.walk) 0 (moment_of l.fn.heap l.fn.budget) ≡ decided l.which (suc l.fn.budget.left - l.at) (walk_in l.fn.heap l.walk) l.at (moment_of l.heap l.budget);
-  walk : walk_in l.heap l.walk ≡ walk_in l.fn.heap l.walk;
-  there : IsTrue (is_there (length l.heap) l.walk);
+  told : decided l.which (suc l.fn.budget.left) (walk_of l.walk) 0 (moment_of l.fn.heap l.fn.budget) ≡ decided l.which (suc l.fn.budget.left - l.at) (walk_of l.walk) l.at (moment_of l.heap l.budget);
+  sound : IsTrue (is_sound_walk (length l.heap) (walk_of l.walk));
   grows : GrowsPaid 0 l.fn.heap l.fn.budget l.heap l.budget;
   spends : Spends 0 l.fn.budget l.fn.steps l.budget l.steps;
   turns : l.budget.left + l.at ≤ l.fn.budget.left;

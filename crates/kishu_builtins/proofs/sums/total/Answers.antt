@@ -6,15 +6,14 @@ use Rattle.std.proofs.lemmas.Result.{err_from_is_err_and}
 use Rattle.kishu_meaning.specs.calls.Builtins.{folded, added}
 use Rattle.kishu_meaning.specs.values.Values.{Value, value_of, integer}
 use Rattle.kishu_builtins.specs.Called.{moment_of, Fails}
-use Rattle.kishu_builtins.specs.Walking.{walk_in}
+use Rattle.kishu_items.specs.Walks.{walk_of}
 use Rattle.kishu_builtins.proofs.Visits.{fuel, next, start, folded_fault, folded_none, folded_item_fault, folded_further}
 use Rattle.kishu_builtins.proofs.sums.total.Goals as goal
 
 pub loop-at-init : goal.loop-at-init
 loop-at-init g c = record {
-  told = ap (λ n. folded added n (walk_in c.args.heap.now c.args.walk.now) 0 (integer (pos 0)) (moment_of c.args.heap.now c.args.budget.now)) (start c.args.budget.now.left);
-  walk = refl;
-  there = c.requires.there;
+  told = ap (λ n. folded added n (walk_of c.args.walk.now) 0 (integer (pos 0)) (moment_of c.args.heap.now c.args.budget.now)) (start c.args.budget.now.left);
+  sound = c.requires.sound;
   grows = (omega arith, omega arith);
   spends = (refl, omega arith, omega arith, omega arith);
   turns = omega arith;
@@ -29,9 +28,9 @@ returns-in_err-item-clause-gives g c =
     let s = moment_of c.loop-at.heap c.loop-at.budget in
     let t = moment_of c.visited.new.heap c.visited.new.budget in
     let p = err_from_is_err_and c.from_residual.result c.from_residual.ensures.1 in
-    let h = rw i.walk at c.in_err-item.ensures.gives in
+    let h = c.in_err-item.ensures.gives in
     rw (p.1, p.2) (subst (λ e. Fails {A = Value} c.in_err-item.field-0.0 t e) (sym i.told)
-    (folded_fault added (walk_in c.args.heap.now c.args.walk.now) (n - at) (n - (at + 1)) at (at + 1) (fuel c.args.budget.now.left at c.loop-at-test.true) (next at) (integer sum) s t c.in_err-item.field-0.0 h))
+    (folded_fault added (walk_of c.args.walk.now) (n - at) (n - (at + 1)) at (at + 1) (fuel c.args.budget.now.left at c.loop-at-test.true) (next at) (integer sum) s t c.in_err-item.field-0.0 h))
 
 pub returns-in_default-clause-gives : goal.returns-in_default-clause-gives
 returns-in_default-clause-gives g c =
@@ -41,8 +40,8 @@ returns-in_default-clause-gives g c =
     let sum = to_z w128 c.loop-at.sum-bits in
     let s = moment_of c.loop-at.heap c.loop-at.budget in
     let t = moment_of c.visited.new.heap c.visited.new.budget in
-    let h = rw (i.walk, c.in_default.is) at c.in_ok-item.ensures.gives in
-    i.told ∙ folded_none added (walk_in c.args.heap.now c.args.walk.now) (n - at) (n - (at + 1)) at (at + 1) (fuel c.args.budget.now.left at c.loop-at-test.true) (next at) (integer sum) s t h
+    let h = rw c.in_default.is at c.in_ok-item.ensures.gives in
+    i.told ∙ folded_none added (walk_of c.args.walk.now) (n - at) (n - (at + 1)) at (at + 1) (fuel c.args.budget.now.left at c.loop-at-test.true) (next at) (integer sum) s t h
 
 pub returns-in_err-sum-clause-gives : goal.returns-in_err-sum-clause-gives
 returns-in_err-sum-clause-gives g c =
@@ -53,9 +52,9 @@ returns-in_err-sum-clause-gives g c =
     let s = moment_of c.loop-at.heap c.loop-at.budget in
     let t = moment_of c.visited.new.heap c.visited.new.budget in
     let p = err_from_is_err_and c.from_residual-in_err-sum.result c.from_residual-in_err-sum.ensures.1 in
-    let h = rw (i.walk, c.in-Some.is) at c.in_ok-item.ensures.gives in
+    let h = rw c.in-Some.is at c.in_ok-item.ensures.gives in
     rw (p.1, p.2) (subst (λ e. Fails {A = Value} c.in_err-sum.field-0.0 t e) (sym i.told)
-    (folded_item_fault added (walk_in c.args.heap.now c.args.walk.now) (n - at) (n - (at + 1)) at (at + 1) (fuel c.args.budget.now.left at c.loop-at-test.true) (next at) (integer sum) s t
+    (folded_item_fault added (walk_of c.args.walk.now) (n - at) (n - (at + 1)) at (at + 1) (fuel c.args.budget.now.left at c.loop-at-test.true) (next at) (integer sum) s t
     (value_of c.in-Some.item) t c.in_err-sum.field-0.0 h (c.in_err-sum.ensures t)))
 
 pub loop-at-preserved : goal.loop-at-preserved
@@ -64,11 +63,10 @@ loop-at-preserved g c =
     let at = c.loop-at.at in
     let n = suc c.args.budget.now.left in
     let sum = to_z w128 c.loop-at.sum-bits in
-    let walk = walk_in c.args.heap.now c.args.walk.now in
+    let walk = walk_of c.args.walk.now in
     let s = moment_of c.loop-at.heap c.loop-at.budget in
     let t = moment_of c.visited.new.heap c.visited.new.budget in
-    let h = rw (i.walk, c.in-Some.is) at c.in_ok-item.ensures.gives in
-    let same = rw c.in-Some.is at c.in_ok-item.ensures.same in
+    let h = rw c.in-Some.is at c.in_ok-item.ensures.gives in
     let room = rw c.in-Some.is at c.in_ok-item.ensures.room in
     let paid = rw c.in-Some.is at c.in_ok-item.ensures.paid in
     let whole : SFits w128 c.in_ok-sum.sum = search rules in
@@ -76,8 +74,7 @@ loop-at-preserved g c =
     record {
       told = i.told ∙ (folded_further added walk (n - at) (n - (at + 1)) at (at + 1) (fuel c.args.budget.now.left at c.loop-at-test.true) (next at) (integer sum) s t
           (value_of c.in-Some.item) (integer c.in_ok-sum.sum) t h (c.in_ok-sum.ensures t) ∙ bits);
-      walk = same ∙ i.walk;
-      there = rw c.in-Some.is at c.in_ok-item.ensures.there;
+      sound = rw c.in-Some.is at c.in_ok-item.ensures.walk;
       grows = (omega (arith, c.in_ok-item.ensures.grows.0, i.grows.0), omega (arith, room, i.grows.1));
       spends = (c.in_ok-item.ensures.spends.0 ∙ i.spends.0, omega (arith, c.in_ok-item.ensures.spends.1, i.spends.1), omega (arith, c.in_ok-item.ensures.spends.2, i.spends.2), omega (arith, paid, i.spends.3));
       turns = omega (arith, paid, c.in_ok-item.ensures.spends.2, i.turns);

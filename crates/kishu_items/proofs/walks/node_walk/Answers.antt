@@ -1,4 +1,4 @@
-use Rattle.kishu_builtins.proofs.walk.node_walk.Goals as goal
+use Rattle.kishu_items.proofs.walks.node_walk.Goals as goal
 
 pub returns-in-Object-clause-gives : goal.returns-in-Object-clause-gives
 returns-in-Object-clause-gives g c b = rw (c.node.ensures.node, c.in-Object.is) (c.not_walked.ensures.gives b)

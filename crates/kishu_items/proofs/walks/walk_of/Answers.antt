@@ -1,4 +1,4 @@
-use Rattle.kishu_builtins.proofs.walk.walk_of.Goals as goal
+use Rattle.kishu_items.proofs.walks.walk_of.Goals as goal
 
 pub returns-in-None-clause-gives : goal.returns-in-None-clause-gives
 returns-in-None-clause-gives g c b = rw c.in-None.is (rw c.in-None.is at (c.not_walked.ensures.gives b))
