@@ -133,7 +133,7 @@ fn reads_moves_and_names(rt: HostRuntime) -> Result<(), Fail> {
 }
 
 /// Heads, and the length of their pictures, that are no entry.
-const NO_ENTRIES: [(&str, &[u8], u64); 31] = [
+const NO_ENTRIES: [(&str, &[u8], u64); 36] = [
     ("nothing", b"", 0),
     ("no kind", b"\0\0\0\0\0", 0),
     ("another kind", b"\x04\x03try\0\0\0\0", 0),
@@ -206,8 +206,18 @@ const NO_ENTRIES: [(&str, &[u8], u64); 31] = [
         0,
     ),
     (
+        "a dropped group twice",
+        b"\x01\0\0\0\0\x01\0\0\0\x01\0\0\0\x01a\0\0\0\x02\0\0\0\x01\x01a\0\0\0\x01\x01a\0\0\0\0",
+        0,
+    ),
+    (
         "stored groups that fall",
         b"\x01\0\0\0\0\x01\0\0\0\x01\0\0\0\x01a\0\0\0\0\0\0\0\x02\0\0\0\x01\x01b\0\0\0\0\0\0\0\0\0\0\0\x01\x01a\0\0\0\0\0\0\0\0",
+        0,
+    ),
+    (
+        "stored groups of the same first name",
+        b"\x01\0\0\0\0\x01\0\0\0\x01\0\0\0\x01a\0\0\0\0\0\0\0\x02\0\0\0\x01\x01a\0\0\0\0\0\0\0\0\0\0\0\x02\x01a\x01b\0\0\0\0\0\0\0\0",
         0,
     ),
     (
@@ -229,6 +239,9 @@ const NO_ENTRIES: [(&str, &[u8], u64); 31] = [
     ("a move to a name and a byte more", b"\x02\x01\x04main\0", 0),
     ("a name that is cut", b"\x03\x03try\0\0\0", 0),
     ("a name that isn't UTF-8", b"\x03\x01\xff\0\0\0\0", 0),
+    ("a name and a byte more", b"\x03\x03try\0\0\0\0\0", 0),
+    ("a name with a picture", b"\x03\x03try\0\0\0\0", 1),
+    ("a name without a commit", b"\x03\x03try", 0),
 ];
 
 #[test]
