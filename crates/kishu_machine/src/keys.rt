@@ -1,11 +1,11 @@
 // Keys of dicts, and the items of sequences.
 ghost use Rattle.std.specs.Prelude.{length, map, unwrap_or, ◌+◌, ◌<◌, ◌^◌, ◌≡◌};
-ghost use Rattle.kishu_meaning.specs.items.KeyOf.{key_of_value, value_of_key};
+ghost use Rattle.kishu_meaning.specs.items.KeyOf.{key_of_value};
 ghost use Rattle.kishu_meaning.specs.values.Keys.{key_of};
 ghost use Rattle.kishu_meaning.specs.items.Sequences.{count_in, items_of, walked};
 ghost use Rattle.kishu_meaning.specs.values.Values.{value_of};
-ghost use Rattle.kishu_machine.specs.Machine.{Gives, HasRoom, HasRoomBy, moment_of, Costs};
-ghost use Rattle.kishu_machine.specs.Clauses.{IsSoundIn, SoundEnd, SoundValue, SoundValues};
+ghost use Rattle.kishu_machine.specs.Machine.{Gives, HasRoom, moment_of, Costs};
+ghost use Rattle.kishu_machine.specs.Clauses.{IsSoundIn, SoundEnd, SoundValues};
 
 use crate::fault::{Fault, passed};
 use crate::machine::Machine;
@@ -32,27 +32,6 @@ pub fn key_of<L: Ledger>(
         steps,
     );
     passed(key)
-}
-
-/// The value that a key is. A tuple is a new node, and takes its length in steps.
-pub fn value_of_key<L: Ledger>(
-    machine: &mut Machine,
-    key: &Key,
-    steps: &mut Steps<L>,
-) -> Result<Value, Fault>
-    requires room { HasRoomBy 1 machine.old }
-    ensures gives { Gives value_of result (moment_of machine.new) (value_of_key (key_of key.now) (moment_of machine.old)) }
-    ensures sound { SoundValue machine.new.heap result }
-    ensures costs { Costs 1 0 machine.old steps.old machine.new steps.new }
-{
-    let value = kishu_items::value_of_key(
-        machine.alloc,
-        key,
-        &mut machine.heap,
-        &mut machine.budget,
-        steps,
-    );
-    passed(value)
 }
 
 /// The items of a sequence.

@@ -2,11 +2,11 @@
 //!
 //! `Machine` has the heap, the names, the local names of the function in progress, the handled
 //! exception, the budget and what was printed. Each call over it changes it exactly as
-//! `kishu_model`'s definition changes a moment, and gives or raises what that gives or raises: steps
-//! (`stepping`), exceptions with their texts (`raising`), nodes, names, keys and items, numbers and
-//! operators, comparisons, and the texts of values. Of what a call that answers with `NoMemory` left
-//! nothing is said but that its values lead to nodes that are there, that the heap didn't shrink, and
-//! that no step was given back. Each step of the budget is one of the counter.
+//! `kishu_meaning`'s definition changes a moment, and gives or raises what that gives or raises:
+//! steps (`stepping`), exceptions with their texts (`raising`), nodes, names, keys and items, numbers
+//! and operators, comparisons, and the texts of values. Of what a call that answers with `NoMemory`
+//! left nothing is said but that its values lead to nodes that are there, that the heap didn't
+//! shrink, and that no step was given back. Each step of the budget is one of the counter.
 #![tactic(auto)]
 
 mod comparing;
@@ -29,7 +29,7 @@ mod texts;
 pub use comparing::compare;
 pub use fault::{Fault, Thrown, passed};
 pub use frame::Frame;
-pub use keys::{items_of, key_of, value_of_key, walked};
+pub use keys::{items_of, key_of, walked};
 pub use machine::{MOST_DEPTH, MOST_STEPS, Machine};
 pub use names::{assign, delete, forget, is_among, read};
 pub use nodes::{list_at, make, new_list, new_tuple, node_at, truth, tuple_at};

@@ -76,16 +76,16 @@ pub fn show<L: Ledger>(
 // The text of what an exception shows, which lies inside it. A KeyError's argument is shown as a key.
 fn inner_text<L: Ledger>(
     alloc: Global,
-    class: u8,
+    class: ClassId,
     argument: &Value,
     heap: &Heap,
     budget: &mut Budget,
     steps: &mut Steps<L>,
 ) -> Result<String, ShowFault>
-    ensures gives { shown.Gives (λ t. chars (string_bytes t)) result budget.new.left (argument_text (repr_nodes heap.now (room_at budget.old.depth) []) (show_nodes heap.now (room_at budget.old.depth)) class (value_of argument.now) budget.old.left) }
+    ensures gives { shown.Gives (λ t. chars (string_bytes t)) result budget.new.left (argument_text (repr_nodes heap.now (room_at budget.old.depth) []) (show_nodes heap.now (room_at budget.old.depth)) class.0 (value_of argument.now) budget.old.left) }
     ensures spends { Spends 2 budget.old steps.old budget.new steps.new }
 {
-    if class == ClassId::KEY_ERROR.0 {
+    if class == ClassId::KEY_ERROR {
         kishu_show::repr_of(alloc, argument, heap, budget, steps)
     } else {
         kishu_show::show(alloc, argument, heap, budget, steps)
@@ -110,14 +110,14 @@ fn is_node(value: &Value) -> bool
 // The same one level deeper.
 fn text_below<L: Ledger>(
     alloc: Global,
-    class: u8,
+    class: ClassId,
     argument: &Value,
     heap: &Heap,
     budget: &mut Budget,
     steps: &mut Steps<L>,
 ) -> Result<String, ShowFault>
     requires { budget.old.depth < most_depth }
-    ensures gives { shown.Gives (λ t. chars (string_bytes t)) result budget.new.left (argument_text (repr_nodes heap.now (most_depth - budget.old.depth) []) (show_nodes heap.now (most_depth - budget.old.depth)) class (value_of argument.now) budget.old.left) }
+    ensures gives { shown.Gives (λ t. chars (string_bytes t)) result budget.new.left (argument_text (repr_nodes heap.now (most_depth - budget.old.depth) []) (show_nodes heap.now (most_depth - budget.old.depth)) class.0 (value_of argument.now) budget.old.left) }
     ensures spends { Spends 2 budget.old steps.old budget.new steps.new }
 {
     let mut inner = Budget {
@@ -132,13 +132,13 @@ fn text_below<L: Ledger>(
 // The same where the greatest depth may be reached: there no node may lie inside another.
 fn deeper_text<L: Ledger>(
     alloc: Global,
-    class: u8,
+    class: ClassId,
     argument: &Value,
     heap: &Heap,
     budget: &mut Budget,
     steps: &mut Steps<L>,
 ) -> Result<String, ShowFault>
-    ensures gives { shown.Gives (λ t. chars (string_bytes t)) result budget.new.left (argument_text (repr_nodes heap.now (most_depth - budget.old.depth) []) (show_nodes heap.now (most_depth - budget.old.depth)) class (value_of argument.now) budget.old.left) }
+    ensures gives { shown.Gives (λ t. chars (string_bytes t)) result budget.new.left (argument_text (repr_nodes heap.now (most_depth - budget.old.depth) []) (show_nodes heap.now (most_depth - budget.old.depth)) class.0 (value_of argument.now) budget.old.left) }
     ensures spends { Spends 2 budget.old steps.old budget.new steps.new }
 {
     if budget.depth < MOST_DEPTH {
@@ -153,11 +153,11 @@ fn deeper_text<L: Ledger>(
 // The text of an exception that has one argument.
 fn argument_text<L: Ledger>(
     machine: &mut Machine,
-    class: u8,
+    class: ClassId,
     argument: &Value,
     steps: &mut Steps<L>,
 ) -> Result<String, Fault>
-    ensures gives { Gives (λ t. chars (string_bytes t)) result (moment_of machine.new) (show_thrown (fresh class (value_of argument.now ∷ [])) (moment_of machine.old)) }
+    ensures gives { Gives (λ t. chars (string_bytes t)) result (moment_of machine.new) (show_thrown (fresh class.0 (value_of argument.now ∷ [])) (moment_of machine.old)) }
     ensures sound { SoundEnd machine.new.heap result }
     ensures costs { Costs 0 0 machine.old steps.old machine.new steps.new }
     ensures heap { machine.new.heap ≡ machine.old.heap }
@@ -187,7 +187,7 @@ pub fn show_thrown<L: Ledger>(
     ensures heap { machine.new.heap ≡ machine.old.heap }
 {
     match thrown {
-        Thrown::With(class, argument) => argument_text(machine, class.0, argument, steps),
+        Thrown::With(class, argument) => argument_text(machine, *class, argument, steps),
         Thrown::Plain(_) => Ok(String::new(machine.alloc)),
         Thrown::Object(id) => show(machine, &Value::Node(*id), steps),
     }

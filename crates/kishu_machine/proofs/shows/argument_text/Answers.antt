@@ -13,7 +13,7 @@ use Rattle.kishu_machine.proofs.shows.argument_text.Goals as goal
 pub returns-clause-gives : goal.returns-clause-gives
 returns-clause-gives g c =
     let v = value_of c.args.argument.now in
-    let m = λ (ns : List Node) (d : ℕ). argument_text (repr_nodes ns (most_depth - d) []) (show_nodes ns (most_depth - d)) c.args.class v in
+    let m = λ (ns : List Node) (d : ℕ). argument_text (repr_nodes ns (most_depth - d) []) (show_nodes ns (most_depth - d)) c.args.class.0 v in
     let s = moment_of c.args.machine.now in
     let t = moment_of c.tick.new.machine in
     rw c.deeper_text-text.ensures.spends.0 (
