@@ -6,11 +6,10 @@ use Rattle.std.specs.declared.rc.RcStr.{RcStr}
 use Rattle.kishu_meaning.specs.declared.value.NodeId.{NodeId}
 use Rattle.kishu_meaning.specs.declared.value.Value as rust
 use Rattle.kishu_meaning.specs.declared.value.Value.TheVariants as values
-use Rattle.kishu_meaning.specs.values.Kinds.{not_iterable, no_attribute}
+use Rattle.kishu_meaning.specs.values.Kinds.{no_attribute}
 use Rattle.kishu_meaning.specs.moments.Moment.{Moment}
 use Rattle.kishu_meaning.specs.items.Subscripts.{item, slice, store_item, delete_item, store_attribute, delete_attribute, not_subscriptable}
 use Rattle.kishu_meaning.specs.values.Values.{Value, value_of}
-use Rattle.kishu_meaning.specs.items.Walks.{walk_of}
 
 pub no_item : (v : rust.Value) (i : Value) (s : Moment) → ((t : RcStr Global) → v ≡ values.Text t → ⊥) → ((a b c : ℤ) → v ≡ values.Range a b c → ⊥) → ((k : NodeId) → v ≡ values.Node k → ⊥) → item (value_of v) i s ≡ not_subscriptable (value_of v) s
 no_item values.None i s h1 h2 h3 = refl
@@ -31,16 +30,6 @@ no_slice (values.Range a b c) x y z s h1 h3 = refl
 no_slice (values.Builtin k) x y z s h1 h3 = refl
 no_slice (values.Class k) x y z s h1 h3 = refl
 no_slice (values.Node k) x y z s h1 h3 = absurd (h3 k refl)
-
-pub no_walk : (v : rust.Value) (s : Moment) → ((t : RcStr Global) → v ≡ values.Text t → ⊥) → ((a b c : ℤ) → v ≡ values.Range a b c → ⊥) → ((k : NodeId) → v ≡ values.Node k → ⊥) → walk_of (value_of v) s ≡ not_iterable (value_of v) s
-no_walk values.None s h1 h2 h3 = refl
-no_walk (values.Bool b) s h1 h2 h3 = refl
-no_walk (values.Int z) s h1 h2 h3 = refl
-no_walk (values.Text t) s h1 h2 h3 = absurd (h1 t refl)
-no_walk (values.Range a b c) s h1 h2 h3 = absurd (h2 a b c refl)
-no_walk (values.Builtin k) s h1 h2 h3 = refl
-no_walk (values.Class k) s h1 h2 h3 = refl
-no_walk (values.Node k) s h1 h2 h3 = absurd (h3 k refl)
 
 pub no_store : (v : rust.Value) (i w : Value) (s : Moment) → ((k : NodeId) → v ≡ values.Node k → ⊥) → store_item (value_of v) i w s ≡ not_subscriptable (value_of v) s
 no_store values.None i w s h3 = refl

@@ -1,4 +1,4 @@
--- What the code's views, walks, places and containers stand for, and when they are sound.
+-- What the code's places and containers stand for, and when they and walks are sound.
 use Rattle.std.specs.Prelude.{ℕ, ℤ, Bool, true, ◌&&◌, List, map, length, Option, Some, None, Result}
 use Rattle.std.specs.Borrow.{Bor}
 use Rattle.std.specs.Rc.{rc_str_bytes}
@@ -7,10 +7,11 @@ use Rattle.std.specs.declared.vec.Vec.{Vec}
 use Rattle.kishu_meaning.specs.declared.value.Value as rust
 use Rattle.kishu_meaning.specs.values.Texts.{places, LieWithin}
 use Rattle.kishu_language.specs.tokens.Names.{is_name}
-use Rattle.kishu_meaning.specs.values.Values.{node, Node, list, dict, value_of}
+use Rattle.kishu_meaning.specs.values.Values.{Node, list, dict, value_of}
 use Rattle.kishu_meaning.specs.values.Sound.{is_sound, are_sound}
-use Rattle.kishu_meaning.specs.items.Walks.{View, keys, values, items, Walk, along_list, along_dict, along_tuple, along_text, along_range}
 use Rattle.kishu_meaning.specs.cells.Meaning.{Place, named, attribute_of, item_of}
+use Rattle.kishu_items.specs.declared.walks.Walk as rust_walk
+use Rattle.kishu_items.specs.Walks.{walk_of, is_sound_walk}
 use Rattle.kishu_access.specs.declared.places.Place as rust_place
 use Rattle.kishu_access.specs.declared.places.Place.TheVariants as rust_places
 use Rattle.kishu_access.specs.declared.slices.Places.{Places}
@@ -19,22 +20,6 @@ use Rattle.kishu_access.specs.declared.stores.Container.TheVariants as container
 use Rattle.kishu_machine.specs.declared.fault.Fault.{Fault}
 use Rattle.kishu_machine.specs.Clauses.{IsSoundIn}
 use Rattle.kishu_machine.specs.Machine.{IsSound}
-use Rattle.kishu_access.specs.declared.walks.View as rust_view
-use Rattle.kishu_access.specs.declared.walks.View.TheVariants as views
-use Rattle.kishu_access.specs.declared.walks.Walk as rust_walk
-use Rattle.kishu_access.specs.declared.walks.Walk.TheVariants as walks
-
-abbrev pub view_of : rust_view.View → View
-view_of views.Keys = keys
-view_of views.Values = values
-view_of views.Items = items
-
-abbrev pub walk_of : rust_walk.Walk → Walk
-walk_of (walks.List id) = along_list id.0
-walk_of (walks.Dict id size view) = along_dict id.0 size (view_of view)
-walk_of (walks.Tuple vs) = along_tuple (map value_of vs.items)
-walk_of (walks.Text cs) = along_text cs.items
-walk_of (walks.Range start stop step) = along_range start stop step
 
 abbrev pub place_of : rust_place.Place → Place
 place_of (rust_places.Named x) = named (rc_str_bytes x)
@@ -50,13 +35,6 @@ abbrev pub container_of : Option Node → Container
 container_of (Some (list vs)) = containers.List (length vs)
 container_of (Some (dict es)) = containers.Dict
 container_of _ = containers.Other
-
-abbrev pub is_sound_walk : ℕ → Walk → Bool
-is_sound_walk n (along_list i) = is_sound n (node i)
-is_sound_walk n (along_dict i size found) = is_sound n (node i)
-is_sound_walk n (along_tuple vs) = are_sound n vs
-is_sound_walk n (along_text cs) = true
-is_sound_walk n (along_range start stop step) = true
 
 abbrev pub is_sound_place : ℕ → Place → Bool
 is_sound_place n (named x) = is_name x

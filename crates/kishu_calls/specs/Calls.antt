@@ -34,7 +34,7 @@ use Rattle.kishu_calls.specs.declared.ways.Flow.TheVariants as flows
 use Rattle.kishu_machine.specs.Frames.{texts_of}
 use Rattle.kishu_machine.specs.Machine.{thrown_of, is_sound_thrown, IsSound}
 use Rattle.kishu_items.specs.Messages.{is_plain}
-use Rattle.kishu_access.specs.Access.{view_of}
+use Rattle.kishu_items.specs.Walks.{view_of}
 
 abbrev pub part_of : rust_part.Part → Part
 part_of (parts.Whole v) = whole (value_of v)

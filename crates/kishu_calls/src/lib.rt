@@ -2,9 +2,9 @@
 //! builtin functions, classes and methods, the names and arguments of functions, exceptions that are
 //! raised and caught, and what a cell gives whose run ended.
 //!
-//! A call changes the run exactly as `kishu_model`'s definition changes a moment, and gives or raises
-//! what that gives or raises, unless memory runs out. No call here runs a statement: that is
-//! `kishu_interp`.
+//! A call changes the run exactly as `kishu_meaning`'s definition changes a moment, and gives or
+//! raises what that gives or raises, unless memory runs out. No call here runs a statement: that is
+//! `kishu_statements`.
 #![tactic(auto)]
 
 mod callees;

@@ -5,13 +5,15 @@ ghost use Rattle.kishu_meaning.specs.calls.Callees.{settled};
 ghost use Rattle.kishu_meaning.specs.cells.Meaning.{Calls, walked_by};
 ghost use Rattle.kishu_meaning.specs.moments.Moment.{give, ◌>>=◌ as ◌⊳◌, ◌>>◌};
 ghost use Rattle.kishu_meaning.specs.values.Values.{value_of};
-ghost use Rattle.kishu_access.specs.Access.{walk_of, SoundWalk};
+ghost use Rattle.kishu_access.specs.Access.{SoundWalk};
+ghost use Rattle.kishu_items.specs.Walks.{walk_of};
 ghost use Rattle.kishu_calls.specs.Calls.{OwesReads, Owing, owed, part_of, SoundPart, IsSoundPart};
 ghost use Rattle.kishu_machine.specs.Machine.{Gives, GrownBy, HasRoomBy, moment_of, Costs};
 ghost use Rattle.kishu_machine.specs.Clauses.{SoundValue};
 ghost use Rattle.kishu_meaning.specs.calls.Callees as c;
 
-use kishu_access::{View, Walk, attribute, walk_of, walk_view};
+use kishu_access::{attribute, walk_of, walk_view};
+use kishu_items::{View, Walk};
 use kishu_machine::{Fault, Machine, no_attribute};
 use kishu_meaning::{NodeId, Steps, Value};
 use std::rc::RcStr;

@@ -1,23 +1,14 @@
 -- Turns of loops, one after the other.
-use Rattle.std.proofs.Common.{◌≡◌, ◌∙◌, refl, ap, sym, subst, arith, ℕ, zero, suc, ◌<◌, ◌≤◌, Bool, true, false, IsTrue, Option, Some, None}
+use Rattle.std.proofs.Common.{◌≡◌, ◌∙◌, refl, ap, sym, subst, arith, ℕ, zero, suc, ◌<◌, Bool, true, false, Option, Some, None}
 use Rattle.std.specs.Prelude.{if◌then◌else◌}
-use Rattle.kishu_meaning.specs.values.Values.{Value, node}
+use Rattle.kishu_meaning.specs.values.Values.{Value}
 use Rattle.kishu_meaning.specs.moments.Moment.{Moment, Ends, fine, M, and_then, give, tick, ◌>>=◌, ◌>>◌}
 use Rattle.kishu_meaning.specs.calls.Operators.{truth}
-use Rattle.kishu_meaning.specs.items.Walks.{Walk, along_list, along_dict, along_tuple, along_text, along_range, item_for}
+use Rattle.kishu_meaning.specs.items.Walks.{Walk, item_for}
 use Rattle.kishu_meaning.specs.cells.Ways.{Flow, onward, turns, turn_on, walk_on, with_item}
-use Rattle.kishu_access.specs.Access.{is_sound_walk}
 use Rattle.kishu_machine.specs.declared.fault.Fault.{Fault}
 use Rattle.kishu_machine.specs.Machine.{Fails}
 use Rattle.kishu_machine.specs.Composing.{fails_on}
-use Rattle.kishu_machine.specs.SoundMore.{sound_more, sound_more_all}
-
-pub walk_more : (n m : ℕ) → n ≤ m → (walk : Walk) → IsTrue (is_sound_walk n walk) → IsTrue (is_sound_walk m walk)
-walk_more n m p (along_list i) h = sound_more n m p (node i) h
-walk_more n m p (along_dict i size found) h = sound_more n m p (node i) h
-walk_more n m p (along_tuple vs) h = sound_more_all n m p vs h
-walk_more n m p (along_text cs) h = refl
-walk_more n m p (along_range start stop step) h = refl
 
 -- ---- `while`
 

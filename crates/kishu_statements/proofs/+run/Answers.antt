@@ -25,7 +25,8 @@ use Rattle.kishu_meaning.specs.cells.Ways.{Flow, broke, continued, onward, retur
 use Rattle.kishu_language.specs.declared.tree.Def.{Def}
 use Rattle.kishu_language.specs.declared.tree.Expr.{Expr}
 use Rattle.kishu_language.specs.declared.tree.Pair.{Pair}
-use Rattle.kishu_access.specs.Access.{place_of, walk_of, is_sound_maybe}
+use Rattle.kishu_access.specs.Access.{place_of, is_sound_maybe}
+use Rattle.kishu_items.specs.Walks.{walk_of, walk_more}
 use Rattle.kishu_calls.specs.Calls.{given_of, named_of, is_sound_given, IsFunction, owed, part_of, flow_of}
 use Rattle.kishu_calls.specs.Forms.{is_function}
 use Rattle.kishu_language.specs.trees.Rows.{primary_is, attribute_is, call_is, index_is, slice_is}
@@ -48,7 +49,7 @@ use Rattle.kishu_statements.proofs.Places.{before_fits, before_low, last_fits, l
 use Rattle.kishu_statements.proofs.Trailing.{owes_reads_on, Found, found_ends, found_fails, found_on, leaves_more, moved, owing_more, room_found, sound_found, trailer_fits, trailer_here, trailer_low, primary_fails, primary_gives}
 use Rattle.kishu_statements.proofs.Remaining.{expressions_fit, expressions_low, rest_fits, rest_low, store_ends, store_fails, stored, targets_end, targets_here, targets_rest, pattern_fails, pattern_gives, targets_are, parameters_fit, parameters_low, with_count, with_value, without_count, without_default}
 use Rattle.kishu_statements.proofs.Rests.{operands_here, links_here, expressions_here, pairs_here}
-use Rattle.kishu_statements.proofs.Turns.{for_told, item_fails, put_fails, step_fails, walk_ends, walk_fails, walk_more, walked, body_fails, no_turn, test_fails, tick_fails, turned, while_told}
+use Rattle.kishu_statements.proofs.Turns.{for_told, item_fails, put_fails, step_fails, walk_ends, walk_fails, walked, body_fails, no_turn, test_fails, tick_fails, turned, while_told}
 use Rattle.kishu_statements.proofs.Walked.{def_defaults_fail, def_ends, for_gives, for_part_fails, for_walk_fails}
 use Rattle.kishu_statements.specs.Forms.{linked}
 use Rattle.kishu_items.specs.Gathering.{sound_at}

@@ -7,7 +7,7 @@ use Rattle.kishu_meaning.specs.values.Sound.{is_sound, are_sound, with_default}
 use Rattle.kishu_language.specs.trees.Tree.{expression_of, statement_of, definition_of, parameter_of, bound_of, value_of as tree_value}
 use Rattle.kishu_meaning.specs.values.Values.{value_of}
 use Rattle.kishu_meaning.specs.cells.Ways.{turns, walk_on, walk_along}
-use Rattle.kishu_access.specs.Access.{walk_of}
+use Rattle.kishu_items.specs.Walks.{walk_of}
 use Rattle.kishu_calls.specs.Calls.{part_of, given_of, is_sound_part, is_sound_given, owed, Owing}
 use Rattle.kishu_language.specs.trees.Parts.{expressions_of, operands_of, links_of, pairs_of, trailers_of, trailer_of, arguments_of, statements_of, arms_of, handlers_of}
 use Rattle.kishu_machine.specs.Lists.{are_sound_pairs, value_pairs}

@@ -1,20 +1,25 @@
-use Rattle.std.proofs.Common.{length}
-use Rattle.kishu_meaning.specs.values.Values.{value_of}
-use Rattle.kishu_machine.specs.Machine.{moment_of}
+use Rattle.std.specs.Prelude.{length}
 use Rattle.kishu_meaning.specs.items.Walks as walks
-use Rattle.kishu_access.specs.Access.{walk_of, is_sound_walk}
-use Rattle.kishu_access.proofs.Others.{no_walk}
-use Rattle.kishu_access.proofs.Ends.{by_end, unwalked, unwalked_sound}
+use Rattle.kishu_meaning.specs.values.Values.{value_of}
+use Rattle.kishu_items.specs.Called as called
+use Rattle.kishu_items.specs.Walks.{is_sound_walk, walk_of}
+use Rattle.kishu_machine.specs.Lifted.{lifted}
+use Rattle.kishu_machine.specs.Machine.{moment_of}
+use Rattle.kishu_machine.specs.Raising.{passed_sound}
+use Rattle.kishu_access.proofs.Walking.{walk_bare, walk_raises}
 use Rattle.kishu_access.proofs.walks.walk_of.Goals as goal
 
-pub returns-in_default-clause-gives : goal.returns-in_default-clause-gives
-returns-in_default-clause-gives g c =
-    let v = c.args.value.now in
-    let s = moment_of c.args.machine.now in
-    by_end walk_of c.not_iterable.result s (walks.walk_of (value_of v) s) _ (no_walk v s c.in_default.not-Text c.in_default.not-Range c.in_default.not-Node) (unwalked s c.not_iterable.result (value_of v) walk_of c.not_iterable.ensures.gives)
+pub returns-clause-gives : goal.returns-clause-gives
+returns-clause-gives g c =
+    let v = value_of c.args.value.now in
+    let m = c.args.machine.now in
+    let t = called.moment_of m.heap m.budget in
+    rw c.passed.ensures (lifted walk_of (walks.walk_of v) (walk_bare v) (moment_of m) t c.walk_of-walk.result (c.walk_of-walk.ensures.gives m.budget))
 
-pub returns-in_default-clause-sound : goal.returns-in_default-clause-sound
-returns-in_default-clause-sound g c =
-    let n = length c.args.machine.now.heap in
-    let s = moment_of c.args.machine.now in
-    unwalked_sound s c.not_iterable.result (value_of c.args.value.now) (λ w. is_sound_walk n (walk_of w)) n c.not_iterable.ensures.gives
+pub returns-clause-sound : goal.returns-clause-sound
+returns-clause-sound g c =
+    let v = value_of c.args.value.now in
+    let m = c.args.machine.now in
+    let n = length m.heap in
+    let s = called.moment_of m.heap m.budget in
+    rw c.passed.ensures (passed_sound n walk_of (λ w. is_sound_walk n (walk_of w)) (walks.walk_of v) s s c.walk_of-walk.result (walk_raises n v) c.walk_of-walk.ensures.sound (c.walk_of-walk.ensures.gives m.budget))
