@@ -330,12 +330,7 @@ fn acknowledged(answers: usize) -> usize {
 
 /// The session with its n-th host call failing, or stopped there: each store that may be left opens, with all that was
 /// acknowledged and at most one record more. Whether it came to its end.
-fn holds(
-    rt: &impl Abort,
-    alloc: Global,
-    fail: Vec<u64>,
-    stop: Option<u64>,
-) -> Result<bool, Fail> {
+fn holds(rt: &impl Abort, alloc: Global, fail: Vec<u64>, stop: Option<u64>) -> Result<bool, Fail> {
     let mut host = host_over(alloc, &[], fail, stop)?.ok_or("room")?;
     let status = run_words(alloc, &mut host, &["S", "session"], FOUR.as_bytes())?;
     let answers = answered(host.out()).ok_or("no prefix of the answers")?;
