@@ -2,6 +2,7 @@
 import ast
 import builtins
 import contextlib
+import dis
 import io
 import re
 import signal
@@ -69,6 +70,14 @@ def plain(text):
     return re.sub(r" at 0x[0-9a-f]+>", ">", text).replace("types.SimpleNamespace", "SimpleNamespace")
 
 
+def in_a_call(error):
+    """Whether a builtin function or a method raised the exception, as `sum` where it adds and `update` where it walks."""
+    trace = error.__traceback__
+    while trace.tb_next:
+        trace = trace.tb_next
+    return "CALL" in dis.opname[trace.tb_frame.f_code.co_code[trace.tb_lasti]]
+
+
 def text_of(error):
     """The text that Kishu gives an exception."""
     name, text = type(error).__name__, plain(str(error))
@@ -76,6 +85,8 @@ def text_of(error):
         return text
     for of, pattern, ours in TEXTS:
         found = re.fullmatch(pattern, text, re.DOTALL) if of == name else None
+        if found and re.match(r"unsupported operand|.* is not iterable", text) and in_a_call(error):
+            raise Unlike(f"{name} of a call: {text}")
         if found:
             return found.expand(ours)
     raise Unlike(f"{name}: {text}")
