@@ -1,4 +1,5 @@
 pub mod Kept
 pub mod Refusals
+pub mod Facts
 pub mod Laws
 pub mod PathLaws

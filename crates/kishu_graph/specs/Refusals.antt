@@ -1,6 +1,6 @@
 -- Why a graph isn't changed, in the order in which the causes are tried, and what a change leaves.
 use Rattle.std.specs.Prelude.{◌≡◌, ℕ, not, nat_le, if◌then◌else◌, List, Option, Some, None, is_some, option_map}
-use Rattle.kishu_store.specs.Branches.{commit_of, is_branch_name}
+use Rattle.kishu_store.specs.Branches.{Branches, commit_of, is_branch_name}
 use Rattle.kishu_store.specs.Graph.{Graph, Target, newest, with_head, with_branch}
 use Rattle.kishu_store.specs.Limits.{most_records}
 use Rattle.kishu_store.specs.References.{resolve}
@@ -30,9 +30,17 @@ unless_named name start g =
 abbrev pub at_commit : ℕ → Graph → Option Target
 at_commit c g = if nat_le c (newest g) then Some (record { commit = c; branch = None }) else None
 
+-- the number of that commit
+abbrev pub start_at : ℕ → Graph → Option ℕ
+start_at c g = option_map (λ target. target.commit) (at_commit c g)
+
+-- a branch among these
+abbrev pub on_branch : List ℕ → Branches → Option Target
+on_branch name branches = option_map (λ c. record { commit = c; branch = Some name }) (commit_of name branches)
+
 -- a branch
 abbrev pub at_branch : List ℕ → Graph → Option Target
-at_branch name g = option_map (λ c. record { commit = c; branch = Some name }) (commit_of name g.branches)
+at_branch name g = on_branch name g.branches
 
 -- what a reference names, and where there is none the head's commit
 abbrev pub start_of : Option (List ℕ) → Graph → Option ℕ

@@ -1,9 +1,8 @@
 // Branches by their names, in byte order.
-ghost use Rattle.std.specs.Prelude.{◌≡◌, IfOk, OnOk, OnErr, None, Some, map, option_map};
-ghost use Rattle.std.specs.Rc.{rc_str_bytes};
-ghost use Rattle.kishu_store.specs.Branches.{commit_of, with_branch_at};
-ghost use Rattle.kishu_store.specs.Graph.{moved_with};
+ghost use Rattle.std.specs.Prelude.{◌≡◌, IfOk, OnOk, OnErr, map, option_map};
+ghost use Rattle.kishu_store.specs.Branches.{commit_of};
 ghost use Rattle.kishu_store.specs.Targets.{target_of};
+ghost use Rattle.kishu_graph.specs.Facts.{head_on, HasPut, HasMovedAlong};
 ghost use Rattle.kishu_graph.specs.Kept.{branches_of, Rises};
 
 use kishu_store::Target;
@@ -23,7 +22,7 @@ pub(crate) fn target_of(
     branches: &BTreeMap<RcStr, u32>,
     name: &str,
 ) -> Result<Option<Target>, AllocError>
-    ensures { IfOk result (λ o. option_map target_of o ≡ option_map (λ c. record { commit = c; branch = Some name.now }) (commit_of name.now (branches_of branches.now.entries))) }
+    ensures { IfOk result (λ o. option_map target_of o ≡ head_on name.now branches.now.entries) }
 {
     match branches.get_key_value(name) {
         Some((text, commit)) => Ok(Some(Target {
@@ -40,7 +39,7 @@ pub(crate) fn put(
     name: RcStr,
     commit: u32,
 ) -> Result<(), AllocError>
-    ensures ok { OnOk result (branches_of branches.new.entries ≡ with_branch_at (rc_str_bytes name) commit (branches_of branches.old.entries)) }
+    ensures ok { OnOk result (HasPut name commit branches.old.entries branches.new.entries) }
     ensures err { OnErr result (branches.new.entries ≡ branches.old.entries) }
 {
     branches.insert(name, commit)?;
@@ -53,7 +52,7 @@ pub(crate) fn move_along(
     branch: &Option<RcStr>,
     commit: u32,
 ) -> Result<(), AllocError>
-    ensures ok { OnOk result (branches_of branches.new.entries ≡ moved_with (option_map rc_str_bytes branch.now) commit (branches_of branches.old.entries)) }
+    ensures ok { OnOk result (HasMovedAlong branch.now commit branches.old.entries branches.new.entries) }
     ensures err { OnErr result (branches.new.entries ≡ branches.old.entries) }
 {
     match branch {

@@ -1,14 +1,11 @@
 // What a record changes in a graph.
-ghost use Rattle.std.specs.Prelude.{◌≡◌, ◌<◌, ◌⊎◌, ◌↔◌, ℕ, ◌++◌, ◌∷◌, [], List, suc, IfOk, IfErr, IfSome, OnOk, OnErr, IsErrOf, length, option_map};
-ghost use Rattle.std.specs.Rc.{rc_str_bytes};
-ghost use Rattle.kishu_store.specs.Graph as model;
-ghost use Rattle.kishu_store.specs.Graph.{newest, with_commit};
-ghost use Rattle.kishu_store.specs.CommitLines.{line_in};
+ghost use Rattle.std.specs.Prelude.{◌≡◌, ◌<◌, ◌⊎◌, ◌↔◌, suc, IfOk, IfErr, IfSome, OnOk, OnErr, IsErrOf, length, option_map};
+ghost use Rattle.kishu_store.specs.Graph.{newest};
 ghost use Rattle.kishu_store.specs.Limits.{most_records};
 ghost use Rattle.kishu_store.specs.References.{resolve};
 ghost use Rattle.kishu_store.specs.Targets.{target_of};
-ghost use Rattle.kishu_graph.specs.Kept.{HasShapeOf, StandsFor};
-ghost use Rattle.kishu_graph.specs.Refusals.{unless_there, unless_named, at_commit, at_branch, start_of, HasMoved, HasBranched};
+ghost use Rattle.kishu_graph.specs.Facts.{Answers, start_from, with_newest, ShapesCommit, StandsForCommit, MovesTo, BeginsAt, RefusesMove, RefusesBranch, OrNoMemory};
+ghost use Rattle.kishu_graph.specs.Refusals.{at_commit, at_branch, start_at};
 ghost use Rattle.kishu_graph.specs.declared.fault.GraphFault.TheVariants.{StoreFull, NoMemory};
 
 use crate::commits::{Commit, push_in_room};
@@ -33,11 +30,10 @@ impl Graph {
         cells: u32,
         line: RcStr,
     ) -> Result<u32, GraphFault>
-        ensures number { IfOk result (λ c. (g : model.Graph) → HasShapeOf self.old g → c ≡ suc (newest g)) }
-        ensures added { OnOk result (self.new.commits ≡ self.old.commits ++ (record { parent = self.old.head.commit; profile = profile; cells = cells; line = rc_str_bytes line } ∷ [])) }
-        ensures shape { OnOk result ((g : model.Graph) (texts : List (List ℕ)) → HasShapeOf self.old g → HasShapeOf self.new (with_commit profile texts g)) }
-        ensures stands { IfOk result (λ c. (g : model.Graph) (texts : List (List ℕ)) → StandsFor self.old g → length texts ≡ cells → line_in texts ≡ rc_str_bytes line
-            → StandsFor self.new (with_commit profile texts g)) }
+        ensures number { IfOk result (λ c. Answers self.old (λ g. suc (newest g)) c) }
+        ensures added { OnOk result (self.new.commits ≡ with_newest profile cells line self.old) }
+        ensures shape { OnOk result (ShapesCommit profile self.old self.new) }
+        ensures stands { IfOk result (λ c. StandsForCommit profile cells line self.old self.new) }
         ensures room { OnOk result (self.old.records < most_records) }
         ensures full { IsErrOf result StoreFull ↔ (self.old.records ≡ most_records) }
         ensures only_these { IfErr result (λ e. (e ≡ StoreFull) ⊎ (e ≡ NoMemory)) }
@@ -76,9 +72,8 @@ impl Graph {
     /// - `StoreFull`: there are 1,000,000 records.
     /// - `NoMemory`: there was no memory.
     pub fn add_branch(&mut self, name: &str, at: Option<&str>) -> Result<u32, GraphFault>
-        ensures branched { IfOk result (λ c. (g : model.Graph) → HasShapeOf self.old g → HasBranched name.now (start_of (option_map (λ to. to.now) at.entry) g) g c self.old self.new) }
-        ensures refused { IfErr result (λ e. (e ≡ NoMemory) ⊎ ((g : model.Graph) → HasShapeOf self.old g
-            → unless_named name.now (start_of (option_map (λ to. to.now) at.entry) g) g ≡ Some e)) }
+        ensures branched { IfOk result (λ c. BeginsAt name.now (start_from at.entry) c self.old self.new) }
+        ensures refused { IfErr result (OrNoMemory (RefusesBranch name.now (start_from at.entry) self.old)) }
         ensures err { OnErr result (self.new ≡ self.old) }
     {
         let start = self.start(at);
@@ -87,9 +82,8 @@ impl Graph {
 
     /// Adds a branch at the commit of a number, as `add_branch` does.
     pub fn add_branch_at(&mut self, name: &str, commit: u32) -> Result<u32, GraphFault>
-        ensures branched { IfOk result (λ c. (g : model.Graph) → HasShapeOf self.old g → HasBranched name.now (option_map (λ t. t.commit) (at_commit commit g)) g c self.old self.new) }
-        ensures refused { IfErr result (λ e. (e ≡ NoMemory) ⊎ ((g : model.Graph) → HasShapeOf self.old g
-            → unless_named name.now (option_map (λ t. t.commit) (at_commit commit g)) g ≡ Some e)) }
+        ensures branched { IfOk result (λ c. BeginsAt name.now (start_at commit) c self.old self.new) }
+        ensures refused { IfErr result (OrNoMemory (RefusesBranch name.now (start_at commit) self.old)) }
         ensures err { OnErr result (self.new ≡ self.old) }
     {
         let start = self.there(commit);
@@ -99,8 +93,8 @@ impl Graph {
     /// Adds a branch at a commit that is there, if it is.
     fn branch_from(&mut self, name: &str, start: Option<u32>) -> Result<u32, GraphFault>
         requires there { IfSome start (λ c. c < length self.old.commits) }
-        ensures branched { IfOk result (λ c. (g : model.Graph) → HasShapeOf self.old g → HasBranched name.now start g c self.old self.new) }
-        ensures refused { IfErr result (λ e. (e ≡ NoMemory) ⊎ ((g : model.Graph) → HasShapeOf self.old g → unless_named name.now start g ≡ Some e)) }
+        ensures branched { IfOk result (λ c. BeginsAt name.now (λ g. start) c self.old self.new) }
+        ensures refused { IfErr result (OrNoMemory (RefusesBranch name.now (λ g. start) self.old)) }
         ensures err { OnErr result (self.new ≡ self.old) }
     {
         if !is_branch_name(name) {
@@ -134,8 +128,8 @@ impl Graph {
     /// - `StoreFull`: there are 1,000,000 records.
     /// - `NoMemory`: there was no memory.
     pub fn move_head(&mut self, to: &str) -> Result<u32, GraphFault>
-        ensures moved { IfOk result (λ c. (g : model.Graph) → HasShapeOf self.old g → HasMoved (resolve g to.now) g c self.old self.new) }
-        ensures refused { IfErr result (λ e. (e ≡ NoMemory) ⊎ ((g : model.Graph) → HasShapeOf self.old g → unless_there (resolve g to.now) g ≡ Some e)) }
+        ensures moved { IfOk result (λ c. MovesTo (λ g. resolve g to.now) c self.old self.new) }
+        ensures refused { IfErr result (OrNoMemory (RefusesMove (λ g. resolve g to.now) self.old)) }
         ensures err { OnErr result (self.new ≡ self.old) }
     {
         let Ok(target) = self.resolve(to) else {
@@ -146,8 +140,8 @@ impl Graph {
 
     /// Moves the head to the commit of a number, as `move_head` does. It takes no memory.
     pub fn move_to_commit(&mut self, commit: u32) -> Result<u32, GraphFault>
-        ensures moved { IfOk result (λ c. (g : model.Graph) → HasShapeOf self.old g → HasMoved (at_commit commit g) g c self.old self.new) }
-        ensures refused { IfErr result (λ e. (g : model.Graph) → HasShapeOf self.old g → unless_there (at_commit commit g) g ≡ Some e) }
+        ensures moved { IfOk result (λ c. MovesTo (at_commit commit) c self.old self.new) }
+        ensures refused { IfErr result (λ e. RefusesMove (at_commit commit) self.old e) }
         ensures err { OnErr result (self.new ≡ self.old) }
     {
         let target = at_number(self.there(commit));
@@ -156,8 +150,8 @@ impl Graph {
 
     /// Moves the head to a branch, whatever its name looks like, as `move_head` does.
     pub fn move_to_branch(&mut self, name: &str) -> Result<u32, GraphFault>
-        ensures moved { IfOk result (λ c. (g : model.Graph) → HasShapeOf self.old g → HasMoved (at_branch name.now g) g c self.old self.new) }
-        ensures refused { IfErr result (λ e. (e ≡ NoMemory) ⊎ ((g : model.Graph) → HasShapeOf self.old g → unless_there (at_branch name.now g) g ≡ Some e)) }
+        ensures moved { IfOk result (λ c. MovesTo (at_branch name.now) c self.old self.new) }
+        ensures refused { IfErr result (OrNoMemory (RefusesMove (at_branch name.now) self.old)) }
         ensures err { OnErr result (self.new ≡ self.old) }
     {
         let Ok(target) = branches::target_of(&self.branches, name) else {
@@ -169,8 +163,8 @@ impl Graph {
     /// Moves the head to a target, if there is one.
     fn stand_at(&mut self, target: Option<Target>) -> Result<u32, GraphFault>
         requires there { IfSome target (λ t. t.commit < length self.old.commits) }
-        ensures moved { IfOk result (λ c. (g : model.Graph) → HasShapeOf self.old g → HasMoved (option_map target_of target) g c self.old self.new) }
-        ensures refused { IfErr result (λ e. (g : model.Graph) → HasShapeOf self.old g → unless_there (option_map target_of target) g ≡ Some e) }
+        ensures moved { IfOk result (λ c. MovesTo (λ g. option_map target_of target) c self.old self.new) }
+        ensures refused { IfErr result (λ e. RefusesMove (λ g. option_map target_of target) self.old e) }
         ensures err { OnErr result (self.new ≡ self.old) }
     {
         let Some(target) = target else {

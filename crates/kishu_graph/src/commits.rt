@@ -1,9 +1,8 @@
 // What is kept of commits, in the order of their numbers, and the way back by their parents.
-ghost use Rattle.std.specs.Prelude.{◌≡◌, ◌<◌, ◌++◌, ◌∷◌, [], List, length, map, IfOk};
+ghost use Rattle.std.specs.Prelude.{◌≡◌, ◌<◌, ◌++◌, ◌∷◌, [], length, map, IfOk};
 ghost use Rattle.std.specs.Vec.{vec_len, vec_capacity};
-ghost use Rattle.kishu_store.specs.Graph as model;
-ghost use Rattle.kishu_store.specs.Graph.{back_in};
-ghost use Rattle.kishu_graph.specs.Kept.{outline, outlines, HaveParents, parents_of, path_numbers};
+ghost use Rattle.kishu_graph.specs.Facts.{AreBack, ArePath};
+ghost use Rattle.kishu_graph.specs.Kept.{outline, HaveParents};
 
 use kishu_language::Profile;
 use std::alloc::{AllocError, Global};
@@ -30,7 +29,7 @@ pub(crate) fn push_in_room(commits: &mut Vec<Commit>, commit: Commit)
 fn numbers_back(alloc: Global, commits: &[Commit], commit: u32) -> Result<Vec<u32>, AllocError>
     requires there { commit < length commits.now }
     requires parents { HaveParents (map outline commits.now) }
-    ensures { IfOk result (λ v. (ks : List model.Commit) → parents_of (map outline commits.now) ≡ parents_of (outlines ks) → v.items ≡ map (λ k. k.number) (back_in ks commit)) }
+    ensures { IfOk result (λ v. AreBack commits.now commit v.items) }
 {
     let mut numbers = Vec::new(alloc);
     let mut at = commit;
@@ -49,7 +48,7 @@ pub(crate) fn path_to(
 ) -> Result<Vec<u32>, AllocError>
     requires there { commit < length commits.now }
     requires parents { HaveParents (map outline commits.now) }
-    ensures { IfOk result (λ v. (ks : List model.Commit) → parents_of (map outline commits.now) ≡ parents_of (outlines ks) → v.items ≡ path_numbers ks commit) }
+    ensures { IfOk result (λ v. ArePath commits.now commit v.items) }
 {
     let mut numbers = numbers_back(alloc, commits, commit)?;
     numbers.push(0)?;

@@ -1,14 +1,14 @@
 // A graph, and what is read of it.
-ghost use Rattle.std.specs.Prelude.{◌≡◌, ◌<◌, ◌≤◌, suc, nat_lt, if◌then◌else◌, IsTrue, IfOk, IfSome, MatchOption, Some, None, length, get_or, map, option_map};
+ghost use Rattle.std.specs.Prelude.{◌≡◌, ◌<◌, ◌≤◌, suc, IsTrue, IfOk, IfSome, MatchOption, Some, None, length, get_or, map, option_map};
 ghost use Rattle.std.specs.List.{list_all};
 ghost use Rattle.std.specs.Rc.{rc_str_bytes};
-ghost use Rattle.kishu_store.specs.Graph as model;
 ghost use Rattle.kishu_store.specs.Graph.{new_graph, newest};
 ghost use Rattle.kishu_store.specs.Limits.{most_records};
 ghost use Rattle.kishu_language.specs.tokens.Names.{is_digit};
 ghost use Rattle.kishu_store.specs.References.{resolve, number_from};
 ghost use Rattle.kishu_store.specs.Targets.{target_of};
-ghost use Rattle.kishu_graph.specs.Kept.{HasShapeOf, TellsCellsOf, StandsFor, IsSound, root, bare_graph, outline_in, path_numbers, branches_of, Rises};
+ghost use Rattle.kishu_graph.specs.Facts.{Answers, Tells, below, start_from};
+ghost use Rattle.kishu_graph.specs.Kept.{HasShapeOf, StandsFor, IsSound, root, bare_graph, outline_in, path_numbers, branches_of, Rises};
 ghost use Rattle.kishu_graph.specs.Refusals.{start_of};
 
 use crate::branches;
@@ -74,7 +74,7 @@ impl Graph {
     /// How many commits there are, the root counted.
     pub fn commits(&self) -> u32
         ensures value { result ≡ length self.now.commits }
-        ensures newest { (g : model.Graph) → HasShapeOf self.now g → result ≡ suc (newest g) }
+        ensures newest { Answers self.now (λ g. suc (newest g)) result }
         ensures sound { IsSound self.now }
         ensures shape { HasShapeOf self.now (bare_graph self.now) }
     {
@@ -93,7 +93,7 @@ impl Graph {
     pub fn parent(&self, commit: u32) -> u32
         requires there { commit < length self.now.commits }
         requires not_root { 0 < commit }
-        ensures value { (g : model.Graph) → HasShapeOf self.now g → result ≡ (outline_in g.commits commit).parent }
+        ensures value { Answers self.now (λ g. (outline_in g.commits commit).parent) result }
         ensures older { result < commit }
     {
         self.commits[commit as usize].parent
@@ -102,7 +102,7 @@ impl Graph {
     /// The profile under which a commit's cells run. The commit is there.
     pub fn profile(&self, commit: u32) -> Profile
         requires { commit < length self.now.commits }
-        ensures { (g : model.Graph) → HasShapeOf self.now g → result ≡ (outline_in g.commits commit).profile }
+        ensures { Answers self.now (λ g. (outline_in g.commits commit).profile) result }
     {
         self.commits[commit as usize].profile
     }
@@ -111,7 +111,7 @@ impl Graph {
     pub fn cells(&self, commit: u32) -> u32
         requires { commit < length self.now.commits }
         ensures kept { result ≡ (get_or self.now.commits commit root).cells }
-        ensures told { (g : model.Graph) → TellsCellsOf self.now g → result ≡ (outline_in g.commits commit).cells }
+        ensures told { Tells self.now (λ o. o.cells) commit result }
     {
         self.commits[commit as usize].cells
     }
@@ -120,7 +120,7 @@ impl Graph {
     pub fn line(&self, commit: u32) -> &RcStr
         requires { commit < length self.now.commits }
         ensures kept { rc_str_bytes result.now ≡ (get_or self.now.commits commit root).line }
-        ensures told { (g : model.Graph) → TellsCellsOf self.now g → rc_str_bytes result.now ≡ (outline_in g.commits commit).line }
+        ensures told { Tells self.now (λ o. o.line) commit (rc_str_bytes result.now) }
     {
         &self.commits[commit as usize].line
     }
@@ -145,7 +145,7 @@ impl Graph {
     /// What a text names: decimal digits without leading zeros the commit of that number, any other
     /// text the branch of that name; or none. An error says that no memory is left.
     pub fn resolve(&self, to: &str) -> Result<Option<Target>, AllocError>
-        ensures value { IfOk result (λ o. (g : model.Graph) → HasShapeOf self.now g → option_map target_of o ≡ resolve g to.now) }
+        ensures value { IfOk result (λ o. Answers self.now (λ g. resolve g to.now) (option_map target_of o)) }
         ensures there { IfOk result (λ o. IfSome o (λ t. t.commit < length self.now.commits)) }
     {
         let digits = to.as_bytes();
@@ -159,14 +159,14 @@ impl Graph {
     /// An error says that no memory is left.
     pub fn path(&self, commit: u32) -> Result<Vec<u32>, AllocError>
         requires { commit < length self.now.commits }
-        ensures { IfOk result (λ v. (g : model.Graph) → HasShapeOf self.now g → v.items ≡ path_numbers g.commits commit) }
+        ensures { IfOk result (λ v. Answers self.now (λ g. path_numbers g.commits commit) v.items) }
     {
         path_to(self.alloc, &self.commits, commit)
     }
 
     /// The commit of a number, where the graph has one.
     pub(crate) fn there(&self, commit: u32) -> Option<u32>
-        ensures { result ≡ (if nat_lt commit (length self.now.commits) then Some commit else None) }
+        ensures { result ≡ below commit (length self.now.commits) }
     {
         below(commit, self.commits())
     }
@@ -174,7 +174,7 @@ impl Graph {
     /// The commit of the number that these digits spell.
     fn numbered(&self, digits: &[u8]) -> Option<u32>
         requires { IsTrue (list_all is_digit digits.now) }
-        ensures { result ≡ (if nat_lt (number_from 0 digits.now) (length self.now.commits) then Some (number_from 0 digits.now) else None) }
+        ensures { result ≡ below (number_from 0 digits.now) (length self.now.commits) }
     {
         let commits = self.commits();
         counted(number_of(digits), commits)
@@ -182,7 +182,7 @@ impl Graph {
 
     /// The commit of what a text names.
     pub(crate) fn find(&self, to: &str) -> Option<u32>
-        ensures value { (g : model.Graph) → HasShapeOf self.now g → result ≡ option_map (λ t. t.commit) (resolve g to.now) }
+        ensures value { Answers self.now (start_of (Some to.now)) result }
         ensures there { IfSome result (λ c. c < length self.now.commits) }
     {
         let digits = to.as_bytes();
@@ -195,7 +195,7 @@ impl Graph {
 
     /// Where a branch begins: at the commit of what a text names, or else at the head's.
     pub(crate) fn start(&self, at: Option<&str>) -> Option<u32>
-        ensures value { (g : model.Graph) → HasShapeOf self.now g → result ≡ start_of (option_map (λ to. to.now) at.entry) g }
+        ensures value { Answers self.now (start_from at.entry) result }
         ensures there { IfSome result (λ c. c < length self.now.commits) }
     {
         match at {
@@ -220,14 +220,14 @@ pub(crate) fn at_number(commit: Option<u32>) -> Option<Target>
 
 /// A number of a commit, where there are so many commits.
 fn below(number: u32, commits: u32) -> Option<u32>
-    ensures { result ≡ (if nat_lt number commits then Some number else None) }
+    ensures { result ≡ below number commits }
 {
     if number < commits { Some(number) } else { None }
 }
 
 /// The same of a number that may be missing.
 fn counted(number: Option<u32>, commits: u32) -> Option<u32>
-    ensures { MatchOption number (result ≡ None) (λ n. result ≡ (if nat_lt n commits then Some n else None)) }
+    ensures { MatchOption number (result ≡ None) (λ n. result ≡ below n commits) }
 {
     match number {
         Some(number) => below(number, commits),
