@@ -4,3 +4,4 @@ pub mod Bytes
 pub mod Found
 pub mod Going
 pub mod Opened
+pub mod Facts

@@ -1,12 +1,9 @@
-ghost use Rattle.std.specs.Prelude.{◌≡◌, ◌≤◌, ◌<◌, ◌⊎◌, ◌+◌, ◌^◌, ◌++◌, ◌∷◌, [], ℕ, List, length, true, false, IfOk, OnOk, IfErr, IsErrOf, IsTrue, ◌↔◌};
-ghost use Rattle.kishu_host.specs.Host.{Told, Only, Elapses, ReadsMore, Rises, HasCause, overwrite};
-ghost use Rattle.kishu_store.specs.Entries.{Entry as Said, Record, entries_in};
+ghost use Rattle.std.specs.Prelude.{◌≡◌, ◌≤◌, ◌<◌, ◌⊎◌, ◌+◌, ◌^◌, ◌++◌, ◌∷◌, [], length, false, IfOk, OnOk, IfErr, IsErrOf, IsTrue, ◌↔◌};
+ghost use Rattle.kishu_host.specs.Host.{Told, HasCause};
 ghost use Rattle.kishu_store.specs.Limits.{longest_body};
-ghost use Rattle.kishu_store.specs.Holds.{Ends, framed, end_of, open_gate};
-ghost use Rattle.kishu_journal.specs.Going.{WithOrWithout};
-ghost use Rattle.kishu_journal.specs.Stands.{Stands, IsNext, IsWhole, with_entry, with_record};
+ghost use Rattle.kishu_store.specs.Holds.{framed};
+ghost use Rattle.kishu_journal.specs.Facts.{DiskRises, IsDurable, HasWritten, GainsRecord, StopsAtRecord, MayAppend, HasAppended, Adds, StopsAtEntry, ReadsNone};
 ghost use Rattle.kishu_journal.specs.Found.{before_body};
-ghost use Rattle.kishu_journal.specs.Bytes.{appended};
 ghost use Rattle.kishu_journal.specs.declared.journal.JournalFault.TheVariants.{DiskFault, NoMemory};
 
 use crate::{Journal, JournalFault};
@@ -37,15 +34,13 @@ fn write_record<H: Host>(host: &mut H, place: u64, bytes: &[u8]) -> Result<(), F
     requires room { place + 1 < 2 ^ 64 }
     requires inside { Told (H.state host.old) (place + 1 ≤ length (H.state host.old).file) }
 
-    ensures written { OnOk result (Told (H.state host.old) ((rs : List Record) (r : Record) → IsWhole (H.state host.old).file place bytes.now rs r
-        → Ends (H.state host.new).file (with_record rs r))) }
-    ensures bytes { OnOk result (Told (H.state host.old) ((H.state host.new).file ≡ overwrite place (open_gate ∷ bytes.now) (H.state host.old).file)) }
-    ensures durable { OnOk result (Told (H.state host.old) (Only (H.state host.new).file (H.state host.new).may_leave)) }
+    ensures written { OnOk result (GainsRecord (H.state host.old) (H.state host.new) place bytes.now) }
+    ensures bytes { OnOk result (HasWritten (H.state host.old) (H.state host.new) place bytes.now) }
+    ensures durable { OnOk result (IsDurable (H.state host.old) (H.state host.new)) }
     ensures kept { (H.state host.new).out ≡ (H.state host.old).out }
-    ensures stop { Told (H.state host.old) (Only (H.state host.old).file (H.state host.old).may_leave → (rs : List Record) (r : Record) → IsWhole (H.state host.old).file place bytes.now rs r
-        → Elapses (H.state host.old) (H.state host.new) (WithOrWithout (H.state host.old) (entries_in rs) r.entry)) }
+    ensures stop { StopsAtRecord (H.state host.old) (H.state host.new) place bytes.now }
     ensures tells { (H.state host.new).tells ≡ (H.state host.old).tells }
-    ensures reads { ReadsMore (H.state host.old).reads (H.state host.new).reads 0 }
+    ensures reads { ReadsNone (H.state host.old) (H.state host.new) }
     ensures disk { HasCause (H.state host.old).disk_faults (H.state host.new).disk_faults result }
     ensures outs { (H.state host.old).out_faults ≤ (H.state host.new).out_faults }
 {
@@ -75,29 +70,27 @@ impl Journal {
     ) -> Result<u64, JournalFault>
         requires open { self.old.closed ≡ false }
         requires short { length body.now ≤ longest_body }
-        requires next { Told (H.state host.old) ((entries : List Said) × (e : Said) × IsNext self.old (H.state host.old).file body.now entries e) }
+        requires next { MayAppend self.old (H.state host.old) body.now }
 
-        ensures stands { OnOk result (Told (H.state host.old) ((entries : List Said) (e : Said) → IsNext self.old (H.state host.old).file body.now entries e
-            → Stands self.new (H.state host.new).file (with_entry entries e))) }
+        ensures stands { OnOk result (Adds self.old self.new (H.state host.old) (H.state host.new) body.now) }
 
         // The record's bytes stand from the gate on, and the gate behind it is 0. What stood further behind stays.
-        ensures bytes { OnOk result (Told (H.state host.old) ((H.state host.new).file ≡ appended self.old.place body.now (H.state host.old).file)) }
-        ensures durable { OnOk result (Told (H.state host.old) (Only (H.state host.new).file (H.state host.new).may_leave)) }
+        ensures bytes { OnOk result (HasAppended self.old (H.state host.old) (H.state host.new) body.now) }
+        ensures durable { OnOk result (IsDurable (H.state host.old) (H.state host.new)) }
         ensures out { (H.state host.new).out ≡ (H.state host.old).out }
 
         // A stop at any moment leaves the records before, with or without the new one.
-        ensures stop { Told (H.state host.old) (Only (H.state host.old).file (H.state host.old).may_leave → (entries : List Said) (e : Said) → IsNext self.old (H.state host.old).file body.now entries e
-            → Elapses (H.state host.old) (H.state host.new) (WithOrWithout (H.state host.old) entries e)) }
+        ensures stop { StopsAtEntry self.old (H.state host.old) (H.state host.new) body.now }
         ensures tells { (H.state host.new).tells ≡ (H.state host.old).tells }
 
         ensures answer { IfOk result (λ at. at ≡ self.old.place + before_body) }
         ensures closed { IsTrue self.new.closed ↔ IsErrOf result DiskFault }
         ensures only_these { IfErr result (λ e. (e ≡ DiskFault) ⊎ (e ≡ NoMemory)) }
-        ensures disk_fault { IsErrOf result DiskFault → Rises (H.state host.old).disk_faults (H.state host.new).disk_faults }
+        ensures disk_fault { IsErrOf result DiskFault → DiskRises (H.state host.old) (H.state host.new) }
         ensures no_memory { IsErrOf result NoMemory → (host.new ≡ host.old) × (self.new ≡ self.old) }
         ensures disk { (H.state host.old).disk_faults ≤ (H.state host.new).disk_faults }
         ensures outs { (H.state host.old).out_faults ≤ (H.state host.new).out_faults }
-        ensures reads { IsErrOf result NoMemory ⊎ ReadsMore (H.state host.old).reads (H.state host.new).reads 0 }
+        ensures reads { IsErrOf result NoMemory ⊎ ReadsNone (H.state host.old) (H.state host.new) }
     {
         let place = self.place();
         if place >= FAR {

@@ -1,16 +1,11 @@
 // Which entries go on from a graph, and what they change.
 ghost use Rattle.std.specs.Prelude.{◌≡◌, ◌≢◌, ◌<◌, ◌^◌, [], length, map, true, false, Ok, IfErr, IsOk};
 ghost use Rattle.std.specs.Rc.{rc_str_bytes};
-ghost use Rattle.kishu_graph.specs.Kept.{StandsFor};
 ghost use Rattle.kishu_graph.specs.declared.fault.GraphFault.TheVariants.{NoMemory};
-ghost use Rattle.kishu_store.specs.Graph as model;
-ghost use Rattle.kishu_store.specs.Graph.{with_commit};
 ghost use Rattle.kishu_store.specs.Entries.{lengths_in};
-ghost use Rattle.kishu_store.specs.Fitting.{Fits};
-ghost use Rattle.kishu_store.specs.Limits.{most_records};
 ghost use Rattle.kishu_store.specs.Rules.{IsEntry};
 ghost use Rattle.kishu_record.specs.Entries.{entry_of};
-ghost use Rattle.kishu_journal.specs.Following.{GoesOn};
+ghost use Rattle.kishu_journal.specs.Following.{GoOn, GainsCommit, IsFull, FitsNot};
 
 use crate::Entry;
 use kishu_graph::{Graph, GraphFault, line_of};
@@ -40,9 +35,8 @@ fn add_commit(
 ) -> Result<bool, AllocError>
     requires some { 0 < length cells.now }
     requires few { length cells.now < 2 ^ 32 }
-    ensures made { result ≡ Ok true → (g : model.Graph) → StandsFor graph.old g
-        → (g.records < most_records) × StandsFor graph.new (with_commit profile (map rc_str_bytes cells.now) g) }
-    ensures refused { result ≡ Ok false → (g : model.Graph) → StandsFor graph.old g → g.records < most_records → ⊥ }
+    ensures made { result ≡ Ok true → GainsCommit graph.old profile (map rc_str_bytes cells.now) graph.new }
+    ensures refused { result ≡ Ok false → IsFull graph.old }
     ensures stays { result ≡ Ok false → graph.new ≡ graph.old }
 {
     let line = line_of(alloc, cells[0].as_str())?;
@@ -52,9 +46,9 @@ fn add_commit(
 /// Changes a graph by an entry that fits it. One that doesn't fit leaves it as it is.
 pub(crate) fn follow(alloc: Global, graph: &mut Graph, entry: &Entry) -> Result<bool, AllocError>
     requires { IsEntry (entry_of entry.now) }
-    ensures made { result ≡ Ok true → (g : model.Graph) → StandsFor graph.old g → GoesOn g (entry_of entry.now) graph.new }
+    ensures made { result ≡ Ok true → GoOn graph.old entry.now graph.new }
     ensures plain { result ≡ Ok true → lengths_in (entry_of entry.now) ≡ [] }
-    ensures refused { result ≡ Ok false → (g : model.Graph) → StandsFor graph.old g → Fits g (entry_of entry.now) → ⊥ }
+    ensures refused { result ≡ Ok false → FitsNot graph.old entry.now }
     ensures stays { result ≡ Ok false → graph.new ≡ graph.old }
 {
     match entry {

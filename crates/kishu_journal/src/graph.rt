@@ -1,10 +1,9 @@
 // The graph of the records of a store.
 ghost use Rattle.std.specs.Prelude.{◌≡◌, ◌^◌, Ok, None, IfOk, IfSome};
 ghost use Rattle.std.specs.List.{AllByRecursion};
-ghost use Rattle.kishu_graph.specs.Kept.{StandsFor};
 ghost use Rattle.kishu_store.specs.Graph.{new_graph};
-ghost use Rattle.kishu_store.specs.Holds.{graph_of};
 ghost use Rattle.kishu_store.specs.Rules.{IsEntry};
+ghost use Rattle.kishu_journal.specs.Facts.{IsGraphOf};
 ghost use Rattle.kishu_journal.specs.Found.{entries_of, AllFit, AreBelow};
 
 use crate::Entry;
@@ -20,7 +19,7 @@ use std::alloc::{AllocError, Global};
 pub fn graph_of(alloc: Global, entries: &[(u64, Entry)]) -> Result<Option<Graph>, AllocError>
     requires rules { AllByRecursion IsEntry (entries_of entries.now) }
     requires places { AreBelow (2 ^ 63) entries.now }
-    ensures stands { IfOk result (λ o. IfSome o (λ graph. StandsFor graph (graph_of (entries_of entries.now)))) }
+    ensures stands { IfOk result (λ o. IfSome o (λ graph. IsGraphOf entries.now graph)) }
     ensures fit { IfOk result (λ o. IfSome o (λ graph. AllFit new_graph (entries_of entries.now))) }
     ensures none { result ≡ Ok None → AllFit new_graph (entries_of entries.now) → ⊥ }
 {

@@ -1,10 +1,11 @@
 // The heads of a store's records. What stands behind a head isn't read.
-ghost use Rattle.std.specs.Prelude.{◌≡◌, ◌≤◌, ◌<◌, ◌+◌, ◌-◌, ℕ, List, length, drop, IfOk, IfSome, IsErrOf, None, Ok};
+ghost use Rattle.std.specs.Prelude.{◌≡◌, ◌≤◌, ◌<◌, ◌+◌, ◌-◌, ℕ, length, IfOk, IfSome, IsErrOf, None, Ok};
 ghost use Rattle.kishu_bytes.specs.Numbers.{four};
-ghost use Rattle.kishu_host.specs.Host.{Told, Rises};
+ghost use Rattle.kishu_host.specs.Host.{Told};
 ghost use Rattle.kishu_store.specs.Limits.{longest_body};
 ghost use Rattle.kishu_journal.specs.Going.{IsQuiet, ReadsAtMost};
-ghost use Rattle.kishu_journal.specs.Found.{BeginsHead, before_body, before_head, IsShut, HasNoBody};
+ghost use Rattle.kishu_journal.specs.Facts.{DiskRises, HeadAt, end_at, LacksBody, ReadsHead};
+ghost use Rattle.kishu_journal.specs.Found.{IsShut};
 ghost use Rattle.kishu_journal.specs.declared.journal.JournalFault.TheVariants.{DiskFault, NotAJournal, Damaged};
 
 use crate::JournalFault;
@@ -40,15 +41,15 @@ pub(crate) fn read_head<H: Host>(
     requires len { Told (H.state host.old) (len ≡ length (H.state host.old).file) }
     requires inside { at < len }
     ensures quiet { IsQuiet (H.state host.old) (H.state host.new) }
-    ensures head { IfOk result (λ o. IfSome o (λ h. Told (H.state host.old) (BeginsHead (drop at (H.state host.old).file) h.bytes.items h.pictures))) }
-    ensures within { IfOk result (λ o. IfSome o (λ h. at + before_head + length h.bytes.items + h.pictures < len)) }
+    ensures head { IfOk result (λ o. IfSome o (λ h. HeadAt (H.state host.old) at h)) }
+    ensures within { IfOk result (λ o. IfSome o (λ h. end_at at h < len)) }
     ensures small { IfOk result (λ o. IfSome o (λ h. 4 + length h.bytes.items + h.pictures ≤ longest_body)) }
     ensures closed { result ≡ Ok None → Told (H.state host.old) (IsShut (H.state host.old).file at) }
-    ensures damaged { (place : ℕ) → IsErrOf result (Damaged place) → Told (H.state host.old) ((place ≡ at) × HasNoBody (H.state host.old).file at) }
-    ensures disk_fault { IsErrOf result DiskFault → Rises (H.state host.old).disk_faults (H.state host.new).disk_faults }
+    ensures damaged { (place : ℕ) → IsErrOf result (Damaged place) → LacksBody (H.state host.old) at place }
+    ensures disk_fault { IsErrOf result DiskFault → DiskRises (H.state host.old) (H.state host.new) }
     ensures not_foreign { IsErrOf result NotAJournal → ⊥ }
     ensures reads { ReadsAtMost (H.state host.old).reads (H.state host.new).reads (len - at) }
-    ensures reads_head { IfOk result (λ o. IfSome o (λ h. ReadsAtMost (H.state host.old).reads (H.state host.new).reads (before_head + length h.bytes.items))) }
+    ensures reads_head { IfOk result (λ o. ReadsHead (H.state host.old) (H.state host.new) o) }
 {
     let Some(size) = read_size(host, at, len)? else {
         return Ok(None);

@@ -1,22 +1,21 @@
-ghost use Rattle.std.specs.Prelude.{◌≡◌, ◌≢◌, ◌≤◌, ◌<◌, ◌⊎◌, ◌+◌, ◌-◌, ◌^◌, ◌++◌, ◌∷◌, [], ℕ, List, length, take, drop, true, false, IfOk, IfSome, OnOk, IfErr, IsErr, IsErrOf, None, Ok};
-ghost use Rattle.kishu_host.specs.Host.{Told, Now, Only, Keeps, Elapses, Rises, HasCause};
-ghost use Rattle.kishu_store.specs.Graph as model;
+ghost use Rattle.std.specs.Prelude.{◌≡◌, ◌≤◌, ◌<◌, ◌⊎◌, ◌+◌, ◌-◌, ◌^◌, ℕ, length, take, true, false, IfOk, IfSome, OnOk, IsErrOf, None, Ok};
+ghost use Rattle.kishu_host.specs.Host.{Told, HasCause};
 ghost use Rattle.kishu_store.specs.Graph.{new_graph};
 ghost use Rattle.std.specs.List.{AllByRecursion};
-ghost use Rattle.kishu_graph.specs.Kept.{StandsFor};
-ghost use Rattle.kishu_store.specs.Entries.{Record, plain};
+ghost use Rattle.kishu_store.specs.Entries.{plain};
 ghost use Rattle.kishu_store.specs.EntryBytes.{body_of};
-ghost use Rattle.kishu_store.specs.Limits.{most_records, longest_body};
+ghost use Rattle.kishu_store.specs.Limits.{most_records};
 ghost use Rattle.kishu_store.specs.Rules.{IsEntry, IsRecord};
-ghost use Rattle.kishu_store.specs.Holds.{header, fresh_length, open_gate, Holds, IsGood, graph_of, BeginsRecord, IsBroken, IsForeign};
+ghost use Rattle.kishu_store.specs.Holds.{header, fresh_length};
 ghost use Rattle.kishu_record.specs.Entries.{entry_of};
-ghost use Rattle.kishu_journal.specs.Following.{GoesOn};
-ghost use Rattle.kishu_journal.specs.Going.{IsQuiet, LeavesShort, ReadsAtMost};
-ghost use Rattle.kishu_journal.specs.Found.{BeginsBody, before_body, IsShut, HasNoRecord, entries_of, AllFit, AreBelow};
+ghost use Rattle.kishu_journal.specs.Facts.{DiskRises, FailsBy, FailsOutside, RecordAt, TellsDamage, WasForeign, WasBroken, WhereForeign, WhereBroken, WhereGood};
+ghost use Rattle.kishu_journal.specs.Facts.{HoldsFound, StandsFound, IsDurable, Settled, KeepsLong, StaysShort, BeginsShort, LeavesOnlyShort, StopsShort, Settles, StopsAtOpening, ReadsRecord, ReadsFile};
+ghost use Rattle.kishu_journal.specs.Following.{GoOn};
+ghost use Rattle.kishu_journal.specs.Going.{IsQuiet, ReadsAtMost};
+ghost use Rattle.kishu_journal.specs.Found.{before_body, IsShut, entries_of, AllFit, AreBelow};
 ghost use Rattle.kishu_journal.specs.Opened.{IsFound, IsOpened};
-ghost use Rattle.kishu_journal.specs.Stands.{Stands};
 ghost use Rattle.kishu_journal.specs.Bytes.{fresh};
-ghost use Rattle.kishu_journal.specs.declared.journal.JournalFault.TheVariants.{DiskFault, NoMemory, NotAJournal, Damaged};
+ghost use Rattle.kishu_journal.specs.declared.journal.JournalFault.TheVariants.{DiskFault, NotAJournal, Damaged};
 
 use crate::head::read_head;
 use crate::read::{read_exact, settle};
@@ -35,11 +34,11 @@ const FRESH: [u8; 17] = *b"KISHU-JOURNAL-1\n\0";
 fn begin<H: Host>(host: &mut H) -> Result<(), Failed>
     requires { Told (H.state host.old) (length (H.state host.old).file ≤ fresh_length) }
     ensures fresh { OnOk result (Told (H.state host.old) ((H.state host.new).file ≡ fresh)) }
-    ensures durable { OnOk result (Told (H.state host.old) (Only (H.state host.new).file (H.state host.new).may_leave)) }
+    ensures durable { OnOk result (IsDurable (H.state host.old) (H.state host.new)) }
     ensures out { (H.state host.new).out ≡ (H.state host.old).out }
-    ensures stop { Told (H.state host.old) (Only (H.state host.old).file (H.state host.old).may_leave → Elapses (H.state host.old) (H.state host.new) (LeavesShort (H.state host.old))) }
-    ensures short { Told (H.state host.old) (Only (H.state host.old).file (H.state host.old).may_leave → length (H.state host.new).file ≤ fresh_length) }
-    ensures leaves { Told (H.state host.old) (Only (H.state host.old).file (H.state host.old).may_leave → (c : List ℕ) → (H.state host.new).may_leave c → length c ≤ fresh_length) }
+    ensures stop { StopsShort (H.state host.old) (H.state host.new) }
+    ensures short { Settled (H.state host.old) (length (H.state host.new).file ≤ fresh_length) }
+    ensures leaves { Settled (H.state host.old) (LeavesOnlyShort (H.state host.new)) }
     ensures tells { (H.state host.new).tells ≡ (H.state host.old).tells }
     ensures disk { HasCause (H.state host.old).disk_faults (H.state host.new).disk_faults result }
     ensures outs { (H.state host.old).out_faults ≤ (H.state host.new).out_faults }
@@ -61,17 +60,17 @@ fn next_record<H: Host>(
     requires len { Told (H.state host.old) (len ≡ length (H.state host.old).file) }
     requires inside { at < len }
     ensures quiet { IsQuiet (H.state host.old) (H.state host.new) }
-    ensures record { IfOk result (λ o. IfSome o (λ r. Told (H.state host.old) (BeginsBody (drop at (H.state host.old).file) (body_of (plain (entry_of r.0)))))) }
+    ensures record { IfOk result (λ o. IfSome o (λ r. RecordAt (H.state host.old) at r.0)) }
     ensures rules { IfOk result (λ o. IfSome o (λ r. IsRecord (plain (entry_of r.0)))) }
-    ensures made { IfOk result (λ o. IfSome o (λ r. (g : model.Graph) → StandsFor graph.old g → GoesOn g (entry_of r.0) graph.new)) }
+    ensures made { IfOk result (λ o. IfSome o (λ r. GoOn graph.old r.0 graph.new)) }
     ensures size { IfOk result (λ o. IfSome o (λ r. r.1 ≡ length (body_of (plain (entry_of r.0))))) }
     ensures within { IfOk result (λ o. IfSome o (λ r. at + before_body + r.1 < len)) }
     ensures closed { result ≡ Ok None → Told (H.state host.old) (IsShut (H.state host.old).file at) }
-    ensures damaged { (g : model.Graph) → StandsFor graph.old g → (place : ℕ) → IsErrOf result (Damaged place) → Told (H.state host.old) ((place ≡ at) × HasNoRecord (H.state host.old).file at g) }
-    ensures disk_fault { IsErrOf result DiskFault → Rises (H.state host.old).disk_faults (H.state host.new).disk_faults }
+    ensures damaged { TellsDamage graph.old (H.state host.old) at result }
+    ensures disk_fault { IsErrOf result DiskFault → DiskRises (H.state host.old) (H.state host.new) }
     ensures not_foreign { IsErrOf result NotAJournal → ⊥ }
     ensures reads { ReadsAtMost (H.state host.old).reads (H.state host.new).reads (len - at) }
-    ensures reads_record { IfOk result (λ o. IfSome o (λ r. ReadsAtMost (H.state host.old).reads (H.state host.new).reads (before_body + r.1))) }
+    ensures reads_record { IfOk result (λ o. ReadsRecord (H.state host.old) (H.state host.new) o) }
 {
     let Some(head) = read_head(alloc, host, at, len)? else {
         return Ok(None);
@@ -94,8 +93,8 @@ fn read_records<H: Host>(
     requires head { Told (H.state host.old) (take 16 (H.state host.old).file ≡ header) }
     ensures quiet { IsQuiet (H.state host.old) (H.state host.new) }
     ensures found { IfOk result (λ r. IsOpened (H.state host.old) r.1 r.0.items) }
-    ensures damaged { (at : ℕ) → IsErrOf result (Damaged at) → Told (H.state host.old) (IsBroken (H.state host.old).file at) }
-    ensures disk_fault { IsErrOf result DiskFault → Rises (H.state host.old).disk_faults (H.state host.new).disk_faults }
+    ensures damaged { (at : ℕ) → IsErrOf result (Damaged at) → WasBroken (H.state host.old) at }
+    ensures disk_fault { IsErrOf result DiskFault → DiskRises (H.state host.old) (H.state host.new) }
     ensures not_foreign { IsErrOf result NotAJournal → ⊥ }
     ensures reads { ReadsAtMost (H.state host.old).reads (H.state host.new).reads (len - 16) }
 {
@@ -133,9 +132,9 @@ fn read_store<H: Host>(
     requires long { fresh_length < len }
     ensures quiet { IsQuiet (H.state host.old) (H.state host.new) }
     ensures found { IfOk result (λ r. IsOpened (H.state host.old) r.1 r.0.items) }
-    ensures foreign { IsErrOf result NotAJournal → Told (H.state host.old) (IsForeign (H.state host.old).file) }
-    ensures damaged { (at : ℕ) → IsErrOf result (Damaged at) → Told (H.state host.old) (IsBroken (H.state host.old).file at) }
-    ensures disk_fault { IsErrOf result DiskFault → Rises (H.state host.old).disk_faults (H.state host.new).disk_faults }
+    ensures foreign { IsErrOf result NotAJournal → WasForeign (H.state host.old) }
+    ensures damaged { (at : ℕ) → IsErrOf result (Damaged at) → WasBroken (H.state host.old) at }
+    ensures disk_fault { IsErrOf result DiskFault → DiskRises (H.state host.old) (H.state host.new) }
     ensures reads { ReadsAtMost (H.state host.old).reads (H.state host.new).reads len }
 {
     let mut head = [0; 16];
@@ -166,8 +165,8 @@ impl Journal {
         host: &mut H,
     ) -> Result<(Journal, Vec<(u64, Entry)>), JournalFault>
         // It opens only a file that holds a graph, and finds its records.
-        ensures good { IfOk result (λ r. Told (H.state host.old) (Holds (H.state host.old).file (graph_of (entries_of r.1.items)))) }
-        ensures stands { IfOk result (λ r. Told (H.state host.old) (Stands r.0 (H.state host.new).file (entries_of r.1.items))) }
+        ensures good { IfOk result (λ r. HoldsFound (H.state host.old) r.1.items) }
+        ensures stands { IfOk result (λ r. StandsFound (H.state host.old) (H.state host.new) r.0 r.1.items) }
         ensures found { IfOk result (λ r. IsFound (H.state host.new) r.0 r.1.items) }
 
         // They keep the rules and fit, whatever the host tells.
@@ -176,36 +175,33 @@ impl Journal {
         ensures most { IfOk result (λ r. length r.1.items ≤ most_records) }
         ensures near { IfOk result (λ r. AreBelow (2 ^ 63) r.1.items) }
         ensures opened { IfOk result (λ r. r.0.closed ≡ false) }
-        ensures durable { IsErrOf result DiskFault ⊎ Told (H.state host.old) (Only (H.state host.new).file (H.state host.new).may_leave) }
+        ensures durable { IsErrOf result DiskFault ⊎ IsDurable (H.state host.old) (H.state host.new) }
         ensures out { (H.state host.new).out ≡ (H.state host.old).out }
-        ensures kept { Told (H.state host.old) (fresh_length < length (H.state host.old).file → (H.state host.new).file ≡ (H.state host.old).file) }
-        ensures short { Told (H.state host.old) (length (H.state host.old).file ≤ fresh_length → length (H.state host.new).file ≤ fresh_length) }
+        ensures kept { KeepsLong (H.state host.old) (H.state host.new) }
+        ensures short { StaysShort (H.state host.old) (H.state host.new) }
 
         // A short file is begun anew with a closed gate of 0.
-        ensures begun { OnOk result (Told (H.state host.old) (length (H.state host.old).file ≤ fresh_length → (H.state host.new).file ≡ fresh)) }
+        ensures begun { OnOk result (BeginsShort (H.state host.old) (H.state host.new)) }
 
         // Until a sync has succeeded all is as it was. Then a stop leaves the file as it reads, or a short one in the place of a short one.
-        ensures settled { Told (H.state host.old) ((IsErrOf result DiskFault × Keeps (H.state host.old) (H.state host.new))
-            ⊎ Only (H.state host.new).file (H.state host.new).may_leave
-            ⊎ ((length (H.state host.old).file ≤ fresh_length) × ((c : List ℕ) → (H.state host.new).may_leave c → length c ≤ fresh_length))) }
+        ensures settled { Settles (IsErrOf result DiskFault) (H.state host.old) (H.state host.new) }
 
         // A stop leaves a file that a stop at its start could leave, or a short one in the place of a short one.
-        ensures stop { Told (H.state host.old) (Elapses (H.state host.old) (H.state host.new)
-            (λ c o. Now (H.state host.old) c o ⊎ ((length (H.state host.old).file ≤ fresh_length) × LeavesShort (H.state host.old) c o))) }
+        ensures stop { StopsAtOpening (H.state host.old) (H.state host.new) }
         ensures tells { (H.state host.new).tells ≡ (H.state host.old).tells }
 
-        ensures foreign { IsErrOf result NotAJournal → Told (H.state host.old) (IsForeign (H.state host.old).file) }
-        ensures damaged { (at : ℕ) → IsErrOf result (Damaged at) → Told (H.state host.old) (IsBroken (H.state host.old).file at) }
-        ensures disk_fault { IsErrOf result DiskFault → Rises (H.state host.old).disk_faults (H.state host.new).disk_faults }
+        ensures foreign { IsErrOf result NotAJournal → WasForeign (H.state host.old) }
+        ensures damaged { (at : ℕ) → IsErrOf result (Damaged at) → WasBroken (H.state host.old) at }
+        ensures disk_fault { IsErrOf result DiskFault → DiskRises (H.state host.old) (H.state host.new) }
 
         // What it answers where want of memory and the disk don't come between.
-        ensures foreign_file { Told (H.state host.old) (IsForeign (H.state host.old).file → IsErrOf result NotAJournal ⊎ IsErrOf result DiskFault ⊎ IsErrOf result NoMemory) }
-        ensures broken_file { Told (H.state host.old) ((at : ℕ) → IsBroken (H.state host.old).file at → IsErrOf result (Damaged at) ⊎ IsErrOf result DiskFault ⊎ IsErrOf result NoMemory) }
-        ensures good_file { Told (H.state host.old) (IsGood (H.state host.old).file → IfErr result (λ e. (e ≡ DiskFault) ⊎ (e ≡ NoMemory))) }
+        ensures foreign_file { WhereForeign (H.state host.old) (FailsBy NotAJournal result) }
+        ensures broken_file { WhereBroken (H.state host.old) (λ at. FailsBy (Damaged at) result) }
+        ensures good_file { WhereGood (H.state host.old) (FailsOutside result) }
 
         ensures disk { (H.state host.old).disk_faults ≤ (H.state host.new).disk_faults }
         ensures outs { (H.state host.old).out_faults ≤ (H.state host.new).out_faults }
-        ensures reads { Told (H.state host.old) (ReadsAtMost (H.state host.old).reads (H.state host.new).reads (length (H.state host.old).file)) }
+        ensures reads { ReadsFile (H.state host.old) (H.state host.new) }
     {
         let Ok(len) = settle(host) else {
             return Err(JournalFault::DiskFault);

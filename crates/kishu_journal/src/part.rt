@@ -1,6 +1,7 @@
 // Parts of a store, by their places.
-ghost use Rattle.std.specs.Prelude.{◌≡◌, ◌≤◌, ◌<◌, ◌-◌, ℕ, length, take, drop, IfOk, OnOk, IsErrOf};
-ghost use Rattle.kishu_host.specs.Host.{Told, Rises, ReadsMore};
+ghost use Rattle.std.specs.Prelude.{◌≡◌, ℕ, length, IfOk, OnOk, IsErrOf};
+ghost use Rattle.kishu_host.specs.Host.{ReadsMore};
+ghost use Rattle.kishu_journal.specs.Facts.{DiskRises, IsTaken, IsInside, LacksPart};
 ghost use Rattle.kishu_journal.specs.Going.{IsQuiet, ReadsAtMost};
 ghost use Rattle.kishu_journal.specs.declared.journal.JournalFault.TheVariants.{DiskFault, NoMemory, NotAJournal, Damaged};
 
@@ -22,12 +23,12 @@ impl Journal {
         place: u64,
         len: u64,
     ) -> Result<Vec<u8>, JournalFault>
-        ensures part { IfOk result (λ v. Told (H.state host.old) (v.items ≡ take len (drop place (H.state host.old).file))) }
+        ensures part { IfOk result (λ v. IsTaken (H.state host.old) place len v.items) }
         ensures whole { IfOk result (λ v. length v.items ≡ len) }
-        ensures inside { OnOk result (Told (H.state host.old) (len ≤ length (H.state host.old).file - place)) }
+        ensures inside { OnOk result (IsInside (H.state host.old) place len) }
         ensures quiet { IsQuiet (H.state host.old) (H.state host.new) }
-        ensures damaged { (at : ℕ) → IsErrOf result (Damaged at) → (at ≡ place) × Told (H.state host.old) (length (H.state host.old).file - place < len) }
-        ensures disk_fault { IsErrOf result DiskFault → Rises (H.state host.old).disk_faults (H.state host.new).disk_faults }
+        ensures damaged { (at : ℕ) → IsErrOf result (Damaged at) → LacksPart (H.state host.old) place len at }
+        ensures disk_fault { IsErrOf result DiskFault → DiskRises (H.state host.old) (H.state host.new) }
         ensures not_foreign { IsErrOf result NotAJournal → ⊥ }
         ensures no_memory { IsErrOf result NoMemory → host.new ≡ host.old }
         ensures exact { OnOk result (ReadsMore (H.state host.old).reads (H.state host.new).reads len) }

@@ -1,10 +1,10 @@
-ghost use Rattle.std.specs.Prelude.{◌≡◌, ◌≢◌, ◌≤◌, ◌<◌, ◌+◌, ◌-◌, ◌∷◌, ℕ, List, length, take, drop, true, false, IfOk, IfSome, OnOk, IsErr, IsErrOf, None, Ok};
+ghost use Rattle.std.specs.Prelude.{◌≡◌, ◌≤◌, ◌<◌, ◌+◌, ◌-◌, ℕ, length, true, false, IfOk, IfSome, OnOk, IsErr, IsErrOf, None, Ok};
 ghost use Rattle.std.specs.Int.{w64, to_be_bytes, from_be_bytes};
-ghost use Rattle.kishu_host.specs.Host.{Told, Only, Rises, ReadsMore};
+ghost use Rattle.kishu_host.specs.Host.{Told};
 ghost use Rattle.kishu_store.specs.Limits.{longest_body};
-ghost use Rattle.kishu_store.specs.Holds.{open_gate};
+ghost use Rattle.kishu_journal.specs.Facts.{DiskRises, IsDurable, IsPart, IsCut, BodyAt, LacksBody, ReadsFull, ReadsGate};
 ghost use Rattle.kishu_journal.specs.Going.{IsQuiet, ReadsAtMost};
-ghost use Rattle.kishu_journal.specs.Found.{BeginsBody, before_body, body_at, IsShut, HasNoBody};
+ghost use Rattle.kishu_journal.specs.Found.{before_body, IsShut};
 ghost use Rattle.kishu_journal.specs.declared.journal.JournalFault.TheVariants.{DiskFault, NotAJournal, Damaged};
 
 use crate::JournalFault;
@@ -17,8 +17,8 @@ const LONGEST_BODY: u64 = 1 << 30;
 pub(crate) fn settle<H: Host>(host: &mut H) -> Result<u64, Failed>
     ensures quiet { IsQuiet (H.state host.old) (H.state host.new) }
     ensures len { IfOk result (λ n. Told (H.state host.old) (n ≡ length (H.state host.old).file)) }
-    ensures durable { OnOk result (Told (H.state host.old) (Only (H.state host.new).file (H.state host.new).may_leave)) }
-    ensures failed { IsErr result → Rises (H.state host.old).disk_faults (H.state host.new).disk_faults }
+    ensures durable { OnOk result (IsDurable (H.state host.old) (H.state host.new)) }
+    ensures failed { IsErr result → DiskRises (H.state host.old) (H.state host.new) }
     ensures reads { ReadsAtMost (H.state host.old).reads (H.state host.new).reads 0 }
 {
     host.sync()?;
@@ -28,12 +28,11 @@ pub(crate) fn settle<H: Host>(host: &mut H) -> Result<u64, Failed>
 /// Fills `into` from a place, or answers that the file ends before.
 pub(crate) fn read_exact<H: Host>(host: &mut H, at: u64, into: &mut [u8]) -> Result<bool, Failed>
     ensures quiet { IsQuiet (H.state host.old) (H.state host.new) }
-    ensures whole { IfOk result (λ b. b ≡ true → Told (H.state host.old) ((length into.old ≤ length (H.state host.old).file - at)
-        × (into.new ≡ take (length into.old) (drop at (H.state host.old).file)))) }
-    ensures short { IfOk result (λ b. b ≡ false → Told (H.state host.old) (length (H.state host.old).file - at < length into.old)) }
-    ensures failed { IsErr result → Rises (H.state host.old).disk_faults (H.state host.new).disk_faults }
+    ensures whole { IfOk result (λ b. b ≡ true → IsPart (H.state host.old) at (length into.old) into.new) }
+    ensures short { IfOk result (λ b. b ≡ false → IsCut (H.state host.old) at (length into.old)) }
+    ensures failed { IsErr result → DiskRises (H.state host.old) (H.state host.new) }
     ensures reads { ReadsAtMost (H.state host.old).reads (H.state host.new).reads (length into.old) }
-    ensures exact { IfOk result (λ b. b ≡ true → ReadsMore (H.state host.old).reads (H.state host.new).reads (length into.old)) }
+    ensures exact { IfOk result (λ b. b ≡ true → ReadsFull (H.state host.old) (H.state host.new) into.old) }
 {
     let n = host.read_at(at, into)?;
     Ok(n == into.len())
@@ -59,15 +58,15 @@ pub(crate) fn read_size<H: Host>(
     requires len { Told (H.state host.old) (len ≡ length (H.state host.old).file) }
     requires inside { at < len }
     ensures quiet { IsQuiet (H.state host.old) (H.state host.new) }
-    ensures body { IfOk result (λ o. IfSome o (λ n. Told (H.state host.old) (BeginsBody (drop at (H.state host.old).file) (body_at (H.state host.old).file at n)))) }
+    ensures body { IfOk result (λ o. IfSome o (λ n. BodyAt (H.state host.old) at n)) }
     ensures within { IfOk result (λ o. IfSome o (λ n. at + before_body + n < len)) }
     ensures small { IfOk result (λ o. IfSome o (λ n. n ≤ longest_body)) }
     ensures closed { result ≡ Ok None → Told (H.state host.old) (IsShut (H.state host.old).file at) }
-    ensures damaged { (place : ℕ) → IsErrOf result (Damaged place) → Told (H.state host.old) ((place ≡ at) × HasNoBody (H.state host.old).file at) }
-    ensures disk_fault { IsErrOf result DiskFault → Rises (H.state host.old).disk_faults (H.state host.new).disk_faults }
+    ensures damaged { (place : ℕ) → IsErrOf result (Damaged place) → LacksBody (H.state host.old) at place }
+    ensures disk_fault { IsErrOf result DiskFault → DiskRises (H.state host.old) (H.state host.new) }
     ensures not_foreign { IsErrOf result NotAJournal → ⊥ }
     ensures reads { ReadsAtMost (H.state host.old).reads (H.state host.new).reads (len - at) }
-    ensures reads_size { IfOk result (λ o. IfSome o (λ n. ReadsAtMost (H.state host.old).reads (H.state host.new).reads before_body)) }
+    ensures reads_size { IfOk result (λ o. IfSome o (λ n. ReadsGate (H.state host.old) (H.state host.new))) }
 {
     let mut gate = [0; 1];
     match read_exact(host, at, &mut gate) {

@@ -1,13 +1,9 @@
 // What a record's head says, where the graph goes on with it.
 ghost use Rattle.std.specs.Prelude.{◌≡◌, [], Ok, None, IfOk, IfSome};
-ghost use Rattle.kishu_graph.specs.Kept.{StandsFor};
 ghost use Rattle.kishu_record.specs.Entries.{entry_of};
 ghost use Rattle.kishu_record.specs.Readings.{IsHead};
-ghost use Rattle.kishu_store.specs.Graph as model;
-ghost use Rattle.kishu_store.specs.Entries as said;
 ghost use Rattle.kishu_store.specs.Entries.{lengths_in};
-ghost use Rattle.kishu_store.specs.Fitting.{Fits};
-ghost use Rattle.kishu_journal.specs.Following.{GoesOn};
+ghost use Rattle.kishu_journal.specs.Following.{GoOn, NoneFits};
 
 use crate::Entry;
 use crate::follow::follow;
@@ -25,8 +21,8 @@ pub(crate) fn take_record(
 ) -> Result<Option<Entry>, AllocError>
     ensures head { IfOk result (λ o. IfSome o (λ e. IsHead head.now pictures (entry_of e))) }
     ensures plain { IfOk result (λ o. IfSome o (λ e. lengths_in (entry_of e) ≡ [])) }
-    ensures made { IfOk result (λ o. IfSome o (λ e. (g : model.Graph) → StandsFor graph.old g → GoesOn g (entry_of e) graph.new)) }
-    ensures none { result ≡ Ok None → (g : model.Graph) (e : said.Entry) → StandsFor graph.old g → IsHead head.now pictures e → Fits g e → ⊥ }
+    ensures made { IfOk result (λ o. IfSome o (λ e. GoOn graph.old e graph.new)) }
+    ensures none { result ≡ Ok None → NoneFits graph.old head.now pictures }
 {
     let entry = match decode(alloc, head, pictures) {
         Ok(entry) => entry,
