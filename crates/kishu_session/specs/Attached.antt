@@ -22,3 +22,11 @@ pub record IsAttached (session : Session) (s : host.State) (g : Graph) : Type 0 
   pub at_end : IsAtEnd session s g
   pub same : Same (state_of session.head.live) (replay g g.head.commit)
   pub at : IsAt session.head g
+
+-- The session stands at the end of its host's file, whichever graph that holds.
+abbrev pub StandsAtEnd : Session → host.State → Type 0
+StandsAtEnd session s = (g : Graph) × IsAtEnd session s g
+
+-- Where no earlier call ended the session, and the host tells its content, it stands there.
+abbrev pub IsReady : Session → host.State → Type 0
+IsReady session s = session.halted ≡ false → host.Told s (StandsAtEnd session s)

@@ -1,9 +1,11 @@
 -- What a session keeps of its store's graph, and the state at its head.
-use Rattle.std.specs.Prelude.{◌≡◌, List, map}
-use Rattle.kishu_store.specs.Graph.{Graph, count_of}
-use Rattle.kishu_graph.specs.Kept.{Kept}
-use Rattle.kishu_replay.specs.Replay.{replay}
+use Rattle.std.specs.Prelude.{◌≡◌, ◌≤◌, ℕ, suc, ◌+◌, List, [], ◌∷◌, map}
+use Rattle.kishu_language.specs.declared.profile.Profile.TheVariants.{One}
+use Rattle.kishu_store.specs.Graph.{Graph, newest, with_commit, count_of}
+use Rattle.kishu_graph.specs.Kept.{Kept, HasShapeOf, StandsFor}
+use Rattle.kishu_replay.specs.Replay.{replay, replay_charge}
 use Rattle.kishu_session.specs.Cells.{cells_of}
+use Rattle.kishu_session.specs.Filling.{FillsOnPath}
 use Rattle.kishu_session.specs.Known.{IsGraphOf}
 use Rattle.kishu_session.specs.Lives.{state_of}
 use Rattle.kishu_session.specs.Texts.{cells_by_number, AreNewest}
@@ -24,3 +26,40 @@ pub record IsAt (head : Head) (g : Graph) : Type 0 where
   pub keeps : Keeps head g
   pub count : head.cells ≡ count_of g g.head.commit
   pub live : state_of head.live ≡ replay g g.head.commit
+
+-- ---- the cells that lead to the head
+
+-- the steps that they take
+abbrev pub head_charge : Graph → ℕ
+head_charge g = replay_charge g g.head.commit
+
+-- The counter rose by at least these steps.
+abbrev pub CountsPath : Head → (before now : ℕ) → Type 0
+CountsPath head before now = (g : Graph) → Keeps head g → before + head_charge g ≤ now
+
+-- One of these cells would begin with too many nodes.
+abbrev pub FillsPath : Head → Type 0
+FillsPath head = (g : Graph) → Keeps head g → FillsOnPath g
+
+-- The head stands at what it kept before.
+abbrev pub Reaches : (old new : Head) → Type 0
+Reaches old new = (g : Graph) → Keeps old g → IsAt new g
+
+-- ---- a commit of one cell more
+
+abbrev pub with_cell : List ℕ → Graph → Graph
+with_cell text g = with_commit One (text ∷ []) g
+
+-- the number that it has
+abbrev pub IsNextNumber : Kept → ℕ → Type 0
+IsNextNumber kept n = (g : Graph) → HasShapeOf kept g → n ≡ suc (newest g)
+
+-- It is kept: of the graph, of its cells, and in the count of the cells on the head's path.
+abbrev pub StandsWith : (old new : Kept) → List ℕ → Type 0
+StandsWith old new text = (g : Graph) → StandsFor old g → StandsFor new (with_cell text g)
+
+abbrev pub KeepsWith : (old new : Head) → List ℕ → Type 0
+KeepsWith old new text = (g : Graph) → Keeps old g → Keeps new (with_cell text g)
+
+abbrev pub CountsCell : (old new : Head) → Type 0
+CountsCell old new = (g : Graph) → Keeps old g → old.cells ≡ count_of g g.head.commit → new.cells ≡ suc (count_of g g.head.commit)

@@ -5,11 +5,17 @@ pub mod Known
 pub mod Lives
 pub mod Cells
 pub mod Moves
+pub mod Asked
 pub mod Refusing
 pub mod Filling
 pub mod Head
 pub mod Prepared
 pub mod LogRows
+pub mod Branching
 pub mod Written
 pub mod Journals
+pub mod Recording
 pub mod Attached
+pub mod Faults
+pub mod Attaching
+pub mod Applying

@@ -1,15 +1,20 @@
 -- What a request leads to before it is recorded: an answer, and the record that makes it last.
-use Rattle.std.specs.Prelude.{◌≡◌, Option, Some, None, option_map}
+use Rattle.std.specs.Prelude.{◌≡◌, ◌≤◌, ℕ, ◌+◌, Option, Some, None, option_map, IfSome}
 use Rattle.kishu_store.specs.Graph.{Graph}
-use Rattle.kishu_store.specs.Entries.{Entry}
+use Rattle.kishu_store.specs.Entries.{Entry, plain}
 use Rattle.kishu_store.specs.Fitting.{Fits, changed}
+use Rattle.kishu_store.specs.Rules.{IsRecord}
+use Rattle.kishu_model.specs.declared.answer.Answer as rust_answer
 use Rattle.kishu_model.specs.Request.{Request}
 use Rattle.kishu_model.specs.Serve.{after}
-use Rattle.kishu_model.specs.Step.{step}
+use Rattle.kishu_model.specs.Step.{step, charge_of}
 use Rattle.kishu_model.specs.Values.{answer_of}
 use Rattle.kishu_graph.specs.Kept.{Kept, StandsFor}
 use Rattle.kishu_record.specs.Entries.{entry_of}
+use Rattle.kishu_session.specs.Filling.{FillsBy}
 use Rattle.kishu_session.specs.Head.{IsAt}
+use Rattle.kishu_session.specs.Known.{IsGraphOf}
+use Rattle.kishu_session.specs.Refusing.{RefusesAs}
 use Rattle.kishu_session.specs.declared.head.Head.{Head}
 use Rattle.kishu_session.specs.declared.prepared.Prepared.{Prepared}
 
@@ -32,3 +37,29 @@ pub record IsPrepared (g : Graph) (q : Request) (prepared : Prepared) (kept : Ke
 pub record IsAnswered (g : Graph) (q : Request) (prepared : Prepared) (head : Head) : Type 0 where
   pub answer : answer_of prepared.answer ≡ Some (step g q).answer
   pub at : IsAt head (after g q)
+
+-- ---- what holds of each request, whichever graph is meant
+
+-- The record leads from a graph that was kept to the one after the request, which is kept then.
+abbrev pub Prepares : (old new : Kept) → Request → Prepared → Type 0
+Prepares old new q prepared = (g : Graph) → IsGraphOf old g → IsPrepared g q prepared new
+
+-- The request is refused just for the cause for which one step refuses it.
+abbrev pub RefusesFor : Kept → Request → rust_answer.Answer → Type 0
+RefusesFor kept q a = (g : Graph) → StandsFor kept g → RefusesAs (answer_of a) (step g q).answer
+
+-- From the head of a graph the answer is the request's, and the session comes to the head after it.
+abbrev pub AnswersAt : (old new : Head) → Request → Prepared → Type 0
+AnswersAt old new q prepared = (g : Graph) → IsAt old g → IsAnswered g q prepared new
+
+-- What is to be recorded may be.
+abbrev pub MayBeRecorded : Prepared → Type 0
+MayBeRecorded prepared = IfSome prepared.entry (λ e. IsRecord (plain (entry_of e)))
+
+-- The counter rose by at least the steps of the request's own cells.
+abbrev pub CountsAt : Head → Request → (before now : ℕ) → Type 0
+CountsAt head q before now = (g : Graph) → IsAt head g → before + charge_of g q ≤ now
+
+-- A cell of the request would begin with too many nodes.
+abbrev pub FillsAt : Head → Request → Type 0
+FillsAt head q = (g : Graph) → IsAt head g → FillsBy g q

@@ -15,7 +15,10 @@ begun file = if nat_le (length file) fresh_length then fresh else file
 abbrev pub IsRecorded : List ℕ → List ℕ → Type 0
 IsRecorded old new = (rs : List Record) × (r : Record) × Ends old rs × (new ≡ appended (end_of rs) (body_of r) old)
 
--- The file holds no graph.
+-- The file holds a graph, or none.
+abbrev pub HoldsSome : List ℕ → Type 0
+HoldsSome file = (g : Graph) × Holds file g
+
 abbrev pub HoldsNone : List ℕ → Type 0
 HoldsNone file = (g : Graph) → Holds file g → ⊥
 

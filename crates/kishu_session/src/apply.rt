@@ -1,18 +1,13 @@
 // The answering of requests.
-ghost use Rattle.std.specs.Prelude.{◌≡◌, ◌≤◌, ◌⊎◌, ◌↔◌, ◌+◌, true, false, IfOk, IfErr, OnOk, IsErr, IsErrOf, IsSome, Some};
-ghost use Rattle.kishu_host.specs.Host.{Told, Only, Elapses, Rises};
-ghost use Rattle.kishu_store.specs.Graph.{Graph};
-ghost use Rattle.kishu_graph.specs.Kept.{StandsFor};
+ghost use Rattle.std.specs.Prelude.{◌≡◌, ◌≤◌, ◌⊎◌, ◌↔◌, true, IfOk, IfErr, OnOk, IsErr, IsErrOf, IsSome};
 ghost use Rattle.kishu_replay.specs.Replay.{IsFull};
-ghost use Rattle.kishu_model.specs.Serve.{after};
-ghost use Rattle.kishu_model.specs.Step.{step, charge_of};
 ghost use Rattle.kishu_model.specs.Values.{request_of, answer_of};
-ghost use Rattle.kishu_session.specs.Attached.{IsAtEnd, IsAttached};
-ghost use Rattle.kishu_session.specs.Filling.{FillsBy};
-ghost use Rattle.kishu_session.specs.Journals.{BeforeOrAfter};
+ghost use Rattle.kishu_session.specs.Applying.{IsAnswer, StaysAttached, Fills, Counts, StaysAtEnd, RecordsOne, LeavesBeforeOrAfter};
+ghost use Rattle.kishu_session.specs.Attached.{IsReady};
+ghost use Rattle.kishu_session.specs.Faults.{FailsOnDisk};
 ghost use Rattle.kishu_session.specs.Lives.{state_of};
-ghost use Rattle.kishu_session.specs.Refusing.{RefusesAs, IsRefusal};
-ghost use Rattle.kishu_session.specs.Written.{IsRecorded};
+ghost use Rattle.kishu_session.specs.Prepared.{RefusesFor};
+ghost use Rattle.kishu_session.specs.Refusing.{IsRefusal};
 ghost use Rattle.kishu_session.specs.declared.halt.Halt.TheVariants.{DiskFault, NoMemory, HeapFull, Closed};
 
 use crate::live::Unrun;
@@ -37,23 +32,26 @@ impl Session {
         request: &Request,
         steps: &mut Steps<L>,
     ) -> Result<Answer, Halt>
-        requires at_end { self.old.halted ≡ false → Told (H.state host.old) ((g : Graph) × IsAtEnd self.old (H.state host.old) g) }
+        requires at_end { IsReady self.old (H.state host.old) }
 
-        // The answer is the request's, the file's graph becomes the one after it, and the session stays attached.
-        ensures answered { IfOk result (λ a. Told (H.state host.old) ((g : Graph) → IsAttached self.old (H.state host.old) g → answer_of a ≡ Some (step g (request_of request.now)).answer)) }
-        ensures attached { OnOk result (Told (H.state host.old) ((g : Graph) → IsAttached self.old (H.state host.old) g → IsAttached self.new (H.state host.new) (after g (request_of request.now)))) }
-        ensures at_end { OnOk result (Told (H.state host.old) ((g : Graph) → IsAtEnd self.old (H.state host.old) g → IsAtEnd self.new (H.state host.new) (after g (request_of request.now)))) }
-        ensures bytes { OnOk result (Told (H.state host.old) ((g : Graph) → IsAtEnd self.old (H.state host.old) g
-            → ((H.state host.new).file ≡ (H.state host.old).file) ⊎ IsRecorded (H.state host.old).file (H.state host.new).file)) }
+        // The answer is the request's, the file's graph becomes the one after it, and the session stays
+        // attached.
+        ensures answered { IfOk result (IsAnswer self.old (H.state host.old) request.now) }
+        ensures attached { OnOk result
+            (StaysAttached self.old self.new (H.state host.old) (H.state host.new) request.now) }
+        ensures at_end { OnOk result
+            (StaysAtEnd self.old self.new (H.state host.old) (H.state host.new) request.now) }
+        ensures bytes { OnOk result (RecordsOne self.old (H.state host.old) (H.state host.new)) }
 
-        // On every host the answer is one, a request is refused just for the causes that the session's graph gives, and a refusal leaves host, graph, nodes and names as they were.
+        // On every host the answer is one, a request is refused just for the causes that the session's graph
+        // gives, and a refusal leaves host, graph, nodes and names as they were.
         ensures is_one { IfOk result (λ a. IsSome (answer_of a)) }
-        ensures refuses { IfOk result (λ a. (g : Graph) → StandsFor self.old.head.graph g → RefusesAs (answer_of a) (step g (request_of request.now)).answer) }
-        ensures refused { IfOk result (λ a. IsRefusal (answer_of a) → (host.new ≡ host.old) × (self.new.head ≡ self.old.head)) }
+        ensures refuses { IfOk result (RefusesFor self.old.head.graph (request_of request.now)) }
+        ensures refused { IfOk result (λ a. IsRefusal (answer_of a)
+            → (host.new ≡ host.old) × (self.new.head ≡ self.old.head)) }
 
         // A stop at any moment leaves the graph before or after the request, and no output.
-        ensures stop { Told (H.state host.old) (Only (H.state host.old).file (H.state host.old).may_leave → (g : Graph) → IsAtEnd self.old (H.state host.old) g
-            → Elapses (H.state host.old) (H.state host.new) (BeforeOrAfter (H.state host.old) g (after g (request_of request.now)))) }
+        ensures stop { LeavesBeforeOrAfter self.old (H.state host.old) (H.state host.new) request.now }
         ensures out { (H.state host.new).out ≡ (H.state host.old).out }
         ensures tells { (H.state host.new).tells ≡ (H.state host.old).tells }
 
@@ -61,15 +59,16 @@ impl Session {
         ensures closed { IsErrOf result Closed ↔ (self.old.halted ≡ true) }
         ensures untouched { IsErrOf result Closed → host.new ≡ host.old }
         ensures halted { (self.new.halted ≡ true) ↔ IsErr result }
-        ensures disk_fault { IsErrOf result DiskFault → Rises (H.state host.old).disk_faults (H.state host.new).disk_faults }
-        ensures heap_full { IsErrOf result HeapFull → Told (H.state host.old) ((g : Graph) → IsAttached self.old (H.state host.old) g → FillsBy g (request_of request.now)) }
+        ensures disk_fault { IsErrOf result DiskFault → FailsOnDisk (H.state host.old) (H.state host.new) }
+        ensures heap_full { IsErrOf result HeapFull → Fills self.old (H.state host.old) request.now }
         ensures beyond { IsErrOf result HeapFull → IsFull (state_of self.new.head.live) }
-        ensures only_these { IfErr result (λ e. (e ≡ DiskFault) ⊎ (e ≡ NoMemory) ⊎ (e ≡ HeapFull) ⊎ (e ≡ Closed)) }
+        ensures only_these { IfErr result (λ e.
+            (e ≡ DiskFault) ⊎ (e ≡ NoMemory) ⊎ (e ≡ HeapFull) ⊎ (e ≡ Closed)) }
         ensures disk { (H.state host.old).disk_faults ≤ (H.state host.new).disk_faults }
         ensures outs { (H.state host.old).out_faults ≤ (H.state host.new).out_faults }
 
         // Each step of the request's own cells is counted.
-        ensures least { OnOk result (Told (H.state host.old) ((g : Graph) → IsAttached self.old (H.state host.old) g → steps.old + charge_of g (request_of request.now) ≤ steps.new)) }
+        ensures least { OnOk result (Counts self.old (H.state host.old) request.now steps.old steps.new) }
     {
         if self.halted {
             return Err(Halt::Closed);

@@ -1,10 +1,9 @@
 // The texts of cells: those of each commit, and those on a path.
-ghost use Rattle.std.specs.Prelude.{◌≡◌, ◌≤◌, ◌<◌, ◌^◌, ◌++◌, ◌∷◌, [], IsTrue, length, map, IfOk, OnOk};
+ghost use Rattle.std.specs.Prelude.{◌≡◌, ◌≤◌, ◌<◌, ◌^◌, ◌∷◌, [], IsTrue, length, IfOk, OnOk};
 ghost use Rattle.std.specs.Rc.{rc_str_bytes};
 ghost use Rattle.kishu_language.specs.Limits.{longest_text};
-ghost use Rattle.kishu_session.specs.Cells.{cells_of};
-ghost use Rattle.kishu_session.specs.TextLists.{texts_of, are_short};
-ghost use Rattle.kishu_session.specs.Texts.{cells_at, cells_along};
+ghost use Rattle.kishu_session.specs.Cells.{cells_of, stored_at, stored_along, Gains};
+ghost use Rattle.kishu_session.specs.TextLists.{texts_of, are_short, AreShort, GainsTexts};
 
 use crate::commit_cells::CommitCells;
 use std::alloc::{AllocError, Global};
@@ -12,7 +11,7 @@ use std::rc::RcStr;
 
 /// Puts more texts behind these. They are shared.
 fn push_all(texts: &mut Vec<RcStr>, more: &[RcStr]) -> Result<(), AllocError>
-    ensures { OnOk result (texts_of texts.new.items ≡ texts_of texts.old.items ++ texts_of more.now) }
+    ensures { OnOk result (GainsTexts texts.old.items texts.new.items (texts_of more.now)) }
 {
     for text in more {
         texts.push(text.clone()?)?;
@@ -40,7 +39,7 @@ pub(crate) fn push_one(
     text: &RcStr,
 ) -> Result<(), AllocError>
     requires { length (rc_str_bytes text.now) ≤ longest_text }
-    ensures { OnOk result (map cells_of stored.new.items ≡ map cells_of stored.old.items ++ (rc_str_bytes text.now ∷ []) ∷ []) }
+    ensures { OnOk result (Gains stored.old.items stored.new.items ((rc_str_bytes text.now ∷ []) ∷ [])) }
 {
     let mut texts = Vec::new(alloc);
     texts.push(text.clone()?)?;
@@ -54,8 +53,8 @@ fn push_commit(
     stored: &[CommitCells],
     number: u32,
 ) -> Result<(), AllocError>
-    ensures texts { OnOk result (texts_of texts.new.items ≡ texts_of texts.old.items ++ cells_at (map cells_of stored.now) number) }
-    ensures short { OnOk result (IsTrue (are_short (texts_of texts.old.items)) → IsTrue (are_short (texts_of texts.new.items))) }
+    ensures texts { OnOk result (GainsTexts texts.old.items texts.new.items (stored_at stored.now number)) }
+    ensures short { OnOk result (AreShort texts.old.items → AreShort texts.new.items) }
 {
     let Some(index) = number.checked_sub(1) else {
         return Ok(());
@@ -72,8 +71,8 @@ pub(crate) fn texts_along(
     stored: &[CommitCells],
     numbers: &[u32],
 ) -> Result<Vec<RcStr>, AllocError>
-    ensures texts { IfOk result (λ v. texts_of v.items ≡ cells_along (map cells_of stored.now) numbers.now) }
-    ensures short { IfOk result (λ v. IsTrue (are_short (texts_of v.items))) }
+    ensures texts { IfOk result (λ v. texts_of v.items ≡ stored_along stored.now numbers.now) }
+    ensures short { IfOk result (λ v. AreShort v.items) }
 {
     let mut texts = Vec::new(alloc);
     for number in numbers {

@@ -1,9 +1,7 @@
 // What a session keeps of its store's graph, and the state at its head.
-ghost use Rattle.std.specs.Prelude.{◌≡◌, ◌≤◌, ◌+◌, OnOk, IsErrOf};
-ghost use Rattle.kishu_store.specs.Graph as model;
-ghost use Rattle.kishu_replay.specs.Replay.{replay_charge, IsFull};
-ghost use Rattle.kishu_session.specs.Filling.{FillsOnPath};
-ghost use Rattle.kishu_session.specs.Head.{IsAt, KeepsGraph};
+ghost use Rattle.std.specs.Prelude.{◌≡◌, ◌≤◌, OnOk, IsErrOf};
+ghost use Rattle.kishu_replay.specs.Replay.{IsFull};
+ghost use Rattle.kishu_session.specs.Head.{Reaches, CountsPath, FillsPath};
 ghost use Rattle.kishu_session.specs.Lives.{state_of};
 ghost use Rattle.kishu_session.specs.declared.live.Unrun.TheVariants.{HeapFull};
 
@@ -30,10 +28,10 @@ pub(crate) struct Head {
 impl Head {
     /// Replays the head's commit: runs the cells on its path from empty.
     pub(crate) fn replay<L: Ledger>(&mut self, steps: &mut Steps<L>) -> Result<(), Unrun>
-        ensures at { OnOk result ((g : model.Graph) → KeepsGraph self.old.graph self.old.stored.items g → IsAt self.new g) }
-        ensures least { OnOk result ((g : model.Graph) → KeepsGraph self.old.graph self.old.stored.items g → steps.old + replay_charge g g.head.commit ≤ steps.new) }
+        ensures at { OnOk result (Reaches self.old self.new) }
+        ensures least { OnOk result (CountsPath self.old steps.old steps.new) }
         ensures counted { OnOk result (steps.old ≤ steps.new) }
-        ensures full { IsErrOf result HeapFull → (g : model.Graph) → KeepsGraph self.old.graph self.old.stored.items g → FillsOnPath g }
+        ensures full { IsErrOf result HeapFull → FillsPath self.old }
         ensures beyond { IsErrOf result HeapFull → IsFull (state_of self.new.live) }
         ensures graph { self.new.graph ≡ self.old.graph }
         ensures stored { self.new.stored ≡ self.old.stored }

@@ -1,9 +1,6 @@
 // What cells have left, and the running of one more.
 ghost use Rattle.std.specs.Prelude.{◌≡◌, ◌≤◌, ◌+◌, [], IsTrue, IfOk, OnOk, IsErrOf, length};
-ghost use Rattle.kishu_language.specs.declared.profile.Profile.TheVariants.{One};
-ghost use Rattle.kishu_interp.specs.Running.{state_in};
 ghost use Rattle.kishu_meaning.specs.moments.Accesses.{with_accesses};
-ghost use Rattle.kishu_meaning.specs.cells.Meaning.{run};
 ghost use Rattle.kishu_language.specs.Limits.{longest_text};
 ghost use Rattle.kishu_replay.specs.Replay.{IsFull};
 ghost use Rattle.kishu_meaning.specs.values.Sound.{are_sound_names};
@@ -47,9 +44,11 @@ pub(crate) struct Live {
 }
 
 impl Live {
+    ghost use Rattle.kishu_session.specs.Lives.{state_of, run_on};
+
     /// What no cell has left.
     pub(crate) fn new(alloc: Global) -> Live
-        ensures { state_in result.heap result.names ≡ empty }
+        ensures { state_of result ≡ empty }
     {
         Live {
             heap: Heap::new(alloc),
@@ -59,7 +58,7 @@ impl Live {
 
     /// Forgets which names were accessed.
     pub(crate) fn clear_record(&mut self)
-        ensures state { state_in self.new.heap self.new.names ≡ state_in self.old.heap self.old.names }
+        ensures state { state_of self.new ≡ state_of self.old }
         ensures accessed { self.new.names.accessed ≡ [] }
     {
         self.names.clear_record();
@@ -73,12 +72,13 @@ impl Live {
         steps: &mut Steps<L>,
     ) -> Result<CellResult, Unrun>
         requires { length text.now ≤ longest_text }
-        ensures report { IfOk result (λ r. report_of r ≡ (run One text.now (state_in self.old.heap self.old.names)).report) }
-        ensures state { OnOk result (state_in self.new.heap self.new.names ≡ (run One text.now (state_in self.old.heap self.old.names)).state) }
-        ensures accessed { OnOk result (self.new.names.accessed ≡ with_accesses (run One text.now (state_in self.old.heap self.old.names)).accessed self.old.names.accessed) }
-        ensures least { OnOk result (steps.old + (run One text.now (state_in self.old.heap self.old.names)).charge ≤ steps.new) }
-        ensures full { IsErrOf result HeapFull → IsFull (state_in self.old.heap self.old.names) }
-        ensures beyond { IsErrOf result HeapFull → IsFull (state_in self.new.heap self.new.names) }
+        ensures report { IfOk result (λ r. report_of r ≡ (run_on self.old text.now).report) }
+        ensures state { OnOk result (state_of self.new ≡ (run_on self.old text.now).state) }
+        ensures accessed { OnOk result (self.new.names.accessed
+            ≡ with_accesses (run_on self.old text.now).accessed self.old.names.accessed) }
+        ensures least { OnOk result (steps.old + (run_on self.old text.now).charge ≤ steps.new) }
+        ensures full { IsErrOf result HeapFull → IsFull (state_of self.old) }
+        ensures beyond { IsErrOf result HeapFull → IsFull (state_of self.new) }
     {
         if self.heap.len() > MOST_NODES {
             return Err(Unrun::HeapFull);

@@ -1,16 +1,15 @@
 // What records lead to: the graph, the cells of its commits, and the state at its head.
-ghost use Rattle.std.specs.Prelude.{◌≡◌, ◌≤◌, ◌+◌, ◌^◌, ◌++◌, ◌∷◌, [], IfOk, OnOk, IsErrOf, map};
+ghost use Rattle.std.specs.Prelude.{◌≡◌, ◌≤◌, ◌+◌, ◌^◌, ◌∷◌, [], IfOk, OnOk, IsErrOf, map};
 ghost use Rattle.std.specs.List.{AllByRecursion};
 ghost use Rattle.kishu_store.specs.Graph.{new_graph};
 ghost use Rattle.kishu_store.specs.Holds.{graph_of};
 ghost use Rattle.kishu_store.specs.Rules.{IsEntry};
-ghost use Rattle.kishu_replay.specs.Replay.{replay_charge};
 ghost use Rattle.kishu_record.specs.Entries.{entry_of};
 ghost use Rattle.kishu_journal.specs.Found.{entries_of, AllFit, AreBelow};
-ghost use Rattle.kishu_session.specs.Cells.{cells_of};
+ghost use Rattle.kishu_session.specs.Cells.{cells_of, Gains};
 ghost use Rattle.kishu_session.specs.Growth.{cells_in};
 ghost use Rattle.kishu_session.specs.Filling.{FillsOnPath};
-ghost use Rattle.kishu_session.specs.Head.{IsAt};
+ghost use Rattle.kishu_session.specs.Head.{IsAt, head_charge};
 ghost use Rattle.kishu_session.specs.declared.live.Unrun.TheVariants.{HeapFull};
 
 use crate::commit_cells::CommitCells;
@@ -25,7 +24,7 @@ use std::sync::ledger::Ledger;
 /// Puts the cells of the commit that an entry tells, if it tells one, behind these.
 fn push_cells(alloc: Global, stored: &mut Vec<CommitCells>, entry: &Entry) -> Result<(), AllocError>
     requires { IsEntry (entry_of entry.now) }
-    ensures { OnOk result (map cells_of stored.new.items ≡ map cells_of stored.old.items ++ cells_in (entry_of entry.now ∷ [])) }
+    ensures { OnOk result (Gains stored.old.items stored.new.items (cells_in (entry_of entry.now ∷ []))) }
 {
     match entry {
         Entry::Commit { cells, .. } => {
@@ -60,7 +59,8 @@ impl Head {
         requires fit { AllFit new_graph (entries_of entries.now) }
         requires near { AreBelow (2 ^ 63) entries.now }
         ensures at { IfOk result (λ h. IsAt h (graph_of (entries_of entries.now))) }
-        ensures least { OnOk result (steps.old + replay_charge (graph_of (entries_of entries.now)) (graph_of (entries_of entries.now)).head.commit ≤ steps.new) }
+        ensures least { OnOk result
+            (steps.old + head_charge (graph_of (entries_of entries.now)) ≤ steps.new) }
         ensures full { IsErrOf result HeapFull → FillsOnPath (graph_of (entries_of entries.now)) }
     {
         let Some(graph) = graph_of(alloc, entries)? else {

@@ -1,13 +1,11 @@
 // The record of what a request leads to, behind those of a store.
-ghost use Rattle.std.specs.Prelude.{◌≡◌, ◌≤◌, ◌⊎◌, false, None, OnOk, IfSome, IfErr, IsErrOf, option_map};
-ghost use Rattle.kishu_host.specs.Host.{Told, Only, Elapses, Rises};
+ghost use Rattle.std.specs.Prelude.{◌≡◌, ◌≤◌, ◌⊎◌, false, Some, None, OnOk, IfSome, IfErr, IsErrOf};
+ghost use Rattle.kishu_host.specs.Host.{Told};
 ghost use Rattle.kishu_store.specs.Entries.{plain};
-ghost use Rattle.kishu_store.specs.Graph.{Graph};
 ghost use Rattle.kishu_store.specs.Rules.{IsRecord};
 ghost use Rattle.kishu_record.specs.Entries.{entry_of};
-ghost use Rattle.kishu_session.specs.Journals.{IsJournalOf, BeforeOrAfter};
-ghost use Rattle.kishu_session.specs.Prepared.{Leads, LeadsTo};
-ghost use Rattle.kishu_session.specs.Written.{IsRecorded};
+ghost use Rattle.kishu_session.specs.Faults.{FailsOnDisk};
+ghost use Rattle.kishu_session.specs.Recording.{entry_in, MayGoOn, GoesOn, Records, RecordsAtMost, IsDurable, StaysDurable, LeavesOne};
 ghost use Rattle.kishu_session.specs.declared.halt.Halt.TheVariants.{DiskFault, NoMemory};
 
 use crate::Halt;
@@ -25,19 +23,18 @@ fn append_entry<H: Host>(
 ) -> Result<(), Halt>
     requires open { journal.old.closed ≡ false }
     requires record { IsRecord (plain (entry_of entry.now)) }
-    requires next { Told (H.state host.old) ((g : Graph) × (now : Graph) × IsJournalOf journal.old (H.state host.old).file g × Leads g (entry_of entry.now) now) }
+    requires next { MayGoOn journal.old (H.state host.old) (Some (entry_of entry.now)) }
 
-    ensures stands { OnOk result (Told (H.state host.old) ((g now : Graph) → IsJournalOf journal.old (H.state host.old).file g → Leads g (entry_of entry.now) now
-        → IsJournalOf journal.new (H.state host.new).file now)) }
+    ensures stands { OnOk result
+        (GoesOn journal.old journal.new (H.state host.old) (H.state host.new) (Some (entry_of entry.now))) }
     ensures open { OnOk result (journal.new.closed ≡ false) }
-    ensures bytes { OnOk result (Told (H.state host.old) ((g : Graph) → IsJournalOf journal.old (H.state host.old).file g → IsRecorded (H.state host.old).file (H.state host.new).file)) }
-    ensures durable { OnOk result (Told (H.state host.old) (Only (H.state host.new).file (H.state host.new).may_leave)) }
-    ensures stop { Told (H.state host.old) (Only (H.state host.old).file (H.state host.old).may_leave → (g now : Graph) → IsJournalOf journal.old (H.state host.old).file g → Leads g (entry_of entry.now) now
-        → Elapses (H.state host.old) (H.state host.new) (BeforeOrAfter (H.state host.old) g now)) }
+    ensures bytes { OnOk result (Records journal.old (H.state host.old) (H.state host.new)) }
+    ensures durable { OnOk result (Told (H.state host.old) (IsDurable (H.state host.new))) }
+    ensures stop { LeavesOne journal.old (H.state host.old) (H.state host.new) (Some (entry_of entry.now)) }
     ensures out { (H.state host.new).out ≡ (H.state host.old).out }
     ensures tells { (H.state host.new).tells ≡ (H.state host.old).tells }
     ensures only_these { IfErr result (λ e. (e ≡ DiskFault) ⊎ (e ≡ NoMemory)) }
-    ensures disk_fault { IsErrOf result DiskFault → Rises (H.state host.old).disk_faults (H.state host.new).disk_faults }
+    ensures disk_fault { IsErrOf result DiskFault → FailsOnDisk (H.state host.old) (H.state host.new) }
     ensures disk { (H.state host.old).disk_faults ≤ (H.state host.new).disk_faults }
     ensures outs { (H.state host.old).out_faults ≤ (H.state host.new).out_faults }
 {
@@ -61,21 +58,19 @@ pub(crate) fn record<H: Host>(
 ) -> Result<(), Halt>
     requires open { journal.old.closed ≡ false }
     requires record { IfSome entry.now (λ e. IsRecord (plain (entry_of e))) }
-    requires next { Told (H.state host.old) ((g : Graph) × (now : Graph) × IsJournalOf journal.old (H.state host.old).file g × LeadsTo g (option_map entry_of entry.now) now) }
+    requires next { MayGoOn journal.old (H.state host.old) (entry_in entry.now) }
 
-    ensures stands { OnOk result (Told (H.state host.old) ((g now : Graph) → IsJournalOf journal.old (H.state host.old).file g → LeadsTo g (option_map entry_of entry.now) now
-        → IsJournalOf journal.new (H.state host.new).file now)) }
+    ensures stands { OnOk result
+        (GoesOn journal.old journal.new (H.state host.old) (H.state host.new) (entry_in entry.now)) }
     ensures open { OnOk result (journal.new.closed ≡ false) }
-    ensures bytes { OnOk result (Told (H.state host.old) ((g : Graph) → IsJournalOf journal.old (H.state host.old).file g
-        → ((H.state host.new).file ≡ (H.state host.old).file) ⊎ IsRecorded (H.state host.old).file (H.state host.new).file)) }
-    ensures durable { OnOk result (Told (H.state host.old) (Only (H.state host.old).file (H.state host.old).may_leave → Only (H.state host.new).file (H.state host.new).may_leave)) }
+    ensures bytes { OnOk result (RecordsAtMost journal.old (H.state host.old) (H.state host.new)) }
+    ensures durable { OnOk result (StaysDurable (H.state host.old) (H.state host.new)) }
     ensures quiet { OnOk result (entry.now ≡ None → host.new ≡ host.old) }
-    ensures stop { Told (H.state host.old) (Only (H.state host.old).file (H.state host.old).may_leave → (g now : Graph) → IsJournalOf journal.old (H.state host.old).file g → LeadsTo g (option_map entry_of entry.now) now
-        → Elapses (H.state host.old) (H.state host.new) (BeforeOrAfter (H.state host.old) g now)) }
+    ensures stop { LeavesOne journal.old (H.state host.old) (H.state host.new) (entry_in entry.now) }
     ensures out { (H.state host.new).out ≡ (H.state host.old).out }
     ensures tells { (H.state host.new).tells ≡ (H.state host.old).tells }
     ensures only_these { IfErr result (λ e. (e ≡ DiskFault) ⊎ (e ≡ NoMemory)) }
-    ensures disk_fault { IsErrOf result DiskFault → Rises (H.state host.old).disk_faults (H.state host.new).disk_faults }
+    ensures disk_fault { IsErrOf result DiskFault → FailsOnDisk (H.state host.old) (H.state host.new) }
     ensures disk { (H.state host.old).disk_faults ≤ (H.state host.new).disk_faults }
     ensures outs { (H.state host.old).out_faults ≤ (H.state host.new).out_faults }
 {

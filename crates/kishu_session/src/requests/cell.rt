@@ -1,23 +1,17 @@
 // One cell: it runs on the live state, and is committed.
-ghost use Rattle.std.specs.Prelude.{◌≡◌, ◌≤◌, ◌<◌, ◌+◌, ◌∷◌, [], length, suc, None, IfOk, OnOk, IfSome, IsErrOf, IsSome};
+ghost use Rattle.std.specs.Prelude.{◌≡◌, ◌≤◌, ◌<◌, ◌∷◌, [], length, None, IfOk, OnOk, IsErrOf, IsSome};
 ghost use Rattle.std.specs.Rc.{rc_str_bytes};
 ghost use Rattle.kishu_language.specs.declared.profile.Profile.TheVariants.{One};
 ghost use Rattle.kishu_language.specs.Limits.{longest_text};
 ghost use Rattle.kishu_store.specs.Entries.{commit, plain};
-ghost use Rattle.kishu_store.specs.Graph.{Graph, newest, with_commit, count_of};
 ghost use Rattle.kishu_store.specs.Limits.{most_records};
 ghost use Rattle.kishu_store.specs.Rules.{IsRecord};
-ghost use Rattle.kishu_graph.specs.Kept.{HasShapeOf, StandsFor};
-ghost use Rattle.kishu_replay.specs.Replay.{replay, IsFull};
-ghost use Rattle.kishu_model.specs.Request.{cell};
-ghost use Rattle.kishu_model.specs.Step.{charge_of, step};
+ghost use Rattle.kishu_replay.specs.Replay.{IsFull};
 ghost use Rattle.kishu_record.specs.Entries.{entry_of};
-ghost use Rattle.kishu_model.specs.Values.{answer_of};
-ghost use Rattle.kishu_session.specs.Head.{IsAt, Keeps};
+ghost use Rattle.kishu_session.specs.Asked.{cell_for};
+ghost use Rattle.kishu_session.specs.Head.{IsNextNumber, StandsWith, KeepsWith, CountsCell};
 ghost use Rattle.kishu_session.specs.Lives.{state_of};
-ghost use Rattle.kishu_session.specs.Known.{IsGraphOf};
-ghost use Rattle.kishu_session.specs.Prepared.{IsPrepared, IsAnswered};
-ghost use Rattle.kishu_session.specs.Refusing.{RefusesAs};
+ghost use Rattle.kishu_session.specs.Prepared.{Prepares, RefusesFor, AnswersAt, MayBeRecorded, CountsAt, FillsAt};
 ghost use Rattle.kishu_session.specs.declared.live.Unrun.TheVariants.{HeapFull};
 
 use crate::cells::push_one;
@@ -55,10 +49,10 @@ impl Head {
     fn add_cell(&mut self, text: &RcStr) -> Result<u32, Unrun>
         requires short { length (rc_str_bytes text.now) ≤ longest_text }
         requires room { self.old.graph.records < most_records }
-        ensures number { IfOk result (λ n. (g : Graph) → HasShapeOf self.old.graph g → n ≡ suc (newest g)) }
-        ensures stands { OnOk result ((g : Graph) → StandsFor self.old.graph g → StandsFor self.new.graph (with_commit One (rc_str_bytes text.now ∷ []) g)) }
-        ensures keeps { OnOk result ((g : Graph) → Keeps self.old g → Keeps self.new (with_commit One (rc_str_bytes text.now ∷ []) g)) }
-        ensures count { OnOk result ((g : Graph) → Keeps self.old g → self.old.cells ≡ count_of g g.head.commit → self.new.cells ≡ suc (count_of g g.head.commit)) }
+        ensures number { IfOk result (IsNextNumber self.old.graph) }
+        ensures stands { OnOk result (StandsWith self.old.graph self.new.graph (rc_str_bytes text.now)) }
+        ensures keeps { OnOk result (KeepsWith self.old self.new (rc_str_bytes text.now)) }
+        ensures count { OnOk result (CountsCell self.old self.new) }
         ensures live { self.new.live ≡ self.old.live }
         ensures not_full { IsErrOf result HeapFull → ⊥ }
     {
@@ -79,13 +73,13 @@ impl Head {
     ) -> Result<Prepared, Unrun>
         requires short { length (rc_str_bytes text.now) ≤ longest_text }
         requires room { self.old.graph.records < most_records }
-        ensures prepared { IfOk result (λ p. (g : Graph) → IsGraphOf self.old.graph g → IsPrepared g (cell (rc_str_bytes text.now)) p self.new.graph) }
-        ensures refuses { IfOk result (λ p. (g : Graph) → StandsFor self.old.graph g → RefusesAs (answer_of p.answer) (step g (cell (rc_str_bytes text.now))).answer) }
-        ensures answered { IfOk result (λ p. (g : Graph) → IsAt self.old g → IsAnswered g (cell (rc_str_bytes text.now)) p self.new) }
-        ensures record { IfOk result (λ p. IfSome p.entry (λ e. IsRecord (plain (entry_of e)))) }
+        ensures prepared { IfOk result (Prepares self.old.graph self.new.graph (cell_for text.now)) }
+        ensures refuses { IfOk result (λ p. RefusesFor self.old.graph (cell_for text.now) p.answer) }
+        ensures answered { IfOk result (AnswersAt self.old self.new (cell_for text.now)) }
+        ensures record { IfOk result MayBeRecorded }
         ensures some { IfOk result (λ p. IsSome p.entry) }
-        ensures least { OnOk result ((g : Graph) → IsAt self.old g → steps.old + charge_of g (cell (rc_str_bytes text.now)) ≤ steps.new) }
-        ensures full { IsErrOf result HeapFull → (g : Graph) → IsAt self.old g → IsFull (replay g g.head.commit) }
+        ensures least { OnOk result (CountsAt self.old (cell_for text.now) steps.old steps.new) }
+        ensures full { IsErrOf result HeapFull → FillsAt self.old (cell_for text.now) }
         ensures beyond { IsErrOf result HeapFull → IsFull (state_of self.new.live) }
     {
         self.live.clear_record();
@@ -109,13 +103,13 @@ impl Head {
         text: &RcStr,
         steps: &mut Steps<L>,
     ) -> Result<Prepared, Unrun>
-        ensures prepared { IfOk result (λ p. (g : Graph) → IsGraphOf self.old.graph g → IsPrepared g (cell (rc_str_bytes text.now)) p self.new.graph) }
-        ensures refuses { IfOk result (λ p. (g : Graph) → StandsFor self.old.graph g → RefusesAs (answer_of p.answer) (step g (cell (rc_str_bytes text.now))).answer) }
-        ensures answered { IfOk result (λ p. (g : Graph) → IsAt self.old g → IsAnswered g (cell (rc_str_bytes text.now)) p self.new) }
-        ensures record { IfOk result (λ p. IfSome p.entry (λ e. IsRecord (plain (entry_of e)))) }
+        ensures prepared { IfOk result (Prepares self.old.graph self.new.graph (cell_for text.now)) }
+        ensures refuses { IfOk result (λ p. RefusesFor self.old.graph (cell_for text.now) p.answer) }
+        ensures answered { IfOk result (AnswersAt self.old self.new (cell_for text.now)) }
+        ensures record { IfOk result MayBeRecorded }
         ensures stays { IfOk result (λ p. p.entry ≡ None → self.new ≡ self.old) }
-        ensures least { OnOk result ((g : Graph) → IsAt self.old g → steps.old + charge_of g (cell (rc_str_bytes text.now)) ≤ steps.new) }
-        ensures full { IsErrOf result HeapFull → (g : Graph) → IsAt self.old g → IsFull (replay g g.head.commit) }
+        ensures least { OnOk result (CountsAt self.old (cell_for text.now) steps.old steps.new) }
+        ensures full { IsErrOf result HeapFull → FillsAt self.old (cell_for text.now) }
         ensures beyond { IsErrOf result HeapFull → IsFull (state_of self.new.live) }
     {
         if text.len() > LONGEST_TEXT {

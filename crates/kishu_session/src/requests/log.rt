@@ -1,17 +1,8 @@
 // The log: the branches, and the commits from the head's back to the first.
-ghost use Rattle.std.specs.Prelude.{◌≡◌, ◌<◌, None, IfOk, IsErrOf, length, map};
-ghost use Rattle.kishu_store.specs.Graph as model;
-ghost use Rattle.kishu_store.specs.Graph.{back};
-ghost use Rattle.kishu_graph.specs.Kept.{StandsFor};
+ghost use Rattle.std.specs.Prelude.{◌≡◌, ◌<◌, None, IfOk, IsErrOf, length};
 ghost use Rattle.kishu_model.specs.Request.{log};
-ghost use Rattle.kishu_model.specs.Step.{step};
-ghost use Rattle.kishu_model.specs.Values.{answer_of, row_of};
-ghost use Rattle.kishu_model.specs.requests.Log.{row_of as told};
-ghost use Rattle.kishu_session.specs.Head.{IsAt};
-ghost use Rattle.kishu_session.specs.Known.{IsGraphOf};
-ghost use Rattle.kishu_session.specs.LogRows.{row_at};
-ghost use Rattle.kishu_session.specs.Prepared.{IsPrepared, IsAnswered};
-ghost use Rattle.kishu_session.specs.Refusing.{RefusesAs};
+ghost use Rattle.kishu_session.specs.LogRows.{IsRowOf, AreRowsBack};
+ghost use Rattle.kishu_session.specs.Prepared.{Prepares, RefusesFor, AnswersAt};
 ghost use Rattle.kishu_session.specs.declared.live.Unrun.TheVariants.{HeapFull};
 
 use crate::head::Head;
@@ -25,7 +16,7 @@ use std::alloc::{AllocError, Global};
 fn row(graph: &Graph, commit: u32) -> Result<PathRow, AllocError>
     requires there { commit < length graph.now.commits }
     requires not_root { 0 < commit }
-    ensures row { IfOk result (λ r. (g : model.Graph) → StandsFor graph.now g → row_of r ≡ row_at g.commits commit) }
+    ensures row { IfOk result (IsRowOf graph.now commit) }
     ensures older { IfOk result (λ r. r.parent < commit) }
 {
     Ok(PathRow {
@@ -38,7 +29,7 @@ fn row(graph: &Graph, commit: u32) -> Result<PathRow, AllocError>
 
 /// The commits from the head's back to the first.
 fn rows(alloc: Global, graph: &Graph) -> Result<Vec<PathRow>, AllocError>
-    ensures { IfOk result (λ v. (g : model.Graph) → IsGraphOf graph.now g → map row_of v.items ≡ map told (back g g.head.commit)) }
+    ensures { IfOk result (λ v. AreRowsBack graph.now v.items) }
 {
     let mut rows = Vec::new(alloc);
     let mut commit = graph.head().commit;
@@ -53,9 +44,9 @@ fn rows(alloc: Global, graph: &Graph) -> Result<Vec<PathRow>, AllocError>
 impl Head {
     /// Tells the branches and the path to the head.
     pub(crate) fn log(&self) -> Result<Prepared, Unrun>
-        ensures prepared { IfOk result (λ p. (g : model.Graph) → IsGraphOf self.now.graph g → IsPrepared g log p self.now.graph) }
-        ensures refuses { IfOk result (λ p. (g : model.Graph) → StandsFor self.now.graph g → RefusesAs (answer_of p.answer) (step g log).answer) }
-        ensures answered { IfOk result (λ p. (g : model.Graph) → IsAt self.now g → IsAnswered g log p self.now) }
+        ensures prepared { IfOk result (Prepares self.now.graph self.now.graph log) }
+        ensures refuses { IfOk result (λ p. RefusesFor self.now.graph log p.answer) }
+        ensures answered { IfOk result (AnswersAt self.now self.now log) }
         ensures entry { IfOk result (λ p. p.entry ≡ None) }
         ensures not_full { IsErrOf result HeapFull → ⊥ }
     {

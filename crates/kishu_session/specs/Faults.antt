@@ -1,0 +1,6 @@
+-- Which faults a host's calls had.
+use Rattle.kishu_host.specs.Host.{State, Rises}
+
+-- A call of the disk failed meanwhile.
+abbrev pub FailsOnDisk : (s t : State) → Type 0
+FailsOnDisk s t = Rises s.disk_faults t.disk_faults
