@@ -2,5 +2,5 @@
 use Rattle.kishu_host.specs.Host.{State, Rises}
 
 -- A call of the disk failed meanwhile.
-abbrev pub FailsOnDisk : (s t : State) → Type 0
-FailsOnDisk s t = Rises s.disk_faults t.disk_faults
+abbrev pub DiskFailed : (s t : State) → Type 0
+DiskFailed s t = Rises s.disk_faults t.disk_faults

@@ -4,7 +4,7 @@ ghost use Rattle.kishu_replay.specs.Replay.{IsFull};
 ghost use Rattle.kishu_model.specs.Values.{request_of, answer_of};
 ghost use Rattle.kishu_session.specs.Applying.{IsAnswer, StaysAttached, Fills, Counts, StaysAtEnd, RecordsOne, LeavesBeforeOrAfter};
 ghost use Rattle.kishu_session.specs.Attached.{IsReady};
-ghost use Rattle.kishu_session.specs.Faults.{FailsOnDisk};
+ghost use Rattle.kishu_session.specs.Faults.{DiskFailed};
 ghost use Rattle.kishu_session.specs.Lives.{state_of};
 ghost use Rattle.kishu_session.specs.Prepared.{RefusesFor};
 ghost use Rattle.kishu_session.specs.Refusing.{IsRefusal};
@@ -59,7 +59,7 @@ impl Session {
         ensures closed { IsErrOf result Closed ↔ (self.old.halted ≡ true) }
         ensures untouched { IsErrOf result Closed → host.new ≡ host.old }
         ensures halted { (self.new.halted ≡ true) ↔ IsErr result }
-        ensures disk_fault { IsErrOf result DiskFault → FailsOnDisk (H.state host.old) (H.state host.new) }
+        ensures disk_fault { IsErrOf result DiskFault → DiskFailed (H.state host.old) (H.state host.new) }
         ensures heap_full { IsErrOf result HeapFull → Fills self.old (H.state host.old) request.now }
         ensures beyond { IsErrOf result HeapFull → IsFull (state_of self.new.head.live) }
         ensures only_these { IfErr result (λ e.

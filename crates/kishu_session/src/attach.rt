@@ -3,7 +3,7 @@ ghost use Rattle.std.specs.Prelude.{◌≡◌, ◌≤◌, ℕ, false, IfOk, OnOk
 ghost use Rattle.kishu_host.specs.Host.{Told};
 ghost use Rattle.kishu_session.specs.Attached.{StandsAtEnd};
 ghost use Rattle.kishu_session.specs.Attaching.{Attaches, CountsCells, IsBegun, KeepsGraphs, KeepsBad, SettlesUnless, LeavesGraph, FindsForeign, FindsBroken, FindsFull};
-ghost use Rattle.kishu_session.specs.Faults.{FailsOnDisk};
+ghost use Rattle.kishu_session.specs.Faults.{DiskFailed};
 ghost use Rattle.kishu_session.specs.Written.{HoldsSome};
 ghost use Rattle.kishu_session.specs.declared.halt.Halt.TheVariants.{NotAJournal, Damaged, DiskFault, HeapFull, Closed};
 
@@ -50,7 +50,7 @@ impl Session {
         // Each halt has its cause.
         ensures foreign { IsErrOf result NotAJournal → FindsForeign (H.state host.old) }
         ensures damaged { (at : ℕ) → IsErrOf result (Damaged at) → FindsBroken (H.state host.old) at }
-        ensures disk_fault { IsErrOf result DiskFault → FailsOnDisk (H.state host.old) (H.state host.new) }
+        ensures disk_fault { IsErrOf result DiskFault → DiskFailed (H.state host.old) (H.state host.new) }
         ensures heap_full { IsErrOf result HeapFull → FindsFull (H.state host.old) }
         ensures not_closed { IsErrOf result Closed → ⊥ }
         ensures disk { (H.state host.old).disk_faults ≤ (H.state host.new).disk_faults }

@@ -4,7 +4,7 @@ ghost use Rattle.kishu_host.specs.Host.{Told};
 ghost use Rattle.kishu_store.specs.Entries.{plain};
 ghost use Rattle.kishu_store.specs.Rules.{IsRecord};
 ghost use Rattle.kishu_record.specs.Entries.{entry_of};
-ghost use Rattle.kishu_session.specs.Faults.{FailsOnDisk};
+ghost use Rattle.kishu_session.specs.Faults.{DiskFailed};
 ghost use Rattle.kishu_session.specs.Recording.{entry_in, MayGoOn, GoesOn, Records, RecordsAtMost, IsDurable, StaysDurable, LeavesOne};
 ghost use Rattle.kishu_session.specs.declared.halt.Halt.TheVariants.{DiskFault, NoMemory};
 
@@ -34,7 +34,7 @@ fn append_entry<H: Host>(
     ensures out { (H.state host.new).out ≡ (H.state host.old).out }
     ensures tells { (H.state host.new).tells ≡ (H.state host.old).tells }
     ensures only_these { IfErr result (λ e. (e ≡ DiskFault) ⊎ (e ≡ NoMemory)) }
-    ensures disk_fault { IsErrOf result DiskFault → FailsOnDisk (H.state host.old) (H.state host.new) }
+    ensures disk_fault { IsErrOf result DiskFault → DiskFailed (H.state host.old) (H.state host.new) }
     ensures disk { (H.state host.old).disk_faults ≤ (H.state host.new).disk_faults }
     ensures outs { (H.state host.old).out_faults ≤ (H.state host.new).out_faults }
 {
@@ -70,7 +70,7 @@ pub(crate) fn record<H: Host>(
     ensures out { (H.state host.new).out ≡ (H.state host.old).out }
     ensures tells { (H.state host.new).tells ≡ (H.state host.old).tells }
     ensures only_these { IfErr result (λ e. (e ≡ DiskFault) ⊎ (e ≡ NoMemory)) }
-    ensures disk_fault { IsErrOf result DiskFault → FailsOnDisk (H.state host.old) (H.state host.new) }
+    ensures disk_fault { IsErrOf result DiskFault → DiskFailed (H.state host.old) (H.state host.new) }
     ensures disk { (H.state host.old).disk_faults ≤ (H.state host.new).disk_faults }
     ensures outs { (H.state host.old).out_faults ≤ (H.state host.new).out_faults }
 {
