@@ -1,7 +1,6 @@
 // An input that is read line by line.
-ghost use Rattle.std.specs.Prelude.{◌≡◌, ◌≢◌, ◌≤◌, ◌<◌, ◌+◌, ◌^◌, ◌∷◌, ◌++◌, [], ℕ, List, length, true, false, None, Ok, Err, IfOk, IfSome, IsErrOf, IsSome, OnOk, OnErr, vec_len};
-ghost use Rattle.kishu_host.specs.Host.{Rises};
-ghost use Rattle.kishu_input.specs.Begun.{GoesOn, Ends, Stops};
+ghost use Rattle.std.specs.Prelude.{◌≡◌, ◌≢◌, ◌≤◌, ◌<◌, ◌+◌, ◌^◌, ◌++◌, [], length, true, false, None, Ok, Err, IfOk, IfSome, IsErrOf, OnOk, OnErr, vec_len};
+ghost use Rattle.kishu_input.specs.Sources.{InputFailed};
 ghost use Rattle.kishu_input.specs.declared.whole.InputStop.TheVariants.{Fault, TooLong};
 
 use crate::InputStop;
@@ -34,7 +33,8 @@ pub struct LineReader {
 }
 
 impl LineReader {
-    ghost use Rattle.kishu_input.specs.Lines.{ahead, lines_left, limit_left};
+    ghost use Rattle.kishu_input.specs.Lines.{ahead};
+    ghost use Rattle.kishu_input.specs.Telling.{IsNextLine, IsAtEnd, IsAtLimit, bytes_taken, KeepsCount, KeepsBytes, IsTaken, IsUsedUp, TakesSome, LineGoesOn, LineEnds, LineStops};
 
     /// A reader that has read nothing.
     pub fn new(alloc: Global) -> LineReader
@@ -59,25 +59,21 @@ impl LineReader {
     /// - `NoMemory`: there was no memory.
     pub fn next<S: Source>(&mut self, source: &mut S) -> Result<Option<Vec<u8>>, InputStop>
         // The line is the first of those that are to come, and a limit stays where it is.
-        ensures line { IfOk result (λ found. IfSome found (λ line. (S.source source.old).tells ≡ true
-            → (lines_left self.old (S.source source.old).left ≡ line.items ∷ lines_left self.new (S.source source.new).left)
-            × (limit_left self.old (S.source source.old).left ≡ limit_left self.new (S.source source.new).left))) }
+        ensures line { IfOk result (λ found. IfSome found (λ line.
+            IsNextLine self.old (S.source source.old) self.new (S.source source.new) line.items)) }
 
         // At the end no line is to come, no limit was reached, and nothing is left.
-        ensures end { result ≡ Ok None → (S.source source.old).tells ≡ true
-            → (lines_left self.old (S.source source.old).left ≡ []) × (limit_left self.old (S.source source.old).left ≡ None) × ((S.source source.new).left ≡ []) }
+        ensures end { result ≡ Ok None → IsAtEnd self.old (S.source source.old) (S.source source.new) }
 
         // A limit is told once the lines before it were.
-        ensures too_long { IsErrOf result TooLong → (S.source source.old).tells ≡ true
-            → (lines_left self.old (S.source source.old).left ≡ []) × IsSome (limit_left self.old (S.source source.old).left) }
+        ensures too_long { IsErrOf result TooLong → IsAtLimit self.old (S.source source.old) }
 
         // Each byte that was taken is told or ahead, and with each line the reader comes further.
-        ensures taken { (S.source source.old).tells ≡ true
-            → self.old.before + length (ahead self.old) + length (S.source source.old).left ≡ self.new.before + length (ahead self.new) + length (S.source source.new).left }
+        ensures taken { KeepsCount self.old (S.source source.old) self.new (S.source source.new) }
         ensures further { IfOk result (λ found. IfSome found (λ line. self.old.before < self.new.before)) }
 
         ensures tells { (S.source source.new).tells ≡ (S.source source.old).tells }
-        ensures fault { IsErrOf result Fault → Rises (S.source source.old).in_faults (S.source source.new).in_faults }
+        ensures fault { IsErrOf result Fault → InputFailed (S.source source.old) (S.source source.new) }
         ensures faults { (S.source source.old).in_faults ≤ (S.source source.new).in_faults }
     {
         let mut line = Vec::new(self.alloc);
@@ -97,13 +93,13 @@ impl LineReader {
     /// - `Fault`: the source failed.
     /// - `NoMemory`: there was no memory.
     fn has_more<S: Source>(&mut self, source: &mut S) -> Result<bool, InputStop>
-        ensures left { (S.source source.old).tells ≡ true → ahead self.old ++ (S.source source.old).left ≡ ahead self.new ++ (S.source source.new).left }
+        ensures left { KeepsBytes self.old (S.source source.old) self.new (S.source source.new) }
         ensures before { self.new.before ≡ self.old.before }
         ensures some { IfOk result (λ some. some ≡ true → self.new.at < vec_len self.new.taken) }
-        ensures end { result ≡ Ok false → (S.source source.old).tells ≡ true → (ahead self.new ≡ []) × ((S.source source.new).left ≡ []) }
+        ensures end { result ≡ Ok false → IsUsedUp (S.source source.old) self.new (S.source source.new) }
         ensures cause { result ≢ Err TooLong }
         ensures tells { (S.source source.new).tells ≡ (S.source source.old).tells }
-        ensures fault { IsErrOf result Fault → Rises (S.source source.old).in_faults (S.source source.new).in_faults }
+        ensures fault { IsErrOf result Fault → InputFailed (S.source source.old) (S.source source.new) }
         ensures faults { (S.source source.old).in_faults ≤ (S.source source.new).in_faults }
     {
         if self.at < self.taken.len() {
@@ -119,13 +115,13 @@ impl LineReader {
     /// - `NoMemory`: there was no memory.
     fn refill<S: Source>(&mut self, source: &mut S) -> Result<(), InputStop>
         requires { self.old.at ≡ vec_len self.old.taken }
-        ensures left { (S.source source.old).tells ≡ true → (S.source source.old).left ≡ ahead self.new ++ (S.source source.new).left }
-        ensures end { OnOk result ((S.source source.old).tells ≡ true → self.new.taken.items ≡ [] → (S.source source.new).left ≡ []) }
+        ensures left { IsTaken (S.source source.old) self.new (S.source source.new) }
+        ensures end { OnOk result (TakesSome (S.source source.old) self.new (S.source source.new)) }
         ensures at { self.new.at ≡ 0 }
         ensures before { self.new.before ≡ self.old.before }
         ensures cause { result ≢ Err TooLong }
         ensures tells { (S.source source.new).tells ≡ (S.source source.old).tells }
-        ensures fault { IsErrOf result Fault → Rises (S.source source.old).in_faults (S.source source.new).in_faults }
+        ensures fault { IsErrOf result Fault → InputFailed (S.source source.old) (S.source source.new) }
         ensures faults { (S.source source.old).in_faults ≤ (S.source source.new).in_faults }
     {
         self.at = 0;
@@ -147,13 +143,14 @@ impl LineReader {
     /// - `NoMemory`: there was no memory.
     fn read_on(&mut self, line: &mut Vec<u8>) -> Result<bool, InputStop>
         requires { self.old.at < vec_len self.old.taken }
-        ensures goes_on { result ≡ Ok false → (rest : List ℕ) → GoesOn line.old.items self.old.before (ahead self.old ++ rest) line.new.items self.new.before (ahead self.new ++ rest) }
-        ensures ends { result ≡ Ok true → (rest : List ℕ) → Ends line.old.items self.old.before (ahead self.old ++ rest) line.new.items self.new.before (ahead self.new ++ rest) }
-        ensures too_long { IsErrOf result TooLong → (rest : List ℕ) → Stops line.old.items self.old.before (ahead self.old ++ rest) }
+        ensures goes_on { result ≡ Ok false → LineGoesOn self.old line.old.items self.new line.new.items }
+        ensures ends { result ≡ Ok true → LineEnds self.old line.old.items self.new line.new.items }
+        ensures too_long { IsErrOf result TooLong → LineStops self.old line.old.items }
         ensures cause { result ≢ Err Fault }
-        ensures counted { result ≡ Ok false → self.new.before + vec_len line.old ≡ self.old.before + vec_len line.new }
+        ensures counted { result ≡ Ok false
+            → self.new.before + vec_len line.old ≡ self.old.before + vec_len line.new }
         ensures further { IfOk result (λ _. self.old.before < self.new.before) }
-        ensures taken { self.new.before + length (ahead self.new) ≡ self.old.before + length (ahead self.old) }
+        ensures taken { bytes_taken self.new ≡ bytes_taken self.old }
     {
         while self.at < self.taken.len() {
             let byte = self.taken[self.at];

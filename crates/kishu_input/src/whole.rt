@@ -1,7 +1,7 @@
 // An input that is read whole.
 ghost use Rattle.std.specs.Prelude.{◌≡◌, ◌≤◌, ◌<◌, ◌+◌, ◌-◌, ◌++◌, [], length, take, drop, true, IfOk, IsErrOf};
-ghost use Rattle.kishu_host.specs.Host.{Rises};
 ghost use Rattle.kishu_language.specs.Limits.{longest_text};
+ghost use Rattle.kishu_input.specs.Sources.{InputFailed, IsAllLeft, TakesMoreThan, TakesAtMost};
 ghost use Rattle.kishu_input.specs.declared.whole.InputStop.TheVariants.{Fault, TooLong};
 
 use kishu_host::Source;
@@ -25,11 +25,12 @@ pub enum InputStop {
 /// - `TooLong`: it has more than 1,048,576 bytes left. At most 4,096 bytes more than that were taken.
 /// - `NoMemory`: there was no memory.
 pub fn read_input<S: Source>(alloc: Global, source: &mut S) -> Result<Vec<u8>, InputStop>
-    ensures whole { IfOk result (λ v. (S.source source.old).tells ≡ true → (v.items ≡ (S.source source.old).left) × ((S.source source.new).left ≡ [])) }
+    ensures whole { IfOk result (λ v. IsAllLeft (S.source source.old) (S.source source.new) v.items) }
     ensures short { IfOk result (λ v. length v.items ≤ longest_text) }
-    ensures too_long { IsErrOf result TooLong → (S.source source.old).tells ≡ true → longest_text + length (S.source source.new).left < length (S.source source.old).left }
-    ensures taken { (S.source source.old).tells ≡ true → length (S.source source.old).left ≤ longest_text + 4096 + length (S.source source.new).left }
-    ensures fault { IsErrOf result Fault → Rises (S.source source.old).in_faults (S.source source.new).in_faults }
+    ensures too_long { IsErrOf result TooLong
+        → TakesMoreThan longest_text (S.source source.old) (S.source source.new) }
+    ensures taken { TakesAtMost (longest_text + 4096) (S.source source.old) (S.source source.new) }
+    ensures fault { IsErrOf result Fault → InputFailed (S.source source.old) (S.source source.new) }
     ensures faults { (S.source source.old).in_faults ≤ (S.source source.new).in_faults }
     ensures tells { (S.source source.new).tells ≡ (S.source source.old).tells }
 {
