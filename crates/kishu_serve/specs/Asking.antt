@@ -1,11 +1,12 @@
 -- What a run is asked.
-use Rattle.std.specs.Prelude.{◌≡◌, ℕ, ◌+◌, ◌-◌, ◌^◌, Bool, true, false, List, [], ◌∷◌, map, length, IsSome}
+use Rattle.std.specs.Prelude.{◌≡◌, ◌↔◌, ℕ, ◌+◌, ◌-◌, ◌^◌, Bool, true, false, List, [], ◌∷◌, map, length, Some, None, IsSome}
 use Rattle.kishu_host.specs.Source.{SourceState}
 use Rattle.kishu_model.specs.Request.{Request, unreadable}
 use Rattle.kishu_model.specs.Task as model
-use Rattle.kishu_model.specs.Task.{line_request}
+use Rattle.kishu_model.specs.Task.{cell_request, line_request, limit_place, session_limits, task}
 use Rattle.kishu_model.specs.Values.{request_of}
 use Rattle.kishu_input.specs.Lines.{ahead, lines_left, limit_left}
+use Rattle.kishu_input.specs.declared.lines.LineReader.{LineReader}
 use Rattle.kishu_serve.specs.declared.asking.Asked.{Asked}
 use Rattle.kishu_serve.specs.declared.asking.Asked.TheVariants as asked
 use Rattle.kishu_serve.specs.declared.asking.Requests.{Requests}
@@ -75,3 +76,49 @@ abbrev pub KnowsForm : model.Form → SourceState → Type 0
 KnowsForm model.one_cell s = s.tells ≡ true
 KnowsForm model.session s = s.tells ≡ true
 KnowsForm (model.one_request q) s = Unit {0}
+
+-- ---- one call for the next request: of what is to come and the source before it and after it
+
+-- This request is the first of those to come, and a limit stays where it is.
+abbrev pub IsNext : Requests → SourceState → Requests → SourceState → Request → Type 0
+IsNext old from new to q = Knows old from
+    → (to_come old from.left ≡ q ∷ to_come new to.left)
+    × (IsLimited new to → IsLimited old from) × (IsLimited old from → IsLimited new to)
+
+-- None is to come, no limit was reached, and lines were read to the end.
+abbrev pub IsAtEnd : Requests → SourceState → SourceState → Type 0
+IsAtEnd old from to = Knows old from → (to_come old from.left ≡ []) × (IsLimited old from → ⊥) × IsRead old to
+
+-- None is to come, and a limit is reached.
+abbrev pub IsAtLimit : Requests → SourceState → Type 0
+IsAtLimit old from = Knows old from → (to_come old from.left ≡ []) × IsLimited old from
+
+-- Each byte that was taken is counted.
+abbrev pub KeepsTaken : Requests → SourceState → Requests → SourceState → Type 0
+KeepsTaken old from new to = from.tells ≡ true → taken_by old + length from.left ≡ taken_by new + length to.left
+
+-- So it is with the lines that a reader tells.
+abbrev pub IsNextOfLines : LineReader → SourceState → LineReader → SourceState → Request → Type 0
+IsNextOfLines old from new to q = from.tells ≡ true
+    → (to_come (Lines old) from.left ≡ q ∷ to_come (Lines new) to.left) × (limit_left old from.left ≡ limit_left new to.left)
+
+abbrev pub IsAtEndOfLines : LineReader → SourceState → SourceState → Type 0
+IsAtEndOfLines old from to = from.tells ≡ true
+    → (to_come (Lines old) from.left ≡ []) × (limit_left old from.left ≡ None) × (to.left ≡ [])
+
+abbrev pub IsAtLimitOfLines : LineReader → SourceState → Type 0
+IsAtLimitOfLines old from = from.tells ≡ true → (to_come (Lines old) from.left ≡ []) × IsSome (limit_left old from.left)
+
+-- ---- what a form asks for: of the source before its requests are made and after it
+
+-- They are those of the run.
+abbrev pub AsksFor : model.Form → SourceState → Requests → SourceState → Type 0
+AsksFor form from rs to = KnowsForm form from → to_come rs to.left ≡ task (Some form) from.left
+
+-- They are the one that some bytes are as a cell.
+abbrev pub IsOneCell : Requests → Type 0
+IsOneCell rs = (input : List ℕ) × ((left : List ℕ) → to_come rs left ≡ cell_request input ∷ [])
+
+-- A limit is reached where the whole input reaches one.
+abbrev pub KeepsLimit : SourceState → Requests → SourceState → Type 0
+KeepsLimit from rs to = IsLimited rs to ↔ IsSome (limit_place session_limits from.left)

@@ -4,4 +4,6 @@ pub mod Asking
 pub mod Recorded
 pub mod Headline
 pub mod Filling
+pub mod Promise
+pub mod Serving
 pub mod Stops

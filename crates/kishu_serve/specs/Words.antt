@@ -46,3 +46,7 @@ form_in (store ∷ command ∷ first ∷ second ∷ third ∷ words) = None
 
 abbrev pub form_of : List (List ℕ) → Option Form
 form_of words = if list_all is_plain_word words then form_in words else None
+
+-- what the words of a command line ask for
+abbrev pub form_named : List (String Global) → Option Form
+form_named words = form_of (texts words)

@@ -1,13 +1,12 @@
 // What a run is asked: requests, one after another.
-ghost use Rattle.std.specs.Prelude.{◌≡◌, ◌≤◌, ◌<◌, ◌↔◌, ◌+◌, ◌∷◌, [], ℕ, List, length, true, false, Some, None, Ok, IfOk, IfSome, IsSome, OnOk, IsErr, IsErrOf, option_map, unwrap_or};
-ghost use Rattle.kishu_host.specs.Host.{Rises};
+ghost use Rattle.std.specs.Prelude.{◌≡◌, ◌≤◌, ◌<◌, ◌+◌, [], length, true, false, None, Ok, IfOk, IfSome, OnOk, IsErr, IsErrOf, option_map, unwrap_or};
 ghost use Rattle.kishu_language.specs.Limits.{longest_text};
 ghost use Rattle.kishu_model.specs.Request.{unreadable};
-ghost use Rattle.kishu_model.specs.Task.{task, one_cell, session, cell_request, line_request, limit_place, session_limits};
+ghost use Rattle.kishu_model.specs.Task.{one_cell, session, cell_request, line_request};
 ghost use Rattle.kishu_model.specs.Values.{request_of};
-ghost use Rattle.kishu_input.specs.Lines.{ahead, limit_left};
-ghost use Rattle.kishu_serve.specs.Asking.{asked_of, form_by, to_come, reads_lines, is_session, taken_by, turns_left, Knows, KnowsForm, IsLimited, IsRead};
-ghost use Rattle.kishu_serve.specs.declared.asking.Requests.TheVariants.{Lines};
+ghost use Rattle.kishu_input.specs.Sources.{InputFailed, TakesMoreThan, TakesAtMost};
+ghost use Rattle.kishu_input.specs.Telling.{KeepsCount};
+ghost use Rattle.kishu_serve.specs.Asking.{asked_of, form_by, reads_lines, is_session, taken_by, turns_left, IsNext, IsAtEnd, IsAtLimit, KeepsTaken, IsNextOfLines, IsAtEndOfLines, IsAtLimitOfLines, AsksFor, IsOneCell, KeepsLimit};
 ghost use Rattle.kishu_input.specs.declared.whole.InputStop.TheVariants.{Fault, TooLong};
 
 use crate::words::Form;
@@ -73,18 +72,14 @@ fn next_in<S: Source>(
     reader: &mut LineReader,
     source: &mut S,
 ) -> Result<Option<Asked>, InputStop>
-    ensures next { IfOk result (λ found. IfSome found (λ asked. (S.source source.old).tells ≡ true
-        → (to_come (Lines reader.old) (S.source source.old).left ≡ asked_of asked ∷ to_come (Lines reader.new) (S.source source.new).left)
-        × (limit_left reader.old (S.source source.old).left ≡ limit_left reader.new (S.source source.new).left))) }
-    ensures end { result ≡ Ok None → (S.source source.old).tells ≡ true
-        → (to_come (Lines reader.old) (S.source source.old).left ≡ []) × (limit_left reader.old (S.source source.old).left ≡ None) × ((S.source source.new).left ≡ []) }
-    ensures too_long { IsErrOf result TooLong → (S.source source.old).tells ≡ true
-        → (to_come (Lines reader.old) (S.source source.old).left ≡ []) × IsSome (limit_left reader.old (S.source source.old).left) }
-    ensures taken { (S.source source.old).tells ≡ true
-        → reader.old.before + length (ahead reader.old) + length (S.source source.old).left ≡ reader.new.before + length (ahead reader.new) + length (S.source source.new).left }
+    ensures next { IfOk result (λ found. IfSome found (λ asked.
+        IsNextOfLines reader.old (S.source source.old) reader.new (S.source source.new) (asked_of asked))) }
+    ensures end { result ≡ Ok None → IsAtEndOfLines reader.old (S.source source.old) (S.source source.new) }
+    ensures too_long { IsErrOf result TooLong → IsAtLimitOfLines reader.old (S.source source.old) }
+    ensures taken { KeepsCount reader.old (S.source source.old) reader.new (S.source source.new) }
     ensures further { IfOk result (λ found. IfSome found (λ asked. reader.old.before < reader.new.before)) }
     ensures tells { (S.source source.new).tells ≡ (S.source source.old).tells }
-    ensures fault { IsErrOf result Fault → Rises (S.source source.old).in_faults (S.source source.new).in_faults }
+    ensures fault { IsErrOf result Fault → InputFailed (S.source source.old) (S.source source.new) }
     ensures faults { (S.source source.old).in_faults ≤ (S.source source.new).in_faults }
 {
     let Some(line) = reader.next(source)? else {
@@ -103,20 +98,24 @@ impl Requests {
         form: Form,
         source: &mut S,
     ) -> Result<Requests, InputStop>
-        ensures asked { IfOk result (λ rs. KnowsForm (form_by form) (S.source source.old)
-            → to_come rs (S.source source.new).left ≡ task (Some (form_by form)) (S.source source.old).left) }
-        ensures cell { IfOk result (λ rs. form_by form ≡ one_cell → (input : List ℕ) × ((left : List ℕ) → to_come rs left ≡ cell_request input ∷ [])) }
-        ensures limits { IfOk result (λ rs. form_by form ≡ session → (IsLimited rs (S.source source.new) ↔ IsSome (limit_place session_limits (S.source source.old).left))) }
+        ensures asked { IfOk result (λ rs.
+            AsksFor (form_by form) (S.source source.old) rs (S.source source.new)) }
+        ensures cell { IfOk result (λ rs. form_by form ≡ one_cell → IsOneCell rs) }
+        ensures limits { IfOk result (λ rs.
+            form_by form ≡ session → KeepsLimit (S.source source.old) rs (S.source source.new)) }
         ensures lines { IfOk result (λ rs. reads_lines rs ≡ is_session (form_by form)) }
         ensures none_taken { IfOk result (λ rs. taken_by rs ≡ 0) }
-        ensures read { OnOk result (form_by form ≡ one_cell → (S.source source.old).tells ≡ true → (S.source source.new).left ≡ []) }
+        ensures read { OnOk result (form_by form ≡ one_cell
+            → (S.source source.old).tells ≡ true → (S.source source.new).left ≡ []) }
         ensures unread { (form_by form ≡ one_cell → ⊥) → source.new ≡ source.old }
         ensures cells_alone { IsErr result → form_by form ≡ one_cell }
-        ensures too_long { IsErrOf result TooLong → (S.source source.old).tells ≡ true → longest_text + length (S.source source.new).left < length (S.source source.old).left }
-        ensures limit { OnOk result (form_by form ≡ one_cell → (S.source source.old).tells ≡ true → length (S.source source.old).left ≤ longest_text) }
-        ensures taken { (S.source source.old).tells ≡ true → length (S.source source.old).left ≤ longest_text + 4096 + length (S.source source.new).left }
+        ensures too_long { IsErrOf result TooLong
+            → TakesMoreThan longest_text (S.source source.old) (S.source source.new) }
+        ensures limit { OnOk result (form_by form ≡ one_cell
+            → (S.source source.old).tells ≡ true → length (S.source source.old).left ≤ longest_text) }
+        ensures taken { TakesAtMost (longest_text + 4096) (S.source source.old) (S.source source.new) }
         ensures tells { (S.source source.new).tells ≡ (S.source source.old).tells }
-        ensures fault { IsErrOf result Fault → Rises (S.source source.old).in_faults (S.source source.new).in_faults }
+        ensures fault { IsErrOf result Fault → InputFailed (S.source source.old) (S.source source.new) }
         ensures faults { (S.source source.old).in_faults ≤ (S.source source.new).in_faults }
     {
         match form {
@@ -138,23 +137,21 @@ impl Requests {
         alloc: Global,
         source: &mut S,
     ) -> Result<Option<Asked>, InputStop>
-        ensures next { IfOk result (λ found. IfSome found (λ asked. Knows self.old (S.source source.old)
-            → (to_come self.old (S.source source.old).left ≡ asked_of asked ∷ to_come self.new (S.source source.new).left)
-            × (IsLimited self.new (S.source source.new) → IsLimited self.old (S.source source.old))
-            × (IsLimited self.old (S.source source.old) → IsLimited self.new (S.source source.new)))) }
-        ensures end { result ≡ Ok None → Knows self.old (S.source source.old)
-            → (to_come self.old (S.source source.old).left ≡ []) × (IsLimited self.old (S.source source.old) → ⊥) × IsRead self.old (S.source source.new) }
-        ensures too_long { IsErrOf result TooLong → (reads_lines self.old ≡ true) × (Knows self.old (S.source source.old)
-            → (to_come self.old (S.source source.old).left ≡ []) × IsLimited self.old (S.source source.old)) }
+        ensures next { IfOk result (λ found. IfSome found (λ asked.
+            IsNext self.old (S.source source.old) self.new (S.source source.new) (asked_of asked))) }
+        ensures end { result ≡ Ok None → IsAtEnd self.old (S.source source.old) (S.source source.new) }
+        ensures too_long { IsErrOf result TooLong
+            → (reads_lines self.old ≡ true) × IsAtLimit self.old (S.source source.old) }
 
         ensures lines { reads_lines self.new ≡ reads_lines self.old }
-        ensures one_more { IfOk result (λ found. IfSome found (λ asked. turns_left self.new < turns_left self.old)) }
+        ensures one_more { IfOk result (λ found. IfSome found (λ asked.
+            turns_left self.new < turns_left self.old)) }
         ensures alone { reads_lines self.old ≡ false → source.new ≡ source.old }
-        ensures taken { (S.source source.old).tells ≡ true
-            → taken_by self.old + length (S.source source.old).left ≡ taken_by self.new + length (S.source source.new).left }
+        ensures taken { KeepsTaken self.old (S.source source.old) self.new (S.source source.new) }
 
         ensures tells { (S.source source.new).tells ≡ (S.source source.old).tells }
-        ensures fault { IsErrOf result Fault → (reads_lines self.old ≡ true) × Rises (S.source source.old).in_faults (S.source source.new).in_faults }
+        ensures fault { IsErrOf result Fault
+            → (reads_lines self.old ≡ true) × InputFailed (S.source source.old) (S.source source.new) }
         ensures faults { (S.source source.old).in_faults ≤ (S.source source.new).in_faults }
     {
         if let Requests::Lines(reader) = self {

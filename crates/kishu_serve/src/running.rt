@@ -1,13 +1,12 @@
 // The requests of a run, one after another, over an open session.
-ghost use Rattle.std.specs.Prelude.{◌≡◌, ◌≤◌, ◌⊎◌, ◌+◌, ℕ, List, length, true, false, OnOk, IsOk, IsErrOf};
-ghost use Rattle.kishu_host.specs.Host.{Told, Elapses, Rises};
-ghost use Rattle.kishu_store.specs.Graph.{Graph};
+ghost use Rattle.std.specs.Prelude.{◌≡◌, ◌≤◌, ◌⊎◌, ◌+◌, true, false, OnOk, IsOk, IsErrOf};
 ghost use Rattle.kishu_model.specs.Serve.{charges};
-ghost use Rattle.kishu_session.specs.Attached.{IsAttached};
-ghost use Rattle.kishu_serve.specs.Asking.{to_come, reads_lines, taken_by, Knows, IsLimited, IsRead};
+ghost use Rattle.kishu_input.specs.Sources.{InputFailed};
+ghost use Rattle.kishu_serve.specs.Asking.{reads_lines, Knows, IsLimited, IsRead, KeepsTaken};
 ghost use Rattle.kishu_serve.specs.Filling.{FillsByAny};
-ghost use Rattle.kishu_serve.specs.Headline.{IsPart, IsWhole};
+ghost use Rattle.kishu_serve.specs.Headline.{IsWhole};
 ghost use Rattle.kishu_serve.specs.Recorded.{AreRecorded};
+ghost use Rattle.kishu_serve.specs.Serving.{DiskFailed, OutputFailed, IsOpen, WhereAttached, WhereKnown, StopsInPart};
 ghost use Rattle.kishu_serve.specs.declared.serving.Stop.TheVariants.{HeapFull, DiskFault, InputFault, OutputFault, TooLong};
 
 use crate::asking::Requests;
@@ -44,31 +43,36 @@ pub(crate) fn serve_all<H: Host, S: Source, L: Ledger>(
     steps: &mut Steps<L>,
 ) -> Result<(), Stop>
     requires going { session.old.halted ≡ false }
-    requires stands { Told (H.state host.old) ((g : Graph) × IsAttached session.old (H.state host.old) g) }
+    requires stands { IsOpen session.old (H.state host.old) }
 
     // All are answered where it succeeds, and all before a limit where one is reached.
-    ensures whole { IsOk result ⊎ IsErrOf result TooLong → Told (H.state host.old) (Knows requests.old (S.source source.old) → (g : Graph) → IsAttached session.old (H.state host.old) g
-        → IsWhole (H.state host.old) (H.state host.new) g (to_come requests.old (S.source source.old).left)) }
-    ensures stop { Told (H.state host.old) (Knows requests.old (S.source source.old) → (g : Graph) → IsAttached session.old (H.state host.old) g
-        → Elapses (H.state host.old) (H.state host.new) (IsPart (H.state host.old) g (to_come requests.old (S.source source.old).left))) }
-    ensures bytes { OnOk result (Told (H.state host.old) ((g : Graph) → IsAttached session.old (H.state host.old) g
-        → AreRecorded (reads_lines requests.old) (H.state host.old).file (H.state host.new).file)) }
-    ensures least { OnOk result (Told (H.state host.old) (Knows requests.old (S.source source.old) → (g : Graph) → IsAttached session.old (H.state host.old) g
-        → steps.old + charges g (to_come requests.old (S.source source.old).left) ≤ steps.new)) }
-    ensures full { IsErrOf result HeapFull → Told (H.state host.old) (Knows requests.old (S.source source.old) → (g : Graph) → IsAttached session.old (H.state host.old) g
-        → FillsByAny g (to_come requests.old (S.source source.old).left)) }
+    ensures whole { IsOk result ⊎ IsErrOf result TooLong
+        → WhereKnown requests.old (S.source source.old) session.old (H.state host.old) (λ g asked.
+        IsWhole (H.state host.old) (H.state host.new) g asked) }
+    ensures stop { WhereKnown requests.old (S.source source.old) session.old (H.state host.old) (λ g asked.
+        StopsInPart (H.state host.old) (H.state host.new) g asked) }
+    ensures bytes { OnOk result (WhereAttached session.old (H.state host.old) (λ g.
+        AreRecorded (reads_lines requests.old) (H.state host.old).file (H.state host.new).file)) }
+    ensures least { OnOk result (
+        WhereKnown requests.old (S.source source.old) session.old (H.state host.old) (λ g asked.
+        steps.old + charges g asked ≤ steps.new)) }
+    ensures full { IsErrOf result HeapFull
+        → WhereKnown requests.old (S.source source.old) session.old (H.state host.old) (λ g asked.
+        FillsByAny g asked) }
 
-    ensures read { OnOk result (Knows requests.old (S.source source.old) → IsRead requests.old (S.source source.new) × (IsLimited requests.old (S.source source.old) → ⊥)) }
-    ensures too_long { IsErrOf result TooLong → (reads_lines requests.old ≡ true) × (Knows requests.old (S.source source.old) → IsLimited requests.old (S.source source.old)) }
+    ensures read { OnOk result (Knows requests.old (S.source source.old)
+        → IsRead requests.old (S.source source.new) × (IsLimited requests.old (S.source source.old) → ⊥)) }
+    ensures too_long { IsErrOf result TooLong → (reads_lines requests.old ≡ true)
+        × (Knows requests.old (S.source source.old) → IsLimited requests.old (S.source source.old)) }
     ensures alone { reads_lines requests.old ≡ false → source.new ≡ source.old }
-    ensures taken { (S.source source.old).tells ≡ true
-        → taken_by requests.old + length (S.source source.old).left ≡ taken_by requests.new + length (S.source source.new).left }
+    ensures taken { KeepsTaken requests.old (S.source source.old) requests.new (S.source source.new) }
     ensures lines { reads_lines requests.new ≡ reads_lines requests.old }
 
     ensures tells { (H.state host.new).tells ≡ (H.state host.old).tells }
-    ensures disk_fault { IsErrOf result DiskFault → Rises (H.state host.old).disk_faults (H.state host.new).disk_faults }
-    ensures output_fault { IsErrOf result OutputFault → Rises (H.state host.old).out_faults (H.state host.new).out_faults }
-    ensures input_fault { IsErrOf result InputFault → (reads_lines requests.old ≡ true) × Rises (S.source source.old).in_faults (S.source source.new).in_faults }
+    ensures disk_fault { IsErrOf result DiskFault → DiskFailed (H.state host.old) (H.state host.new) }
+    ensures output_fault { IsErrOf result OutputFault → OutputFailed (H.state host.old) (H.state host.new) }
+    ensures input_fault { IsErrOf result InputFault
+        → (reads_lines requests.old ≡ true) × InputFailed (S.source source.old) (S.source source.new) }
     ensures disk { (H.state host.old).disk_faults ≤ (H.state host.new).disk_faults }
     ensures outs { (H.state host.old).out_faults ≤ (H.state host.new).out_faults }
 {

@@ -1,16 +1,12 @@
 // One request of a run: it is applied, and its answer goes out.
-ghost use Rattle.std.specs.Prelude.{◌≡◌, ◌≤◌, ◌⊎◌, ◌+◌, ◌++◌, ◌∷◌, [], ℕ, List, false, Some, IsSome, OnOk, IsErrOf};
-ghost use Rattle.kishu_host.specs.Host.{Told, Elapses, Rises, DuringPut};
-ghost use Rattle.kishu_store.specs.Graph.{Graph};
-ghost use Rattle.kishu_model.specs.Answers.{Answer as Said, answer_line};
-ghost use Rattle.kishu_model.specs.Serve.{after, answer_of};
+ghost use Rattle.std.specs.Prelude.{◌≡◌, ◌≤◌, ◌+◌, ◌∷◌, [], ℕ, List, false, IsSome, OnOk, IsErrOf};
+ghost use Rattle.kishu_model.specs.Serve.{after};
 ghost use Rattle.kishu_model.specs.Step.{charge_of};
 ghost use Rattle.kishu_model.specs.Values.{answer_of as said_by};
 ghost use Rattle.kishu_session.specs.Attached.{IsAttached};
 ghost use Rattle.kishu_session.specs.Filling.{FillsBy};
-ghost use Rattle.kishu_session.specs.Written.{IsRecorded};
-ghost use Rattle.kishu_serve.specs.Headline.{IsPart};
 ghost use Rattle.kishu_serve.specs.Asking.{asked_of};
+ghost use Rattle.kishu_serve.specs.Serving.{DiskFailed, OutputFailed, IsPutOut, PutsOut, WhereAttached, IsOpen, IsAnswered, WritesOne, StopsInPart};
 ghost use Rattle.kishu_serve.specs.declared.serving.Stop.TheVariants.{HeapFull, DiskFault, InputFault, OutputFault, TooLong};
 
 use crate::asking::Asked;
@@ -35,15 +31,15 @@ pub(crate) enum Stop {
 /// Puts an answer's line out, by one call of the host.
 fn tell<H: Host>(alloc: Global, host: &mut H, answer: &Answer) -> Result<(), Stop>
     requires { IsSome (said_by answer.now) }
-    ensures answered { OnOk result (Told (H.state host.old) ((a : Said) → said_by answer.now ≡ Some a → (H.state host.new).out ≡ (H.state host.old).out ++ answer_line a)) }
+    ensures answered { OnOk result (IsPutOut answer.now (H.state host.old) (H.state host.new)) }
     ensures file { (H.state host.new).file ≡ (H.state host.old).file }
     ensures crash { (c : List ℕ) → (H.state host.new).may_leave c → (H.state host.old).may_leave c }
-    ensures stop { (a : Said) → said_by answer.now ≡ Some a → Elapses (H.state host.old) (H.state host.new) (DuringPut (H.state host.old) (answer_line a)) }
+    ensures stop { PutsOut answer.now (H.state host.old) (H.state host.new) }
     ensures tells { (H.state host.new).tells ≡ (H.state host.old).tells }
     ensures no_disk { IsErrOf result DiskFault → ⊥ }
     ensures not_full { IsErrOf result HeapFull → ⊥ }
     ensures no_input { (IsErrOf result InputFault → ⊥) × (IsErrOf result TooLong → ⊥) }
-    ensures output_fault { IsErrOf result OutputFault → Rises (H.state host.old).out_faults (H.state host.new).out_faults }
+    ensures output_fault { IsErrOf result OutputFault → OutputFailed (H.state host.old) (H.state host.new) }
     ensures disk { (H.state host.old).disk_faults ≤ (H.state host.new).disk_faults }
     ensures outs { (H.state host.old).out_faults ≤ (H.state host.new).out_faults }
 {
@@ -66,22 +62,25 @@ pub(crate) fn serve<H: Host, L: Ledger>(
     steps: &mut Steps<L>,
 ) -> Result<(), Stop>
     requires going { session.old.halted ≡ false }
-    requires stands { Told (H.state host.old) ((g : Graph) × IsAttached session.old (H.state host.old) g) }
+    requires stands { IsOpen session.old (H.state host.old) }
 
-    ensures attached { OnOk result (Told (H.state host.old) ((g : Graph) → IsAttached session.old (H.state host.old) g → IsAttached session.new (H.state host.new) (after g (asked_of asked.now)))) }
+    ensures attached { OnOk result (WhereAttached session.old (H.state host.old) (λ g.
+        IsAttached session.new (H.state host.new) (after g (asked_of asked.now)))) }
     ensures going { OnOk result (session.new.halted ≡ false) }
-    ensures answered { OnOk result (Told (H.state host.old) ((g : Graph) → IsAttached session.old (H.state host.old) g
-        → (H.state host.new).out ≡ (H.state host.old).out ++ answer_of g (asked_of asked.now))) }
-    ensures bytes { OnOk result (Told (H.state host.old) ((g : Graph) → IsAttached session.old (H.state host.old) g
-        → ((H.state host.new).file ≡ (H.state host.old).file) ⊎ IsRecorded (H.state host.old).file (H.state host.new).file)) }
-    ensures least { OnOk result (Told (H.state host.old) ((g : Graph) → IsAttached session.old (H.state host.old) g → steps.old + charge_of g (asked_of asked.now) ≤ steps.new)) }
-    ensures full { IsErrOf result HeapFull → Told (H.state host.old) ((g : Graph) → IsAttached session.old (H.state host.old) g → FillsBy g (asked_of asked.now)) }
-    ensures stop { Told (H.state host.old) ((g : Graph) → IsAttached session.old (H.state host.old) g
-        → Elapses (H.state host.old) (H.state host.new) (IsPart (H.state host.old) g (asked_of asked.now ∷ []))) }
+    ensures answered { OnOk result (WhereAttached session.old (H.state host.old) (λ g.
+        IsAnswered (H.state host.old) (H.state host.new) g (asked_of asked.now))) }
+    ensures bytes { OnOk result (WhereAttached session.old (H.state host.old) (λ g.
+        WritesOne (H.state host.old) (H.state host.new))) }
+    ensures least { OnOk result (WhereAttached session.old (H.state host.old) (λ g.
+        steps.old + charge_of g (asked_of asked.now) ≤ steps.new)) }
+    ensures full { IsErrOf result HeapFull → WhereAttached session.old (H.state host.old) (λ g.
+        FillsBy g (asked_of asked.now)) }
+    ensures stop { WhereAttached session.old (H.state host.old) (λ g.
+        StopsInPart (H.state host.old) (H.state host.new) g (asked_of asked.now ∷ [])) }
     ensures tells { (H.state host.new).tells ≡ (H.state host.old).tells }
     ensures no_input { (IsErrOf result InputFault → ⊥) × (IsErrOf result TooLong → ⊥) }
-    ensures disk_fault { IsErrOf result DiskFault → Rises (H.state host.old).disk_faults (H.state host.new).disk_faults }
-    ensures output_fault { IsErrOf result OutputFault → Rises (H.state host.old).out_faults (H.state host.new).out_faults }
+    ensures disk_fault { IsErrOf result DiskFault → DiskFailed (H.state host.old) (H.state host.new) }
+    ensures output_fault { IsErrOf result OutputFault → OutputFailed (H.state host.old) (H.state host.new) }
     ensures disk { (H.state host.old).disk_faults ≤ (H.state host.new).disk_faults }
     ensures outs { (H.state host.old).out_faults ≤ (H.state host.new).out_faults }
 {

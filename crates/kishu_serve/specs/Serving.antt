@@ -1,0 +1,62 @@
+-- What requests do to an open session: where it is attached, and what a stop leaves.
+use Rattle.std.specs.Prelude.{◌≡◌, ◌⊎◌, ℕ, List, [], ◌∷◌, ◌++◌, Some}
+use Rattle.kishu_host.specs.Host.{State, Told, Elapses, Rises, DuringPut}
+use Rattle.kishu_host.specs.Source.{SourceState}
+use Rattle.kishu_store.specs.Graph.{Graph}
+use Rattle.kishu_model.specs.Answers.{Answer as Said, answer_line}
+use Rattle.kishu_model.specs.Request.{Request}
+use Rattle.kishu_model.specs.Serve.{answer_of}
+use Rattle.kishu_model.specs.Values.{answer_of as said_by}
+use Rattle.kishu_model.specs.declared.answer.Answer.{Answer}
+use Rattle.kishu_session.specs.Attached.{IsAttached}
+use Rattle.kishu_session.specs.Written.{IsRecorded}
+use Rattle.kishu_session.specs.declared.session.Session.{Session}
+use Rattle.kishu_serve.specs.Asking.{to_come, Knows}
+use Rattle.kishu_serve.specs.Headline.{IsPart}
+use Rattle.kishu_serve.specs.declared.asking.Requests.{Requests}
+
+-- The disk, or the output, has failed: its count of faults has risen.
+abbrev pub DiskFailed : State → State → Type 0
+DiskFailed old new = Rises old.disk_faults new.disk_faults
+
+abbrev pub OutputFailed : State → State → Type 0
+OutputFailed old new = Rises old.out_faults new.out_faults
+
+-- ---- an answer goes out
+
+-- The output has grown by its line.
+abbrev pub IsPutOut : Answer → State → State → Type 0
+IsPutOut answer old new = Told old ((a : Said) → said_by answer ≡ Some a → new.out ≡ old.out ++ answer_line a)
+
+-- A stop leaves a prefix of it.
+abbrev pub PutsOut : Answer → State → State → Type 0
+PutsOut answer old new = (a : Said) → said_by answer ≡ Some a → Elapses old new (DuringPut old (answer_line a))
+
+-- ---- one request
+
+-- Where the session is attached, this holds of the graph.
+abbrev pub WhereAttached : Session → State → (Graph → Type 0) → Type 0
+WhereAttached session host P = Told host ((g : Graph) → IsAttached session host g → P g)
+
+-- The session is attached to some graph.
+abbrev pub IsOpen : Session → State → Type 0
+IsOpen session host = Told host ((g : Graph) × IsAttached session host g)
+
+-- The output has grown by the answer.
+abbrev pub IsAnswered : State → State → Graph → Request → Type 0
+IsAnswered old new g q = new.out ≡ old.out ++ answer_of g q
+
+-- At most one record was written.
+abbrev pub WritesOne : State → State → Type 0
+WritesOne old new = (new.file ≡ old.file) ⊎ IsRecorded old.file new.file
+
+-- Each stop leaves a part of these.
+abbrev pub StopsInPart : State → State → Graph → List Request → Type 0
+StopsInPart old new g requests = Elapses old new (IsPart old g requests)
+
+-- ---- the requests of a run
+
+-- Where it is known what is to come and the session is attached, this holds of the graph and the requests.
+abbrev pub WhereKnown : Requests → SourceState → Session → State → (Graph → List Request → Type 0) → Type 0
+WhereKnown requests source session host P =
+    Told host (Knows requests source → (g : Graph) → IsAttached session host g → P g (to_come requests source.left))
