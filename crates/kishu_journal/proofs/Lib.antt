@@ -13,3 +13,4 @@ mod Follows
 mod Cuts
 mod Appending
 mod OneSum
+mod WindowLemmas

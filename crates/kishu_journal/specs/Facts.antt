@@ -1,6 +1,6 @@
 -- What the calls of a journal say of a host before and after them, of its file, and of the bytes read.
 -- Of a host that tells no content the facts on files say nothing.
-use Rattle.std.specs.Prelude.{◌≡◌, ◌≤◌, ◌<◌, ◌⊎◌, ◌+◌, ◌-◌, ℕ, List, ◌∷◌, length, take, drop, Option, Result, IfSome, IfErr, IsErrOf}
+use Rattle.std.specs.Prelude.{◌≡◌, ◌≤◌, ◌<◌, ◌⊎◌, ◌+◌, ◌-◌, ℕ, List, ◌∷◌, length, take, drop, Result, IfErr, IsErrOf}
 use Rattle.kishu_host.specs.Host.{State, Told, Only, Keeps, Elapses, Now, Rises, ReadsMore, overwrite}
 use Rattle.kishu_graph.specs.Kept.{Kept, StandsFor}
 use Rattle.kishu_record.specs.declared.entry.Entry as program
@@ -10,7 +10,7 @@ use Rattle.kishu_store.specs.EntryBytes.{body_of}
 use Rattle.kishu_store.specs.Graph.{Graph}
 use Rattle.kishu_store.specs.Holds.{Ends, Holds, IsBroken, IsForeign, IsGood, fresh_length, graph_of, open_gate}
 use Rattle.kishu_journal.specs.Bytes.{fresh, appended}
-use Rattle.kishu_journal.specs.Found.{BeginsBody, BeginsHead, HasNoBody, HasNoRecord, before_body, before_head, body_at, entries_of}
+use Rattle.kishu_journal.specs.Found.{BeginsBody, BeginsHead, HasNoBody, HasNoRecord, before_head, body_at, entries_of}
 use Rattle.kishu_journal.specs.Going.{LeavesShort, ReadsAtMost, WithOrWithout}
 use Rattle.kishu_journal.specs.Stands.{JournalState, Stands, IsNext, IsWhole, with_entry, with_record}
 use Rattle.kishu_journal.specs.declared.head.Head.{Head}
@@ -57,13 +57,17 @@ LacksPart s place n at = (at ≡ place) × IsCut s place n
 abbrev pub BodyAt : State → ℕ → ℕ → Type 0
 BodyAt s at n = Told s (BeginsBody (drop at s.file) (body_at s.file at n))
 
--- an open gate there, and behind it a whole body with this head, and with so many bytes of pictures
+-- the bytes of a head behind the gate at that place
+abbrev pub head_at : List ℕ → ℕ → Head → List ℕ
+head_at file at head = take head.bytes (drop (at + before_head) file)
+
+-- an open gate there, and behind it a whole body with a head and pictures of these lengths
 abbrev pub HeadAt : State → ℕ → Head → Type 0
-HeadAt s at head = Told s (BeginsHead (drop at s.file) head.bytes.items head.pictures)
+HeadAt s at head = Told s (BeginsHead (drop at s.file) (head_at s.file at head) head.pictures)
 
 -- where the body of the head behind the gate ends
 abbrev pub end_at : ℕ → Head → ℕ
-end_at at head = at + before_head + length head.bytes.items + head.pictures
+end_at at head = at + before_head + head.bytes + head.pictures
 
 -- an open gate there, and behind it a whole record that says this, without pictures
 abbrev pub RecordAt : State → ℕ → program.Entry → Type 0
@@ -188,18 +192,6 @@ ReadsNone old new = ReadsMore old.reads new.reads 0
 -- just as many as the buffer has
 abbrev pub ReadsFull : State → State → List ℕ → Type 0
 ReadsFull old new buffer = ReadsMore old.reads new.reads (length buffer)
-
--- at most those before a body
-abbrev pub ReadsGate : State → State → Type 0
-ReadsGate old new = ReadsAtMost old.reads new.reads before_body
-
--- at most those of the head, where there is one, and those before it
-abbrev pub ReadsHead : State → State → Option Head → Type 0
-ReadsHead old new head = IfSome head (λ h. ReadsAtMost old.reads new.reads (before_head + length h.bytes.items))
-
--- at most those of the body, where there is one, and those before it
-abbrev pub ReadsRecord : State → State → Option (program.Entry × ℕ) → Type 0
-ReadsRecord old new record_and_size = IfSome record_and_size (λ r. ReadsAtMost old.reads new.reads (before_body + r.1))
 
 -- at most those that the file has
 abbrev pub ReadsFile : State → State → Type 0

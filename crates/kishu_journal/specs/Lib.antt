@@ -5,3 +5,4 @@ pub mod Found
 pub mod Going
 pub mod Opened
 pub mod Facts
+pub mod Windows

@@ -18,6 +18,7 @@ mod opening;
 mod part;
 mod read;
 mod take;
+mod window;
 
 pub use graph::graph_of;
 pub use journal::{Journal, JournalFault};

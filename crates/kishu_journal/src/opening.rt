@@ -9,17 +9,19 @@ ghost use Rattle.kishu_store.specs.Rules.{IsEntry, IsRecord};
 ghost use Rattle.kishu_store.specs.Holds.{header, fresh_length};
 ghost use Rattle.kishu_record.specs.Entries.{entry_of};
 ghost use Rattle.kishu_journal.specs.Facts.{DiskRises, FailsBy, FailsOutside, RecordAt, TellsDamage, WasForeign, WasBroken, WhereForeign, WhereBroken, WhereGood};
-ghost use Rattle.kishu_journal.specs.Facts.{HoldsFound, StandsFound, IsDurable, Settled, KeepsLong, StaysShort, BeginsShort, LeavesOnlyShort, StopsShort, Settles, StopsAtOpening, ReadsRecord, ReadsFile};
+ghost use Rattle.kishu_journal.specs.Facts.{HoldsFound, StandsFound, IsDurable, Settled, KeepsLong, StaysShort, BeginsShort, LeavesOnlyShort, StopsShort, Settles, StopsAtOpening, ReadsFile};
 ghost use Rattle.kishu_journal.specs.Following.{GoOn};
 ghost use Rattle.kishu_journal.specs.Going.{IsQuiet, ReadsAtMost};
 ghost use Rattle.kishu_journal.specs.Found.{before_body, IsShut, entries_of, AllFit, AreBelow};
 ghost use Rattle.kishu_journal.specs.Opened.{IsFound, IsOpened};
+ghost use Rattle.kishu_journal.specs.Windows.{IsAhead, Shows, end_of};
 ghost use Rattle.kishu_journal.specs.Bytes.{fresh};
 ghost use Rattle.kishu_journal.specs.declared.journal.JournalFault.TheVariants.{DiskFault, NotAJournal, Damaged};
 
 use crate::head::read_head;
 use crate::read::{read_exact, settle};
 use crate::take::take_record;
+use crate::window::Window;
 use crate::{Entry, Journal, JournalFault};
 use kishu_graph::Graph;
 use kishu_host::{Failed, Host};
@@ -53,13 +55,18 @@ fn begin<H: Host>(host: &mut H) -> Result<(), Failed>
 fn next_record<H: Host>(
     alloc: Global,
     host: &mut H,
+    window: &mut Window,
     graph: &mut Graph,
     at: u64,
     len: u64,
 ) -> Result<Option<(Entry, u64)>, JournalFault>
     requires len { Told (H.state host.old) (len ≡ length (H.state host.old).file) }
     requires inside { at < len }
-    ensures quiet { IsQuiet (H.state host.old) (H.state host.new) }
+    requires shows { Shows (H.state host.old) window.old }
+    requires end { end_of window.old ≤ len }
+    requires from { window.old.from ≤ at }
+    ensures ahead { IsAhead (H.state host.old) (H.state host.new) window.old window.new len }
+    ensures from { window.new.from ≤ at }
     ensures record { IfOk result (λ o. IfSome o (λ r. RecordAt (H.state host.old) at r.0)) }
     ensures rules { IfOk result (λ o. IfSome o (λ r. IsRecord (plain (entry_of r.0)))) }
     ensures made { IfOk result (λ o. IfSome o (λ r. GoOn graph.old r.0 graph.new)) }
@@ -69,14 +76,13 @@ fn next_record<H: Host>(
     ensures damaged { TellsDamage graph.old (H.state host.old) at result }
     ensures disk_fault { IsErrOf result DiskFault → DiskRises (H.state host.old) (H.state host.new) }
     ensures not_foreign { IsErrOf result NotAJournal → ⊥ }
-    ensures reads { ReadsAtMost (H.state host.old).reads (H.state host.new).reads (len - at) }
-    ensures reads_record { IfOk result (λ o. ReadsRecord (H.state host.old) (H.state host.new) o) }
 {
-    let Some(head) = read_head(alloc, host, at, len)? else {
+    let Some(head) = read_head(host, window, at, len)? else {
         return Ok(None);
     };
-    match take_record(alloc, graph, &head.bytes, head.pictures) {
-        Ok(Some(entry)) => Ok(Some((entry, 4 + head.bytes.len() as u64 + head.pictures))),
+    let bytes = window.part(at + 13, head.bytes);
+    match take_record(alloc, graph, bytes, head.pictures) {
+        Ok(Some(entry)) => Ok(Some((entry, 4 + head.bytes as u64 + head.pictures))),
         Ok(None) => Err(JournalFault::Damaged { at }),
         Err(_) => Err(JournalFault::NoMemory),
     }
@@ -101,9 +107,10 @@ fn read_records<H: Host>(
     let Ok(mut graph) = Graph::new(alloc) else {
         return Err(JournalFault::NoMemory);
     };
+    let mut window = Window::new(alloc, 16);
     let mut found = Vec::new(alloc);
     let mut at = 16;
-    while let Some((entry, size)) = next_record(alloc, host, &mut graph, at, len)? {
+    while let Some((entry, size)) = next_record(alloc, host, &mut window, &mut graph, at, len)? {
         let place = at + 9;
         at = place + size;
         let Ok(()) = found.push((place, entry)) else {

@@ -2,13 +2,15 @@ ghost use Rattle.std.specs.Prelude.{◌≡◌, ◌≤◌, ◌<◌, ◌+◌, ◌-
 ghost use Rattle.std.specs.Int.{w64, to_be_bytes, from_be_bytes};
 ghost use Rattle.kishu_host.specs.Host.{Told};
 ghost use Rattle.kishu_store.specs.Limits.{longest_body};
-ghost use Rattle.kishu_journal.specs.Facts.{DiskRises, IsDurable, IsPart, IsCut, BodyAt, LacksBody, ReadsFull, ReadsGate};
+ghost use Rattle.kishu_journal.specs.Facts.{DiskRises, IsDurable, IsPart, IsCut, BodyAt, LacksBody, ReadsFull};
 ghost use Rattle.kishu_journal.specs.Going.{IsQuiet, ReadsAtMost};
 ghost use Rattle.kishu_journal.specs.Found.{before_body, IsShut};
+ghost use Rattle.kishu_journal.specs.Windows.{IsAhead, Shows, end_of};
 ghost use Rattle.kishu_journal.specs.declared.journal.JournalFault.TheVariants.{DiskFault, NotAJournal, Damaged};
 
 use crate::JournalFault;
 use crate::append::OPEN;
+use crate::window::Window;
 use kishu_host::{Failed, Host};
 
 const LONGEST_BODY: u64 = 1 << 30;
@@ -52,12 +54,17 @@ fn number(bytes: &[u8]) -> u64
 /// The length of the body behind the gate at a place, or none where that gate is closed.
 pub(crate) fn read_size<H: Host>(
     host: &mut H,
+    window: &mut Window,
     at: u64,
     len: u64,
 ) -> Result<Option<u64>, JournalFault>
     requires len { Told (H.state host.old) (len ≡ length (H.state host.old).file) }
     requires inside { at < len }
-    ensures quiet { IsQuiet (H.state host.old) (H.state host.new) }
+    requires shows { Shows (H.state host.old) window.old }
+    requires end { end_of window.old ≤ len }
+    requires from { window.old.from ≤ at }
+    ensures ahead { IsAhead (H.state host.old) (H.state host.new) window.old window.new len }
+    ensures from { window.new.from ≤ at }
     ensures body { IfOk result (λ o. IfSome o (λ n. BodyAt (H.state host.old) at n)) }
     ensures within { IfOk result (λ o. IfSome o (λ n. at + before_body + n < len)) }
     ensures small { IfOk result (λ o. IfSome o (λ n. n ≤ longest_body)) }
@@ -65,28 +72,20 @@ pub(crate) fn read_size<H: Host>(
     ensures damaged { (place : ℕ) → IsErrOf result (Damaged place) → LacksBody (H.state host.old) at place }
     ensures disk_fault { IsErrOf result DiskFault → DiskRises (H.state host.old) (H.state host.new) }
     ensures not_foreign { IsErrOf result NotAJournal → ⊥ }
-    ensures reads { ReadsAtMost (H.state host.old).reads (H.state host.new).reads (len - at) }
-    ensures reads_size { IfOk result (λ o. IfSome o (λ n. ReadsGate (H.state host.old) (H.state host.new))) }
 {
-    let mut gate = [0; 1];
-    match read_exact(host, at, &mut gate) {
-        Ok(true) => {}
-        Ok(false) => return Err(JournalFault::Damaged { at }),
-        Err(Failed) => return Err(JournalFault::DiskFault),
+    if !window.reach(host, at, 1, len)? {
+        return Err(JournalFault::Damaged { at });
     }
-    if gate[0] != OPEN {
+    if window.part(at, 1)[0] != OPEN {
         return Ok(None);
     }
     if len - at < 10 {
         return Err(JournalFault::Damaged { at });
     }
-    let mut size = [0; 8];
-    match read_exact(host, at + 1, &mut size) {
-        Ok(true) => {}
-        Ok(false) => return Err(JournalFault::Damaged { at }),
-        Err(Failed) => return Err(JournalFault::DiskFault),
+    if !window.reach(host, at, 9, len)? {
+        return Err(JournalFault::Damaged { at });
     }
-    let size = number(&size);
+    let size = number(window.part(at + 1, 8));
     if size > LONGEST_BODY || size > len - at - 10 {
         return Err(JournalFault::Damaged { at });
     }

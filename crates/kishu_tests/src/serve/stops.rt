@@ -89,7 +89,7 @@ fn each_call_stopped_and_failed(rt: HostRuntime) -> Result<(), Fail> {
             break;
         }
     }
-    // Opening makes twelve calls over two records, the append four, and the answer one.
-    assert_eq!(rt; whole, 18);
+    // Opening a short store makes four calls, the append four, and the answer one.
+    assert_eq!(rt; whole, 10);
     Ok(())
 }

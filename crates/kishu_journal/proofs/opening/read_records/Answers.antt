@@ -5,15 +5,20 @@ use Rattle.kishu_store.specs.EntryBytes.{body_of}
 use Rattle.kishu_store.specs.Holds.{open_gate, graph_by, IsBroken}
 use Rattle.kishu_journal.specs.declared.journal.JournalFault.TheVariants.{Damaged}
 use Rattle.kishu_journal.specs.Found.{before_body, BeginsBody}
-use Rattle.kishu_journal.proofs.Calls.{quiet-trans, reads-none, reads-trans}
-use Rattle.kishu_journal.proofs.Reached.{reached-start, reached-least, reached-on, reached-broken}
+use Rattle.kishu_journal.proofs.Calls.{quiet-trans, reads-none, reads-more, reads-trans}
+use Rattle.kishu_journal.proofs.WindowLemmas.{shows-none}
+use Rattle.kishu_journal.proofs.Reached.{reached-start, reached-on, reached-broken}
 use Rattle.kishu_journal.proofs.opening.read_records.Goals as goal
 
 pub loop-found-init : goal.loop-found-init
 loop-found-init g c = record {
   inside = omega (arith, c.requires.long);
   quiet = search rules;
-  reads = reads-none _;
+  shows = λ told. shows-none (g.H.Host.state c.args.host.now).file c.new-window.result c.new-window.ensures.none;
+  from = omega (arith, c.new-window.ensures.from);
+  most = omega (arith, c.new-window.ensures.from, c.new-window.ensures.none, c.requires.long);
+  least = omega (arith, c.new-window.ensures.from);
+  reads = reads-more _ _ 0 _ (reads-none _) (omega arith);
   reached = reached-start (g.H.Host.state c.args.host.now) c.new-found.result.items c.in-Ok.graph c.new-found.ensures.items c.in-Ok.ensures c.requires.head;
 }
 
@@ -30,17 +35,20 @@ returns-in_err-entry-clause-damaged g c place err told =
 pub returns-in_err-entry-clause-reads : goal.returns-in_err-entry-clause-reads
 returns-in_err-entry-clause-reads g c =
     let inv = c.loop-found.invariant in
-    reads-trans _ _ _ _ _ _ inv.reads c.next_record.ensures.reads (omega (arith, inv.inside, reached-least _ _ _ _ inv.reached))
+    let on = c.next_record.ensures.ahead in
+    reads-trans _ _ _ _ _ _ inv.reads on.reads (omega (arith, inv.least, on.onward, on.within))
 
 pub returns-in_default-push-clause-reads : goal.returns-in_default-push-clause-reads
 returns-in_default-push-clause-reads g c =
     let inv = c.loop-found.invariant in
-    reads-trans _ _ _ _ _ _ inv.reads c.next_record.ensures.reads (omega (arith, inv.inside, reached-least _ _ _ _ inv.reached))
+    let on = c.next_record.ensures.ahead in
+    reads-trans _ _ _ _ _ _ inv.reads on.reads (omega (arith, inv.least, on.onward, on.within))
 
 pub returns-clause-reads : goal.returns-clause-reads
 returns-clause-reads g c =
     let inv = c.loop-found.invariant in
-    reads-trans _ _ _ _ _ _ inv.reads c.next_record.ensures.reads (omega (arith, inv.inside, reached-least _ _ _ _ inv.reached))
+    let on = c.next_record.ensures.ahead in
+    reads-trans _ _ _ _ _ _ inv.reads on.reads (omega (arith, inv.least, on.onward, on.within))
 
 pub loop-found-preserved : goal.loop-found-preserved
 loop-found-preserved g c =
@@ -55,11 +63,15 @@ loop-found-preserved g c =
     let size : c.in-Some.size ≡ length (body_of (plain (entry_of e))) = rw c.in-Some.is at c.in_ok-entry.ensures.size in
     let within : at + before_body + c.in-Some.size < c.args.len = rw c.in-Some.is at c.in_ok-entry.ensures.within in
     let there = rw c.in-Some.is at c.in_ok-entry.ensures.record in
-    let bytes = rw c.in-Some.is at c.in_ok-entry.ensures.reads_record in
+    let on = c.next_record.ensures.ahead in
     record {
       inside = within;
-      quiet = quiet-trans s (st c.loop-found.host) (st c.next_record.new.host) inv.quiet c.next_record.ensures.quiet;
-      reads = reads-trans _ _ _ _ _ _ inv.reads bytes (omega (arith, reached-least s found at c.loop-found.graph inv.reached));
+      quiet = quiet-trans s (st c.loop-found.host) (st c.next_record.new.host) inv.quiet on.quiet;
+      shows = on.shows;
+      from = omega (arith, c.next_record.ensures.from);
+      most = on.within;
+      least = omega (arith, inv.least, on.onward);
+      reads = reads-trans _ _ _ _ _ _ inv.reads on.reads (omega (arith, inv.least, on.onward));
       reached = reached-on s found at c.loop-found.graph inv.reached c.push.new.self.items c.next_record.new.graph e c.in-Some.size (at + 9 + c.in-Some.size) c.in-Ok-push.ensures.items rules_kept goes size (omega arith)
           (λ told. subst (λ (f : List ℕ). BeginsBody (drop at f) (body_of (plain (entry_of e)))) inv.quiet.keeps.file (there (inv.quiet.time.tells ∙ told)));
     }

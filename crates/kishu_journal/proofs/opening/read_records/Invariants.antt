@@ -1,5 +1,6 @@
-use Rattle.std.proofs.Common.{◌<◌, ◌-◌}
+use Rattle.std.proofs.Common.{◌<◌, ◌≤◌, ◌-◌}
 use Rattle.kishu_journal.specs.Going.{IsQuiet, ReadsAtMost}
+use Rattle.kishu_journal.specs.Windows.{Shows, end_of}
 use Rattle.kishu_journal.proofs.Reached.{Reached}
 use Rattle.kishu_journal.proofs.opening.read_records.Given as goal
 
@@ -9,7 +10,11 @@ invariant-loop-found g l =
     record {
       inside : l.at < l.len;
       quiet : IsQuiet (st l.fn.host) (st l.host);
-      reads : ReadsAtMost (st l.fn.host).reads (st l.host).reads (l.at - 16);
+      shows : Shows (st l.host) l.window;
+      from : l.window.from ≤ l.at;
+      most : end_of l.window ≤ l.len;
+      least : 16 ≤ end_of l.window;
+      reads : ReadsAtMost (st l.fn.host).reads (st l.host).reads (end_of l.window - 16);
       reached : Reached (st l.fn.host) l.found.items l.at l.graph;
     }
 
