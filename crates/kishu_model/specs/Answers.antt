@@ -19,6 +19,11 @@ pub data Refusal : Type 0 where
   -- so many bytes have the pictures of the state that a cell would leave
   state_too_large : (bytes : ℕ) → Refusal
 
+-- a cell that was run among others: its number on its commit's path, and what its run shows
+pub record Counted : Type 0 where
+  pub count : ℕ
+  pub report : Report
+
 -- a commit in the log: how many cells it has, its number, the line by which it is told, and its parent's number
 pub record PathRow : Type 0 where
   pub cells : ℕ
@@ -37,6 +42,8 @@ pub record Standing : Type 0 where
 pub data Answer : Type 0 where
   -- the commit's number, the number of its cell on its path, and what the cell's run shows
   ran_cell : (commit count : ℕ) → Report → Answer
+  -- the commit's number, and its cells as they were run
+  ran_cells : (commit : ℕ) → (results : List Counted) → Answer
   -- the commit and the branch on which the head stands then
   checked_out : (commit : ℕ) → (branch : Option (List ℕ)) → Answer
   -- the new branch's commit and its name
@@ -84,6 +91,14 @@ output_data count (fault ename evalue) =
     (member (codes "output_type") (string (codes "error")) (member (codes "traceback") (array (item (string (ename ++ codes ": " ++ evalue)) no_items)) no_members)))
     )
 
+-- a cell that was run among others
+abbrev pub counted_data : Counted → Data
+counted_data c =
+    object (
+    member (codes "count") (number (unsigned c.count))
+    (member (codes "outcome") (string (outcome_word c.report.outcome)) (member (codes "outputs") (array (items_of (map (output_data c.count) c.report.outputs))) no_members))
+    )
+
 -- the name of a branch, or null
 abbrev pub branch_data : Option (List ℕ) → Data
 branch_data None = null
@@ -123,6 +138,8 @@ answer_data (ran_cell commit count report) =
     (member (codes "count") (number (unsigned count))
     (member (codes "outcome") (string (outcome_word report.outcome)) (member (codes "outputs") (array (items_of (map (output_data count) report.outputs))) no_members))))
     )
+answer_data (ran_cells commit results) =
+    object (member (codes "answer") (string (codes "cells")) (member (codes "commit") (number (unsigned commit)) (member (codes "results") (array (items_of (map counted_data results))) no_members)))
 answer_data (checked_out commit branch) =
     object (member (codes "answer") (string (codes "checkout")) (member (codes "commit") (number (unsigned commit)) (member (codes "head") (branch_data branch) no_members)))
 answer_data (branched commit name) =

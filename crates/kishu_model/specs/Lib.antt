@@ -4,5 +4,6 @@ pub mod requests
 pub mod Step
 pub mod Serve
 pub mod Reading
+pub mod notebooks
 pub mod Task
 pub mod Values

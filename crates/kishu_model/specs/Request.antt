@@ -5,6 +5,7 @@ use Rattle.kishu_model.specs.Answers.{Refusal, Answer, refused}
 
 pub data Request : Type 0 where
   cell : (text : List ℕ) → Request
+  cells : (texts : List (List ℕ)) → Request
   checkout : (to : List ℕ) → Request
   branch : (name : List ℕ) → (at : Option (List ℕ)) → Request
   log : Request

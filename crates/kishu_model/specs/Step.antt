@@ -2,8 +2,9 @@
 use Rattle.std.specs.Prelude.{ℕ}
 use Rattle.kishu_store.specs.Graph.{Graph}
 use Rattle.kishu_model.specs.Answers.{bad_request}
-use Rattle.kishu_model.specs.Request.{Request, cell, checkout, branch, log, status, unreadable, Stepped, refused_with}
+use Rattle.kishu_model.specs.Request.{Request, cell, cells, checkout, branch, log, status, unreadable, Stepped, refused_with}
 use Rattle.kishu_model.specs.requests.Cell.{step_cell, charge_of_cell}
+use Rattle.kishu_model.specs.requests.Cells.{step_cells, charge_of_cells}
 use Rattle.kishu_model.specs.requests.Checkout.{step_checkout}
 use Rattle.kishu_model.specs.requests.Branch.{step_branch}
 use Rattle.kishu_model.specs.requests.Log.{step_log}
@@ -12,6 +13,7 @@ use Rattle.kishu_model.specs.requests.Status.{step_status}
 abbrev pub step : Graph → Request → Stepped
 step g unreadable = refused_with bad_request g
 step g (cell text) = step_cell text g
+step g (cells texts) = step_cells texts g
 step g (checkout to) = step_checkout to g
 step g (branch name at) = step_branch name at g
 step g log = step_log g
@@ -21,6 +23,7 @@ step g status = step_status g
 abbrev pub charge_of : Graph → Request → ℕ
 charge_of g unreadable = 0
 charge_of g (cell text) = charge_of_cell text g
+charge_of g (cells texts) = charge_of_cells texts g
 charge_of g (checkout to) = 0
 charge_of g (branch name at) = 0
 charge_of g log = 0

@@ -1,15 +1,21 @@
--- The requests of a run, by the form of its words and its input.
-use Rattle.std.specs.Prelude.{ℕ, suc, ◌^◌, ◌==◌, nat_le, if◌then◌else◌, List, [], ◌∷◌, ◌++◌, take, map, Option, Some, None, unwrap_or}
+-- What a run does, by the form of its words, the graph of its store and its input.
+use Rattle.std.specs.Prelude.{ℕ, suc, ◌^◌, ◌==◌, nat_le, Bool, if◌then◌else◌, List, [], ◌∷◌, ◌++◌, take, map, Option, Some, None, unwrap_or}
 use Rattle.std.specs.Str.{is_utf8}
 use Rattle.kishu_language.specs.tokens.Lines.{line_feed}
+use Rattle.kishu_store.specs.Graph.{Graph}
 use Rattle.kishu_model.specs.Reading.{reading}
 use Rattle.kishu_model.specs.Request.{Request, cell, unreadable}
+use Rattle.kishu_model.specs.Serve.{Item, answered}
+use Rattle.kishu_model.specs.notebooks.Notebook.{opening}
+use Rattle.kishu_model.specs.notebooks.Run.{notebook_run}
 
 pub data Form : Type 0 where
   -- the whole input is one cell
   one_cell : Form
   -- each line of the input is a request
   session : Form
+  -- the whole input is a notebook, whose code cells are run, and committed one by one or in one commit
+  notebook : (together : Bool) → Form
   -- the words tell the request, and no input is read
   one_request : Request → Form
 
@@ -49,6 +55,10 @@ pub record Limits : Type 0 where
 abbrev pub session_limits : Limits
 session_limits = record { line = 2 ^ 24; input = 2 ^ 30 }
 
+-- so many bytes no notebook reaches
+abbrev pub notebook_limit : ℕ
+notebook_limit = 2 ^ 26
+
 -- How many bytes come before the first one at which a limit is reached, if one is. Before the bytes stand `before` others, and `in_line` of them in the line.
 abbrev pub limit_from : Limits → (in_line before : ℕ) → List ℕ → Option ℕ
 limit_from limits in_line before [] = None
@@ -70,8 +80,9 @@ abbrev pub session_lines : Limits → List ℕ → List (List ℕ)
 session_lines limits input = lines_before (limit_place limits input) input
 
 -- Words that have no form ask for nothing.
-abbrev pub task : Option Form → List ℕ → List Request
-task None input = []
-task (Some one_cell) input = cell_request input ∷ []
-task (Some session) input = map line_request (session_lines session_limits input)
-task (Some (one_request q)) input = q ∷ []
+abbrev pub task : Option Form → Graph → List ℕ → List Item
+task None g input = []
+task (Some one_cell) g input = answered (cell_request input) ∷ []
+task (Some session) g input = map answered (map line_request (session_lines session_limits input))
+task (Some (notebook together)) g input = notebook_run together g (opening input)
+task (Some (one_request q)) g input = answered q ∷ []

@@ -4,18 +4,20 @@ use Rattle.std.specs.Rc.{rc_str_bytes}
 use Rattle.std.specs.declared.alloc.Global.{Global}
 use Rattle.std.specs.declared.rc.RcStr.{RcStr}
 use Rattle.kishu_meaning.specs.values.Values.{report_of}
-use Rattle.kishu_model.specs.Answers.{Refusal, bad_request, no_such_ref, bad_name, name_taken, store_full, cell_too_long, state_too_large, PathRow, Answer, ran_cell, checked_out, branched, logged, told_status, refused}
-use Rattle.kishu_model.specs.Request.{Request, cell, checkout, branch, log, status}
+use Rattle.kishu_model.specs.Answers.{Refusal, bad_request, no_such_ref, bad_name, name_taken, store_full, cell_too_long, state_too_large, Counted, PathRow, Answer, ran_cell, ran_cells, checked_out, branched, logged, told_status, refused}
+use Rattle.kishu_model.specs.Request.{Request, cell, cells, checkout, branch, log, status}
 use Rattle.kishu_model.specs.declared.request.Request as rust_request
 use Rattle.kishu_model.specs.declared.request.Request.TheVariants as asks
 use Rattle.kishu_model.specs.declared.refusal.Refusal as rust_refusal
 use Rattle.kishu_model.specs.declared.refusal.Refusal.TheVariants as refuses
+use Rattle.kishu_model.specs.declared.answer.Counted as rust_counted
 use Rattle.kishu_model.specs.declared.answer.PathRow as rust_row
 use Rattle.kishu_model.specs.declared.answer.Answer as rust_answer
 use Rattle.kishu_model.specs.declared.answer.Answer.TheVariants as answers
 
 abbrev pub request_of : rust_request.Request → Request
 request_of (asks.Cell text) = cell (rc_str_bytes text)
+request_of (asks.Cells texts) = cells (map rc_str_bytes texts.items)
 request_of (asks.Checkout to) = checkout (rc_str_bytes to)
 request_of (asks.Branch name at) = branch (rc_str_bytes name) (option_map rc_str_bytes at)
 request_of asks.Log = log
@@ -46,6 +48,9 @@ abbrev pub numbered : ℕ → Option ℕ → Option Refusal
 numbered n None = plainly_numbered n
 numbered n (Some bytes) = if n == 7 then Some (state_too_large bytes) else None
 
+abbrev pub counted_of : rust_counted.Counted → Counted
+counted_of c = record { count = c.count; report = report_of c.result }
+
 abbrev pub row_of : rust_row.PathRow → PathRow
 row_of row = record { cells = row.cells; commit = row.commit; line = rc_str_bytes row.line; parent = row.parent }
 
@@ -55,6 +60,7 @@ entry_of b = (rc_str_bytes b.0, b.1)
 -- None is a number that no refusal has, or bytes that don't go with it.
 abbrev pub answer_of : rust_answer.Answer → Option Answer
 answer_of (answers.Cell commit count result) = Some (ran_cell commit count (report_of result))
+answer_of (answers.Cells commit results) = Some (ran_cells commit (map counted_of results.items))
 answer_of (answers.Checkout commit head) = Some (checked_out commit (option_map rc_str_bytes head))
 answer_of (answers.Branch commit name) = Some (branched commit (rc_str_bytes name))
 answer_of (answers.Log branches path) = Some (logged (map entry_of branches.items) (map row_of path.items))

@@ -1,4 +1,5 @@
 pub mod Cell
+pub mod Cells
 pub mod Checkout
 pub mod Branch
 pub mod Log

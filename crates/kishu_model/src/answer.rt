@@ -1,5 +1,14 @@
-use kishu_meaning::CellResult;
+use kishu_meaning::{CellResult, Outcome};
 use std::rc::RcStr;
+
+/// A cell that was run among others.
+#[derive(Drop)]
+pub struct Counted {
+    /// The number of the cell on its commit's path, from 1.
+    pub count: u64,
+    /// What the run shows.
+    pub result: CellResult,
+}
 
 /// A commit in the log.
 #[derive(Drop)]
@@ -21,6 +30,11 @@ pub enum Answer {
         commit: u32,
         count: u64,
         result: CellResult,
+    },
+    /// Cells were run and committed: the commit's number, and those that were run, in order.
+    Cells {
+        commit: u32,
+        results: Vec<Counted>,
     },
     /// The head stands on this commit and, where it does, on this branch.
     Checkout {
@@ -52,4 +66,25 @@ pub enum Answer {
         number: u8,
         bytes: Option<u64>,
     },
+}
+
+impl Answer {
+    ghost use Rattle.std.specs.Prelude.{◌≡◌, IfSome};
+    ghost use Rattle.kishu_model.specs.Values.{answer_of};
+    ghost use Rattle.kishu_model.specs.notebooks.Run.{goes_on};
+
+    /// Whether the run of a notebook's cells goes on after this answer: a cell was run and ended well.
+    pub fn goes_on(&self) -> bool
+        ensures { IfSome (answer_of self.now) (λ a. result ≡ goes_on a) }
+    {
+        match self {
+            Answer::Cell { result: ran, .. } => matches!(ran.outcome, Outcome::Done),
+            Answer::Cells { .. } => false,
+            Answer::Checkout { .. } => false,
+            Answer::Branch { .. } => false,
+            Answer::Log { .. } => false,
+            Answer::Status { .. } => false,
+            Answer::Refused { .. } => false,
+        }
+    }
 }

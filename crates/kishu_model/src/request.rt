@@ -5,6 +5,9 @@ use std::rc::RcStr;
 pub enum Request {
     /// To run this cell and to commit it.
     Cell { text: RcStr },
+    /// To run these cells, one after another up to the first that doesn't end well, and to commit those
+    /// that were run in one commit. Without a text it is refused.
+    Cells { texts: Vec<RcStr> },
     /// To put the head on the commit or the branch that this reference names.
     Checkout { to: RcStr },
     /// To make a branch of this name at what the reference names, or without one at the head's

@@ -13,6 +13,7 @@ use Rattle.kishu_rows.proofs.OnLiterals.{cells_on_literals}
 use Rattle.kishu_store.specs.Graph.{Graph, new_graph}
 use Rattle.kishu_model.specs.Answers.{answer_line}
 use Rattle.kishu_model.specs.Request.{cell, unreadable}
+use Rattle.kishu_model.specs.Serve.{answered}
 use Rattle.kishu_model.specs.Step.{step}
 use Rattle.kishu_model.specs.Task.{task, one_cell}
 use Rattle.kishu_store.specs.Entries.{commit, plain}
@@ -76,12 +77,12 @@ unreadable_answer : answer_line (step new_graph unreadable).answer ≡ codes "{\
 unfolding digits serde_json_on_literals
 unreadable_answer = refl
 
-text_asked : task (Some one_cell) (206 ∷ 187 ∷ []) ≡ cell (206 ∷ 187 ∷ []) ∷ []
+text_asked : task (Some one_cell) new_graph (206 ∷ 187 ∷ []) ≡ answered (cell (206 ∷ 187 ∷ [])) ∷ []
 unfolding is_utf8 chars encode_utf8
 text_asked = refl
 
 -- the byte ff alone
-no_text_asked : task (Some one_cell) (255 ∷ []) ≡ unreadable ∷ []
+no_text_asked : task (Some one_cell) new_graph (255 ∷ []) ≡ answered unreadable ∷ []
 unfolding is_utf8 chars encode_utf8
 no_text_asked = refl
 

@@ -1,27 +1,29 @@
--- The requests of inputs, and the readings of lines, computed on the definitions.
-use Rattle.std.proofs.Common.{◌≡◌, [], ◌∷◌, ◌++◌, codes, Some, None, refl}
+-- What inputs ask for, and the readings of lines, computed on the definitions.
+use Rattle.std.proofs.Common.{◌≡◌, [], ◌∷◌, ◌++◌, map, codes, Some, None, refl}
+use Rattle.kishu_store.specs.Graph.{new_graph}
 use Rattle.kishu_model.specs.Reading.{reading}
-use Rattle.kishu_model.specs.Request.{cell, checkout, branch, log, status, unreadable}
+use Rattle.kishu_model.specs.Request.{cell, cells, checkout, branch, log, status, unreadable}
+use Rattle.kishu_model.specs.Serve.{answered}
 use Rattle.kishu_model.specs.Task.{task, session, one_request, Limits, limit_place, session_lines}
 use Rattle.kishu_rows.proofs.OnLiterals.{lines_on_literals}
 
-empty_input : task (Some session) [] ≡ []
+empty_input : task (Some session) new_graph [] ≡ []
 empty_input = refl
 
-last_line : task (Some session) (codes "{\"op\":\"status\"}") ≡ status ∷ []
+last_line : task (Some session) new_graph (codes "{\"op\":\"status\"}") ≡ answered status ∷ []
 unfolding lines_on_literals
 last_line = refl
 
-one_line_feed : task (Some session) (10 ∷ []) ≡ unreadable ∷ []
+one_line_feed : task (Some session) new_graph (10 ∷ []) ≡ answered unreadable ∷ []
 unfolding lines_on_literals
 one_line_feed = refl
 
-several_lines : task (Some session) (codes "{\"op\":\"cell\",\"text\":\"a\\nb\"}\n\n{\"to\":\"1\",\"op\":\"checkout\"}\r\n{\"op\":\"fly\"}\n{\"op\":\"log\"}\n")
-    ≡ cell (codes "a\nb") ∷ unreadable ∷ checkout (codes "1") ∷ unreadable ∷ log ∷ []
+several_lines : task (Some session) new_graph (codes "{\"op\":\"cell\",\"text\":\"a\\nb\"}\n\n{\"to\":\"1\",\"op\":\"checkout\"}\r\n{\"op\":\"fly\"}\n{\"op\":\"log\"}\n")
+    ≡ map answered (cell (codes "a\nb") ∷ unreadable ∷ checkout (codes "1") ∷ unreadable ∷ log ∷ [])
 unfolding lines_on_literals
 several_lines = refl
 
-one_request_asked : task (Some (one_request log)) (codes "{\"op\":\"status\"}") ≡ log ∷ []
+one_request_asked : task (Some (one_request log)) new_graph (codes "{\"op\":\"status\"}") ≡ answered log ∷ []
 one_request_asked = refl
 
 branch_read : reading (codes "{\"op\":\"branch\",\"name\":\"try\"}") ≡ Some (branch (codes "try") None)
@@ -31,6 +33,23 @@ branch_read = refl
 branch_at_read : reading (codes "{\"op\":\"branch\",\"name\":\"try\",\"at\":\"main\"}") ≡ Some (branch (codes "try") (Some (codes "main")))
 unfolding lines_on_literals
 branch_at_read = refl
+
+-- The keys stand in any order, and a list has one text at least, and nothing else.
+cells_read : reading (codes "{\"texts\":[\"a = 1\",\"\"],\"op\":\"cells\"}") ≡ Some (cells (codes "a = 1" ∷ [] ∷ []))
+unfolding lines_on_literals
+cells_read = refl
+
+no_cells_read : reading (codes "{\"op\":\"cells\",\"texts\":[]}") ≡ None
+unfolding lines_on_literals
+no_cells_read = refl
+
+no_text_read : reading (codes "{\"op\":\"cells\",\"texts\":[\"a\",1]}") ≡ None
+unfolding lines_on_literals
+no_text_read = refl
+
+no_list_read : reading (codes "{\"op\":\"cells\",\"texts\":\"a\"}") ≡ None
+unfolding lines_on_literals
+no_list_read = refl
 
 -- Of a repeated key the last value counts.
 repeated : reading (codes "{\"op\":\"log\",\"op\":\"status\"}") ≡ Some status

@@ -3,4 +3,5 @@ mod FirstCell
 mod Records
 mod Sessions
 mod Inputs
+mod Notebooks
 mod Files

@@ -1,15 +1,15 @@
 -- Sessions: what checkouts, branches, logs and statuses answer, computed on the definitions.
-use Rattle.std.proofs.Common.{◌≡◌, [], ◌∷◌, ◌++◌, codes, Some, None, refl}
+use Rattle.std.proofs.Common.{◌≡◌, [], ◌∷◌, ◌++◌, map, codes, Some, None, refl}
 use Rattle.std.specs.Fmt.{digits}
 use Rattle.serde_json.proofs.OnLiterals.{serde_json_on_literals}
 use Rattle.kishu_store.specs.Graph.{Graph, new_graph}
 use Rattle.kishu_model.specs.Request.{cell, checkout, branch, log, status, unreadable}
-use Rattle.kishu_model.specs.Serve.{after, after_all, answer_of, answers}
+use Rattle.kishu_model.specs.Serve.{after, answered, after_all, answer_of, answers}
 use Rattle.kishu_rows.proofs.OnLiterals.{cells_on_literals}
 
 -- Two names for a list, a change of it, and the way back before the change.
 abbrev changed : Graph
-changed = after_all new_graph (cell (codes "a = [1]; b = a") ∷ cell (codes "b.append(2)") ∷ [])
+changed = after_all new_graph (map answered (cell (codes "a = [1]; b = a") ∷ cell (codes "b.append(2)") ∷ []))
 
 abbrev went_back : Graph
 went_back = after changed (checkout (codes "1"))
@@ -41,7 +41,7 @@ long_line = refl
 
 -- A list that holds itself comes back as one.
 abbrev holds_itself : Graph
-holds_itself = after_all new_graph (cell (codes "a = []") ∷ cell (codes "a.append(a)") ∷ cell (codes "print(a)") ∷ checkout (codes "0") ∷ [])
+holds_itself = after_all new_graph (map answered (cell (codes "a = []") ∷ cell (codes "a.append(a)") ∷ cell (codes "print(a)") ∷ checkout (codes "0") ∷ []))
 
 main_answer : answer_of holds_itself (checkout (codes "main")) ≡ codes "{\"answer\":\"checkout\",\"commit\":3,\"head\":\"main\"}\n"
 unfolding digits serde_json_on_literals
@@ -70,13 +70,13 @@ unfolding cells_on_literals
 new_status = refl
 
 -- A checkout of the branch on which the head stands is a record, too.
-stays : answers new_graph (cell (codes "x = 1") ∷ checkout (codes "main") ∷ status ∷ [])
+stays : answers new_graph (map answered (cell (codes "x = 1") ∷ checkout (codes "main") ∷ status ∷ []))
     ≡ codes "{\"answer\":\"cell\",\"commit\":1,\"count\":1,\"outcome\":\"ok\",\"outputs\":[]}\n{\"answer\":\"checkout\",\"commit\":1,\"head\":\"main\"}\n{\"answer\":\"status\",\"branch\":\"main\",\"commit\":1,\"commits\":2,\"names\":[\"x\"],\"records\":2}\n"
 unfolding cells_on_literals
 stays = refl
 
 -- A branch moves with the head that stands on it.
-goes_along : answers new_graph (branch (codes "try") None ∷ checkout (codes "try") ∷ cell [] ∷ log ∷ [])
+goes_along : answers new_graph (map answered (branch (codes "try") None ∷ checkout (codes "try") ∷ cell [] ∷ log ∷ []))
     ≡ codes "{\"answer\":\"branch\",\"commit\":0,\"name\":\"try\"}\n{\"answer\":\"checkout\",\"commit\":0,\"head\":\"try\"}\n{\"answer\":\"cell\",\"commit\":1,\"count\":1,\"outcome\":\"ok\",\"outputs\":[]}\n{\"answer\":\"log\",\"branches\":[{\"commit\":0,\"name\":\"main\"},{\"commit\":1,\"name\":\"try\"}],\"path\":[{\"cells\":1,\"commit\":1,\"line\":\"\",\"parent\":0}]}\n"
 unfolding cells_on_literals
 goes_along = refl
@@ -111,7 +111,7 @@ unfolding digits serde_json_on_literals
 leading_zeros = refl
 
 -- A refused request changes nothing, and the next one is answered.
-after_refusals : answers new_graph (branch (codes "main") None ∷ branch (codes "9") None ∷ checkout (codes "999") ∷ unreadable ∷ branch (codes "try") None ∷ [])
+after_refusals : answers new_graph (map answered (branch (codes "main") None ∷ branch (codes "9") None ∷ checkout (codes "999") ∷ unreadable ∷ branch (codes "try") None ∷ []))
     ≡ codes "{\"answer\":\"refused\",\"number\":4,\"reason\":\"NameTaken\"}\n{\"answer\":\"refused\",\"number\":3,\"reason\":\"BadName\"}\n{\"answer\":\"refused\",\"number\":2,\"reason\":\"NoSuchRef\"}\n{\"answer\":\"refused\",\"number\":1,\"reason\":\"BadRequest\"}\n{\"answer\":\"branch\",\"commit\":0,\"name\":\"try\"}\n"
 unfolding digits serde_json_on_literals
 after_refusals = refl

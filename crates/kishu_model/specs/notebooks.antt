@@ -1,0 +1,4 @@
+pub mod Cells
+pub mod Notebook
+pub mod Setting
+pub mod Run
