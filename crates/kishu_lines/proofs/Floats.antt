@@ -3,7 +3,7 @@ use Rattle.std.proofs.Common.{◌≡◌, ℕ, List, [], ◌∷◌, map, Option, 
 use Rattle.serde_json.specs.Data.{string}
 use Rattle.serde_json.specs.View.{items_of}
 use Rattle.serde_json.specs.Written.{has_float, items_have_float}
-use Rattle.kishu_model.specs.Answers.{Refusal, bad_request, no_such_ref, bad_name, name_taken, store_full, cell_too_long, state_too_large, PathRow, Answer, ran_cell, checked_out, branched, logged, told_status, refused, answer_data, branch_data, entry_data, row_data, output_data}
+use Rattle.kishu_model.specs.Answers.{Refusal, bad_request, no_such_ref, bad_name, name_taken, store_full, cell_too_long, state_too_large, Counted, PathRow, Answer, ran_cell, ran_cells, checked_out, branched, logged, told_status, refused, answer_data, counted_data, branch_data, entry_data, row_data, output_data}
 use Rattle.kishu_meaning.specs.values.Values.{Output, stream, shown, fault}
 
 outputs_no_float : (count : ℕ) (outputs : List Output) → items_have_float (items_of (map (output_data count) outputs)) ≡ false
@@ -11,6 +11,10 @@ outputs_no_float count [] = refl
 outputs_no_float count (stream text ∷ os) = outputs_no_float count os
 outputs_no_float count (shown text ∷ os) = outputs_no_float count os
 outputs_no_float count (fault ename evalue ∷ os) = outputs_no_float count os
+
+results_no_float : (results : List Counted) → items_have_float (items_of (map counted_data results)) ≡ false
+results_no_float [] = refl
+results_no_float (c ∷ cs) = rw (outputs_no_float c.count c.report.outputs) (results_no_float cs)
 
 branch_no_float : (branch : Option (List ℕ)) → has_float (branch_data branch) ≡ false
 branch_no_float None = refl
@@ -39,6 +43,7 @@ refusal_no_float (state_too_large bytes) = refl
 
 pub no_float : (a : Answer) → has_float (answer_data a) ≡ false
 no_float (ran_cell commit count report) = rw (outputs_no_float count report.outputs) refl
+no_float (ran_cells commit results) = rw (results_no_float results) refl
 no_float (checked_out commit branch) = rw (branch_no_float branch) refl
 no_float (branched commit name) = refl
 no_float (logged branches path) = rw (entries_no_float branches, rows_no_float path) refl

@@ -1,13 +1,13 @@
 -- Worked lines of answers, computed on the definitions.
-use Rattle.std.proofs.Common.{◌≡◌, [], ◌∷◌, ◌++◌, codes, Some, None, refl}
+use Rattle.std.proofs.Common.{◌≡◌, [], ◌∷◌, ◌++◌, map, codes, Some, None, refl}
 use Rattle.std.specs.Fmt.{digits}
 use Rattle.serde_json.proofs.OnLiterals.{serde_json_on_literals}
 use Rattle.kishu_meaning.specs.declared.result.Outcome.TheVariants.{Done, Raised, Stopped}
 use Rattle.kishu_meaning.specs.values.Values.{stream, shown, fault}
 use Rattle.kishu_store.specs.Graph.{new_graph}
-use Rattle.kishu_model.specs.Answers.{answer_line, ran_cell, checked_out, branched, logged, told_status, refused, store_full, no_such_ref, bad_name, name_taken, cell_too_long, state_too_large}
+use Rattle.kishu_model.specs.Answers.{answer_line, ran_cell, ran_cells, checked_out, branched, logged, told_status, refused, store_full, no_such_ref, bad_name, name_taken, cell_too_long, state_too_large}
 use Rattle.kishu_model.specs.Request.{unreadable}
-use Rattle.kishu_model.specs.Serve.{answers}
+use Rattle.kishu_model.specs.Serve.{answered, answers}
 
 answer-stopped : answer_line (ran_cell 1 1 (record { outcome = Stopped; outputs = [] })) ≡ codes "{\"answer\":\"cell\",\"commit\":1,\"count\":1,\"outcome\":\"stopped\",\"outputs\":[]}\n"
 unfolding digits serde_json_on_literals
@@ -35,12 +35,17 @@ answer-escapes : answer_line (ran_cell 1 1 (record { outcome = Done; outputs = s
 unfolding digits serde_json_on_literals
 answer-escapes = refl
 
+answer-cells : answer_line (ran_cells 1 (record { count = 1; report = record { outcome = Done; outputs = [] } } ∷ record { count = 2; report = record { outcome = Stopped; outputs = shown (codes "7") ∷ [] } } ∷ []))
+    ≡ codes "{\"answer\":\"cells\",\"commit\":1,\"results\":[{\"count\":1,\"outcome\":\"ok\",\"outputs\":[]},{\"count\":2,\"outcome\":\"stopped\",\"outputs\":[{\"data\":{\"text/plain\":\"7\"},\"execution_count\":2,\"metadata\":{},\"output_type\":\"execute_result\"}]}]}\n"
+unfolding digits serde_json_on_literals
+answer-cells = refl
+
 answer-refused : answer_line (refused store_full) ≡ codes "{\"answer\":\"refused\",\"number\":5,\"reason\":\"StoreFull\"}\n"
 unfolding digits serde_json_on_literals
 answer-refused = refl
 
 -- two refused requests
-refused-lines : answers new_graph (unreadable ∷ unreadable ∷ []) ≡ codes "{\"answer\":\"refused\",\"number\":1,\"reason\":\"BadRequest\"}\n{\"answer\":\"refused\",\"number\":1,\"reason\":\"BadRequest\"}\n"
+refused-lines : answers new_graph (map answered (unreadable ∷ unreadable ∷ [])) ≡ codes "{\"answer\":\"refused\",\"number\":1,\"reason\":\"BadRequest\"}\n{\"answer\":\"refused\",\"number\":1,\"reason\":\"BadRequest\"}\n"
 unfolding digits serde_json_on_literals
 refused-lines = refl
 

@@ -1,20 +1,26 @@
 -- A line's reading is what its value tells, and nothing else.
-use Rattle.std.proofs.Common.{◌≡◌, ℕ, Bool, true, false, cond, List, Option, Some, None, option_map, option_and_then, codes, refl, sym, ap, ◌∙◌, subst}
+use Rattle.std.proofs.Common.{◌≡◌, ℕ, Bool, true, false, cond, List, [], ◌∷◌, map, Option, Some, None, option_map, option_and_then, codes, refl, sym, ap, ◌∙◌, subst}
 use Rattle.std.proofs.lemmas.Bool.{eqb-true}
 use Rattle.std.proofs.lemmas.Option.{none-some, same_Some, option_and_then_some}
 use Rattle.std.proofs.lemmas.Slice.Eq.{bytes_eq-Decides}
 use Rattle.std.specs.Str.{bytes_eq, is_utf8}
-use Rattle.serde_json.specs.Data.{Data, null, boolean, number, string, array, object, Members, no_members, member}
+use Rattle.serde_json.specs.Data.{Data, null, boolean, number, string, array, object, Items, no_items, item, Members, no_members, member}
 use Rattle.serde_json.specs.Events.{members_len}
-use Rattle.serde_json.specs.Find.{get_member, as_str}
+use Rattle.serde_json.specs.Find.{get_member, as_str, as_array}
 use Rattle.serde_json.specs.Read.{read}
-use Rattle.kishu_model.specs.Reading.{Tells, tells_cell, tells_checkout, tells_branch, tells_branch_at, tells_log, tells_status, Reads, has_members, text_at, cell_in, checkout_in, branch_at_in, branch_named_in, branch_in, alone_in, asked_in, request_in, reading}
-use Rattle.kishu_model.specs.Request.{Request, cell, checkout, branch, log, status}
+use Rattle.serde_json.specs.View.{items_of}
+use Rattle.kishu_model.specs.Reading.{Tells, tells_cell, tells_cells, tells_checkout, tells_branch, tells_branch_at, tells_log, tells_status, Reads, has_members, text_at, cell_in, texts_in, texts_at, cells_of_texts, cells_in, checkout_in, branch_at_in, branch_named_in, branch_in, alone_in, asked_in, request_in, reading}
+use Rattle.kishu_model.specs.Request.{Request, cell, cells, checkout, branch, log, status}
 use Rattle.kishu_lines.proofs.Members.{Ascends, AscendsIn, ascends_read, one_member, two_members, three_members}
+
+all_texts : (texts : List (List ℕ)) → texts_in (items_of (map string texts)) ≡ Some texts
+all_texts [] = refl
+all_texts (text ∷ texts) = ap (option_map (λ ts. text ∷ ts)) (all_texts texts)
 
 pub told_is_read : {d : Data} {q : Request} → Tells d q → request_in d ≡ Some q
 unfolding request_in
 told_is_read (tells_cell text) = refl
+told_is_read (tells_cells text texts) = ap (option_and_then cells_of_texts) (all_texts (text ∷ texts))
 told_is_read (tells_checkout to) = refl
 told_is_read (tells_branch name) = refl
 told_is_read (tells_branch_at name at) = refl
@@ -30,6 +36,14 @@ as_string (number n) t is = absurd (none-some t is)
 as_string (string s) t is = ap string (same_Some s t is)
 as_string (array ds) t is = absurd (none-some t is)
 as_string (object ms) t is = absurd (none-some t is)
+
+as_list : (d : Data) (ds : Items) → as_array d ≡ Some ds → d ≡ array ds
+as_list null ds is = absurd (none-some ds is)
+as_list (boolean b) ds is = absurd (none-some ds is)
+as_list (number n) ds is = absurd (none-some ds is)
+as_list (string s) ds is = absurd (none-some ds is)
+as_list (array es) ds is = ap array (same_Some es ds is)
+as_list (object ms) ds is = absurd (none-some ds is)
 
 -- a text that was found
 found_text : (key : List ℕ) (ms : Members) (t : List ℕ) → text_at key (object ms) ≡ Some t → get_member key ms ≡ Some (string t)
@@ -55,6 +69,35 @@ read_cell ms q ascends op is =
     let parts = tested (has_members 2 (object ms)) _ q is in
     mapped cell _ q parts.1 (λ t text asked.
     moved _ (object ms) (cell t) q (ap object (two_members (codes "op") (codes "text") _ _ ms ascends (sized 2 ms parts.0) refl op (found_text (codes "text") ms t text))) asked (tells_cell t))
+
+-- texts that were found
+texts_read : (ds : Items) (texts : List (List ℕ)) → texts_in ds ≡ Some texts → ds ≡ items_of (map string texts)
+texts_read no_items texts is = ap (λ (ts : List (List ℕ)). items_of (map string ts)) (same_Some [] texts is)
+texts_read (item d ds) texts is =
+    option_and_then_some (λ text. option_map (λ ts. text ∷ ts) (texts_in ds)) (as_str d) texts is
+    (λ text found rest. mapped (λ ts. text ∷ ts) (texts_in ds) texts rest
+    (λ ts others whole.
+    ap (λ (e : Data). item e ds) (as_string d text found)
+    ∙ ap (item (string text)) (texts_read ds ts others)
+    ∙ ap (λ (all : List (List ℕ)). items_of (map string all)) whole))
+
+found_texts : (key : List ℕ) (ms : Members) (texts : List (List ℕ)) → texts_at key (object ms) ≡ Some texts → get_member key ms ≡ Some (array (items_of (map string texts)))
+found_texts key ms texts is =
+    option_and_then_some texts_in (option_and_then as_array (get_member key ms)) texts is
+    (λ ds listed texts_is. option_and_then_some as_array (get_member key ms) ds listed
+    (λ d found list_is. found ∙ ap Some (as_list d ds list_is ∙ ap array (texts_read ds texts texts_is))))
+
+read_texts : (ms : Members) (texts : List (List ℕ)) (q : Request) → Ascends ms → members_len ms ≡ 2 → get_member (codes "op") ms ≡ Some (string (codes "cells"))
+    → get_member (codes "texts") ms ≡ Some (array (items_of (map string texts))) → cells_of_texts texts ≡ Some q → Tells (object ms) q
+read_texts ms [] q ascends size op found asked = absurd (none-some q asked)
+read_texts ms (text ∷ texts) q ascends size op found asked =
+    moved _ (object ms) (cells (text ∷ texts)) q (ap object (two_members (codes "op") (codes "texts") _ _ ms ascends size refl op found)) (same_Some _ q asked) (tells_cells text texts)
+
+read_cells : (ms : Members) (q : Request) → Ascends ms → get_member (codes "op") ms ≡ Some (string (codes "cells")) → cells_in (object ms) ≡ Some q → Tells (object ms) q
+read_cells ms q ascends op is =
+    let parts = tested (has_members 2 (object ms)) _ q is in
+    option_and_then_some cells_of_texts (texts_at (codes "texts") (object ms)) q parts.1
+    (λ texts found asked. read_texts ms texts q ascends (sized 2 ms parts.0) op (found_texts (codes "texts") ms texts found) asked)
 
 read_checkout : (ms : Members) (q : Request) → Ascends ms → get_member (codes "op") ms ≡ Some (string (codes "checkout")) → checkout_in (object ms) ≡ Some q → Tells (object ms) q
 read_checkout ms q ascends op is =
@@ -122,10 +165,18 @@ read_second false ms op q word ascends found is = read_third (bytes_eq op (codes
 abbrev second_in : List ℕ → Data → Option Request
 second_in op d = cond (bytes_eq op (codes "checkout")) (checkout_in d) (third_in op d)
 
+read_several : (b : Bool) (ms : Members) (op : List ℕ) (q : Request) → bytes_eq op (codes "cells") ≡ b → Ascends ms → get_member (codes "op") ms ≡ Some (string op)
+    → cond b (cells_in (object ms)) (second_in op (object ms)) ≡ Some q → Tells (object ms) q
+read_several true ms op q word ascends found is = read_cells ms q ascends (same_op op (codes "cells") ms word found) is
+read_several false ms op q word ascends found is = read_second (bytes_eq op (codes "checkout")) ms op q refl ascends found is
+
+abbrev several_in : List ℕ → Data → Option Request
+several_in op d = cond (bytes_eq op (codes "cells")) (cells_in d) (second_in op d)
+
 read_first : (b : Bool) (ms : Members) (op : List ℕ) (q : Request) → bytes_eq op (codes "cell") ≡ b → Ascends ms → get_member (codes "op") ms ≡ Some (string op)
-    → cond b (cell_in (object ms)) (second_in op (object ms)) ≡ Some q → Tells (object ms) q
+    → cond b (cell_in (object ms)) (several_in op (object ms)) ≡ Some q → Tells (object ms) q
 read_first true ms op q word ascends found is = read_cell ms q ascends (same_op op (codes "cell") ms word found) is
-read_first false ms op q word ascends found is = read_second (bytes_eq op (codes "checkout")) ms op q refl ascends found is
+read_first false ms op q word ascends found is = read_several (bytes_eq op (codes "cells")) ms op q refl ascends found is
 
 read_object : (ms : Members) (q : Request) → Ascends ms → request_in (object ms) ≡ Some q → Tells (object ms) q
 unfolding request_in

@@ -3,11 +3,11 @@ ghost use Rattle.std.specs.Rc.{rc_str_bytes};
 ghost use Rattle.serde_json.specs.Data.{array, string};
 ghost use Rattle.serde_json.specs.View.{items_of, view};
 ghost use Rattle.kishu_model.specs.Answers as spec;
-ghost use Rattle.kishu_model.specs.Answers.{answer_data, branch_data, entry_data, row_data, ran_cell, checked_out, branched, logged, told_status, refused};
+ghost use Rattle.kishu_model.specs.Answers.{answer_data, branch_data, entry_data, row_data, ran_cell, ran_cells, counted_data, checked_out, branched, logged, told_status, refused};
 ghost use Rattle.kishu_meaning.specs.values.Values.{report_of};
-ghost use Rattle.kishu_model.specs.Values.{entry_of, numbered, refusal_of, row_of};
+ghost use Rattle.kishu_model.specs.Values.{counted_of, entry_of, numbered, refusal_of, row_of};
 
-use kishu_model::{CellResult, Outcome, PathRow, Refusal};
+use kishu_model::{CellResult, Counted, Outcome, PathRow, Refusal};
 use kishu_outputs::outputs_json;
 use serde_json::{Value, json};
 use std::alloc::{AllocError, Global};
@@ -28,6 +28,44 @@ pub(crate) fn cell_json(
         "commit": commit,
         "count": count,
         "outcome": outcome_word(ran.outcome),
+        "outputs": outputs
+    })
+}
+
+/// Cells were run and committed.
+pub(crate) fn cells_json(
+    alloc: Global,
+    commit: u32,
+    results: &[Counted],
+) -> Result<Value, AllocError>
+    ensures { IfOk result
+        (λ v. view v ≡ answer_data (ran_cells commit (map counted_of results.now))) }
+{
+    let results = results_json(alloc, results)?;
+    json!(in alloc; {"answer": "cells", "commit": commit, "results": results})
+}
+
+/// What the runs of cells gave.
+fn results_json(alloc: Global, results: &[Counted]) -> Result<Value, AllocError>
+    ensures { IfOk result
+        (λ v. view v ≡ array (items_of (map counted_data (map counted_of results.now)))) }
+{
+    let mut items = Vec::new(alloc);
+    for counted in results {
+        let item = counted_json(alloc, counted)?;
+        items.push(item)?;
+    }
+    Ok(Value::Array(items))
+}
+
+/// What the run of a cell gave, among others.
+fn counted_json(alloc: Global, counted: &Counted) -> Result<Value, AllocError>
+    ensures { IfOk result (λ v. view v ≡ counted_data (counted_of counted.now)) }
+{
+    let outputs = outputs_json(alloc, &counted.result, counted.count)?;
+    json!(in alloc; {
+        "count": counted.count,
+        "outcome": outcome_word(counted.result.outcome),
         "outputs": outputs
     })
 }

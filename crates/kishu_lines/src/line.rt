@@ -3,7 +3,9 @@ ghost use Rattle.serde_json.specs.View.{view};
 ghost use Rattle.kishu_model.specs.Answers.{answer_data, answer_line};
 ghost use Rattle.kishu_model.specs.Values.{answer_of};
 
-use crate::answers::{branch_json, cell_json, checkout_json, log_json, refused_json, status_json};
+use crate::answers::{
+    branch_json, cell_json, cells_json, checkout_json, log_json, refused_json, status_json,
+};
 use kishu_model::Answer;
 use serde_json::Value;
 use std::alloc::{AllocError, Global};
@@ -36,6 +38,7 @@ fn answer_json(alloc: Global, answer: &Answer) -> Result<Value, AllocError>
             count,
             result: ran,
         } => cell_json(alloc, *commit, *count, ran),
+        Answer::Cells { commit, results } => cells_json(alloc, *commit, results),
         Answer::Checkout { commit, head } => checkout_json(alloc, *commit, head),
         Answer::Branch { commit, name } => branch_json(alloc, *commit, name),
         Answer::Log { branches, path } => log_json(alloc, branches, path),

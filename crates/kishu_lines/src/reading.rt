@@ -1,9 +1,11 @@
-ghost use Rattle.std.specs.Prelude.{◌≡◌, Some, option_map, IfOk, IfSome};
-ghost use Rattle.serde_json.specs.View.{view};
+ghost use Rattle.std.specs.Prelude.{◌≡◌, ◌<◌, ◌^◌, Some, length, map, option_map, IfOk, IfSome};
+ghost use Rattle.std.specs.Rc.{rc_str_bytes};
+ghost use Rattle.serde_json.specs.View.{view, items_view};
 ghost use Rattle.kishu_model.specs.Reading as spec;
 ghost use Rattle.kishu_model.specs.Reading.{Reads, reading};
 ghost use Rattle.kishu_model.specs.Request as asked;
 ghost use Rattle.kishu_model.specs.Values.{request_of};
+ghost use Rattle.kishu_model.specs.requests.Cells.{HasRoom};
 
 use kishu_model::Request;
 use serde_json::Value;
@@ -25,6 +27,8 @@ pub fn read_request(alloc: Global, line: &[u8]) -> Result<Option<Request>, Alloc
     // What a line's value tells is read.
     ensures only { (q : asked.Request) → Reads line.now q
         → IfOk result (λ o. option_map request_of o ≡ Some q) }
+    // The texts of a line of fewer than 2^24 bytes fit one record.
+    ensures room { IfOk result (λ o. IfSome o (λ q. length line.now < 2 ^ 24 → HasRoom (request_of q))) }
 {
     request_of_line(alloc, line)
 }
@@ -55,6 +59,7 @@ fn asked_in(alloc: Global, op: &str, value: &Value) -> Result<Option<Request>, A
 {
     match op {
         "cell" => cell_in(alloc, value),
+        "cells" => cells_in(alloc, value),
         "checkout" => checkout_in(alloc, value),
         "branch" => branch_in(alloc, value),
         "log" => Ok(alone_in(Request::Log, value)),
@@ -87,6 +92,56 @@ fn cell_in(alloc: Global, value: &Value) -> Result<Option<Request>, AllocError>
         }
         None => Ok(None),
     }
+}
+
+fn cells_in(alloc: Global, value: &Value) -> Result<Option<Request>, AllocError>
+    ensures { IfOk result (λ o. option_map request_of o ≡ spec.cells_in (view value.now)) }
+{
+    if !has_members(value, 2) {
+        return Ok(None);
+    }
+    match texts_at(alloc, value, "texts")? {
+        Some(texts) => Ok(cells_of_texts(texts)),
+        None => Ok(None),
+    }
+}
+
+/// The request of these cells. Without cells there is none.
+fn cells_of_texts(texts: Vec<RcStr>) -> Option<Request>
+    ensures { option_map request_of result
+        ≡ spec.cells_of_texts (map rc_str_bytes texts.items) }
+{
+    if texts.is_empty() {
+        None
+    } else {
+        Some(Request::Cells { texts })
+    }
+}
+
+/// The texts of the list at a key, where there is one and it has nothing else.
+fn texts_at(alloc: Global, value: &Value, key: &str) -> Result<Option<Vec<RcStr>>, AllocError>
+    ensures { IfOk result (λ o. option_map (λ texts. map rc_str_bytes texts.items) o
+        ≡ spec.texts_at key.now (view value.now)) }
+{
+    match value.get(key).and_then(Value::as_array) {
+        Some(items) => texts_in(alloc, items),
+        None => Ok(None),
+    }
+}
+
+/// The texts of a list that has nothing else.
+fn texts_in(alloc: Global, items: &Vec<Value>) -> Result<Option<Vec<RcStr>>, AllocError>
+    ensures { IfOk result (λ o. option_map (λ texts. map rc_str_bytes texts.items) o
+        ≡ spec.texts_in (items_view items.now.items)) }
+{
+    let mut texts = Vec::new(alloc);
+    for item in items {
+        match item.as_str() {
+            Some(text) => texts.push(RcStr::from_str(alloc, text)?)?,
+            None => return Ok(None),
+        }
+    }
+    Ok(Some(texts))
 }
 
 fn checkout_in(alloc: Global, value: &Value) -> Result<Option<Request>, AllocError>

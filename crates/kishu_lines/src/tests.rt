@@ -2,7 +2,7 @@ ghost use Rattle.std.specs.Prelude.{IsSome};
 ghost use Rattle.kishu_model.specs.Values.{answer_of};
 
 use crate::{read_request, write_answer};
-use kishu_model::{Answer, CellResult, Outcome, Output, PathRow, Refusal, Request};
+use kishu_model::{Answer, CellResult, Counted, Outcome, Output, PathRow, Refusal, Request};
 use std::alloc::Global;
 use std::rc::RcStr;
 use std::test::Fail;
@@ -11,11 +11,22 @@ fn text_of(alloc: Global, text: &str) -> Result<RcStr, Fail> {
     Ok(RcStr::from_str(alloc, text)?)
 }
 
+/// Texts in words, each behind a bar.
+fn barred(alloc: Global, texts: &Vec<RcStr>) -> Result<String, Fail> {
+    let mut words = String::from_str(alloc, "cells")?;
+    for text in texts {
+        words.push_str(" |")?;
+        words.push_str(text.as_str())?;
+    }
+    Ok(words)
+}
+
 /// A request in words.
 fn told(alloc: Global, request: &Option<Request>) -> Result<String, Fail> {
     Ok(match request {
         None => String::from_str(alloc, "none")?,
         Some(Request::Cell { text }) => format!(in alloc; "cell {}", text.as_str())?,
+        Some(Request::Cells { texts }) => barred(alloc, texts)?,
         Some(Request::Checkout { to }) => format!(in alloc; "checkout {}", to.as_str())?,
         Some(Request::Branch { name, at: None }) => format!(in alloc; "branch {}", name.as_str())?,
         Some(Request::Branch { name, at: Some(at) }) => {
@@ -50,11 +61,15 @@ fn cell_line(
     line_of(alloc, &answer)
 }
 
-/// Lines that are requests. The first six are the examples of docs/LINES.md.
-const REQUESTS: [(&str, &str); 21] = [
+/// Lines that are requests. The first seven are the examples of docs/LINES.md.
+const REQUESTS: [(&str, &str); 25] = [
     (
         "{\"op\":\"cell\",\"text\":\"a = [1]; b = a\"}",
         "cell a = [1]; b = a",
+    ),
+    (
+        "{\"op\":\"cells\",\"texts\":[\"a = 1\",\"a // 0\",\"a = 2\"]}",
+        "cells |a = 1 |a // 0 |a = 2",
     ),
     ("{\"op\":\"checkout\",\"to\":\"1\"}", "checkout 1"),
     ("{\"op\":\"branch\",\"name\":\"try\"}", "branch try"),
@@ -76,6 +91,11 @@ const REQUESTS: [(&str, &str); 21] = [
     (
         "{\"op\":\"checkout\",\"to\":\"no such\"}",
         "checkout no such",
+    ),
+    ("{\"op\":\"cells\",\"texts\":[\"\"]}", "cells |"),
+    (
+        " { \"texts\" : [ \"a\\nb\" , \"\u{e9}\" ] , \"op\" : \"cells\" } ",
+        "cells |a\nb |\u{e9}",
     ),
     // escapes, in keys too, and characters of one to four bytes
     (
@@ -101,6 +121,10 @@ const REQUESTS: [(&str, &str); 21] = [
         "cell b",
     ),
     ("{\"op\":\"log\",\"\\u006fp\":\"status\"}", "status"),
+    (
+        "{\"op\":\"cells\",\"texts\":[],\"texts\":[\"a\"]}",
+        "cells |a",
+    ),
 ];
 
 #[test]
@@ -114,7 +138,7 @@ fn reads_requests(rt: HostRuntime) -> Result<(), Fail> {
 }
 
 /// Lines that are no request.
-const NO_REQUESTS: [&str; 40] = [
+const NO_REQUESTS: [&str; 49] = [
     // no JSON, or none that is one value
     "",
     " \t\r",
@@ -161,6 +185,16 @@ const NO_REQUESTS: [&str; 40] = [
     "{\"op\":\"cell\",\"text\":\"b\",\"text\":[\"b\"]}",
     "{\"op\":\"branch\",\"name\":\"try\",\"at\":null}",
     "{\"op\":[\"log\"]}",
+    // no text, a list with something else in it, and no list
+    "{\"op\":\"cells\",\"texts\":[]}",
+    "{\"op\":\"cells\",\"texts\":[\"a\",1]}",
+    "{\"op\":\"cells\",\"texts\":[null,\"a\"]}",
+    "{\"op\":\"cells\",\"texts\":[[\"a\"]]}",
+    "{\"op\":\"cells\",\"texts\":\"a\"}",
+    "{\"op\":\"cells\",\"texts\":{\"0\":\"a\"}}",
+    "{\"op\":\"cells\",\"text\":\"a\"}",
+    "{\"op\":\"cells\",\"texts\":[\"a\"],\"text\":\"a\"}",
+    "{\"op\":\"cell\",\"texts\":[\"a\"]}",
 ];
 
 #[test]
@@ -259,6 +293,37 @@ fn writes_what_a_cell_shows(rt: HostRuntime) -> Result<(), Fail> {
     assert_eq!(rt;
         line.as_str(),
         "{\"answer\":\"cell\",\"commit\":4294967295,\"count\":12,\"outcome\":\"ok\",\"outputs\":[{\"data\":{\"text/plain\":\"'a\\\"\\\\\\u0001\\t\u{e9}'\"},\"execution_count\":12,\"metadata\":{},\"output_type\":\"execute_result\"}]}\n"
+    );
+    Ok(())
+}
+
+#[test]
+fn writes_several_cells(rt: HostRuntime) -> Result<(), Fail> {
+    let alloc = rt.alloc();
+    let ename = text_of(alloc, "ZeroDivisionError")?;
+    let evalue = text_of(alloc, "division by zero")?;
+    let fault = Output::Fault { ename, evalue };
+    let first = CellResult {
+        outcome: Outcome::Done,
+        outputs: Vec::new(alloc),
+    };
+    let second = CellResult {
+        outcome: Outcome::Raised,
+        outputs: vec![in alloc; fault]?,
+    };
+    let results = vec![in alloc;
+        Counted {
+            count: 1,
+            result: first
+        },
+        Counted {
+            count: 2,
+            result: second
+        },
+    ]?;
+    assert_eq!(rt;
+        line_of(alloc, &Answer::Cells { commit: 1, results })?.as_str(),
+        "{\"answer\":\"cells\",\"commit\":1,\"results\":[{\"count\":1,\"outcome\":\"ok\",\"outputs\":[]},{\"count\":2,\"outcome\":\"error\",\"outputs\":[{\"ename\":\"ZeroDivisionError\",\"evalue\":\"division by zero\",\"output_type\":\"error\",\"traceback\":[\"ZeroDivisionError: division by zero\"]}]}]}\n"
     );
     Ok(())
 }
