@@ -13,7 +13,7 @@ use Rattle.serde_json.specs.Find.{as_array, as_object}
 use Rattle.serde_json.specs.View.{view, items_view, members_view}
 use Rattle.serde_json.specs.declared.value.Value.{Value}
 use Rattle.kishu_notebook.specs.Places.{item_changed}
-use Rattle.kishu_notebook.specs.notebooks.Setting.{members_changed, changed_at, in_cells, with_run}
+use Rattle.kishu_model.specs.notebooks.Setting.{members_changed, changed_at, in_cells, with_run}
 
 -- ---- an entry
 

@@ -6,8 +6,8 @@ use Rattle.std.specs.Prelude.{⊤, Result, Ok, Err}
 use Rattle.std.specs.Str.{chars, is_utf8}
 use Rattle.serde_json.specs.Data.{Data}
 use Rattle.serde_json.proofs.OnLiterals.{serde_json_on_literals}
-use Rattle.kishu_notebook.specs.notebooks.Cells.{is_code, has_kind, is_id, has_source, source_of, has_outputs, has_count, is_cell}
-use Rattle.kishu_notebook.specs.notebooks.Notebook.{format_key, minor_key, metadata_key, cells_key, Fault, not_json, not_notebook, version, bad_cell, repeated_id, not_whole, has_format, missing_key, other_minor, unwhole, fault_from, fault_in, verdict, opening, sources_of}
+use Rattle.kishu_model.specs.notebooks.Cells.{is_code, has_kind, is_id, has_source, source_of, has_outputs, has_count, is_cell}
+use Rattle.kishu_model.specs.notebooks.Notebook.{format_key, minor_key, metadata_key, cells_key, Fault, not_json, not_notebook, version, bad_cell, repeated_id, not_whole, has_format, missing_key, other_minor, unwhole, fault_from, fault_in, verdict, opening, sources_of}
 
 -- what a row unfolds
 unfoldable pub opens : ⊤

@@ -8,8 +8,8 @@ use Rattle.std.specs.List.{list_any}
 use Rattle.std.specs.Ordering.{nat_cmp}
 use Rattle.std.specs.Str.{bytes_eq}
 use Rattle.serde_json.specs.Data.{Data, Items, item}
-use Rattle.kishu_notebook.specs.notebooks.Cells.{id_of}
-use Rattle.kishu_notebook.specs.notebooks.Notebook.{repeated_from}
+use Rattle.kishu_model.specs.notebooks.Cells.{id_of}
+use Rattle.kishu_model.specs.notebooks.Notebook.{repeated_from}
 
 same_truth : (p q : Bool) → (p ≡ true → q ≡ true) → (q ≡ true → p ≡ true) → p ≡ q
 same_truth true true f g = refl

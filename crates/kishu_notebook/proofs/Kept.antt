@@ -9,9 +9,9 @@ use Rattle.std.specs.Str.{bytes_eq}
 use Rattle.kishu_meaning.specs.values.Values.{Output, stream, shown, fault}
 use Rattle.kishu_model.specs.Answers.{output_data}
 use Rattle.kishu_notebook.specs.Places.{code_places, item_changed}
-use Rattle.kishu_notebook.specs.notebooks.Cells.{is_code_word, is_code, source_in, source_of, sources_in}
-use Rattle.kishu_notebook.specs.notebooks.Notebook.{cells_of, sources_of}
-use Rattle.kishu_notebook.specs.notebooks.Setting.{changed_at, code_cell_changed, in_cells, with_run, with_run_at, outputs_data}
+use Rattle.kishu_model.specs.notebooks.Cells.{is_code_word, is_code, source_in, source_of, sources_in}
+use Rattle.kishu_model.specs.notebooks.Notebook.{cells_of, sources_of}
+use Rattle.kishu_model.specs.notebooks.Setting.{changed_at, code_cell_changed, in_cells, with_run, with_run_at, outputs_data}
 use Rattle.kishu_notebook.proofs.Members.{get_other, get_same, changed_agree, neither, changed_no_float}
 
 -- ---- a cell
@@ -130,7 +130,7 @@ unfolding sources_of
 places_of_sources d = places_count 0 (cells_of d)
 
 -- the cells that are found are those of the notebook
-agree_in : (d x : Data) (f g : Items → Items) → get (codes "cells") d ≡ Some x → f (cells_of d) ≡ g (cells_of d) → in_cells f x ≡ in_cells g x
+pub agree_in : (d x : Data) (f g : Items → Items) → get (codes "cells") d ≡ Some x → f (cells_of d) ≡ g (cells_of d) → in_cells f x ≡ in_cells g x
 agree_in d null f g found same = refl
 agree_in d (boolean b) f g found same = refl
 agree_in d (number n) f g found same = refl

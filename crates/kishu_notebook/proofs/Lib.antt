@@ -1,8 +1,8 @@
 pub mod Lists
-pub mod Tokens
 pub mod Sizes
 pub mod Members
 pub mod Kept
+pub mod Past
 pub mod Changes
 pub mod Verdicts
 pub mod Ids

@@ -9,7 +9,7 @@ use Rattle.std.specs.Str.{bytes_eq}
 use Rattle.serde_json.specs.Data.{Data, null, boolean, number, string, array, object, Members, no_members, member}
 use Rattle.serde_json.specs.Find.{get, get_member}
 use Rattle.serde_json.specs.Written.{has_float, members_have_float}
-use Rattle.kishu_notebook.specs.notebooks.Setting.{members_changed, changed_at}
+use Rattle.kishu_model.specs.notebooks.Setting.{members_changed, changed_at}
 
 either : (o : Ordering) (a b : Option Data) → is_eq o ≡ false → match_ordering o a b a ≡ a
 either Less a b e = refl

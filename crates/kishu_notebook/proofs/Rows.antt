@@ -5,8 +5,8 @@ use Rattle.json.specs.Layout.{pretty_from}
 use Rattle.serde_json.specs.Data.{Data}
 use Rattle.kishu_meaning.specs.declared.result.Outcome.TheVariants.{Done, Raised}
 use Rattle.kishu_meaning.specs.values.Values.{shown, fault, Report}
-use Rattle.kishu_notebook.specs.notebooks.Notebook.{Fault, opening, sources_of, reason, not_json, not_notebook, version, bad_cell, repeated_id, not_whole, format_key, minor_key}
-use Rattle.kishu_notebook.specs.notebooks.Setting.{with_run_at, with_result, with_refused, written}
+use Rattle.kishu_model.specs.notebooks.Notebook.{Fault, opening, sources_of, reason, not_json, not_notebook, version, bad_cell, repeated_id, not_whole, format_key, minor_key}
+use Rattle.kishu_model.specs.notebooks.Setting.{with_run_at, with_result, with_refused, written}
 use Rattle.kishu_notebook.proofs.FaultRows.{opens}
 
 -- what is written of the notebook that a text is, after a change; nothing where it is none

@@ -1,138 +1,28 @@
--- A value that was read has at most as many parts as its text has bytes, and so as many cells.
-use Rattle.std.proofs.Common.{◌≡◌, ℕ, suc, ◌+◌, ◌≤◌, ◌<◌, List, [], ◌∷◌, length, Option, Some, None, option_map, option_and_then, unwrap_or, Ordering, Less, Equal, Greater, codes, refl, ap, subst, arith}
+-- A notebook that was read has at most as many cells as its text has bytes, and the texts of its code cells are no larger than its text.
+use Rattle.std.proofs.Common.{◌≡◌, ℕ, suc, ◌+◌, ◌≤◌, ◌<◌, ◌^◌, Bool, true, false, cond, List, [], ◌∷◌, length, Option, Some, None, option_map, option_and_then, unwrap_or, codes, refl, arith}
+use Rattle.std.proofs.lemmas.Bool.{false≢true}
 use Rattle.std.proofs.lemmas.List.{length-append}
-use Rattle.std.specs.Cmp.Lexicographic.{slice_cmp}
-use Rattle.std.specs.Ordering.{nat_cmp, match_ordering}
-use Rattle.std.specs.Prelude.{⊤}
-use Rattle.json.specs.Token.{Token}
-use Rattle.json.specs.Lex.{tokens}
-use Rattle.json.specs.Json as json
-use Rattle.json.specs.Tree.{json_tokens, items_tokens, members_tokens}
-use Rattle.json.proofs.Unique.Spelling.{value-json_tokens_back}
-use Rattle.serde_json.specs.Data.{Data, null, boolean, number, string, array, object, Items, no_items, item, Members, no_members, member, put}
+use Rattle.serde_json.specs.Data.{Data, null, boolean, number, string, array, object, Items, no_items, item}
 use Rattle.serde_json.specs.Events.{items_len}
-use Rattle.serde_json.specs.Find.{get_member, as_array}
-use Rattle.serde_json.specs.Read.{number_of, of_json, of_items, of_members, max_depth, read}
-use Rattle.kishu_notebook.specs.notebooks.Notebook.{cells_of}
-use Rattle.kishu_notebook.proofs.Tokens.{tokens_short}
+use Rattle.serde_json.specs.Find.{get_member, as_str, as_array}
+use Rattle.serde_json.specs.Read.{read}
+use Rattle.kishu_json_laws.specs.ValueSizes.{size, items_size, members_size, AtMost, keyed, read_size, some_size, items_len-size, found_size}
+use Rattle.kishu_model.specs.requests.Cells.{texts_size, largest_texts}
+use Rattle.kishu_model.specs.notebooks.Cells.{is_code_word, is_code, text_in, joined, source_in, source_of, sources_in}
+use Rattle.kishu_model.specs.notebooks.Notebook.{cells_of, sources_of}
 
-abbrev mutual
-  size : Data → ℕ
-  size null = 1
-  size (boolean b) = 1
-  size (number n) = 1
-  size (string s) = 1
-  size (array ds) = suc (items_size ds)
-  size (object ms) = suc (members_size ms)
+-- ---- the cells
 
-  items_size : Items → ℕ
-  items_size no_items = 0
-  items_size (item d ds) = size d + items_size ds
-
-  members_size : Members → ℕ
-  members_size no_members = 0
-  members_size (member k d ms) = size d + members_size ms
-
-abbrev AtMost : {A : Type 0} → (A → ℕ) → ℕ → Option A → Type 0
-AtMost f n None = ⊤
-AtMost f n (Some a) = f a ≤ n
-
-mapped : {A B : Type 0} (f : A → ℕ) (g : B → ℕ) (m n : ℕ) (h : A → B) → ((a : A) → f a ≤ m → g (h a) ≤ n) → (o : Option A) → AtMost f m o → AtMost g n (option_map h o)
-mapped f g m n h k None x = tt
-mapped f g m n h k (Some a) x = k a x
-
-then : {A B : Type 0} (f : A → ℕ) (g : B → ℕ) (m n : ℕ) (h : A → Option B) → ((a : A) → f a ≤ m → AtMost g n (h a)) → (o : Option A) → AtMost f m o → AtMost g n (option_and_then h o)
-then f g m n h k None x = tt
-then f g m n h k (Some a) x = k a x
-
-flat : {A : Type 0} (o : Option A) → AtMost (λ _. 0) 0 o
-flat None = tt
-flat (Some a) = omega arith
-
--- ---- a value has no more parts than tokens
-
-put_at : (o : Ordering) (k l : List ℕ) (d e : Data) (ms : Members) → members_size (put k d ms) ≤ size d + members_size ms
-    → members_size (match_ordering o (member k d (member l e ms)) (member l d ms) (member l e (put k d ms))) ≤ size d + (size e + members_size ms)
-put_at Less k l d e ms rest = omega arith
-put_at Equal k l d e ms rest = omega arith
-put_at Greater k l d e ms rest = omega (arith, rest)
-
-put_size : (k : List ℕ) (d : Data) (ms : Members) → members_size (put k d ms) ≤ size d + members_size ms
-put_size k d no_members = omega arith
-put_size k d (member l e ms) = put_at (slice_cmp nat_cmp k l) k l d e ms (put_size k d ms)
-
-mutual
-  json_size : (j : json.Json) (n : ℕ) → length (json_tokens j) ≤ n → AtMost size n (of_json j)
-  json_size json.null n h = omega arith
-  json_size (json.boolean b) n h = omega arith
-  json_size (json.number s) n h = mapped (λ _. 0) size 0 n number (λ a x. omega arith) (number_of s) (flat _)
-  json_size (json.string s) n h = omega arith
-  json_size (json.array js) n h = mapped items_size size (length (items_tokens js)) n array (λ a x. omega arith) _ (items_json_size js _ (omega arith))
-  json_size (json.object ms) n h = mapped members_size size (length (members_tokens ms)) n object (λ a x. omega arith) _ (members_json_size ms no_members _ (omega arith))
-
-  items_json_size : (js : json.Items) (n : ℕ) → length (items_tokens js) ≤ n → AtMost items_size n (of_items js)
-  items_json_size json.no_items n h = omega arith
-  items_json_size (json.item j js) n h =
-      let both = length-append (json_tokens j) (items_tokens js) in
-      then size items_size (length (json_tokens j)) n _
-      (λ d x. mapped items_size items_size (length (items_tokens js)) n (item d) (λ ds y. omega (arith, both, h, x, y)) _ (items_json_size js _ (omega arith))) _ (json_size j _ (omega arith))
-
-  members_json_size : (ms : json.Members) (found : Members) (n : ℕ) → members_size found + length (members_tokens ms) ≤ n → AtMost members_size n (of_members ms found)
-  members_json_size json.no_members found n h = omega arith
-  members_json_size (json.member k j ms) found n h =
-      let both = length-append (json_tokens j) (members_tokens ms) in
-      then size members_size (length (json_tokens j)) n _ (λ d x. members_json_size ms (put k d found) n (omega (arith, both, h, x, put_size k d found))) _ (json_size j _ (omega arith))
-
-last_size : (o : Option (json.Json × List Token)) (n : ℕ) → ((j : json.Json) (r : List Token) → o ≡ Some (j, r) → length (json_tokens j) ≤ n)
-    → AtMost (λ j. length (json_tokens j)) n (option_and_then (λ p. json.if_last p.0 p.1) o)
-last_size None n h = tt
-last_size (Some (j, [])) n h = h j [] refl
-last_size (Some (j, t ∷ r)) n h = tt
-
-begins : (text : List ℕ) (j : json.Json) (r : List Token) → json.value max_depth (tokens text) ≡ Some (j, r) → length (json_tokens j) ≤ length text
-begins text j r is = omega (arith, tokens_short text, ap (λ (ts : List Token). length ts) (value-json_tokens_back max_depth (tokens text) r j is), length-append (json_tokens j) r)
-
-read_size : (text : List ℕ) (d : Data) → read text ≡ Some d → size d ≤ length text
-read_size text d is =
-    subst (AtMost size (length text)) is (then (λ j. length (json_tokens j)) size (length text) (length text) of_json (λ j x. json_size j (length text) x) _ (last_size _ (length text) (begins text)))
-
--- ---- and no more cells than parts
-
-some_size : (d : Data) → 0 < size d
-some_size null = omega arith
-some_size (boolean b) = omega arith
-some_size (number n) = omega arith
-some_size (string s) = omega arith
-some_size (array ds) = omega arith
-some_size (object ms) = omega arith
-
-items_len-size : (ds : Items) → items_len ds ≤ items_size ds
-items_len-size no_items = omega arith
-items_len-size (item d ds) = omega (arith, some_size d, items_len-size ds)
-
-wider : (o : Option Data) (m n : ℕ) → AtMost size m o → m ≤ n → AtMost size n o
-wider None m n h le = tt
-wider (Some d) m n h le = omega arith
-
-found_at : (o : Ordering) (k : List ℕ) (e : Data) (ms : Members) → AtMost size (members_size ms) (get_member k ms) → AtMost size (size e + members_size ms) (match_ordering o (get_member k ms) (Some e) (get_member k ms))
-found_at Less k e ms rest = wider (get_member k ms) _ _ rest (omega arith)
-found_at Equal k e ms rest = omega arith
-found_at Greater k e ms rest = wider (get_member k ms) _ _ rest (omega arith)
-
-found_size : (k : List ℕ) (ms : Members) → AtMost size (members_size ms) (get_member k ms)
-found_size k no_members = tt
-found_size k (member l e ms) = found_at (slice_cmp nat_cmp k l) k e ms (found_size k ms)
-
-list_size : (o : Option Data) (n : ℕ) → AtMost size n o → items_len (unwrap_or (option_and_then as_array o) no_items) ≤ n
+list_size : (o : Option Data) (n : ℕ) → AtMost keyed n o → items_size (unwrap_or (option_and_then as_array o) no_items) ≤ n
 list_size None n h = omega arith
 list_size (Some null) n h = omega arith
 list_size (Some (boolean b)) n h = omega arith
 list_size (Some (number x)) n h = omega arith
 list_size (Some (string s)) n h = omega arith
-list_size (Some (array ds)) n h = omega (arith, items_len-size ds)
+list_size (Some (array ds)) n h = omega arith
 list_size (Some (object ms)) n h = omega arith
 
-cells_size : (d : Data) → items_len (cells_of d) ≤ size d
+cells_size : (d : Data) → items_size (cells_of d) ≤ size d
 cells_size null = omega arith
 cells_size (boolean b) = omega arith
 cells_size (number n) = omega arith
@@ -141,4 +31,61 @@ cells_size (array ds) = omega arith
 cells_size (object ms) = omega (arith, list_size (get_member (codes "cells") ms) (members_size ms) (found_size (codes "cells") ms))
 
 pub cells_within : (text : List ℕ) (d : Data) → read text ≡ Some d → items_len (cells_of d) ≤ length text
-cells_within text d is = omega (arith, cells_size d, read_size text d is)
+cells_within text d is = omega (arith, items_len-size (cells_of d), cells_size d, read_size text d is)
+
+-- ---- a cell's text
+
+text_size : (d : Data) → length (text_in d) ≤ size d
+text_size null = omega arith
+text_size (boolean b) = omega arith
+text_size (number n) = omega arith
+text_size (string s) = omega arith
+text_size (array ds) = omega arith
+text_size (object ms) = omega arith
+
+joined_size : (ds : Items) → length (joined ds) ≤ items_size ds
+joined_size no_items = omega arith
+joined_size (item d ds) = omega (arith, length-append (text_in d) (joined ds), text_size d, joined_size ds)
+
+source_size : (d : Data) → suc (length (source_in d)) ≤ size d
+source_size null = omega arith
+source_size (boolean b) = omega arith
+source_size (number n) = omega arith
+source_size (string s) = omega arith
+source_size (array ds) = omega (arith, joined_size ds)
+source_size (object ms) = omega arith
+
+-- a key stands before it
+source_at : (o : Option Data) (n : ℕ) → 3 ≤ n → AtMost keyed n o → 3 + length (unwrap_or (option_map source_in o) []) ≤ n
+source_at None n some h = omega arith
+source_at (Some d) n some h = omega (arith, source_size d)
+
+-- the kind stands in it, too
+kind_at : (o : Option Data) (n : ℕ) → AtMost keyed n o → unwrap_or (option_map is_code_word (option_and_then as_str o)) false ≡ true → 3 ≤ n
+kind_at None n h is = absurd (false≢true is)
+kind_at (Some d) n h is = omega (arith, some_size d)
+
+code_size : (cell : Data) → is_code cell ≡ true → 4 + length (source_of cell) ≤ size cell
+unfolding is_code source_of
+code_size null is = absurd (false≢true is)
+code_size (boolean b) is = absurd (false≢true is)
+code_size (number n) is = absurd (false≢true is)
+code_size (string s) is = absurd (false≢true is)
+code_size (array ds) is = absurd (false≢true is)
+code_size (object ms) is =
+    let some = kind_at (get_member (codes "cell_type") ms) (members_size ms) (found_size (codes "cell_type") ms) is in
+    omega (arith, source_at (get_member (codes "source") ms) (members_size ms) some (found_size (codes "source") ms))
+
+-- ---- the texts of all code cells
+
+sources_at : (b : Bool) (c : Data) (ss : List (List ℕ)) (n : ℕ) → is_code c ≡ b → texts_size ss ≤ n → texts_size (cond b (source_of c ∷ ss) ss) ≤ size c + n
+sources_at true c ss n is rest = omega (arith, code_size c is, rest)
+sources_at false c ss n is rest = omega (arith, rest)
+
+sources_size : (cs : Items) → texts_size (sources_in cs) ≤ items_size cs
+sources_size no_items = omega arith
+sources_size (item c cs) = sources_at (is_code c) c (sources_in cs) (items_size cs) refl (sources_size cs)
+
+pub sources_within : (text : List ℕ) (d : Data) → read text ≡ Some d → length text < 2 ^ 26 → texts_size (sources_of d) ≤ largest_texts
+unfolding sources_of
+sources_within text d is short = omega (arith, sources_size (cells_of d), cells_size d, read_size text d is, short)

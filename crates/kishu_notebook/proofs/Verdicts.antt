@@ -11,8 +11,8 @@ use Rattle.serde_json.specs.Read.{read}
 use Rattle.serde_json.specs.View.{items_view}
 use Rattle.serde_json.specs.Written.{has_float}
 use Rattle.serde_json.specs.declared.value.Value.{Value}
-use Rattle.kishu_notebook.specs.notebooks.Cells.{has_object}
-use Rattle.kishu_notebook.specs.notebooks.Notebook.{Key, format_key, minor_key, metadata_key, cells_key, Fault, not_json, not_notebook, version, bad_cell, repeated_id, not_whole, whole_at, cells_at, has_format, cells_of, missing_key, other_minor, bad_cell_from, repeated_from, unwhole, fault_from, fault_in, judged, verdict, verdict_on, opening}
+use Rattle.kishu_model.specs.notebooks.Cells.{has_object}
+use Rattle.kishu_model.specs.notebooks.Notebook.{Key, format_key, minor_key, metadata_key, cells_key, Fault, not_json, not_notebook, version, bad_cell, repeated_id, not_whole, whole_at, cells_at, has_format, cells_of, missing_key, other_minor, bad_cell_from, repeated_from, unwhole, fault_from, fault_in, judged, verdict, verdict_on, opening}
 
 -- ---- in the cells
 

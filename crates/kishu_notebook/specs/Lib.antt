@@ -1,4 +1,3 @@
-pub mod notebooks
 pub mod Places
 pub mod Values
 pub mod Views

@@ -1,7 +1,7 @@
 -- What a notebook of the program keeps: at which places among the cells those with code stand. `code_cell_changed` counts code cells, and `item_changed` goes by places.
 use Rattle.std.specs.Prelude.{ℕ, zero, suc, if◌then◌else◌, List, [], ◌∷◌}
 use Rattle.serde_json.specs.Data.{Data, Items, no_items, item}
-use Rattle.kishu_notebook.specs.notebooks.Cells.{is_code}
+use Rattle.kishu_model.specs.notebooks.Cells.{is_code}
 
 -- the first of these cells has the number n
 abbrev pub code_places : ℕ → Items → List ℕ

@@ -7,7 +7,7 @@ use Rattle.kishu_notebook.specs.declared.refusal.NotebookRefusal as rust_refusal
 use Rattle.kishu_notebook.specs.declared.refusal.NotebookRefusal.TheVariants as refuses
 use Rattle.kishu_notebook.specs.declared.refusal.NotebookFault as rust_fault
 use Rattle.kishu_notebook.specs.declared.refusal.NotebookFault.TheVariants as faults
-use Rattle.kishu_notebook.specs.notebooks.Notebook.{Key, format_key, minor_key, metadata_key, cells_key, Fault, not_json, not_notebook, version, bad_cell, repeated_id, not_whole}
+use Rattle.kishu_model.specs.notebooks.Notebook.{Key, format_key, minor_key, metadata_key, cells_key, Fault, not_json, not_notebook, version, bad_cell, repeated_id, not_whole}
 
 abbrev pub key_of : rust_key.NotebookKey → Key
 key_of keys.Format = format_key

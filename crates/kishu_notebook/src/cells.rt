@@ -5,9 +5,9 @@ ghost use Rattle.std.specs.Rc.{rc_str_bytes};
 ghost use Rattle.serde_json.specs.Find.{get, as_array};
 ghost use Rattle.serde_json.specs.View.{view, items_view};
 ghost use Rattle.kishu_model.specs.Reading as reading;
-ghost use Rattle.kishu_notebook.specs.notebooks.Cells as spec;
+ghost use Rattle.kishu_model.specs.notebooks.Cells as spec;
 ghost use Rattle.kishu_notebook.specs.Places.{code_places};
-ghost use Rattle.kishu_notebook.specs.notebooks.Cells.{whole_in};
+ghost use Rattle.kishu_model.specs.notebooks.Cells.{whole_in};
 
 use serde_json::Value;
 use std::alloc::{AllocError, Global};
@@ -46,7 +46,7 @@ pub(crate) fn whole_at(value: &Value, key: &str) -> Option<u64>
 
 // ---- the kind
 
-#[tactic(auto, unfolding(crate::specs::notebooks::Cells::is_code))]
+#[tactic(auto, unfolding(kishu_model::specs::notebooks::Cells::is_code))]
 pub(crate) fn is_code(cell: &Value) -> bool
     ensures { result ≡ spec.is_code (view cell.now) }
 {
@@ -56,7 +56,7 @@ pub(crate) fn is_code(cell: &Value) -> bool
     }
 }
 
-#[tactic(auto, unfolding(crate::specs::notebooks::Cells::has_kind))]
+#[tactic(auto, unfolding(kishu_model::specs::notebooks::Cells::has_kind))]
 fn has_kind(cell: &Value) -> bool
     ensures { result ≡ spec.has_kind (view cell.now) }
 {
@@ -80,7 +80,7 @@ fn are_id_chars(text: &[u8]) -> bool
     text.iter().all(|byte| is_id_char(*byte))
 }
 
-#[tactic(auto, unfolding(crate::specs::notebooks::Cells::is_id))]
+#[tactic(auto, unfolding(kishu_model::specs::notebooks::Cells::is_id))]
 fn is_id(text: &str) -> bool
     ensures { result ≡ spec.is_id text.now }
 {
@@ -123,7 +123,7 @@ fn is_source(value: &Value) -> bool
     }
 }
 
-#[tactic(auto, unfolding(crate::specs::notebooks::Cells::has_source))]
+#[tactic(auto, unfolding(kishu_model::specs::notebooks::Cells::has_source))]
 fn has_source(cell: &Value) -> bool
     ensures { result ≡ spec.has_source (view cell.now) }
 {
@@ -170,7 +170,7 @@ fn source_in(alloc: Global, value: &Value) -> Result<RcStr, AllocError>
 }
 
 /// The text that a cell runs.
-#[tactic(auto, unfolding(crate::specs::notebooks::Cells::source_of))]
+#[tactic(auto, unfolding(kishu_model::specs::notebooks::Cells::source_of))]
 fn source_of(alloc: Global, cell: &Value) -> Result<RcStr, AllocError>
     ensures { IfOk result (λ text. rc_str_bytes text ≡ spec.source_of (view cell.now)) }
 {
@@ -193,7 +193,7 @@ fn are_outputs(outputs: &Vec<Value>) -> bool
     true
 }
 
-#[tactic(auto, unfolding(crate::specs::notebooks::Cells::has_outputs))]
+#[tactic(auto, unfolding(kishu_model::specs::notebooks::Cells::has_outputs))]
 fn has_outputs(cell: &Value) -> bool
     ensures { result ≡ spec.has_outputs (view cell.now) }
 {
@@ -216,7 +216,7 @@ fn is_count(value: &Value) -> bool
     }
 }
 
-#[tactic(auto, unfolding(crate::specs::notebooks::Cells::has_count))]
+#[tactic(auto, unfolding(kishu_model::specs::notebooks::Cells::has_count))]
 fn has_count(cell: &Value) -> bool
     ensures { result ≡ spec.has_count (view cell.now) }
 {
@@ -227,7 +227,7 @@ fn has_count(cell: &Value) -> bool
 }
 
 /// Whether a value is a cell.
-#[tactic(auto, unfolding(crate::specs::notebooks::Cells::is_cell))]
+#[tactic(auto, unfolding(kishu_model::specs::notebooks::Cells::is_cell))]
 pub(crate) fn is_cell(value: &Value) -> bool
     ensures { result ≡ spec.is_cell (view value.now) }
 {

@@ -3,8 +3,8 @@ ghost use Rattle.std.specs.Prelude.{◌≡◌, ◌<◌, ◌^◌, length, option_
 ghost use Rattle.serde_json.specs.Events.{items_len};
 ghost use Rattle.serde_json.specs.View.{view, items_view};
 ghost use Rattle.kishu_notebook.specs.Values.{key_of, fault_of};
-ghost use Rattle.kishu_notebook.specs.notebooks.Notebook as spec;
-ghost use Rattle.kishu_notebook.specs.notebooks.Notebook.{cells_of};
+ghost use Rattle.kishu_model.specs.notebooks.Notebook as spec;
+ghost use Rattle.kishu_model.specs.notebooks.Notebook.{cells_of};
 
 use crate::cells::{has_object, id_of, is_cell, list_at, whole_at};
 use crate::floats::has_float;
@@ -13,7 +13,7 @@ use serde_json::Value;
 use std::alloc::{AllocError, Global};
 use std::collections::BTreeSet;
 
-#[tactic(auto, unfolding(crate::specs::notebooks::Notebook::has_format))]
+#[tactic(auto, unfolding(kishu_model::specs::notebooks::Notebook::has_format))]
 fn has_format(value: &Value) -> bool
     ensures { result ≡ spec.has_format (view value.now) }
 {
@@ -24,7 +24,7 @@ fn has_format(value: &Value) -> bool
 }
 
 /// The first key that is missing or has another kind of value.
-#[tactic(auto, unfolding(crate::specs::notebooks::Notebook::missing_key))]
+#[tactic(auto, unfolding(kishu_model::specs::notebooks::Notebook::missing_key))]
 fn missing_key(value: &Value) -> Option<NotebookKey>
     ensures { option_map key_of result ≡ spec.missing_key (view value.now) }
 {
@@ -42,7 +42,7 @@ fn missing_key(value: &Value) -> Option<NotebookKey>
 }
 
 /// The minor version, where it is another than the one that is read.
-#[tactic(auto, unfolding(crate::specs::notebooks::Notebook::other_minor))]
+#[tactic(auto, unfolding(kishu_model::specs::notebooks::Notebook::other_minor))]
 fn other_minor(value: &Value) -> Option<u64>
     ensures { result ≡ spec.other_minor (view value.now) }
 {
@@ -84,7 +84,7 @@ fn repeated_id(alloc: Global, cells: &Vec<Value>) -> Result<Option<u32>, AllocEr
 }
 
 /// The first fault in the cells, or in the numbers.
-#[tactic(auto, unfolding(crate::specs::notebooks::Notebook::fault_from, crate::specs::notebooks::Notebook::unwhole))]
+#[tactic(auto, unfolding(kishu_model::specs::notebooks::Notebook::fault_from, kishu_model::specs::notebooks::Notebook::unwhole))]
 fn fault_in_cells(
     alloc: Global,
     value: &Value,
@@ -106,7 +106,7 @@ fn fault_in_cells(
 }
 
 /// The first fault, where the value is no notebook.
-#[tactic(auto, unfolding(crate::specs::notebooks::Notebook::fault_in))]
+#[tactic(auto, unfolding(kishu_model::specs::notebooks::Notebook::fault_in))]
 pub(crate) fn fault_in(alloc: Global, value: &Value) -> Result<Option<NotebookRefusal>, AllocError>
     requires { items_len (cells_of (view value.now)) < 2 ^ 32 }
     ensures { IfOk result (λ o. option_map fault_of o ≡ spec.fault_in (view value.now)) }

@@ -1,21 +1,26 @@
 // A notebook, from its bytes and back.
-ghost use Rattle.std.specs.Prelude.{◌≡◌, ◌<◌, ◌^◌, [], ◌∷◌, length, map, IfOk, IfErr, OnOk, OnErr, Ok, false};
+ghost use Rattle.std.specs.Prelude.{◌≡◌, ◌<◌, ◌^◌, [], ◌∷◌, length, map, IfOk, IfErr, IfSome, OnOk, OnErr, Ok, false};
 ghost use Rattle.std.specs.Rc.{rc_str_bytes};
 ghost use Rattle.serde_json.specs.Events.{items_len};
 ghost use Rattle.serde_json.specs.View.{view};
 ghost use Rattle.serde_json.specs.Written.{has_float};
 ghost use Rattle.kishu_meaning.specs.values.Values.{fault, report_of};
+ghost use Rattle.kishu_model.specs.Answers.{refusal_name};
+ghost use Rattle.kishu_model.specs.Request.{cells};
+ghost use Rattle.kishu_model.specs.requests.Cells.{HasRoom};
 ghost use Rattle.kishu_notebook.specs.Places.{code_places};
 ghost use Rattle.kishu_notebook.specs.Values.{Tells};
 ghost use Rattle.kishu_notebook.specs.declared.refusal.NotebookFault.TheVariants.{NoMemory};
-ghost use Rattle.kishu_notebook.specs.notebooks.Notebook.{cells_of, opening, verdict, sources_of};
-ghost use Rattle.kishu_notebook.specs.notebooks.Setting.{with_run_at, with_result, with_refused, written};
+ghost use Rattle.kishu_model.specs.notebooks.Notebook.{cells_of, opening, verdict, sources_of};
+ghost use Rattle.kishu_model.specs.Values.{answer_of, counted_of, numbered};
+ghost use Rattle.kishu_model.specs.notebooks.Run.{with_answer, with_results};
+ghost use Rattle.kishu_model.specs.notebooks.Setting.{with_run_at, with_result, with_refused, written};
 
 use crate::cells::{code_places, list_at, sources_in};
 use crate::faults::fault_in;
 use crate::refusal::{NotebookFault, NotebookRefusal};
 use crate::setting::set_run_at;
-use kishu_model::{CellResult, Outcome, Output};
+use kishu_model::{Answer, CellResult, Counted, Outcome, Output, Refusal};
 use kishu_outputs::outputs_json;
 use serde_json::Value;
 use std::alloc::{AllocError, Global};
@@ -67,6 +72,9 @@ impl Notebook {
     pub fn read(alloc: Global, bytes: &[u8]) -> Result<Notebook, NotebookFault>
         requires { length bytes.now < 2 ^ 32 }
         ensures ok { IfOk result (λ notebook. opening bytes.now ≡ Ok (data_of notebook)) }
+        // The texts of its code cells fit one record, where it is read from fewer than 2^26 bytes.
+        ensures room { IfOk result (λ notebook. length bytes.now < 2 ^ 26
+            → HasRoom (cells (sources_of (data_of notebook)))) }
         ensures err { IfErr result (λ why. Tells why (opening bytes.now)) }
     {
         match Value::from_slice(alloc, bytes) {
@@ -80,6 +88,7 @@ impl Notebook {
     fn of_value(alloc: Global, value: Value) -> Result<Notebook, NotebookFault>
         requires { items_len (cells_of (view value)) < 2 ^ 32 }
         ensures ok { IfOk result (λ notebook. verdict (view value) ≡ Ok (data_of notebook)) }
+        ensures same { IfOk result (λ notebook. data_of notebook ≡ view value) }
         ensures err { IfErr result (λ why. Tells why (verdict (view value))) }
     {
         match fault_in(alloc, &value) {
@@ -127,9 +136,7 @@ impl Notebook {
         ensures err { OnErr result (data_of self.new ≡ (data_of self.old)) }
         ensures sources { sources_of (data_of self.new) ≡ sources_of (data_of self.old) }
     {
-        let outputs = outputs_json(self.alloc, ran, count)?;
-        self.set(at, outputs, Value::from(count));
-        Ok(())
+        self.set_ran(at as usize, ran, count)
     }
 
     /// Sets why a code cell was refused: one error with this reason and no text, in place of the
@@ -145,22 +152,100 @@ impl Notebook {
         ensures err { OnErr result (data_of self.new ≡ (data_of self.old)) }
         ensures sources { sources_of (data_of self.new) ≡ sources_of (data_of self.old) }
     {
+        self.set_reason(at as usize, reason)
+    }
+
+    /// Sets what the answer to a request tells of code cells: what their runs gave, or why the request
+    /// was refused, which stands in its first cell. An answer that tells of none sets nothing, nor is
+    /// anything set past the last code cell.
+    ///
+    /// - `at`: which code cell is the request's first one, from 0.
+    /// - `answer`: the answer.
+    ///
+    /// The error is want of memory. Of several results those before the one that lacked it are set
+    /// then.
+    pub fn set_answer(&mut self, at: u32, answer: &Answer) -> Result<(), AllocError>
+        ensures ok { OnOk result (IfSome (answer_of answer.now)
+            (λ a. data_of self.new ≡ with_answer at a (data_of self.old))) }
+        ensures sources { sources_of (data_of self.new) ≡ sources_of (data_of self.old) }
+    {
+        match answer {
+            Answer::Cell {
+                count,
+                result: ran,
+                ..
+            } => self.set_ran(at as usize, ran, *count),
+            Answer::Cells { results, .. } => self.set_results(at as usize, results),
+            Answer::Refused { number, bytes } => self.set_refusal(at as usize, *number, *bytes),
+            Answer::Checkout { .. } => Ok(()),
+            Answer::Branch { .. } => Ok(()),
+            Answer::Log { .. } => Ok(()),
+            Answer::Status { .. } => Ok(()),
+        }
+    }
+
+    /// Sets what the runs of cells gave, of which the first has this number.
+    fn set_results(&mut self, at: usize, results: &[Counted]) -> Result<(), AllocError>
+        ensures ok { OnOk result (data_of self.new
+            ≡ with_results at (map counted_of results.now) (data_of self.old)) }
+        ensures sources { sources_of (data_of self.new) ≡ sources_of (data_of self.old) }
+    {
+        for place in at..self.code.len() {
+            match results.get(place - at) {
+                Some(counted) => self.set_ran(place, &counted.result, counted.count)?,
+                None => return Ok(()),
+            }
+        }
+        Ok(())
+    }
+
+    /// Sets why a request was refused, in the code cell of this number.
+    fn set_refusal(&mut self, at: usize, number: u8, bytes: Option<u64>) -> Result<(), AllocError>
+        ensures ok { OnOk result (IfSome (numbered number bytes)
+            (λ r. data_of self.new ≡ with_refused at (refusal_name r) (data_of self.old))) }
+        ensures sources { sources_of (data_of self.new) ≡ sources_of (data_of self.old) }
+    {
+        match Refusal::numbered(number, bytes) {
+            Some(refusal) => self.set_reason(at, refusal.reason()),
+            None => Ok(()),
+        }
+    }
+
+    /// Sets what the run of a cell gave.
+    fn set_ran(&mut self, at: usize, ran: &CellResult, count: u64) -> Result<(), AllocError>
+        ensures ok { OnOk result (data_of self.new ≡ with_result at count (report_of ran.now) (data_of self.old)) }
+        ensures err { OnErr result (data_of self.new ≡ (data_of self.old)) }
+        ensures sources { sources_of (data_of self.new) ≡ sources_of (data_of self.old) }
+    {
+        let outputs = outputs_json(self.alloc, ran, count)?;
+        self.set(at, outputs, Value::from(count));
+        Ok(())
+    }
+
+    /// Sets why a cell was refused.
+    fn set_reason(&mut self, at: usize, reason: &str) -> Result<(), AllocError>
+        ensures ok { OnOk result (data_of self.new ≡ with_refused at reason.now (data_of self.old)) }
+        ensures err { OnErr result (data_of self.new ≡ (data_of self.old)) }
+        ensures sources { sources_of (data_of self.new) ≡ sources_of (data_of self.old) }
+    {
         let ran = refused_run(self.alloc, reason)?;
         let outputs = outputs_json(self.alloc, &ran, 0)?;
         self.set(at, outputs, Value::Null);
         Ok(())
     }
 
-    /// Sets the outputs and the count of a code cell.
-    fn set(&mut self, at: u32, outputs: Value, count: Value)
-        requires at { at < length (sources_of (data_of self.old)) }
+    /// Sets the outputs and the count of a code cell. Where there is none of this number, nothing is
+    /// set.
+    fn set(&mut self, at: usize, outputs: Value, count: Value)
         requires outputs { has_float (view outputs) ≡ false }
         requires count { has_float (view count) ≡ false }
         ensures set { data_of self.new ≡ with_run_at at (view outputs) (view count) (data_of self.old) }
         ensures sources { sources_of (data_of self.new) ≡ sources_of (data_of self.old) }
     {
-        let place = self.code[at as usize];
-        set_run_at(&mut self.value, place, outputs, count);
+        if at < self.code.len() {
+            let place = self.code[at];
+            set_run_at(&mut self.value, place, outputs, count);
+        }
     }
 
     /// The bytes of the notebook: the pretty text of serde_json, and a line feed.

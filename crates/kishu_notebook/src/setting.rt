@@ -2,7 +2,7 @@
 ghost use Rattle.std.specs.Prelude.{◌≡◌, codes};
 ghost use Rattle.serde_json.specs.View.{view, items_view, members_view};
 ghost use Rattle.kishu_notebook.specs.Places.{item_changed};
-ghost use Rattle.kishu_notebook.specs.notebooks.Setting.{members_changed, changed_at, in_cells, with_run};
+ghost use Rattle.kishu_model.specs.notebooks.Setting.{members_changed, changed_at, in_cells, with_run};
 
 use serde_json::{Map, Value};
 

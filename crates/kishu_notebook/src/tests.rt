@@ -1,9 +1,9 @@
 ghost use Rattle.std.specs.Prelude.{◌≡◌, ◌<◌, length, true, IfOk};
 ghost use Rattle.kishu_notebook.specs.Views.{data_of};
-ghost use Rattle.kishu_notebook.specs.notebooks.Notebook.{sources_of};
+ghost use Rattle.kishu_model.specs.notebooks.Notebook.{sources_of};
 
 use crate::{Notebook, NotebookFault, NotebookKey, NotebookRefusal};
-use kishu_model::{CellResult, Outcome, Output};
+use kishu_model::{Answer, CellResult, Counted, Outcome, Output, Refusal};
 use std::alloc::Global;
 use std::rc::RcStr;
 use std::test::Fail;
@@ -434,6 +434,19 @@ fn ran(alloc: Global, outcome: Outcome, output: Output) -> Result<CellResult, Fa
     Ok(CellResult { outcome, outputs })
 }
 
+/// What the first code cell of that notebook gives.
+fn shown(alloc: Global) -> Result<CellResult, Fail> {
+    let text = text_of(alloc, "[1]")?;
+    ran(alloc, Outcome::Done, Output::Shown { text })
+}
+
+/// What the second one gives.
+fn raised(alloc: Global) -> Result<CellResult, Fail> {
+    let ename = text_of(alloc, "IndexError")?;
+    let evalue = text_of(alloc, "index out of range")?;
+    ran(alloc, Outcome::Raised, Output::Fault { ename, evalue })
+}
+
 /// Whether a notebook has such a code cell.
 fn has_code_cell(notebook: &Notebook, at: u32) -> Result<bool, Fail>
     ensures { IfOk result (λ there. there ≡ true → at < length (sources_of (data_of notebook.now))) }
@@ -467,32 +480,78 @@ fn sets_results(rt: HostRuntime) -> Result<(), Fail> {
     assert_eq!(rt; sources[0].as_str(), "x = [1]\nx");
     assert_eq!(rt; sources[1].as_str(), "x[5]");
     assert_eq!(rt; sources[2].as_str(), "");
-    let text = text_of(alloc, "[1]")?;
-    let shown = ran(alloc, Outcome::Done, Output::Shown { text })?;
-    let ename = text_of(alloc, "IndexError")?;
-    let evalue = text_of(alloc, "index out of range")?;
-    let raised = ran(alloc, Outcome::Raised, Output::Fault { ename, evalue })?;
-    set_result(&mut notebook, 0, &shown, 1)?;
-    set_result(&mut notebook, 1, &raised, 2)?;
+    set_result(&mut notebook, 0, &shown(alloc)?, 1)?;
+    set_result(&mut notebook, 1, &raised(alloc)?, 2)?;
     let written = String::from_utf8(notebook.write()?)?;
     assert_eq!(rt; written.as_str(), SET);
     Ok(())
 }
 
+/// A code cell, and the notebook with it alone after it was refused.
+const CODE_CELL: &str =
+    "{\"cell_type\":\"code\",\"id\":\"a\",\"metadata\":{},\"source\":\"\",\"outputs\":[],\"execution_count\":3}";
+
+const CELL_REFUSED: &str =
+    "{\n  \"cells\": [\n    {\n      \"cell_type\": \"code\",\n      \"execution_count\": null,\n      \"id\": \"a\",\n      \"metadata\": {},\n      \"outputs\": [\n        {\n          \"ename\": \"StoreFull\",\n          \"evalue\": \"\",\n          \"output_type\": \"error\",\n          \"traceback\": [\n            \"StoreFull: \"\n          ]\n        }\n      ],\n      \"source\": \"\"\n    }\n  ],\n  \"metadata\": {},\n  \"nbformat\": 4,\n  \"nbformat_minor\": 5\n}\n";
+
 #[test]
 fn sets_a_refusal(rt: HostRuntime) -> Result<(), Fail> {
     let alloc = rt.alloc();
-    let text = with_cells(
-        alloc,
-        "{\"cell_type\":\"code\",\"id\":\"a\",\"metadata\":{},\"source\":\"\",\"outputs\":[],\"execution_count\":3}",
-    )?;
+    let text = with_cells(alloc, CODE_CELL)?;
     let mut notebook = read(alloc, text.as_bytes())?;
     assert!(rt; notebook.sources()?.len() == 1);
     set_refused(&mut notebook, 0, "StoreFull")?;
     let written = String::from_utf8(notebook.write()?)?;
+    assert_eq!(rt; written.as_str(), CELL_REFUSED);
+    Ok(())
+}
+
+/// What is written of a notebook once an answer is set, whose first cell is its first one.
+fn answered(alloc: Global, text: &str, answer: &Answer) -> Result<String, Fail> {
+    let mut notebook = read(alloc, text.as_bytes())?;
+    notebook.set_answer(0, answer)?;
+    Ok(String::from_utf8(notebook.write()?)?)
+}
+
+#[test]
+fn sets_answers(rt: HostRuntime) -> Result<(), Fail> {
+    let alloc = rt.alloc();
+    let results = vec![in alloc;
+        Counted {
+            count: 1,
+            result: shown(alloc)?
+        },
+        Counted {
+            count: 2,
+            result: raised(alloc)?
+        },
+    ]?;
+    let cells = Answer::Cells { commit: 1, results };
+    assert_eq!(rt; answered(alloc, JUPYTER, &cells)?.as_str(), SET);
+
+    let mut notebook = read(alloc, JUPYTER.as_bytes())?;
+    let first = Answer::Cell {
+        commit: 1,
+        count: 1,
+        result: shown(alloc)?,
+    };
+    notebook.set_answer(0, &first)?;
+    let second = Answer::Cell {
+        commit: 2,
+        count: 2,
+        result: raised(alloc)?,
+    };
+    notebook.set_answer(1, &second)?;
+    // past the last code cell
+    notebook.set_answer(3, &first)?;
+    let written = String::from_utf8(notebook.write()?)?;
+    assert_eq!(rt; written.as_str(), SET);
+
+    let text = with_cells(alloc, CODE_CELL)?;
+    let refused = Refusal::StoreFull.answer();
     assert_eq!(rt;
-        written.as_str(),
-        "{\n  \"cells\": [\n    {\n      \"cell_type\": \"code\",\n      \"execution_count\": null,\n      \"id\": \"a\",\n      \"metadata\": {},\n      \"outputs\": [\n        {\n          \"ename\": \"StoreFull\",\n          \"evalue\": \"\",\n          \"output_type\": \"error\",\n          \"traceback\": [\n            \"StoreFull: \"\n          ]\n        }\n      ],\n      \"source\": \"\"\n    }\n  ],\n  \"metadata\": {},\n  \"nbformat\": 4,\n  \"nbformat_minor\": 5\n}\n"
+        answered(alloc, text.as_str(), &refused)?.as_str(),
+        CELL_REFUSED
     );
     Ok(())
 }

@@ -1,6 +1,6 @@
 use Rattle.std.proofs.Common.{◌≡◌, drop}
 use Rattle.serde_json.specs.View.{items_view}
-use Rattle.kishu_notebook.specs.notebooks.Cells.{are_outputs}
+use Rattle.kishu_model.specs.notebooks.Cells.{are_outputs}
 use Rattle.kishu_notebook.proofs.cells.are_outputs.Given as goal
 
 abbrev pub invariant-loop-output : goal.invariant-loop-output

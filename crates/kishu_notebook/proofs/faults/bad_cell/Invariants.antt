@@ -1,6 +1,6 @@
 use Rattle.std.proofs.Common.{◌≡◌, drop}
 use Rattle.serde_json.specs.View.{items_view}
-use Rattle.kishu_notebook.specs.notebooks.Notebook.{bad_cell_from}
+use Rattle.kishu_model.specs.notebooks.Notebook.{bad_cell_from}
 use Rattle.kishu_notebook.proofs.faults.bad_cell.Given as goal
 
 abbrev pub invariant-loop-index : goal.invariant-loop-index

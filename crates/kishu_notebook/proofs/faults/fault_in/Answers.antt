@@ -1,6 +1,6 @@
 use Rattle.std.proofs.Common.{◌≡◌, None, arith, rules}
 use Rattle.serde_json.specs.View.{view}
-use Rattle.kishu_notebook.specs.notebooks.Notebook.{missing_key}
+use Rattle.kishu_model.specs.notebooks.Notebook.{missing_key}
 use Rattle.kishu_notebook.proofs.Verdicts.{cells_len, cells_there}
 use Rattle.kishu_notebook.proofs.faults.fault_in.Goals as goal
 

@@ -4,7 +4,7 @@ use Rattle.std.specs.List.{list_any}
 use Rattle.std.specs.Ordering.{nat_cmp}
 use Rattle.std.specs.Str.{bytes_eq}
 use Rattle.serde_json.specs.View.{view, items_view}
-use Rattle.kishu_notebook.specs.notebooks.Notebook.{repeated_from}
+use Rattle.kishu_model.specs.notebooks.Notebook.{repeated_from}
 use Rattle.kishu_notebook.proofs.Ids.{was_new, was_there, one_more, passes, stops}
 use Rattle.kishu_notebook.proofs.Lists.{left_at}
 use Rattle.kishu_notebook.proofs.faults.repeated_id.Goals as goal

@@ -5,7 +5,7 @@ use Rattle.std.specs.List.{list_any}
 use Rattle.std.specs.Ordering.{nat_cmp}
 use Rattle.std.specs.Str.{bytes_eq}
 use Rattle.serde_json.specs.View.{items_view}
-use Rattle.kishu_notebook.specs.notebooks.Notebook.{repeated_from}
+use Rattle.kishu_model.specs.notebooks.Notebook.{repeated_from}
 use Rattle.kishu_notebook.proofs.faults.repeated_id.Given as goal
 
 -- the set has the ids of the cells that were passed

@@ -1,6 +1,6 @@
 use Rattle.std.proofs.Common.{codes, ap, ◌∙◌}
 use Rattle.serde_json.specs.View.{view}
-use Rattle.kishu_notebook.specs.notebooks.Setting.{members_changed}
+use Rattle.kishu_model.specs.notebooks.Setting.{members_changed}
 use Rattle.kishu_notebook.proofs.setting.set_members.Goals as goal
 
 pub returns : goal.returns

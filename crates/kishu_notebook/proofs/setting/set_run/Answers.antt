@@ -2,7 +2,7 @@ use Rattle.std.proofs.Common.{sym, ap, ◌∙◌}
 use Rattle.serde_json.proofs.Views.{view-Object}
 use Rattle.serde_json.specs.Data.{object}
 use Rattle.serde_json.specs.View.{view, members_view}
-use Rattle.kishu_notebook.specs.notebooks.Setting.{with_run}
+use Rattle.kishu_model.specs.notebooks.Setting.{with_run}
 use Rattle.kishu_notebook.proofs.Changes.{as_object_is, run_unchanged}
 use Rattle.kishu_notebook.proofs.setting.set_run.Goals as goal
 

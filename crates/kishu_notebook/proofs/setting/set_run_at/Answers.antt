@@ -3,7 +3,7 @@ use Rattle.serde_json.proofs.Views.{view-Object}
 use Rattle.serde_json.specs.Data.{object}
 use Rattle.serde_json.specs.View.{view, members_view}
 use Rattle.kishu_notebook.specs.Places.{item_changed}
-use Rattle.kishu_notebook.specs.notebooks.Setting.{changed_at, in_cells, with_run}
+use Rattle.kishu_model.specs.notebooks.Setting.{changed_at, in_cells, with_run}
 use Rattle.kishu_notebook.proofs.Changes.{as_object_is, changed_unchanged}
 use Rattle.kishu_notebook.proofs.setting.set_run_at.Goals as goal
 

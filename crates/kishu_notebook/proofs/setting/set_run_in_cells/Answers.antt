@@ -3,7 +3,7 @@ use Rattle.serde_json.proofs.Views.{view-Array}
 use Rattle.serde_json.specs.Data.{array}
 use Rattle.serde_json.specs.View.{view, items_view}
 use Rattle.kishu_notebook.specs.Places.{item_changed}
-use Rattle.kishu_notebook.specs.notebooks.Setting.{in_cells, with_run}
+use Rattle.kishu_model.specs.notebooks.Setting.{in_cells, with_run}
 use Rattle.kishu_notebook.proofs.Changes.{as_array_is, cells_unchanged}
 use Rattle.kishu_notebook.proofs.setting.set_run_in_cells.Goals as goal
 

@@ -1,7 +1,7 @@
 use Rattle.std.proofs.Common.{◌<◌, ◌≤◌, length, refl, sym, arith}
 use Rattle.std.proofs.lemmas.Bool.{false≢true}
 use Rattle.serde_json.specs.View.{view}
-use Rattle.kishu_notebook.specs.notebooks.Setting.{with_run}
+use Rattle.kishu_model.specs.notebooks.Setting.{with_run}
 use Rattle.kishu_notebook.proofs.Changes.{item_written, item_unwritten, not_below}
 use Rattle.kishu_notebook.proofs.setting.set_run_in_items.Goals as goal
 

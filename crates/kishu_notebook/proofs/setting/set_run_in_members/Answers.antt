@@ -1,7 +1,7 @@
 use Rattle.std.proofs.Common.{codes, sym, ap, ◌∙◌}
 use Rattle.serde_json.specs.View.{view, members_view}
 use Rattle.kishu_notebook.specs.Places.{item_changed}
-use Rattle.kishu_notebook.specs.notebooks.Setting.{in_cells, with_run}
+use Rattle.kishu_model.specs.notebooks.Setting.{in_cells, with_run}
 use Rattle.kishu_notebook.proofs.Changes.{written, unwritten}
 use Rattle.kishu_notebook.proofs.setting.set_run_in_members.Goals as goal
 

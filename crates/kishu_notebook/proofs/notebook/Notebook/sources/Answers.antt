@@ -2,8 +2,8 @@ use Rattle.std.proofs.Common.{map, ap, ◌∙◌}
 use Rattle.std.proofs.lemmas.Result.{IfOk-weaker}
 use Rattle.std.specs.Rc.{rc_str_bytes}
 use Rattle.serde_json.specs.View.{view}
-use Rattle.kishu_notebook.specs.notebooks.Cells.{sources_in}
-use Rattle.kishu_notebook.specs.notebooks.Notebook.{sources_of}
+use Rattle.kishu_model.specs.notebooks.Cells.{sources_in}
+use Rattle.kishu_model.specs.notebooks.Notebook.{sources_of}
 use Rattle.kishu_notebook.proofs.Verdicts.{cells_are, no_cells}
 use Rattle.kishu_notebook.proofs.notebook.Notebook.sources.Goals as goal
 

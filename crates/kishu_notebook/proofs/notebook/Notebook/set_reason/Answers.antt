@@ -5,9 +5,9 @@ use Rattle.serde_json.specs.Written.{has_float}
 use Rattle.serde_json.specs.declared.value.Value.{the_lemmas}
 use Rattle.serde_json.specs.declared.value.Value.TheVariants.{Null}
 use Rattle.kishu_meaning.specs.values.Values.{report_of, Output}
-use Rattle.kishu_notebook.specs.notebooks.Setting.{with_run_at, outputs_data}
+use Rattle.kishu_model.specs.notebooks.Setting.{with_run_at, outputs_data}
 use Rattle.kishu_notebook.proofs.Kept.{outputs_no_float}
-use Rattle.kishu_notebook.proofs.notebook.Notebook.set_refused.Goals as goal
+use Rattle.kishu_notebook.proofs.notebook.Notebook.set_reason.Goals as goal
 
 pub set-requires-clause-outputs : goal.set-requires-clause-outputs
 set-requires-clause-outputs c = ap has_float c.in_ok-outputs.ensures ∙ outputs_no_float 0 (report_of c.in_ok-ran.ran).outputs
