@@ -1,0 +1,7 @@
+mod Walks
+mod Steps
+mod Whole
+mod Ends
+mod Parsed
+mod Stores
+mod Rows

@@ -1,0 +1,81 @@
+-- Rows of command lines, computed on the definitions.
+use Rattle.std.proofs.Common.{◌≡◌, refl, Option, Some, None, List, [], ◌∷◌, true, false}
+use Rattle.std.specs.Prelude.{codes}
+use Rattle.kishu_model.specs.Request.{branch, checkout, log, status}
+use Rattle.kishu_model.specs.Task.{notebook, one_cell, one_request, session}
+use Rattle.kishu_words.specs.Words.{form_of, store_word}
+
+a_session : form_of (codes "S" ∷ codes "session" ∷ []) ≡ Some session
+a_session = refl
+
+a_cell : form_of (codes "S" ∷ codes "cell" ∷ []) ≡ Some one_cell
+a_cell = refl
+
+a_run : form_of (codes "S" ∷ codes "run" ∷ []) ≡ Some (notebook false)
+a_run = refl
+
+flag_last : form_of (codes "S" ∷ codes "run" ∷ codes "--together" ∷ []) ≡ Some (notebook true)
+flag_last = refl
+
+flag_first : form_of (codes "--together" ∷ codes "S" ∷ codes "run" ∷ []) ≡ Some (notebook true)
+flag_first = refl
+
+flag_between : form_of (codes "S" ∷ codes "--together" ∷ codes "run" ∷ []) ≡ Some (notebook true)
+flag_between = refl
+
+the_log : form_of (codes "S" ∷ codes "log" ∷ []) ≡ Some (one_request log)
+the_log = refl
+
+the_status : form_of (codes "S" ∷ codes "status" ∷ []) ≡ Some (one_request status)
+the_status = refl
+
+a_checkout : form_of (codes "S" ∷ codes "checkout" ∷ codes "1" ∷ []) ≡ Some (one_request (checkout (codes "1")))
+a_checkout = refl
+
+a_branch : form_of (codes "S" ∷ codes "branch" ∷ codes "try" ∷ []) ≡ Some (one_request (branch (codes "try") None))
+a_branch = refl
+
+a_branch_there : form_of (codes "S" ∷ codes "branch" ∷ codes "try" ∷ codes "1" ∷ []) ≡ Some (one_request (branch (codes "try") (Some (codes "1"))))
+a_branch_there = refl
+
+flag_twice : form_of (codes "S" ∷ codes "--together" ∷ codes "--together" ∷ codes "run" ∷ []) ≡ None
+flag_twice = refl
+
+flag_with_a_cell : form_of (codes "S" ∷ codes "cell" ∷ codes "--together" ∷ []) ≡ None
+flag_with_a_cell = refl
+
+flag_cut : form_of (codes "S" ∷ codes "run" ∷ codes "--togethe" ∷ []) ≡ None
+flag_cut = refl
+
+flag_with_a_value : form_of (codes "S" ∷ codes "run" ∷ codes "--together=true" ∷ []) ≡ None
+flag_with_a_value = refl
+
+two_dashes : form_of (codes "S" ∷ codes "run" ∷ codes "--" ∷ []) ≡ None
+two_dashes = refl
+
+no_words : form_of [] ≡ None
+no_words = refl
+
+a_store_alone : form_of (codes "S" ∷ []) ≡ None
+a_store_alone = refl
+
+another_command : form_of (codes "S" ∷ codes "fly" ∷ []) ≡ None
+another_command = refl
+
+a_word_too_many : form_of (codes "S" ∷ codes "log" ∷ codes "x" ∷ []) ≡ None
+a_word_too_many = refl
+
+two_words_too_many : form_of (codes "S" ∷ codes "branch" ∷ codes "try" ∷ codes "1" ∷ codes "2" ∷ []) ≡ None
+two_words_too_many = refl
+
+an_empty_store : form_of (codes "" ∷ codes "cell" ∷ []) ≡ None
+an_empty_store = refl
+
+an_unknown_flag : form_of (codes "-S" ∷ codes "cell" ∷ []) ≡ None
+an_unknown_flag = refl
+
+store_behind_the_flag : store_word (codes "--together" ∷ codes "S" ∷ codes "run" ∷ []) ≡ Some (codes "S")
+store_behind_the_flag = refl
+
+no_store : store_word (codes "--together" ∷ []) ≡ None
+no_store = refl
