@@ -3,29 +3,38 @@ use Rattle.std.proofs.Common.{◌≡◌, ◌<◌, ◌≤◌, ◌*◌, ◌^◌, �
 use Rattle.std.specs.Prelude.{◌==◌}
 use Rattle.std.proofs.lemmas.List.{length-map, length-reverse}
 use Rattle.std.specs.Rc.{rc_str_bytes}
+use Rattle.std.specs.declared.alloc.Global.{Global}
+use Rattle.std.specs.declared.rc.RcStr.{RcStr}
 use Rattle.kishu_language.specs.declared.profile.Profile.TheVariants.{One}
+use Rattle.kishu_store.specs.CommitLines.{first_line, first_characters, longest_line, line_in}
 use Rattle.kishu_store.specs.Entries.{commit}
 use Rattle.kishu_store.specs.Graph.{Commit, Graph, Numbered, with_commit, count_of, back_in}
 use Rattle.kishu_store.specs.Limits.{most_records}
 use Rattle.kishu_store_laws.specs.GraphLaws.{changed-graph}
 use Rattle.kishu_graph.specs.Kept.{Kept, StandsFor}
-use Rattle.kishu_session.specs.Cells.{cells_of}
+use Rattle.kishu_session.specs.Cells.{cells_of, Gains}
 use Rattle.kishu_session.specs.Head.{KeepsGraph}
+use Rattle.kishu_session.specs.TextLists.{texts_of}
 use Rattle.kishu_session.specs.Texts.{cells_at, cells_along, numbers_on, path-texts, count-replay}
 use Rattle.kishu_session.specs.declared.commit_cells.CommitCells.{CommitCells}
 
-pub keeps-add : (old new : Kept) (stored more : List CommitCells) (g : Graph) (text : List ℕ) → KeepsGraph old stored g → old.records < most_records → map cells_of more ≡ map cells_of stored ++ ((text ∷ []) ∷ [])
-    → StandsFor new (with_commit One (text ∷ []) g) → KeepsGraph new more (with_commit One (text ∷ []) g)
-keeps-add old new stored more g text k room is stands = record {
-  cells = is ∙ ap (λ (l : List (List (List ℕ))). l ++ ((text ∷ []) ∷ [])) k.cells;
+pub keeps-add : (old new : Kept) (stored more : List CommitCells) (g : Graph) (cells : List (List ℕ)) → KeepsGraph old stored g → old.records < most_records → Gains stored more (cells ∷ [])
+    → StandsFor new (with_commit One cells g) → KeepsGraph new more (with_commit One cells g)
+keeps-add old new stored more g cells k room is stands = record {
+  cells = is ∙ ap (λ (l : List (List (List ℕ))). l ++ (cells ∷ [])) k.cells;
   profiles = (refl, k.profiles);
   graph = record {
     stands = stands;
     good =
-        changed-graph g (commit g.head.commit One (text ∷ []) [] [])
+        changed-graph g (commit g.head.commit One cells [] [])
         (record { room = subst (λ (n : ℕ). n < most_records) k.graph.stands.shape.records room; goes_on = (refl, refl, refl) }) k.graph.good;
   };
 }
+
+-- the line of cells of which this is the first
+pub line-first : (cells : List (RcStr Global)) (x : RcStr Global) → 0 < length cells → x ≡ get_or cells 0 x → first_characters longest_line (first_line (rc_str_bytes x)) ≡ line_in (texts_of cells)
+line-first [] x some is = absurd (omega (arith, some))
+line-first (y ∷ ys) x some is = ap (λ (z : RcStr Global). first_characters longest_line (first_line (rc_str_bytes z))) is
 
 -- ---- how many cells a path has
 

@@ -35,7 +35,7 @@ module _ (g : Graph) (title : List ℕ) (at : Option (List ℕ)) (c : ℕ) (old 
   stands : StandsFor new (with_branch title c g)
   stands = branched-stands title (start_of at g) g c old new s b
 
-  pub branch-prepared : (p : Prepared) → IsGraph g → option_map entry_of p.entry ≡ Some (name title c) → IsPrepared g (branch title at) p new
+  pub branch-prepared : (p : Prepared) → IsGraph g → option_map entry_of p.entry ≡ Some (name title c) → IsPrepared g (after g (branch title at)) p new
   branch-prepared p good entry =
       let leads = branch-leads g good title at c b.start_is b.accepted in
       record {

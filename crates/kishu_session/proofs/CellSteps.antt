@@ -33,7 +33,7 @@ module _ (g : Graph) (text : List ℕ) (short : length text ≤ longest_text) (r
       subst (λ (x : Entry). Leads g x (after g (cell text))) (sym same)
       (record { fits = record { room = room; goes_on = (is, refl, refl) }; changed_is = sym after-cell })
 
-  pub prepared-cell : (p : Prepared) (parent : ℕ) (kept : Kept) → parent ≡ g.head.commit → option_map entry_of p.entry ≡ Some (commit parent One (text ∷ []) [] []) → StandsFor kept (with_commit One (text ∷ []) g) → IsPrepared g (cell text) p kept
+  pub prepared-cell : (p : Prepared) (parent : ℕ) (kept : Kept) → parent ≡ g.head.commit → option_map entry_of p.entry ≡ Some (commit parent One (text ∷ []) [] []) → StandsFor kept (with_commit One (text ∷ []) g) → IsPrepared g (after g (cell text)) p kept
   prepared-cell p parent kept is entry stands = record {
     leads = subst (λ (o : Option Entry). LeadsTo g o (after g (cell text))) (sym entry) (leads-cell parent (commit parent One (text ∷ []) [] []) is refl);
     stands = subst (λ (x : Graph). StandsFor kept x) (sym after-cell) stands;

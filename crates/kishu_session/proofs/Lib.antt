@@ -1,10 +1,13 @@
 mod Items
 mod Outcomes
 mod TextFacts
+mod LongTexts
+mod Ran
 mod Steps
 mod MoveSteps
 mod HeadFacts
 mod CellSteps
+mod CellsSteps
 mod Refused
 mod RefusedBranch
 mod MovedFacts

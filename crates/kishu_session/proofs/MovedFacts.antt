@@ -74,7 +74,7 @@ module _ (g : Graph) (to : List ℕ) (c : ℕ) (old new : Kept) (m : HasMoved (r
         profiles = k.profiles;
       })
 
-  pub moved-prepared : (p : Prepared) → StandsFor old g → option_map entry_of p.entry ≡ Some (move (move_to new.head)) → IsPrepared g (checkout to) p new
+  pub moved-prepared : (p : Prepared) → StandsFor old g → option_map entry_of p.entry ≡ Some (move (move_to new.head)) → IsPrepared g (after g (checkout to)) p new
   moved-prepared p s entry = record {
     leads = subst (λ (o : Option Entry). LeadsTo g o (after g (checkout to))) (sym entry) moved-leads;
     stands = stands-moved s;

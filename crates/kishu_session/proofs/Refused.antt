@@ -28,7 +28,7 @@ module _ (g : Graph) (q : Request) (r : Refusal) (is : step g q ≡ refused_with
   graph-stays : after g q ≡ g
   graph-stays = ap (λ (x : Stepped). x.graph) is
 
-  pub refused-prepared : (p : Prepared) (kept : Kept) → p.entry ≡ None → StandsFor kept g → IsPrepared g q p kept
+  pub refused-prepared : (p : Prepared) (kept : Kept) → p.entry ≡ None → StandsFor kept g → IsPrepared g (after g q) p kept
   refused-prepared p kept none stands = record {
     leads = subst (λ (o : Option Entry). LeadsTo g o (after g q)) (sym (ap (option_map entry_of) none)) graph-stays;
     stands = subst (λ (x : Graph). StandsFor kept x) (sym graph-stays) stands;

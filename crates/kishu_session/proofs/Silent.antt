@@ -5,24 +5,27 @@ use Rattle.std.proofs.Math.Logic.{∥∥₁_elim}
 use Rattle.kishu_language.specs.Limits.{longest_text}
 use Rattle.kishu_store.specs.Branches.{commit_of, is_branch_name}
 use Rattle.kishu_store.specs.Entries.{Entry}
-use Rattle.kishu_store.specs.Graph.{Graph, Target, with_branch}
-use Rattle.kishu_store.specs.Limits.{most_records}
+use Rattle.kishu_meaning.specs.values.Values.{State}
+use Rattle.kishu_store.specs.Graph.{Graph, Target, with_branch, with_commit}
+use Rattle.kishu_store.specs.Limits.{most_records, newest_profile}
 use Rattle.kishu_store.specs.References.{resolve}
 use Rattle.kishu_store_laws.specs.GraphLaws.{changed-counted}
-use Rattle.kishu_graph.specs.Kept.{Kept, StandsFor}
 use Rattle.kishu_model.specs.Answers.{Answer, Refusal, branched, cell_too_long, store_full, bad_name, name_taken}
-use Rattle.kishu_model.specs.Request.{Request, Stepped, cell, checkout, branch, log, status, unreadable, refused_with}
+use Rattle.kishu_model.specs.Request.{Request, Stepped, cell, cells, checkout, branch, log, status, unreadable, refused_with}
 use Rattle.kishu_model.specs.requests.Cell.{committed}
+use Rattle.kishu_model.specs.requests.Cells.{cells_run}
 use Rattle.kishu_model.specs.requests.Checkout.{checkout_to, went_to}
 use Rattle.kishu_model.specs.requests.Branch.{branch_at, start_of}
-use Rattle.kishu_model.specs.Serve.{after}
 use Rattle.kishu_model.specs.Step.{step}
 use Rattle.kishu_model.specs.Values.{answer_of}
 use Rattle.kishu_record.specs.Entries.{entry_of}
 use Rattle.kishu_record.specs.declared.entry.Entry as program
+use Rattle.kishu_session.specs.Committing.{unless_refused, after_on}
 use Rattle.kishu_session.specs.Known.{IsGraphOf, IsKnown}
-use Rattle.kishu_session.specs.Prepared.{LeadsTo, Leads, IsPrepared}
+use Rattle.kishu_session.specs.Lives.{state_of}
+use Rattle.kishu_session.specs.Prepared.{LeadsTo, Leads, Prepares, RefusesFor}
 use Rattle.kishu_session.specs.Refusing.{refusal_in, RefusesAs, IsRefusal}
+use Rattle.kishu_session.specs.declared.head.Head.{Head}
 use Rattle.kishu_session.specs.declared.prepared.Prepared.{Prepared}
 
 -- A step that refuses changes nothing.
@@ -54,17 +57,18 @@ module _ (g : Graph) (r : Refusal) where
   at-stays title None e = refl
   at-stays title (Some c) e = choice (nat_le most_records g.records) (refused_with store_full g) (made title c) (here store_full) (accepted (made title c) refl) e
 
-  step-stays : (q : Request) → Stays (step g q)
-  step-stays unreadable e = refl
-  step-stays (cell text) e =
+  on-stays : (now : State) (q : Request) → refusal_in (step g q).answer ≡ Some r → after_on now g q ≡ g
+  on-stays now unreadable e = refl
+  on-stays now (cell text) e =
       choice (nat_lt longest_text (length text)) (refused_with cell_too_long g) (if nat_le most_records g.records then refused_with store_full g else committed text g) (here cell_too_long)
       (choice (nat_le most_records g.records) (refused_with store_full g) (committed text g) (here store_full) (accepted (committed text g) refl)) e
-  step-stays (checkout to) e = to-stays (resolve g to) e
-  step-stays (branch title at) e =
+  on-stays now (cells texts) e = ap (λ (o : Option Refusal). unless_refused o (with_commit newest_profile (cells_run newest_profile texts now) g) g) e
+  on-stays now (checkout to) e = to-stays (resolve g to) e
+  on-stays now (branch title at) e =
       choice (not (is_branch_name title)) (refused_with bad_name g) (if is_some (commit_of title g.branches) then refused_with name_taken g else branch_at title (start_of at g) g) (here bad_name)
       (choice (is_some (commit_of title g.branches)) (refused_with name_taken g) (branch_at title (start_of at g) g) (here name_taken) (at-stays title (start_of at g))) e
-  step-stays log e = refl
-  step-stays status e = refl
+  on-stays now log e = refl
+  on-stays now status e = refl
 
 -- A record changes a graph.
 never-same : (g : Graph) (e : Entry) → Leads g e g → ⊥
@@ -73,18 +77,19 @@ never-same g e l = omega (arith, changed-counted g e l.fits, ap (λ (x : Graph).
 refused-in : (a : Option Answer) (b : Answer) (r : Refusal) → RefusesAs a b → option_map refusal_in a ≡ Some (Some r) → refusal_in b ≡ Some r
 refused-in a b r alike is = (let both : Some (refusal_in b) ≡ Some (Some r) = sym alike ∙ is in cc (both))
 
-module _ (old new : Kept) (q : Request) (p : Prepared) (r : Refusal) (is : option_map refusal_in (answer_of p.answer) ≡ Some (Some r)) (prepares : (g : Graph) → IsGraphOf old g → IsPrepared g q p new) (alike : (g : Graph) → StandsFor old g → RefusesAs (answer_of p.answer) (step g q).answer) where
-  no-record : (g : Graph) → IsGraphOf old g → (e : program.Entry) → p.entry ≡ Some e → ⊥
+module _ (old new : Head) (q : Request) (p : Prepared) (r : Refusal) (is : option_map refusal_in (answer_of p.answer) ≡ Some (Some r)) (prepares : Prepares old new q p) (alike : RefusesFor old.graph q p.answer) where
+  no-record : (g : Graph) → IsGraphOf old.graph g → (e : program.Entry) → p.entry ≡ Some e → ⊥
   no-record g k e some =
-      let leads = subst (λ (o : Option program.Entry). LeadsTo g (option_map entry_of o) (after g q)) some (prepares g k).leads in
-      never-same g (entry_of e) (subst (λ (x : Graph). Leads g (entry_of e) x) (step-stays g r q (refused-in (answer_of p.answer) (step g q).answer r (alike g k.stands) is)) leads)
+      let leads = subst (λ (o : Option program.Entry). LeadsTo g (option_map entry_of o) (after_on (state_of old.live) g q)) some (prepares g k).leads in
+      never-same g (entry_of e)
+      (subst (λ (x : Graph). Leads g (entry_of e) x) (on-stays g r (state_of old.live) q (refused-in (answer_of p.answer) (step g q).answer r (alike g k.stands) is)) leads)
 
-  none-by : IsKnown old → (o : Option program.Entry) → p.entry ≡ o → p.entry ≡ None
+  none-by : IsKnown old.graph → (o : Option program.Entry) → p.entry ≡ o → p.entry ≡ None
   none-by known None e = e
   none-by known (Some x) e = absurd (∥∥₁_elim known ⊥-prop (λ k. no-record k.0 k.1 x e))
     where
       ⊥-prop : IsProp ⊥
       ⊥-prop a b = absurd a
 
-pub refused-silent : (old new : Kept) (q : Request) (p : Prepared) → IsKnown old → ((g : Graph) → IsGraphOf old g → IsPrepared g q p new) → ((g : Graph) → StandsFor old g → RefusesAs (answer_of p.answer) (step g q).answer) → IsRefusal (answer_of p.answer) → p.entry ≡ None
+pub refused-silent : (old new : Head) (q : Request) (p : Prepared) → IsKnown old.graph → Prepares old new q p → RefusesFor old.graph q p.answer → IsRefusal (answer_of p.answer) → p.entry ≡ None
 refused-silent old new q p known prepares alike refusal = none-by old new q p refusal.0 refusal.1 prepares alike known p.entry refl

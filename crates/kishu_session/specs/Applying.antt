@@ -8,8 +8,10 @@ use Rattle.kishu_model.specs.Serve.{after}
 use Rattle.kishu_model.specs.Step.{step, charge_of}
 use Rattle.kishu_model.specs.Values.{request_of, answer_of}
 use Rattle.kishu_session.specs.Attached.{IsAtEnd, IsAttached}
+use Rattle.kishu_session.specs.Committing.{after_on}
 use Rattle.kishu_session.specs.Filling.{FillsBy}
 use Rattle.kishu_session.specs.Journals.{BeforeOrAfter}
+use Rattle.kishu_session.specs.Lives.{state_of}
 use Rattle.kishu_session.specs.Written.{IsRecorded}
 use Rattle.kishu_session.specs.declared.session.Session.{Session}
 
@@ -23,6 +25,10 @@ IsAnswer old s q a = Told s ((g : Graph) → IsAttached old s g → answer_of a 
 abbrev pub StaysAttached : (old new : Session) → (s t : State) → Request → Type 0
 StaysAttached old new s t q = Told s ((g : Graph) → IsAttached old s g → IsAttached new t (after g (request_of q)))
 
+-- A stop at any moment leaves the graph before or after the request, and no output.
+abbrev pub LeavesBeforeOrAfter : Session → (s t : State) → Request → Type 0
+LeavesBeforeOrAfter old s t q = Told s ((g : Graph) → IsAttached old s g → Elapses s t (BeforeOrAfter s g (after g (request_of q))))
+
 -- A cell of the request would begin with too many nodes.
 abbrev pub Fills : Session → State → Request → Type 0
 Fills old s q = Told s ((g : Graph) → IsAttached old s g → FillsBy g (request_of q))
@@ -33,15 +39,18 @@ Counts old s q before now = Told s ((g : Graph) → IsAttached old s g → befor
 
 -- ---- from one that stands at the end of the file, whatever its live state is
 
+-- the graph after a request, whose cells run on that state
+abbrev pub after_here : Session → Graph → Request → Graph
+after_here old g q = after_on (state_of old.head.live) g (request_of q)
+
 -- It stays there, and the file's graph is the one after the request.
 abbrev pub StaysAtEnd : (old new : Session) → (s t : State) → Request → Type 0
-StaysAtEnd old new s t q = Told s ((g : Graph) → IsAtEnd old s g → IsAtEnd new t (after g (request_of q)))
+StaysAtEnd old new s t q = Told s ((g : Graph) → IsAtEnd old s g → IsAtEnd new t (after_here old g q))
 
 -- The file is the old one with one record more, or it is the old one.
 abbrev pub RecordsOne : Session → (s t : State) → Type 0
 RecordsOne old s t = Told s ((g : Graph) → IsAtEnd old s g → (t.file ≡ s.file) ⊎ IsRecorded s.file t.file)
 
--- A stop at any moment leaves the graph before or after the request, and no output.
-abbrev pub LeavesBeforeOrAfter : Session → (s t : State) → Request → Type 0
-LeavesBeforeOrAfter old s t q =
-    Told s (Only s.file s.may_leave → (g : Graph) → IsAtEnd old s g → Elapses s t (BeforeOrAfter s g (after g (request_of q))))
+-- Where a stop before left the file alone, a stop at any moment leaves the graph before or after the request, and no output.
+abbrev pub LeavesHere : Session → (s t : State) → Request → Type 0
+LeavesHere old s t q = Told s (Only s.file s.may_leave → (g : Graph) → IsAtEnd old s g → Elapses s t (BeforeOrAfter s g (after_here old g q)))

@@ -1,5 +1,5 @@
 -- What a session keeps of its store's graph, and the state at its head.
-use Rattle.std.specs.Prelude.{◌≡◌, ◌≤◌, ℕ, suc, ◌+◌, List, [], ◌∷◌, map}
+use Rattle.std.specs.Prelude.{◌≡◌, ◌≤◌, ℕ, suc, ◌+◌, List, map}
 use Rattle.kishu_language.specs.declared.profile.Profile.TheVariants.{One}
 use Rattle.kishu_store.specs.Graph.{Graph, newest, with_commit, count_of}
 use Rattle.kishu_graph.specs.Kept.{Kept, HasShapeOf, StandsFor}
@@ -45,21 +45,18 @@ FillsPath head = (g : Graph) → Keeps head g → FillsOnPath g
 abbrev pub Reaches : (old new : Head) → Type 0
 Reaches old new = (g : Graph) → Keeps old g → IsAt new g
 
--- ---- a commit of one cell more
-
-abbrev pub with_cell : List ℕ → Graph → Graph
-with_cell text g = with_commit One (text ∷ []) g
+-- ---- a commit more, of these cells
 
 -- the number that it has
 abbrev pub IsNextNumber : Kept → ℕ → Type 0
 IsNextNumber kept n = (g : Graph) → HasShapeOf kept g → n ≡ suc (newest g)
 
 -- It is kept: of the graph, of its cells, and in the count of the cells on the head's path.
-abbrev pub StandsWith : (old new : Kept) → List ℕ → Type 0
-StandsWith old new text = (g : Graph) → StandsFor old g → StandsFor new (with_cell text g)
+abbrev pub StandsWith : (old new : Kept) → List (List ℕ) → Type 0
+StandsWith old new cells = (g : Graph) → StandsFor old g → StandsFor new (with_commit One cells g)
 
-abbrev pub KeepsWith : (old new : Head) → List ℕ → Type 0
-KeepsWith old new text = (g : Graph) → Keeps old g → Keeps new (with_cell text g)
+abbrev pub KeepsWith : (old new : Head) → List (List ℕ) → Type 0
+KeepsWith old new cells = (g : Graph) → Keeps old g → Keeps new (with_commit One cells g)
 
-abbrev pub CountsCell : (old new : Head) → Type 0
-CountsCell old new = (g : Graph) → Keeps old g → old.cells ≡ count_of g g.head.commit → new.cells ≡ suc (count_of g g.head.commit)
+abbrev pub CountsMore : (old new : Head) → ℕ → Type 0
+CountsMore old new more = (g : Graph) → Keeps old g → old.cells ≡ count_of g g.head.commit → new.cells ≡ count_of g g.head.commit + more

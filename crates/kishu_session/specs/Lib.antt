@@ -7,6 +7,7 @@ pub mod Cells
 pub mod Moves
 pub mod Asked
 pub mod Refusing
+pub mod Committing
 pub mod Filling
 pub mod Head
 pub mod Prepared

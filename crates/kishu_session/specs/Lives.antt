@@ -1,11 +1,13 @@
 -- The state that a live one stands for, and what cells more make of it.
-use Rattle.std.specs.Prelude.{ℕ, List}
+use Rattle.std.specs.Prelude.{ℕ, suc, List}
 use Rattle.std.specs.declared.rc.RcStr.{RcStr}
 use Rattle.std.specs.declared.alloc.Global.{Global}
 use Rattle.kishu_language.specs.declared.profile.Profile.TheVariants.{One}
 use Rattle.kishu_meaning.specs.cells.Meaning.{run}
 use Rattle.kishu_meaning.specs.values.Values.{Ran, State}
 use Rattle.kishu_interp.specs.Running.{state_in}
+use Rattle.kishu_model.specs.Answers.{Counted}
+use Rattle.kishu_model.specs.requests.Cells.{cells_run, results_from}
 use Rattle.kishu_replay.specs.Replay.{after_cells, charge_in, FillsIn}
 use Rattle.kishu_session.specs.TextLists.{texts_of}
 use Rattle.kishu_session.specs.declared.live.Live.{Live}
@@ -26,3 +28,22 @@ charge_after live texts = charge_in One (texts_of texts) (state_of live)
 
 abbrev pub FillsAfter : Live → List (RcStr Global) → Type 0
 FillsAfter live texts = FillsIn One (texts_of texts) (state_of live)
+
+-- ---- the cells that are run of these: a further one only after one that ended well
+
+abbrev pub ran_of : Live → List (RcStr Global) → List (List ℕ)
+ran_of live texts = cells_run One (texts_of texts) (state_of live)
+
+-- what they show, where so many cells are on the path before them
+abbrev pub shown_of : (before : ℕ) → Live → List (RcStr Global) → List Counted
+shown_of before live texts = results_from (suc before) One (ran_of live texts) (state_of live)
+
+-- the state after them, the steps that they take, and whether one of them would begin with too many nodes
+abbrev pub state_after_ran : Live → List (RcStr Global) → State
+state_after_ran live texts = after_cells One (ran_of live texts) (state_of live)
+
+abbrev pub charge_of_ran : Live → List (RcStr Global) → ℕ
+charge_of_ran live texts = charge_in One (ran_of live texts) (state_of live)
+
+abbrev pub FillsRan : Live → List (RcStr Global) → Type 0
+FillsRan live texts = FillsIn One (ran_of live texts) (state_of live)

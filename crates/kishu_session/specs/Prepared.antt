@@ -11,9 +11,11 @@ use Rattle.kishu_model.specs.Step.{step, charge_of}
 use Rattle.kishu_model.specs.Values.{answer_of}
 use Rattle.kishu_graph.specs.Kept.{Kept, StandsFor}
 use Rattle.kishu_record.specs.Entries.{entry_of}
+use Rattle.kishu_session.specs.Committing.{after_on}
 use Rattle.kishu_session.specs.Filling.{FillsBy}
 use Rattle.kishu_session.specs.Head.{IsAt}
 use Rattle.kishu_session.specs.Known.{IsGraphOf}
+use Rattle.kishu_session.specs.Lives.{state_of}
 use Rattle.kishu_session.specs.Refusing.{RefusesAs}
 use Rattle.kishu_session.specs.declared.head.Head.{Head}
 use Rattle.kishu_session.specs.declared.prepared.Prepared.{Prepared}
@@ -28,10 +30,10 @@ abbrev pub LeadsTo : Graph → Option Entry → Graph → Type 0
 LeadsTo g None now = now ≡ g
 LeadsTo g (Some e) now = Leads g e now
 
--- Whatever the live state is: the record leads to the graph after the request, which is kept.
-pub record IsPrepared (g : Graph) (q : Request) (prepared : Prepared) (kept : Kept) : Type 0 where
-  pub leads : LeadsTo g (option_map entry_of prepared.entry) (after g q)
-  pub stands : StandsFor kept (after g q)
+-- The record leads from one graph to another, which is kept.
+pub record IsPrepared (g now : Graph) (prepared : Prepared) (kept : Kept) : Type 0 where
+  pub leads : LeadsTo g (option_map entry_of prepared.entry) now
+  pub stands : StandsFor kept now
 
 -- The answer is the request's, and the session stands at the head that it leads to.
 pub record IsAnswered (g : Graph) (q : Request) (prepared : Prepared) (head : Head) : Type 0 where
@@ -40,9 +42,9 @@ pub record IsAnswered (g : Graph) (q : Request) (prepared : Prepared) (head : He
 
 -- ---- what holds of each request, whichever graph is meant
 
--- The record leads from a graph that was kept to the one after the request, which is kept then.
-abbrev pub Prepares : (old new : Kept) → Request → Prepared → Type 0
-Prepares old new q prepared = (g : Graph) → IsGraphOf old g → IsPrepared g q prepared new
+-- Whatever the live state is: the record leads from the graph that was kept to the one after the request, which is kept then.
+abbrev pub Prepares : (old new : Head) → Request → Prepared → Type 0
+Prepares old new q prepared = (g : Graph) → IsGraphOf old.graph g → IsPrepared g (after_on (state_of old.live) g q) prepared new.graph
 
 -- The request is refused just for the cause for which one step refuses it.
 abbrev pub RefusesFor : Kept → Request → rust_answer.Answer → Type 0

@@ -2,7 +2,8 @@
 ghost use Rattle.std.specs.Prelude.{◌≡◌, ◌≤◌, ◌⊎◌, ◌↔◌, true, IfOk, IfErr, OnOk, IsErr, IsErrOf, IsSome};
 ghost use Rattle.kishu_replay.specs.Replay.{IsFull};
 ghost use Rattle.kishu_model.specs.Values.{request_of, answer_of};
-ghost use Rattle.kishu_session.specs.Applying.{IsAnswer, StaysAttached, Fills, Counts, StaysAtEnd, RecordsOne, LeavesBeforeOrAfter};
+ghost use Rattle.kishu_model.specs.requests.Cells.{HasRoom};
+ghost use Rattle.kishu_session.specs.Applying.{IsAnswer, StaysAttached, Fills, Counts, StaysAtEnd, RecordsOne, LeavesBeforeOrAfter, LeavesHere};
 ghost use Rattle.kishu_session.specs.Attached.{IsReady};
 ghost use Rattle.kishu_session.specs.Faults.{DiskFailed};
 ghost use Rattle.kishu_session.specs.Lives.{state_of};
@@ -20,6 +21,9 @@ use std::sync::ledger::Ledger;
 impl Session {
     /// Answers a request, and records it where it changes the store. A refusal is an answer.
     ///
+    /// Unless an earlier call ended it, the session stands at the end of the file that the host tells. The
+    /// texts of `cells`, each with four bytes more, have together at most 2^26 bytes.
+    ///
     /// After an error the session is closed.
     ///
     /// - `Closed`: an earlier call ended the session. The host isn't called.
@@ -33,12 +37,17 @@ impl Session {
         steps: &mut Steps<L>,
     ) -> Result<Answer, Halt>
         requires at_end { IsReady self.old (H.state host.old) }
+        requires room { HasRoom (request_of request.now) }
 
-        // The answer is the request's, the file's graph becomes the one after it, and the session stays
-        // attached.
+        // From a session that is attached to the graph of its host's file, the answer is that of one step of
+        // the machine that replays each commit from empty, and the session stays attached, to the graph after
+        // the request.
         ensures answered { IfOk result (IsAnswer self.old (H.state host.old) request.now) }
         ensures attached { OnOk result
             (StaysAttached self.old self.new (H.state host.old) (H.state host.new) request.now) }
+
+        // From one that stands at the file's end, whatever its live state is, the file's graph becomes the one
+        // after the request on that state, by one record at most.
         ensures at_end { OnOk result
             (StaysAtEnd self.old self.new (H.state host.old) (H.state host.new) request.now) }
         ensures bytes { OnOk result (RecordsOne self.old (H.state host.old) (H.state host.new)) }
@@ -50,8 +59,10 @@ impl Session {
         ensures refused { IfOk result (λ a. IsRefusal (answer_of a)
             → (host.new ≡ host.old) × (self.new.head ≡ self.old.head)) }
 
-        // A stop at any moment leaves the graph before or after the request, and no output.
+        // A stop at any moment leaves the graph before or after the request, and no output: from an attached
+        // session, and from one that stands at the file's end.
         ensures stop { LeavesBeforeOrAfter self.old (H.state host.old) (H.state host.new) request.now }
+        ensures stop_here { LeavesHere self.old (H.state host.old) (H.state host.new) request.now }
         ensures out { (H.state host.new).out ≡ (H.state host.old).out }
         ensures tells { (H.state host.new).tells ≡ (H.state host.old).tells }
 

@@ -1,7 +1,5 @@
 // The texts of cells: those of each commit, and those on a path.
-ghost use Rattle.std.specs.Prelude.{◌≡◌, ◌≤◌, ◌<◌, ◌^◌, ◌∷◌, [], IsTrue, length, IfOk, OnOk};
-ghost use Rattle.std.specs.Rc.{rc_str_bytes};
-ghost use Rattle.kishu_language.specs.Limits.{longest_text};
+ghost use Rattle.std.specs.Prelude.{◌≡◌, ◌<◌, ◌^◌, ◌∷◌, [], IsTrue, length, IfOk, OnOk};
 ghost use Rattle.kishu_session.specs.Cells.{cells_of, stored_at, stored_along, Gains};
 ghost use Rattle.kishu_session.specs.TextLists.{texts_of, are_short, AreShort, GainsTexts};
 
@@ -10,7 +8,7 @@ use std::alloc::{AllocError, Global};
 use std::rc::RcStr;
 
 /// Puts more texts behind these. They are shared.
-fn push_all(texts: &mut Vec<RcStr>, more: &[RcStr]) -> Result<(), AllocError>
+pub(crate) fn push_all(texts: &mut Vec<RcStr>, more: &[RcStr]) -> Result<(), AllocError>
     ensures { OnOk result (GainsTexts texts.old.items texts.new.items (texts_of more.now)) }
 {
     for text in more {
@@ -32,18 +30,17 @@ impl CommitCells {
     }
 }
 
-/// Puts a commit of one cell behind these.
-pub(crate) fn push_one(
+/// Puts a commit of these cells behind those that are stored.
+pub(crate) fn store_cells(
     alloc: Global,
     stored: &mut Vec<CommitCells>,
-    text: &RcStr,
+    cells: &[RcStr],
 ) -> Result<(), AllocError>
-    requires { length (rc_str_bytes text.now) ≤ longest_text }
-    ensures { OnOk result (Gains stored.old.items stored.new.items ((rc_str_bytes text.now ∷ []) ∷ [])) }
+    requires short { AreShort cells.now }
+    requires few { length cells.now < 2 ^ 32 }
+    ensures { OnOk result (Gains stored.old.items stored.new.items (texts_of cells.now ∷ [])) }
 {
-    let mut texts = Vec::new(alloc);
-    texts.push(text.clone()?)?;
-    stored.push(CommitCells { texts })?;
+    stored.push(CommitCells::of(alloc, cells)?)?;
     Ok(())
 }
 

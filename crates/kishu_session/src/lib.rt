@@ -11,6 +11,7 @@ mod apply;
 mod attach;
 mod cells;
 mod commit_cells;
+mod committing;
 mod halt;
 mod head;
 mod live;

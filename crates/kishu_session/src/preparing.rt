@@ -2,6 +2,7 @@
 ghost use Rattle.std.specs.Prelude.{◌≡◌, None, IfOk, OnOk, IsErrOf};
 ghost use Rattle.kishu_replay.specs.Replay.{IsFull};
 ghost use Rattle.kishu_model.specs.Values.{request_of};
+ghost use Rattle.kishu_model.specs.requests.Cells.{HasRoom};
 ghost use Rattle.kishu_session.specs.Known.{IsKnown};
 ghost use Rattle.kishu_session.specs.Lives.{state_of};
 ghost use Rattle.kishu_session.specs.Prepared.{Prepares, RefusesFor, AnswersAt, MayBeRecorded, CountsAt, FillsAt};
@@ -21,8 +22,9 @@ impl Head {
         request: &Request,
         steps: &mut Steps<L>,
     ) -> Result<Prepared, Unrun>
-        requires { IsKnown self.old.graph }
-        ensures prepared { IfOk result (Prepares self.old.graph self.new.graph (request_of request.now)) }
+        requires known { IsKnown self.old.graph }
+        requires room { HasRoom (request_of request.now) }
+        ensures prepared { IfOk result (Prepares self.old self.new (request_of request.now)) }
         ensures refuses { IfOk result (λ p. RefusesFor self.old.graph (request_of request.now) p.answer) }
         ensures answered { IfOk result (AnswersAt self.old self.new (request_of request.now)) }
         ensures record { IfOk result MayBeRecorded }
@@ -33,6 +35,7 @@ impl Head {
     {
         match request {
             Request::Cell { text } => self.cell(text, steps),
+            Request::Cells { texts } => self.cells(texts, steps),
             Request::Checkout { to } => self.checkout(to.as_str(), steps),
             Request::Branch { name, at } => self.branch(name, at),
             Request::Log => self.log(),

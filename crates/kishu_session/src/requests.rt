@@ -2,6 +2,7 @@
 
 pub(crate) mod branch;
 pub(crate) mod cell;
+pub(crate) mod cells;
 pub(crate) mod checkout;
 pub(crate) mod log;
 pub(crate) mod status;

@@ -32,7 +32,7 @@ impl Head {
     /// Adds a branch at what a reference names, or at the head's commit, and prepares its record.
     pub(crate) fn branch(&mut self, name: &RcStr, at: &Option<RcStr>) -> Result<Prepared, Unrun>
         requires { IsKnown self.old.graph }
-        ensures prepared { IfOk result (Prepares self.old.graph self.new.graph (branch_for name.now at.now)) }
+        ensures prepared { IfOk result (Prepares self.old self.new (branch_for name.now at.now)) }
         ensures refuses { IfOk result (λ p. RefusesFor self.old.graph (branch_for name.now at.now) p.answer) }
         ensures answered { IfOk result (AnswersAt self.old self.new (branch_for name.now at.now)) }
         ensures record { IfOk result MayBeRecorded }

@@ -60,7 +60,7 @@ impl Head {
         steps: &mut Steps<L>,
     ) -> Result<Prepared, Unrun>
         requires { IsKnown self.old.graph }
-        ensures prepared { IfOk result (Prepares self.old.graph self.new.graph (checkout to.now)) }
+        ensures prepared { IfOk result (Prepares self.old self.new (checkout to.now)) }
         ensures refuses { IfOk result (λ p. RefusesFor self.old.graph (checkout to.now) p.answer) }
         ensures answered { IfOk result (AnswersAt self.old self.new (checkout to.now)) }
         ensures record { IfOk result MayBeRecorded }

@@ -44,7 +44,7 @@ fn rows(alloc: Global, graph: &Graph) -> Result<Vec<PathRow>, AllocError>
 impl Head {
     /// Tells the branches and the path to the head.
     pub(crate) fn log(&self) -> Result<Prepared, Unrun>
-        ensures prepared { IfOk result (Prepares self.now.graph self.now.graph log) }
+        ensures prepared { IfOk result (Prepares self.now self.now log) }
         ensures refuses { IfOk result (λ p. RefusesFor self.now.graph log p.answer) }
         ensures answered { IfOk result (AnswersAt self.now self.now log) }
         ensures entry { IfOk result (λ p. p.entry ≡ None) }

@@ -13,7 +13,7 @@ use kishu_model::Answer;
 impl Head {
     /// Tells the status.
     pub(crate) fn status(&self) -> Result<Prepared, Unrun>
-        ensures prepared { IfOk result (Prepares self.now.graph self.now.graph status) }
+        ensures prepared { IfOk result (Prepares self.now self.now status) }
         ensures refuses { IfOk result (λ p. RefusesFor self.now.graph status p.answer) }
         ensures answered { IfOk result (AnswersAt self.now self.now status) }
         ensures entry { IfOk result (λ p. p.entry ≡ None) }

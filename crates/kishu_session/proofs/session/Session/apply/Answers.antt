@@ -1,8 +1,14 @@
-use Rattle.std.proofs.Common.{refl}
+use Rattle.std.proofs.Common.{refl, subst}
+use Rattle.kishu_host.specs.Host.{Elapses}
+use Rattle.kishu_store.specs.Graph.{Graph}
 use Rattle.kishu_model.specs.Serve.{after}
 use Rattle.kishu_model.specs.Values.{request_of, answer_of}
+use Rattle.kishu_session.specs.Committing.{after_on}
+use Rattle.kishu_session.specs.Journals.{BeforeOrAfter}
 use Rattle.kishu_session.specs.Known.{IsGraphOf}
-use Rattle.kishu_session.proofs.Applied.{at-same, known-after, known-some}
+use Rattle.kishu_session.specs.Lives.{state_of}
+use Rattle.kishu_session.specs.Prepared.{IsPrepared}
+use Rattle.kishu_session.proofs.Applied.{at-head, at-same, known-after, known-some}
 use Rattle.kishu_session.proofs.Recordings.{journal-good}
 use Rattle.kishu_session.proofs.Silent.{refused-silent}
 use Rattle.kishu_session.proofs.session.Session.apply.Goals as goal
@@ -12,20 +18,26 @@ record-requires-clause-next g c told =
     let self = c.args.self.now in
     let a = c.requires.at_end c.if-self.false told in
     let of : IsGraphOf self.head.graph a.0 = record { stands = a.1.graph; good = journal-good self.journal (g.H.Host.state c.args.host.now).file a.0 a.1.journal } in
-    (a.0, after a.0 (request_of c.args.request.now), a.1.journal, (c.in-Ok.ensures.prepared a.0 of).leads)
+    (a.0, after_on (state_of self.head.live) a.0 (request_of c.args.request.now), a.1.journal, (c.in-Ok.ensures.prepared a.0 of).leads)
 
-pub returns-in-Err-clause-stop : goal.returns-in-Err-clause-stop
-returns-in-Err-clause-stop g c told only g' a =
+pub returns-in-Err-clause-stop_here : goal.returns-in-Err-clause-stop_here
+returns-in-Err-clause-stop_here g c told only g' a =
     let self = c.args.self.now in
     let of : IsGraphOf self.head.graph g' = record { stands = a.graph; good = journal-good self.journal (g.H.Host.state c.args.host.now).file g' a.journal } in
-    c.record.ensures.stop told only g' (after g' (request_of c.args.request.now)) a.journal (c.in-Ok.ensures.prepared g' of).leads
+    c.record.ensures.stop told only g' (after_on (state_of self.head.live) g' (request_of c.args.request.now)) a.journal (c.in-Ok.ensures.prepared g' of).leads
+
+pub returns-in-Err-clause-stop : goal.returns-in-Err-clause-stop
+returns-in-Err-clause-stop g c told g' a =
+    let st = g.H.Host.state in
+    subst (λ (x : Graph). Elapses (st c.args.host.now) (st c.record.new.host) (BeforeOrAfter (st c.args.host.now) g' x))
+    (at-head c.args.self.now.head g' (request_of c.args.request.now) a.at) (returns-in-Err-clause-stop_here g c told a.durable g' a.at_end)
 
 pub invariant_of-self-2 : goal.invariant_of-self-2
 invariant_of-self-2 g c =
     let self = c.args.self.now in
     record {
       going = λ _. c.in-Ok-record.ensures.open;
-      known = λ _. known-after self.head.graph c.prepare.new.self.graph (request_of c.args.request.now) c.in-Ok.prepared (self.known c.if-self.false) c.in-Ok.ensures.prepared;
+      known = λ _. known-after self.head c.prepare.new.self (request_of c.args.request.now) c.in-Ok.prepared (self.known c.if-self.false) c.in-Ok.ensures.prepared;
     }
 
 pub returns-clause-is_one : goal.returns-clause-is_one
@@ -35,14 +47,15 @@ returns-clause-is_one g c =
 
 pub returns-clause-attached : goal.returns-clause-attached
 returns-clause-attached g c told g' a =
-    let now = after g' (request_of c.args.request.now) in
-    let prepared = c.in-Ok.ensures.prepared g' a.at.keeps.graph in
+    let self = c.args.self.now in
+    let q = request_of c.args.request.now in
+    let prepared = subst (λ (x : Graph). IsPrepared g' x c.in-Ok.prepared c.prepare.new.self.graph) (at-head self.head g' q a.at) (c.in-Ok.ensures.prepared g' a.at.keeps.graph) in
     let answered = c.in-Ok.ensures.answered g' a.at in
     record {
       going = refl;
       durable = c.in-Ok-record.ensures.durable told a.durable;
-      at_end = record { journal = c.in-Ok-record.ensures.stands told g' now a.at_end.journal prepared.leads; graph = prepared.stands };
-      same = at-same c.prepare.new.self now answered.at;
+      at_end = record { journal = c.in-Ok-record.ensures.stands told g' (after g' q) a.at_end.journal prepared.leads; graph = prepared.stands };
+      same = at-same c.prepare.new.self (after g' q) answered.at;
       at = answered.at;
     }
 
@@ -51,7 +64,7 @@ returns-clause-at_end g c told g' a =
     let self = c.args.self.now in
     let of : IsGraphOf self.head.graph g' = record { stands = a.graph; good = journal-good self.journal (g.H.Host.state c.args.host.now).file g' a.journal } in
     let prepared = c.in-Ok.ensures.prepared g' of in
-    record { journal = c.in-Ok-record.ensures.stands told g' (after g' (request_of c.args.request.now)) a.journal prepared.leads; graph = prepared.stands }
+    record { journal = c.in-Ok-record.ensures.stands told g' (after_on (state_of self.head.live) g' (request_of c.args.request.now)) a.journal prepared.leads; graph = prepared.stands }
 
 pub returns-clause-bytes : goal.returns-clause-bytes
 returns-clause-bytes g c told g' a = c.in-Ok-record.ensures.bytes told g' a.journal
@@ -59,11 +72,17 @@ returns-clause-bytes g c told g' a = c.in-Ok-record.ensures.bytes told g' a.jour
 pub returns-clause-refused : goal.returns-clause-refused
 returns-clause-refused g c refusal =
     let self = c.args.self.now in
-    let none = refused-silent self.head.graph c.prepare.new.self.graph (request_of c.args.request.now) c.in-Ok.prepared (self.known c.if-self.false) c.in-Ok.ensures.prepared c.in-Ok.ensures.refuses refusal in
+    let none = refused-silent self.head c.prepare.new.self (request_of c.args.request.now) c.in-Ok.prepared (self.known c.if-self.false) c.in-Ok.ensures.prepared c.in-Ok.ensures.refuses refusal in
     (c.in-Ok-record.ensures.quiet none, c.in-Ok.ensures.stays none)
 
-pub returns-clause-stop : goal.returns-clause-stop
-returns-clause-stop g c told only g' a =
+pub returns-clause-stop_here : goal.returns-clause-stop_here
+returns-clause-stop_here g c told only g' a =
     let self = c.args.self.now in
     let of : IsGraphOf self.head.graph g' = record { stands = a.graph; good = journal-good self.journal (g.H.Host.state c.args.host.now).file g' a.journal } in
-    c.record.ensures.stop told only g' (after g' (request_of c.args.request.now)) a.journal (c.in-Ok.ensures.prepared g' of).leads
+    c.record.ensures.stop told only g' (after_on (state_of self.head.live) g' (request_of c.args.request.now)) a.journal (c.in-Ok.ensures.prepared g' of).leads
+
+pub returns-clause-stop : goal.returns-clause-stop
+returns-clause-stop g c told g' a =
+    let st = g.H.Host.state in
+    subst (λ (x : Graph). Elapses (st c.args.host.now) (st c.record.new.host) (BeforeOrAfter (st c.args.host.now) g' x))
+    (at-head c.args.self.now.head g' (request_of c.args.request.now) a.at) (returns-clause-stop_here g c told a.durable g' a.at_end)

@@ -1,0 +1,17 @@
+use Rattle.std.proofs.Common.{◌≡◌, map, length, take, drop}
+use Rattle.std.specs.Prelude.{IsTrue}
+use Rattle.kishu_model.specs.Values.{counted_of}
+use Rattle.kishu_session.specs.Lives.{state_of}
+use Rattle.kishu_session.specs.TextLists.{texts_of, are_short}
+use Rattle.kishu_session.proofs.Ran.{Going}
+use Rattle.kishu_session.proofs.requests.cells.run_cells.Given as goal
+
+abbrev pub invariant-loop-text : goal.invariant-loop-text
+invariant-loop-text g l =
+    let all = texts_of l.texts in
+    let rest = drop l.text-index all in
+    record {
+      short : IsTrue (are_short rest);
+      count : length l.results.items ≡ l.text-index;
+      going : Going all (state_of l.fn.live) l.before l.fn.steps (take l.text-index all) rest (map counted_of l.results.items) (state_of l.live) l.steps;
+    }

@@ -1,0 +1,152 @@
+// Several cells: they run on the live state, one after another up to the first that doesn't end well, and
+// those that were run are one commit.
+ghost use Rattle.std.specs.Prelude.{◌≡◌, ◌≤◌, ◌<◌, ◌+◌, ◌^◌, ◌++◌, ◌∷◌, [], length, map, take, suc, false, None, IfOk, OnOk, IsErrOf, IsSome};
+ghost use Rattle.std.specs.List.{list_any};
+ghost use Rattle.kishu_meaning.specs.values.Values.{report_of};
+ghost use Rattle.kishu_store.specs.Limits.{most_records};
+ghost use Rattle.kishu_replay.specs.Replay.{IsFull};
+ghost use Rattle.kishu_model.specs.Values.{counted_of};
+ghost use Rattle.kishu_model.specs.requests.Cells.{is_ok, is_too_long, texts_size, largest_texts};
+ghost use Rattle.kishu_session.specs.Asked.{cells_for};
+ghost use Rattle.kishu_session.specs.Lives.{state_of, ran_of, shown_of, state_after_ran, charge_of_ran, FillsRan};
+ghost use Rattle.kishu_session.specs.Prepared.{Prepares, RefusesFor, AnswersAt, MayBeRecorded, CountsAt, FillsAt};
+ghost use Rattle.kishu_session.specs.TextLists.{texts_of, AreShort};
+ghost use Rattle.kishu_session.specs.declared.live.Unrun.TheVariants.{HeapFull};
+
+use crate::committing::commit_entry;
+use crate::head::Head;
+use crate::live::{Live, Unrun};
+use crate::prepared::Prepared;
+use kishu_language::LONGEST_TEXT;
+use kishu_meaning::Outcome;
+use kishu_model::{Answer, CellResult, Counted, Refusal, Steps};
+use kishu_store::MOST_RECORDS;
+use std::alloc::{AllocError, Global};
+use std::rc::RcStr;
+use std::sync::ledger::Ledger;
+
+/// Whether one of these texts is longer than a cell may be.
+fn has_long(texts: &[RcStr]) -> bool
+    ensures { result ≡ list_any is_too_long (texts_of texts.now) }
+{
+    for text in texts {
+        if text.len() > LONGEST_TEXT {
+            return true;
+        }
+    }
+    false
+}
+
+/// Whether a further cell is run after this one.
+fn ended_well(ran: &CellResult) -> bool
+    ensures { result ≡ is_ok (report_of ran.now).outcome }
+{
+    matches!(ran.outcome, Outcome::Done)
+}
+
+/// Puts what one cell more showed behind these. So many cells are on the path before the first of them.
+fn push_result(results: &mut Vec<Counted>, before: u64, ran: CellResult) -> Result<(), AllocError>
+    ensures shown { OnOk result (before + length results.old.items + 1 < 2 ^ 64
+        → map counted_of results.new.items ≡ map counted_of results.old.items
+        ++ record { count = suc (before + length results.old.items); report = report_of ran } ∷ []) }
+    ensures count { OnOk result (length results.new.items ≡ length results.old.items + 1) }
+{
+    let count = before
+        .saturating_add(results.len() as u64)
+        .saturating_add(1);
+    results.push(Counted { count, result: ran })?;
+    Ok(())
+}
+
+/// Runs cells in order up to the first that doesn't end well, and answers what each that was run showed.
+/// So many cells are on the path before the first of them.
+fn run_cells<L: Ledger>(
+    alloc: Global,
+    texts: &[RcStr],
+    before: u64,
+    live: &mut Live,
+    steps: &mut Steps<L>,
+) -> Result<Vec<Counted>, Unrun>
+    requires { AreShort texts.now }
+    ensures few { IfOk result (λ v. length v.items ≤ length texts.now) }
+    ensures ran { IfOk result (λ v. take (length v.items) (texts_of texts.now) ≡ ran_of live.old texts.now) }
+    ensures shown { IfOk result (λ v. before + length texts.now < 2 ^ 64
+        → map counted_of v.items ≡ shown_of before live.old texts.now) }
+    ensures state { OnOk result (state_of live.new ≡ state_after_ran live.old texts.now) }
+    ensures least { OnOk result (steps.old + charge_of_ran live.old texts.now ≤ steps.new) }
+    ensures full { IsErrOf result HeapFull → FillsRan live.old texts.now }
+    ensures beyond { IsErrOf result HeapFull → IsFull (state_of live.new) }
+{
+    let mut results = Vec::new(alloc);
+    for text in texts {
+        let ran = live.run(alloc, text.as_str(), steps)?;
+        let goes_on = ended_well(&ran);
+        push_result(&mut results, before, ran)?;
+        if !goes_on {
+            return Ok(results);
+        }
+    }
+    Ok(results)
+}
+
+impl Head {
+    /// Runs cells for which the store has room, and prepares the commit of those that were run.
+    fn commit_cells<L: Ledger>(
+        &mut self,
+        texts: &[RcStr],
+        steps: &mut Steps<L>,
+    ) -> Result<Prepared, Unrun>
+        requires some { 0 < length texts.now }
+        requires short { list_any is_too_long (texts_of texts.now) ≡ false }
+        requires size { texts_size (texts_of texts.now) ≤ largest_texts }
+        requires room { self.old.graph.records < most_records }
+        ensures prepared { IfOk result (Prepares self.old self.new (cells_for texts.now)) }
+        ensures refuses { IfOk result (λ p. RefusesFor self.old.graph (cells_for texts.now) p.answer) }
+        ensures answered { IfOk result (AnswersAt self.old self.new (cells_for texts.now)) }
+        ensures record { IfOk result MayBeRecorded }
+        ensures some { IfOk result (λ p. IsSome p.entry) }
+        ensures least { OnOk result (CountsAt self.old (cells_for texts.now) steps.old steps.new) }
+        ensures full { IsErrOf result HeapFull → FillsAt self.old (cells_for texts.now) }
+        ensures beyond { IsErrOf result HeapFull → IsFull (state_of self.new.live) }
+    {
+        self.live.clear_record();
+        let results = run_cells(self.alloc, texts, self.cells, &mut self.live, steps)?;
+        let (ran, _) = texts.split_at(results.len());
+        let entry = commit_entry(self.alloc, self.graph.head().commit, ran)?;
+        let commit = self.add_commit(ran)?;
+        Ok(Prepared {
+            answer: Answer::Cells { commit, results },
+            entry: Some(entry),
+        })
+    }
+
+    /// Runs cells on the live state, one after another up to the first that doesn't end well, and prepares
+    /// the commit of those that were run. Cells of which one is too long are refused, and so are cells for a
+    /// store that is full.
+    pub(crate) fn cells<L: Ledger>(
+        &mut self,
+        texts: &[RcStr],
+        steps: &mut Steps<L>,
+    ) -> Result<Prepared, Unrun>
+        requires { texts_size (texts_of texts.now) ≤ largest_texts }
+        ensures prepared { IfOk result (Prepares self.old self.new (cells_for texts.now)) }
+        ensures refuses { IfOk result (λ p. RefusesFor self.old.graph (cells_for texts.now) p.answer) }
+        ensures answered { IfOk result (AnswersAt self.old self.new (cells_for texts.now)) }
+        ensures record { IfOk result MayBeRecorded }
+        ensures stays { IfOk result (λ p. p.entry ≡ None → self.new ≡ self.old) }
+        ensures least { OnOk result (CountsAt self.old (cells_for texts.now) steps.old steps.new) }
+        ensures full { IsErrOf result HeapFull → FillsAt self.old (cells_for texts.now) }
+        ensures beyond { IsErrOf result HeapFull → IsFull (state_of self.new.live) }
+    {
+        if texts.is_empty() {
+            return Ok(Prepared::refused(Refusal::BadRequest));
+        }
+        if has_long(texts) {
+            return Ok(Prepared::refused(Refusal::CellTooLong));
+        }
+        if self.graph.records() >= MOST_RECORDS {
+            return Ok(Prepared::refused(Refusal::StoreFull));
+        }
+        self.commit_cells(texts, steps)
+    }
+}
