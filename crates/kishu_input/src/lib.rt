@@ -1,8 +1,8 @@
 //! An input as a run reads it: whole, or line by line.
 //!
-//! `read_input` takes all that a source has left, up to the longest text of a cell. `LineReader` tells
-//! one line after another, and keeps no more of the input than the line that it reads: no line reaches
-//! 2^24 bytes, and no input 2^30.
+//! `read_input` takes all that a source has left, up to a number of bytes. `LineReader` tells one line
+//! after another, and keeps no more of the input than the line that it reads: no line reaches 2^24
+//! bytes, and no input 2^30.
 #![tactic(auto)]
 
 mod lines;

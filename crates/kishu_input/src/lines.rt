@@ -62,6 +62,8 @@ impl LineReader {
         ensures line { IfOk result (λ found. IfSome found (λ line.
             IsNextLine self.old (S.source source.old) self.new (S.source source.new) line.items)) }
 
+        ensures short { IfOk result (λ found. IfSome found (λ line. length line.items < 2 ^ 24)) }
+
         // At the end no line is to come, no limit was reached, and nothing is left.
         ensures end { result ≡ Ok None → IsAtEnd self.old (S.source source.old) (S.source source.new) }
 
@@ -147,6 +149,7 @@ impl LineReader {
         ensures ends { result ≡ Ok true → LineEnds self.old line.old.items self.new line.new.items }
         ensures too_long { IsErrOf result TooLong → LineStops self.old line.old.items }
         ensures cause { result ≢ Err Fault }
+        ensures short { vec_len line.old < 2 ^ 24 → vec_len line.new < 2 ^ 24 }
         ensures counted { result ≡ Ok false
             → self.new.before + vec_len line.old ≡ self.old.before + vec_len line.new }
         ensures further { IfOk result (λ _. self.old.before < self.new.before) }

@@ -1,6 +1,7 @@
 // Inputs and their lines, and that each call that takes memory succeeds where there is enough.
 use crate::{InputStop, LineReader, read_input};
 use kishu_host::MemSource;
+use kishu_language::LONGEST_TEXT;
 use std::alloc::{AllocError, Global};
 use std::test::Fail;
 
@@ -108,7 +109,10 @@ fn tells_that_the_source_failed(rt: HostRuntime) -> Result<(), Fail> {
     assert_eq!(rt; reader.next(&mut source), Ok(Some(want)));
     assert_eq!(rt; reader.next(&mut source), Err(InputStop::Fault));
     let mut failing = source_of(rt.alloc(), b"a\nb", &[2])?;
-    assert_eq!(rt; read_input(rt.alloc(), &mut failing), Err(InputStop::Fault));
+    assert_eq!(rt;
+        read_input(rt.alloc(), &mut failing, LONGEST_TEXT),
+        Err(InputStop::Fault)
+    );
     Ok(())
 }
 
@@ -117,12 +121,12 @@ fn reads_an_input_whole(rt: HostRuntime) -> Result<(), Fail> {
     for count in [0, 1, 4096, 4097, 1_048_576] {
         let want = many(rt.alloc(), count)?;
         let mut source = source_of(rt.alloc(), &want, &[])?;
-        assert_eq!(rt; read_input(rt.alloc(), &mut source), Ok(want));
+        assert_eq!(rt; read_input(rt.alloc(), &mut source, LONGEST_TEXT), Ok(want));
     }
     let long = many(rt.alloc(), 1_048_577)?;
     let mut source = source_of(rt.alloc(), &long, &[])?;
     assert_eq!(rt;
-        read_input(rt.alloc(), &mut source),
+        read_input(rt.alloc(), &mut source, LONGEST_TEXT),
         Err(InputStop::TooLong)
     );
     Ok(())

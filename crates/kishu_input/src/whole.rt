@@ -1,11 +1,9 @@
 // An input that is read whole.
 ghost use Rattle.std.specs.Prelude.{◌≡◌, ◌≤◌, ◌<◌, ◌+◌, ◌-◌, ◌++◌, [], length, take, drop, true, IfOk, IsErrOf};
-ghost use Rattle.kishu_language.specs.Limits.{longest_text};
 ghost use Rattle.kishu_input.specs.Sources.{InputFailed, IsAllLeft, TakesMoreThan, TakesAtMost};
 ghost use Rattle.kishu_input.specs.declared.whole.InputStop.TheVariants.{Fault, TooLong};
 
 use kishu_host::Source;
-use kishu_language::LONGEST_TEXT;
 use std::alloc::Global;
 
 /// Why an input isn't read to its end.
@@ -19,24 +17,27 @@ pub enum InputStop {
     NoMemory,
 }
 
-/// All that a source has left. Reading stops once more than the longest text of a cell was taken.
+/// All that a source has left. Reading stops once more than `most` bytes were taken.
 ///
 /// - `Fault`: the source failed.
-/// - `TooLong`: it has more than 1,048,576 bytes left. At most 4,096 bytes more than that were taken.
+/// - `TooLong`: it has more than `most` bytes left. At most 4,096 bytes more than that were taken.
 /// - `NoMemory`: there was no memory.
-pub fn read_input<S: Source>(alloc: Global, source: &mut S) -> Result<Vec<u8>, InputStop>
+pub fn read_input<S: Source>(
+    alloc: Global,
+    source: &mut S,
+    most: usize,
+) -> Result<Vec<u8>, InputStop>
     ensures whole { IfOk result (λ v. IsAllLeft (S.source source.old) (S.source source.new) v.items) }
-    ensures short { IfOk result (λ v. length v.items ≤ longest_text) }
-    ensures too_long { IsErrOf result TooLong
-        → TakesMoreThan longest_text (S.source source.old) (S.source source.new) }
-    ensures taken { TakesAtMost (longest_text + 4096) (S.source source.old) (S.source source.new) }
+    ensures short { IfOk result (λ v. length v.items ≤ most) }
+    ensures too_long { IsErrOf result TooLong → TakesMoreThan most (S.source source.old) (S.source source.new) }
+    ensures taken { TakesAtMost (most + 4096) (S.source source.old) (S.source source.new) }
     ensures fault { IsErrOf result Fault → InputFailed (S.source source.old) (S.source source.new) }
     ensures faults { (S.source source.old).in_faults ≤ (S.source source.new).in_faults }
     ensures tells { (S.source source.new).tells ≡ (S.source source.old).tells }
 {
     let mut bytes = Vec::new(alloc);
     let mut buffer = [0; 4096];
-    while bytes.len() <= LONGEST_TEXT {
+    while bytes.len() <= most {
         let Ok(n) = source.take(&mut buffer) else {
             return Err(InputStop::Fault);
         };

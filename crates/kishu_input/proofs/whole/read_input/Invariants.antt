@@ -1,5 +1,4 @@
 use Rattle.std.proofs.Common.{◌≡◌, ◌≤◌, ◌+◌, ◌-◌, ◌++◌, true, vec_len}
-use Rattle.kishu_language.specs.Limits.{longest_text}
 use Rattle.kishu_input.proofs.whole.read_input.Given as goal
 
 abbrev pub invariant-loop-buffer : goal.invariant-loop-buffer
@@ -8,9 +7,9 @@ invariant-loop-buffer g l =
     record {
       left : (st l.fn.source).tells ≡ true → l.bytes.items ++ (st l.source).left ≡ (st l.fn.source).left;
       tells : (st l.source).tells ≡ (st l.fn.source).tells;
-      few : vec_len l.bytes ≤ longest_text + 4096;
+      few : vec_len l.bytes ≤ l.most + 4096;
       faults : (st l.fn.source).in_faults ≤ (st l.source).in_faults;
     }
 
 abbrev pub decreases-loop-buffer : goal.decreases-loop-buffer
-decreases-loop-buffer g l = longest_text + 1 - vec_len l.bytes
+decreases-loop-buffer g l = l.most + 1 - vec_len l.bytes

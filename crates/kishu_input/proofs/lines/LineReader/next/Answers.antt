@@ -58,6 +58,7 @@ loop-line-preserved g c =
       read = λ t.
           goes_on-then _ _ _ _ _ _ _ _ _ (goes_on-taken _ _ _ _ _ _ _ _ more.before (more.left (inv.tells ∙ t)) (inv.read t))
           (on.goes_on (ap Ok c.if-branch-2.false) (g.S.Source.source c.has_more.new.source).left);
+      short = on.short inv.short;
       counted = omega (arith, inv.counted, more.before, on.counted (ap Ok c.if-branch-2.false));
       taken = λ t. still_count _ _ _ _ _ _ on.taken (same_count _ _ _ _ _ _ _ (inv.taken t) more.before (more.left (inv.tells ∙ t)));
       tells = more.tells ∙ inv.tells;

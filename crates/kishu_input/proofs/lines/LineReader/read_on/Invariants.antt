@@ -1,4 +1,4 @@
-use Rattle.std.proofs.Common.{◌≡◌, ◌≤◌, ◌+◌, ◌-◌, ◌++◌, List, ℕ, vec_len}
+use Rattle.std.proofs.Common.{◌≡◌, ◌≤◌, ◌<◌, ◌+◌, ◌-◌, ◌^◌, ◌++◌, List, ℕ, vec_len}
 use Rattle.kishu_input.specs.Begun.{GoesOn}
 use Rattle.kishu_input.specs.Lines.{ahead}
 use Rattle.kishu_input.proofs.lines.LineReader.read_on.Given as goal
@@ -9,6 +9,7 @@ invariant-loop-self l = record {
   taken : l.self.taken ≡ l.fn.self.taken;
   further : l.fn.self.at ≤ l.self.at;
   before : l.self.before + l.fn.self.at ≡ l.fn.self.before + l.self.at;
+  short : vec_len l.fn.line < 2 ^ 24 → vec_len l.line < 2 ^ 24;
   counted : l.self.before + vec_len l.fn.line ≡ l.fn.self.before + vec_len l.line;
 }
 
