@@ -1,45 +1,62 @@
--- What the requests of a run are, by the form of its words.
-use Rattle.std.proofs.Common.{◌≡◌, ◌≤◌, ◌+◌, ◌^◌, ℕ, List, [], refl, ◌∙◌, ap, arith, Bool, true, false, Option, Some}
+-- What a run does, by the form of its words.
+use Rattle.std.proofs.Common.{◌≡◌, ◌≤◌, ◌+◌, ◌^◌, ℕ, List, [], ◌∙◌, ap, arith, Bool, true, false, Option, Some}
 use Rattle.std.proofs.lemmas.List.{length-drop}
 use Rattle.kishu_host.specs.Source.{SourceState}
-use Rattle.kishu_model.specs.Request.{Request}
-use Rattle.kishu_model.specs.Task.{Form, one_cell, session, one_request, task}
-use Rattle.kishu_serve.specs.Asking.{reads_lines, is_session, taken_by, Knows, KnowsForm, IsRead as IsReadFor}
-use Rattle.kishu_serve.specs.Headline.{IsRead}
+use Rattle.kishu_store.specs.Graph.{Graph}
+use Rattle.kishu_model.specs.Serve.{Item}
+use Rattle.kishu_model.specs.Task.{Form, one_cell, session, notebook, one_request, task}
+use Rattle.kishu_serve.specs.Asking as asking
+use Rattle.kishu_serve.specs.Headline.{IsRead, ReadsWhole}
+use Rattle.kishu_serve.specs.Work.{still_reads, is_session, Knows, KnowsForm, IsRead as IsReadFor}
 use Rattle.kishu_serve.specs.declared.asking.Requests.{Requests}
 use Rattle.kishu_serve.specs.declared.asking.Requests.TheVariants.{Done, One, Lines}
+use Rattle.kishu_serve.specs.declared.work.Work.{Work}
+use Rattle.kishu_serve.specs.declared.work.Work.TheVariants.{Answers, Runs}
 
--- What is to come is known where the source tells.
-pub knows-told : (rs : Requests) (s : SourceState) → s.tells ≡ true → Knows rs s
-knows-told Done s told = tt
-knows-told (One q) s told = tt
-knows-told (Lines reader) s told = told
+-- What is to do is known where the source tells.
+asks-told : (rs : Requests) (s : SourceState) → s.tells ≡ true → asking.Knows rs s
+asks-told Done s told = tt
+asks-told (One q) s told = tt
+asks-told (Lines reader) s told = told
+
+pub knows-told : (work : Work) (s : SourceState) → s.tells ≡ true → Knows work s
+knows-told (Answers rs) s told = asks-told rs s told
+knows-told (Runs book) s told = tt
 
 pub form-told : (f : Form) (s : SourceState) → s.tells ≡ true → KnowsForm f s
 form-told one_cell s told = told
 form-told session s told = told
+form-told (notebook together) s told = told
 form-told (one_request q) s told = tt
 
-pub asked-form : (o : Option Form) (f : Form) (left : List ℕ) (qs : List Request) → Some f ≡ o → qs ≡ task (Some f) left → qs ≡ task o left
-asked-form o f left qs e is = is ∙ ap (λ (p : Option Form). task p left) e
+pub asked-form : (o : Option Form) (f : Form) (g : Graph) (left : List ℕ) (is : List Item) → Some f ≡ o → is ≡ task (Some f) g left → is ≡ task o g left
+asked-form o f g left is e same = same ∙ ap (λ (p : Option Form). task p g left) e
 
--- A cell reads no lines.
-pub alone-cell : (f : Form) (b : Bool) → b ≡ is_session f → f ≡ one_cell → b ≡ false
-alone-cell f b is e = is ∙ ap is_session e
+-- A form that reads its input whole reads no lines.
+pub whole-alone : (f : Form) (b : Bool) → b ≡ is_session f → ReadsWhole (Some f) → b ≡ false
+whole-alone one_cell b is whole = is
+whole-alone session b is whole = absurd whole
+whole-alone (notebook together) b is whole = is
+whole-alone (one_request q) b is whole = absurd whole
 
-read-lines : (rs : Requests) (s : SourceState) → reads_lines rs ≡ true → IsReadFor rs s → s.left ≡ []
-read-lines Done s reads at_end = absurd (cc reads)
-read-lines (One q) s reads at_end = absurd (cc reads)
-read-lines (Lines reader) s reads at_end = at_end
+lines-read : (rs : Requests) (s : SourceState) → asking.reads_lines rs ≡ true → asking.IsRead rs s → s.left ≡ []
+lines-read Done s reads at_end = absurd (cc reads)
+lines-read (One q) s reads at_end = absurd (cc reads)
+lines-read (Lines reader) s reads at_end = at_end
+
+read-lines : (work : Work) (s : SourceState) → still_reads work ≡ true → IsReadFor work s → s.left ≡ []
+read-lines (Answers rs) s reads at_end = lines-read rs s reads at_end
+read-lines (Runs book) s reads at_end = absurd (cc reads)
 
 -- A form that reads has read to the end.
-pub read-form : (f : Form) (rs : Requests) (s : SourceState) → reads_lines rs ≡ is_session f → IsReadFor rs s → (f ≡ one_cell → s.left ≡ []) → IsRead (Some f) s.left
-read-form one_cell rs s reads at_end whole = whole refl
-read-form session rs s reads at_end whole = read-lines rs s reads at_end
-read-form (one_request q) rs s reads at_end whole = tt
+pub read-form : (f : Form) (work : Work) (s : SourceState) → still_reads work ≡ is_session f → IsReadFor work s → (ReadsWhole (Some f) → s.left ≡ []) → IsRead (Some f) s.left
+read-form one_cell work s reads at_end whole = whole tt
+read-form session work s reads at_end whole = read-lines work s reads at_end
+read-form (notebook together) work s reads at_end whole = whole tt
+read-form (one_request q) work s reads at_end whole = tt
 
 -- how many bytes are taken at most
-pub taken-most : (rs : Requests) → taken_by rs ≤ 2 ^ 30 + 4096
+pub taken-most : (rs : Requests) → asking.taken_by rs ≤ 2 ^ 30 + 4096
 taken-most Done = omega arith
 taken-most (One q) = omega arith
 taken-most (Lines reader) = omega (arith, reader.below, reader.few, length-drop reader.at reader.taken.items)

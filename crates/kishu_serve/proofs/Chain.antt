@@ -8,7 +8,7 @@ use Rattle.kishu_host.specs.Source.{SourceState}
 use Rattle.kishu_store.specs.Graph.{Graph}
 use Rattle.kishu_store.specs.Holds.{Holds}
 use Rattle.kishu_model.specs.Request.{Request}
-use Rattle.kishu_model.specs.Serve.{after, answer_of, after_all, answers, charges, Reached}
+use Rattle.kishu_model.specs.Serve.{after, answer_of, Item, answered, after_item, bytes_of, charge_by, answers, charges, Reached}
 use Rattle.kishu_model.specs.Step.{charge_of}
 use Rattle.kishu_session.specs.Attached.{IsAttached}
 use Rattle.kishu_session.specs.Filling.{FillsBy}
@@ -16,8 +16,9 @@ use Rattle.kishu_session.specs.Written.{IsRecorded}
 use Rattle.kishu_session.specs.declared.session.Session.{Session}
 use Rattle.kishu_input.specs.declared.whole.InputStop.{InputStop}
 use Rattle.kishu_input.specs.declared.whole.InputStop.TheVariants as input
-use Rattle.kishu_serve.specs.Asking.{to_come, reads_lines, taken_by, turns_left, Knows, IsLimited}
-use Rattle.kishu_serve.specs.Filling.{FillsByAny}
+use Rattle.kishu_serve.specs.Asking.{to_come, HaveRoom, reads_lines, taken_by, turns_left, Knows, IsLimited}
+use Rattle.kishu_serve.specs.Coming.{Comes}
+use Rattle.kishu_serve.specs.Filling.{FillsByItem, FillsByAny}
 use Rattle.kishu_serve.specs.Headline.{IsPart, IsWhole}
 use Rattle.kishu_serve.specs.Recorded.{IsRecordedBy, AreRecorded}
 use Rattle.kishu_serve.specs.Stops.{stop_by}
@@ -75,58 +76,61 @@ still-known Done (Lines reader) i0 i lines tells known = absurd (cc lines)
 still-known (One q) (Lines reader) i0 i lines tells known = absurd (cc lines)
 still-known (Lines first) (Lines reader) i0 i lines tells known = tells ∙ known
 
--- ---- one request, with more behind it
+-- ---- one item, with more behind it
 
-reached-first : (g : Graph) (q : Request) (qs : List Request) (now : Graph) (out : List ℕ) → Reached g (q ∷ []) now out → Reached g (q ∷ qs) now out
-reached-first g q qs now out (inl none) = inl none
-reached-first g q qs now out (inr (inl part)) = inr (inl part)
-reached-first g q qs now out (inr (inr whole)) =
-    let here = subst (λ (p : List ℕ). Reached (after g q) qs (after g q) p) (sym whole.2.1) (reached-none (after g q) qs) in
-    inr (inr (whole.0, whole.1, subst (λ (n : Graph). Reached (after g q) qs n whole.0) (sym whole.2.0) here))
+reached-first : (g : Graph) (i : Item) (is : List Item) (now : Graph) (out : List ℕ) → Reached g (i ∷ []) now out → Reached g (i ∷ is) now out
+reached-first g i is now out (inl none) = inl none
+reached-first g i is now out (inr (inl part)) = inr (inl part)
+reached-first g i is now out (inr (inr whole)) =
+    let here = subst (λ (p : List ℕ). Reached (after_item g i) is (after_item g i) p) (sym whole.2.1) (reached-none (after_item g i) is) in
+    inr (inr (whole.0, whole.1, subst (λ (n : Graph). Reached (after_item g i) is n whole.0) (sym whole.2.0) here))
 
--- ---- from the requests of a run to the rest of them
+-- ---- from the items of a run to the rest of them
 
--- The run came from the graph g with all of its requests to the graph `now` with the rest, and from s0 to s.
-pub record Comes (s0 s : State) (g now : Graph) (all rest : List Request) (steps0 steps : ℕ) : Type 0 where
-  pub ends : after_all now rest ≡ after_all g all
-  pub said : s.out ++ answers now rest ≡ s0.out ++ answers g all
-  pub parts : (f o : List ℕ) → IsPart s now rest f o → IsPart s0 g all f o
-  pub fills : FillsByAny now rest → FillsByAny g all
-  pub charged : steps0 + charges g all ≤ steps + charges now rest
-  pub stop : Elapses s0 s (IsPart s0 g all)
-
-module _ (s0 s1 s2 : State) (g now : Graph) (all rest : List Request) (q : Request) (steps0 steps1 : ℕ) (comes : Comes s0 s1 g now all (q ∷ rest) steps0 steps1) where
-  first-part : (f o : List ℕ) → IsPart s1 now (q ∷ []) f o → IsPart s0 g all f o
+module _ (s0 s1 s2 : State) (g now : Graph) (all rest : List Item) (i : Item) (steps0 steps1 : ℕ) (comes : Comes s0 s1 g now all (i ∷ rest) steps0 steps1) where
+  first-part : (f o : List ℕ) → IsPart s1 now (i ∷ []) f o → IsPart s0 g all f o
   first-part f o p =
-      comes.parts f o (record { now = p.now; printed = p.printed; holds = p.holds; out_is = p.out_is; reached = reached-first now q rest p.now p.printed p.reached })
+      comes.parts f o (record { now = p.now; printed = p.printed; holds = p.holds; out_is = p.out_is; reached = reached-first now i rest p.now p.printed p.reached })
 
-  pub more-stop : Elapses s1 s2 (IsPart s1 now (q ∷ [])) → Elapses s0 s2 (IsPart s0 g all)
-  more-stop time = goes_on s0 s1 s2 (IsPart s0 g all) (IsPart s1 now (q ∷ [])) comes.stop time first-part
+  pub more-stop : Elapses s1 s2 (IsPart s1 now (i ∷ [])) → Elapses s0 s2 (IsPart s0 g all)
+  more-stop time = goes_on s0 s1 s2 (IsPart s0 g all) (IsPart s1 now (i ∷ [])) comes.stop time first-part
 
-  pub first-fills : FillsBy now q → FillsByAny g all
+  pub first-fills : FillsByItem now i → FillsByAny g all
   first-fills full = comes.fills (inl full)
 
-  module _ (answered : s2.out ≡ s1.out ++ answer_of now q) where
-    later-part : (f o : List ℕ) → IsPart s2 (after now q) rest f o → IsPart s0 g all f o
+  module _ (said : s2.out ≡ s1.out ++ bytes_of now i) where
+    later-part : (f o : List ℕ) → IsPart s2 (after_item now i) rest f o → IsPart s0 g all f o
     later-part f o p =
         comes.parts f o
         (record {
           now = p.now;
-          printed = answer_of now q ++ p.printed;
+          printed = bytes_of now i ++ p.printed;
           holds = p.holds;
-          out_is = p.out_is ∙ ap (λ (l : List ℕ). l ++ p.printed) answered ∙ append_assoc s1.out (answer_of now q) p.printed;
+          out_is = p.out_is ∙ ap (λ (l : List ℕ). l ++ p.printed) said ∙ append_assoc s1.out (bytes_of now i) p.printed;
           reached = inr (inr (p.printed, refl, p.reached));
         })
 
-    pub comes-more : (steps2 : ℕ) → steps1 + charge_of now q ≤ steps2 → Elapses s1 s2 (IsPart s1 now (q ∷ [])) → Comes s0 s2 g (after now q) all rest steps0 steps2
+    pub comes-more : (steps2 : ℕ) → steps1 + charge_by now i ≤ steps2 → Elapses s1 s2 (IsPart s1 now (i ∷ [])) → Comes s0 s2 g (after_item now i) all rest steps0 steps2
     comes-more steps2 least time = record {
       ends = comes.ends;
-      said = ap (λ (l : List ℕ). l ++ answers (after now q) rest) answered ∙ append_assoc s1.out (answer_of now q) (answers (after now q) rest) ∙ comes.said;
+      said = ap (λ (l : List ℕ). l ++ answers (after_item now i) rest) said ∙ append_assoc s1.out (bytes_of now i) (answers (after_item now i) rest) ∙ comes.said;
       parts = later-part;
       fills = λ f. comes.fills (inr f);
       charged = omega (arith, comes.charged, least);
       stop = more-stop time;
     }
+
+-- where none is left
+module _ (s0 s : State) (g now : Graph) (all : List Item) (steps0 steps : ℕ) (comes : Comes s0 s g now all [] steps0 steps) where
+  pub comes-whole : (session : Session) → IsAttached session s now → IsWhole s0 s g all
+  comes-whole session a = record {
+    holds = subst (λ (x : Graph). Holds s.file x) comes.ends (attached-holds session s now a);
+    out_is = sym (append-nil s.out) ∙ comes.said;
+    durable = a.durable;
+  }
+
+  pub comes-least : steps0 + charges g all ≤ steps
+  comes-least = omega (arith, comes.charged)
 
 -- ---- a run that has come so far
 
@@ -138,45 +142,38 @@ pub record Served (s0 s : State) (i0 i : SourceState) (all rest : Requests) (ses
   pub comes : Knows all i0 → Comes s0 s g now (to_come all i0.left) (to_come rest i.left) steps0 steps
 
 module _ {s0 s : State} {i0 i : SourceState} {all rest : Requests} {session : Session} {g : Graph} {steps0 steps : ℕ} (served : Served s0 s i0 i all rest session g steps0 steps) where
-  come-with : (qs : List Request) → to_come rest i.left ≡ qs → Knows all i0 → Comes s0 s g served.now (to_come all i0.left) qs steps0 steps
-  come-with qs is known = subst (λ (rs : List Request). Comes s0 s g served.now (to_come all i0.left) rs steps0 steps) is (served.comes known)
+  come-with : (is : List Item) → to_come rest i.left ≡ is → Knows all i0 → Comes s0 s g served.now (to_come all i0.left) is steps0 steps
+  come-with is same known = subst (λ (js : List Item). Comes s0 s g served.now (to_come all i0.left) js steps0 steps) same (served.comes known)
 
   -- while a request is answered
-  module _ (s2 : State) (q : Request) (qs : List Request) (is : to_come rest i.left ≡ q ∷ qs) (known : Knows all i0) where
-    pub turn-stop : Elapses s s2 (IsPart s served.now (q ∷ [])) → Elapses s0 s2 (IsPart s0 g (to_come all i0.left))
-    turn-stop time = more-stop s0 s s2 g served.now (to_come all i0.left) qs q steps0 steps (come-with (q ∷ qs) is known) time
+  module _ (s2 : State) (q : Request) (is : List Item) (same : to_come rest i.left ≡ answered q ∷ is) (known : Knows all i0) where
+    pub turn-stop : Elapses s s2 (IsPart s served.now (answered q ∷ [])) → Elapses s0 s2 (IsPart s0 g (to_come all i0.left))
+    turn-stop time = more-stop s0 s s2 g served.now (to_come all i0.left) is (answered q) steps0 steps (come-with (answered q ∷ is) same known) time
 
     pub turn-full : FillsBy served.now q → FillsByAny g (to_come all i0.left)
-    turn-full full = first-fills s0 s s2 g served.now (to_come all i0.left) qs q steps0 steps (come-with (q ∷ qs) is known) full
+    turn-full full = first-fills s0 s s2 g served.now (to_come all i0.left) is (answered q) steps0 steps (come-with (answered q ∷ is) same known) full
 
   -- once it is
   pub served-more : (s2 : State) (i2 : SourceState) (later : Requests) (next : Session) (q : Request) (steps2 : ℕ)
-      → reads_lines later ≡ reads_lines rest → turns_left later < turns_left rest → (Knows all i0 → to_come rest i.left ≡ q ∷ to_come later i2.left)
+      → reads_lines later ≡ reads_lines rest → turns_left later < turns_left rest → (Knows all i0 → to_come rest i.left ≡ answered q ∷ to_come later i2.left)
       → IsAttached next s2 (after served.now q) → s2.out ≡ s.out ++ answer_of served.now q → (s2.file ≡ s.file) ⊎ IsRecorded s.file s2.file
-      → steps + charge_of served.now q ≤ steps2 → Elapses s s2 (IsPart s served.now (q ∷ [])) → Served s0 s2 i0 i2 all later next g steps0 steps2
-  served-more s2 i2 later next q steps2 lines fewer is attached answered bytes least time = record {
+      → steps + charge_of served.now q ≤ steps2 → Elapses s s2 (IsPart s served.now (answered q ∷ [])) → Served s0 s2 i0 i2 all later next g steps0 steps2
+  served-more s2 i2 later next q steps2 lines fewer same attached said bytes least time = record {
     now = after served.now q;
     attached = attached;
     recorded = λ final w. served.recorded final (more-recorded rest later s.file s2.file final lines fewer bytes w);
     comes = λ known.
-        let qs = to_come later i2.left in
-        comes-more s0 s s2 g served.now (to_come all i0.left) qs q steps0 steps (come-with (q ∷ qs) (is known) known) answered steps2 least time;
+        let is = to_come later i2.left in
+        comes-more s0 s s2 g served.now (to_come all i0.left) is (answered q) steps0 steps (come-with (answered q ∷ is) (same known) known) said steps2 least time;
   }
 
   -- where none is to come
   module _ (none : to_come rest i.left ≡ []) (known : Knows all i0) where
-    at-end : Comes s0 s g served.now (to_come all i0.left) [] steps0 steps
-    at-end = come-with [] none known
-
     pub served-whole : IsWhole s0 s g (to_come all i0.left)
-    served-whole = record {
-      holds = subst (λ (x : Graph). Holds s.file x) at-end.ends (attached-holds session s served.now served.attached);
-      out_is = sym (append-nil s.out) ∙ at-end.said;
-      durable = served.attached.durable;
-    }
+    served-whole = comes-whole s0 s g served.now (to_come all i0.left) steps0 steps (come-with [] none known) session served.attached
 
     pub served-least : steps0 + charges g (to_come all i0.left) ≤ steps
-    served-least = omega (arith, at-end.charged)
+    served-least = comes-least s0 s g served.now (to_come all i0.left) steps0 steps (come-with [] none known)
 
   pub served-bytes : AreRecorded (reads_lines all) s0.file s.file
   served-bytes = served.recorded s.file (none-recorded rest s.file)
@@ -187,6 +184,7 @@ pub record Along (s0 s : State) (i0 i : SourceState) (all rest : Requests) (old 
   pub served : Told s0 ((g : Graph) → IsAttached old s0 g → Served s0 s i0 i all rest session g steps0 steps)
   pub limited : Knows all i0 → (IsLimited all i0 → IsLimited rest i) × (IsLimited rest i → IsLimited all i0)
   pub lines : reads_lines rest ≡ reads_lines all
+  pub room : HaveRoom rest
   pub taken : i0.tells ≡ true → taken_by all + length i0.left ≡ taken_by rest + length i.left
   pub host_tells : s.tells ≡ s0.tells
   pub source_tells : i.tells ≡ i0.tells

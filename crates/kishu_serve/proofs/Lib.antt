@@ -1,6 +1,8 @@
+mod Utf8
+mod Askings
+mod Forms
 mod Parts
 mod Runs
-mod Askings
-mod Utf8
 mod Chain
+mod CellRuns
 mod Rows

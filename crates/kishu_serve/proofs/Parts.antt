@@ -7,8 +7,7 @@ use Rattle.kishu_store.specs.Entries.{Entry}
 use Rattle.kishu_store.specs.Graph.{Graph}
 use Rattle.kishu_store.specs.Holds.{Holds, graph_of}
 use Rattle.kishu_store_laws.specs.Laws.{ends-holds}
-use Rattle.kishu_model.specs.Request.{Request}
-use Rattle.kishu_model.specs.Serve.{after, answer_of, IsPrefix}
+use Rattle.kishu_model.specs.Serve.{Item, after_item, bytes_of, IsPrefix}
 use Rattle.kishu_session.specs.Attached.{IsAttached}
 use Rattle.kishu_session.specs.Journals.{IsJournalOf, BeforeOrAfter}
 use Rattle.kishu_session.specs.Written.{IsRecorded}
@@ -30,26 +29,26 @@ attached-kept session s0 s1 g same crash a = record {
   at = a.at;
 }
 
-module _ (s : State) (g : Graph) (q : Request) where
+module _ (s : State) (g : Graph) (i : Item) where
   -- nothing is done yet
-  pub part-none : (file out : List ℕ) → Holds file g → out ≡ s.out → IsPart s g (q ∷ []) file out
+  pub part-none : (file out : List ℕ) → Holds file g → out ≡ s.out → IsPart s g (i ∷ []) file out
   part-none file out holds same = record { now = g; printed = []; holds = holds; out_is = same ∙ sym (append-nil s.out); reached = inl (refl, refl) }
 
-  -- it is done, and a part of its answer is out
-  pub part-done : (file out p : List ℕ) → Holds file (after g q) → out ≡ s.out ++ p → IsPrefix p (answer_of g q) → IsPart s g (q ∷ []) file out
-  part-done file out p holds is prefix = record { now = after g q; printed = p; holds = holds; out_is = is; reached = inr (inl (refl, prefix)) }
+  -- it is done, and a part of what is written for it is out
+  pub part-done : (file out p : List ℕ) → Holds file (after_item g i) → out ≡ s.out ++ p → IsPrefix p (bytes_of g i) → IsPart s g (i ∷ []) file out
+  part-done file out p holds is prefix = record { now = after_item g i; printed = p; holds = holds; out_is = is; reached = inr (inl (refl, prefix)) }
 
   -- while it is applied
-  pub part-applied : (file out : List ℕ) → BeforeOrAfter s g (after g q) file out → IsPart s g (q ∷ []) file out
+  pub part-applied : (file out : List ℕ) → BeforeOrAfter s g (after_item g i) file out → IsPart s g (i ∷ []) file out
   part-applied file out w =
       ⊎_elim (λ (h : Holds file g). part-none file out h w.0)
-      (λ (h : Holds file (after g q)). part-done file out [] h (w.0 ∙ sym (append-nil s.out)) (answer_of g q, refl)) w.1
+      (λ (h : Holds file (after_item g i)). part-done file out [] h (w.0 ∙ sym (append-nil s.out)) (bytes_of g i, refl)) w.1
 
-  -- while its answer goes out
-  pub part-put : (s1 : State) (bytes : List ℕ) → bytes ≡ answer_of g q → Only s1.file s1.may_leave → Holds s1.file (after g q) → s1.out ≡ s.out
-      → (file out : List ℕ) → DuringPut s1 bytes file out → IsPart s g (q ∷ []) file out
+  -- while that goes out
+  pub part-put : (s1 : State) (bytes : List ℕ) → bytes ≡ bytes_of g i → Only s1.file s1.may_leave → Holds s1.file (after_item g i) → s1.out ≡ s.out
+      → (file out : List ℕ) → DuringPut s1 bytes file out → IsPart s g (i ∷ []) file out
   part-put s1 bytes is only holds same file out d =
-      part-done file out d.1 (subst (λ (f : List ℕ). Holds f (after g q)) (sym (only file d.0)) holds) (d.3 ∙ ap (λ (l : List ℕ). l ++ d.1) same) (d.2.0, sym is ∙ d.2.1)
+      part-done file out d.1 (subst (λ (f : List ℕ). Holds f (after_item g i)) (sym (only file d.0)) holds) (d.3 ∙ ap (λ (l : List ℕ). l ++ d.1) same) (d.2.0, sym is ∙ d.2.1)
 
 -- what holds of a call, where it succeeded
 pub held : {T E P : Type 0} (r : Result T E) → P → OnOk r P
@@ -63,20 +62,20 @@ and_then (Err e) p then = tt
 pub recorded-kept : (old mid new : List ℕ) → new ≡ mid → (mid ≡ old) ⊎ IsRecorded old mid → (new ≡ old) ⊎ IsRecorded old new
 recorded-kept old mid new same recorded = subst (λ (f : List ℕ). (f ≡ old) ⊎ IsRecorded old f) (sym same) recorded
 
--- The request is refused, or tells without being applied: the graph stays.
-pub told-stop : (session : Session) (s0 s1 : State) (g : Graph) (q : Request) (bytes : List ℕ) → IsAttached session s0 g → after g q ≡ g → bytes ≡ answer_of g q
-    → Elapses s0 s1 (DuringPut s0 bytes) → Elapses s0 s1 (IsPart s0 g (q ∷ []))
-told-stop session s0 s1 g q bytes a stays is put =
-    weaker s0 s1 (IsPart s0 g (q ∷ [])) (DuringPut s0 bytes) put
-    (part-put s0 g q s0 bytes is a.durable (subst (λ (x : Graph). Holds s0.file x) (sym stays) (attached-holds session s0 g a)) refl)
+-- It leaves the graph as it is, and what is written for it goes out.
+pub told-stop : (session : Session) (s0 s1 : State) (g : Graph) (i : Item) (bytes : List ℕ) → IsAttached session s0 g → after_item g i ≡ g → bytes ≡ bytes_of g i
+    → Elapses s0 s1 (DuringPut s0 bytes) → Elapses s0 s1 (IsPart s0 g (i ∷ []))
+told-stop session s0 s1 g i bytes a stays is put =
+    weaker s0 s1 (IsPart s0 g (i ∷ [])) (DuringPut s0 bytes) put
+    (part-put s0 g i s0 bytes is a.durable (subst (λ (x : Graph). Holds s0.file x) (sym stays) (attached-holds session s0 g a)) refl)
 
 -- It is applied.
-pub applied-stop : (s0 s1 : State) (g : Graph) (q : Request) → Elapses s0 s1 (BeforeOrAfter s0 g (after g q)) → Elapses s0 s1 (IsPart s0 g (q ∷ []))
-applied-stop s0 s1 g q applied = weaker s0 s1 (IsPart s0 g (q ∷ [])) (BeforeOrAfter s0 g (after g q)) applied (part-applied s0 g q)
+pub applied-stop : (s0 s1 : State) (g : Graph) (i : Item) → Elapses s0 s1 (BeforeOrAfter s0 g (after_item g i)) → Elapses s0 s1 (IsPart s0 g (i ∷ []))
+applied-stop s0 s1 g i applied = weaker s0 s1 (IsPart s0 g (i ∷ [])) (BeforeOrAfter s0 g (after_item g i)) applied (part-applied s0 g i)
 
--- It is applied, and its answer goes out.
-pub served-stop : (session : Session) (s0 s1 s2 : State) (g : Graph) (q : Request) (bytes : List ℕ) → IsAttached session s1 (after g q) → bytes ≡ answer_of g q → s1.out ≡ s0.out
-    → Elapses s0 s1 (BeforeOrAfter s0 g (after g q)) → Elapses s1 s2 (DuringPut s1 bytes) → Elapses s0 s2 (IsPart s0 g (q ∷ []))
-served-stop session s0 s1 s2 g q bytes a is same applied put =
-    goes_on s0 s1 s2 (IsPart s0 g (q ∷ [])) (DuringPut s1 bytes) (applied-stop s0 s1 g q applied) put
-    (part-put s0 g q s1 bytes is a.durable (attached-holds session s1 (after g q) a) same)
+-- It is applied, and what is written for it goes out.
+pub served-stop : (session : Session) (s0 s1 s2 : State) (g : Graph) (i : Item) (bytes : List ℕ) → IsAttached session s1 (after_item g i) → bytes ≡ bytes_of g i → s1.out ≡ s0.out
+    → Elapses s0 s1 (BeforeOrAfter s0 g (after_item g i)) → Elapses s1 s2 (DuringPut s1 bytes) → Elapses s0 s2 (IsPart s0 g (i ∷ []))
+served-stop session s0 s1 s2 g i bytes a is same applied put =
+    goes_on s0 s1 s2 (IsPart s0 g (i ∷ [])) (DuringPut s1 bytes) (applied-stop s0 s1 g i applied) put
+    (part-put s0 g i s1 bytes is a.durable (attached-holds session s1 (after_item g i) a) same)

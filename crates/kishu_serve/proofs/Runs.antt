@@ -5,14 +5,13 @@ use Rattle.kishu_host.specs.Host.{State, Now, Only, Elapses, Rises}
 use Rattle.kishu_host.specs.Going.{weaker, goes_on}
 use Rattle.kishu_store.specs.Graph.{Graph}
 use Rattle.kishu_store.specs.Holds.{Holds}
-use Rattle.kishu_model.specs.Request.{Request}
-use Rattle.kishu_model.specs.Serve.{Reached, answers}
+use Rattle.kishu_model.specs.Serve.{Item, Reached, answers}
 use Rattle.kishu_session.specs.Written.{begun}
 use Rattle.kishu_serve.specs.Headline.{IsPart, IsWhole}
 use Rattle.kishu_serve.specs.Recorded.{AreRecorded, IsWritten}
 
 -- what a stop of the whole run may leave
-abbrev pub RunStop : State → Graph → List Request → List ℕ → List ℕ → Type 0
+abbrev pub RunStop : State → Graph → List Item → List ℕ → List ℕ → Type 0
 RunStop s g qs c o = Now s c o ⊎ IsPart s g qs c o
 
 -- what opening leaves
@@ -20,18 +19,18 @@ abbrev pub OpenStop : State → Graph → List ℕ → List ℕ → Type 0
 OpenStop s g c o = Now s c o ⊎ (Holds c g × (o ≡ s.out))
 
 -- nothing is done yet
-pub reached-none : (g : Graph) (qs : List Request) → Reached g qs g []
+pub reached-none : (g : Graph) (qs : List Item) → Reached g qs g []
 reached-none g [] = (refl, refl)
 reached-none g (q ∷ qs) = inl (refl, refl)
 
-pub none-done : (s : State) (g : Graph) (qs : List Request) (file out : List ℕ) → Holds file g → out ≡ s.out → IsPart s g qs file out
+pub none-done : (s : State) (g : Graph) (qs : List Item) (file out : List ℕ) → Holds file g → out ≡ s.out → IsPart s g qs file out
 none-done s g qs file out holds same = record { now = g; printed = []; holds = holds; out_is = same ∙ sym (append-nil s.out); reached = reached-none g qs }
 
 -- as it reads at the start
-pub start-part : (s : State) (g : Graph) (qs : List Request) → Holds s.file g → Only s.file s.may_leave → (file out : List ℕ) → Now s file out → IsPart s g qs file out
+pub start-part : (s : State) (g : Graph) (qs : List Item) → Holds s.file g → Only s.file s.may_leave → (file out : List ℕ) → Now s file out → IsPart s g qs file out
 start-part s g qs holds only file out now = none-done s g qs file out (subst (λ (f : List ℕ). Holds f g) (sym (only file now.0)) holds) now.1
 
-module _ (s0 s1 : State) (g : Graph) (qs : List Request) (opening : Elapses s0 s1 (OpenStop s0 g)) where
+module _ (s0 s1 : State) (g : Graph) (qs : List Item) (opening : Elapses s0 s1 (OpenStop s0 g)) where
   pub opening-stop : Elapses s0 s1 (RunStop s0 g qs)
   opening-stop = weaker s0 s1 (RunStop s0 g qs) (OpenStop s0 g) opening (λ f o h. ⊎_elim (λ now. inl now) (λ (k : Holds f g × (o ≡ s0.out)). inr (none-done s0 g qs f o k.0 k.1)) h)
 

@@ -1,9 +1,10 @@
--- What a run is asked.
-use Rattle.std.specs.Prelude.{◌≡◌, ◌↔◌, ℕ, ◌+◌, ◌-◌, ◌^◌, Bool, true, false, List, [], ◌∷◌, map, length, Some, None, IsSome}
+-- The requests of a run that answers each as it comes.
+use Rattle.std.specs.Prelude.{◌≡◌, ℕ, ◌+◌, ◌-◌, ◌^◌, Bool, true, false, List, [], ◌∷◌, map, length, None, IsSome}
 use Rattle.kishu_host.specs.Source.{SourceState}
 use Rattle.kishu_model.specs.Request.{Request, unreadable}
-use Rattle.kishu_model.specs.Task as model
-use Rattle.kishu_model.specs.Task.{cell_request, line_request, limit_place, session_limits, task}
+use Rattle.kishu_model.specs.requests.Cells.{HasRoom}
+use Rattle.kishu_model.specs.Serve.{Item, answered}
+use Rattle.kishu_model.specs.Task.{line_request}
 use Rattle.kishu_model.specs.Values.{request_of}
 use Rattle.kishu_input.specs.Lines.{ahead, lines_left, limit_left}
 use Rattle.kishu_input.specs.declared.lines.LineReader.{LineReader}
@@ -11,23 +12,22 @@ use Rattle.kishu_serve.specs.declared.asking.Asked.{Asked}
 use Rattle.kishu_serve.specs.declared.asking.Asked.TheVariants as asked
 use Rattle.kishu_serve.specs.declared.asking.Requests.{Requests}
 use Rattle.kishu_serve.specs.declared.asking.Requests.TheVariants.{Done, One, Lines}
-use Rattle.kishu_serve.specs.declared.words.Form.{Form}
-use Rattle.kishu_serve.specs.declared.words.Form.TheVariants as forms
 
 abbrev pub asked_of : Asked → Request
 asked_of (asked.Request q) = request_of q
 asked_of asked.Unreadable = unreadable
 
-abbrev pub form_by : Form → model.Form
-form_by forms.Cell = model.one_cell
-form_by forms.Session = model.session
-form_by (forms.One q) = model.one_request (request_of q)
-
 -- the requests that are to come, where the source has this left
-abbrev pub to_come : Requests → List ℕ → List Request
+abbrev pub to_come : Requests → List ℕ → List Item
 to_come Done left = []
-to_come (One q) left = asked_of q ∷ []
-to_come (Lines reader) left = map line_request (lines_left reader left)
+to_come (One q) left = answered (asked_of q) ∷ []
+to_come (Lines reader) left = map answered (map line_request (lines_left reader left))
+
+-- A record has room for each.
+abbrev pub HaveRoom : Requests → Type 0
+HaveRoom Done = Unit {0}
+HaveRoom (One q) = HasRoom (asked_of q)
+HaveRoom (Lines reader) = Unit {0}
 
 -- whether lines are read for them
 abbrev pub reads_lines : Requests → Bool
@@ -64,25 +64,12 @@ turns_left Done = 0
 turns_left (One q) = 1
 turns_left (Lines reader) = 2 ^ 30 - reader.before
 
--- ---- by the form of the words
-
-abbrev pub is_session : model.Form → Bool
-is_session model.one_cell = false
-is_session model.session = true
-is_session (model.one_request q) = false
-
--- What words ask for is known: of a form that reads where the source tells what it has left.
-abbrev pub KnowsForm : model.Form → SourceState → Type 0
-KnowsForm model.one_cell s = s.tells ≡ true
-KnowsForm model.session s = s.tells ≡ true
-KnowsForm (model.one_request q) s = Unit {0}
-
 -- ---- one call for the next request: of what is to come and the source before it and after it
 
 -- This request is the first of those to come, and a limit stays where it is.
 abbrev pub IsNext : Requests → SourceState → Requests → SourceState → Request → Type 0
 IsNext old from new to q = Knows old from
-    → (to_come old from.left ≡ q ∷ to_come new to.left)
+    → (to_come old from.left ≡ answered q ∷ to_come new to.left)
     × (IsLimited new to → IsLimited old from) × (IsLimited old from → IsLimited new to)
 
 -- None is to come, no limit was reached, and lines were read to the end.
@@ -100,7 +87,7 @@ KeepsTaken old from new to = from.tells ≡ true → taken_by old + length from.
 -- So it is with the lines that a reader tells.
 abbrev pub IsNextOfLines : LineReader → SourceState → LineReader → SourceState → Request → Type 0
 IsNextOfLines old from new to q = from.tells ≡ true
-    → (to_come (Lines old) from.left ≡ q ∷ to_come (Lines new) to.left) × (limit_left old from.left ≡ limit_left new to.left)
+    → (to_come (Lines old) from.left ≡ answered q ∷ to_come (Lines new) to.left) × (limit_left old from.left ≡ limit_left new to.left)
 
 abbrev pub IsAtEndOfLines : LineReader → SourceState → SourceState → Type 0
 IsAtEndOfLines old from to = from.tells ≡ true
@@ -108,17 +95,3 @@ IsAtEndOfLines old from to = from.tells ≡ true
 
 abbrev pub IsAtLimitOfLines : LineReader → SourceState → Type 0
 IsAtLimitOfLines old from = from.tells ≡ true → (to_come (Lines old) from.left ≡ []) × IsSome (limit_left old from.left)
-
--- ---- what a form asks for: of the source before its requests are made and after it
-
--- They are those of the run.
-abbrev pub AsksFor : model.Form → SourceState → Requests → SourceState → Type 0
-AsksFor form from rs to = KnowsForm form from → to_come rs to.left ≡ task (Some form) from.left
-
--- They are the one that some bytes are as a cell.
-abbrev pub IsOneCell : Requests → Type 0
-IsOneCell rs = (input : List ℕ) × ((left : List ℕ) → to_come rs left ≡ cell_request input ∷ [])
-
--- A limit is reached where the whole input reaches one.
-abbrev pub KeepsLimit : SourceState → Requests → SourceState → Type 0
-KeepsLimit from rs to = IsLimited rs to ↔ IsSome (limit_place session_limits from.left)

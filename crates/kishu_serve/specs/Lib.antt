@@ -1,9 +1,11 @@
 pub mod Statuses
-pub mod Words
 pub mod Asking
+pub mod Notebooks
+pub mod Work
 pub mod Recorded
 pub mod Headline
 pub mod Filling
 pub mod Promise
 pub mod Serving
+pub mod Coming
 pub mod Stops

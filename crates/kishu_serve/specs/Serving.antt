@@ -1,36 +1,40 @@
 -- What requests do to an open session: where it is attached, and what a stop leaves.
-use Rattle.std.specs.Prelude.{◌≡◌, ◌⊎◌, ℕ, List, [], ◌∷◌, ◌++◌, Some}
+use Rattle.std.specs.Prelude.{◌≡◌, ◌⊎◌, ℕ, List, ◌++◌, Some}
 use Rattle.kishu_host.specs.Host.{State, Told, Elapses, Rises, DuringPut}
 use Rattle.kishu_host.specs.Source.{SourceState}
 use Rattle.kishu_store.specs.Graph.{Graph}
 use Rattle.kishu_model.specs.Answers.{Answer as Said, answer_line}
 use Rattle.kishu_model.specs.Request.{Request}
-use Rattle.kishu_model.specs.Serve.{answer_of}
+use Rattle.kishu_model.specs.Serve.{Item, answer_of}
 use Rattle.kishu_model.specs.Values.{answer_of as said_by}
 use Rattle.kishu_model.specs.declared.answer.Answer.{Answer}
 use Rattle.kishu_session.specs.Attached.{IsAttached}
 use Rattle.kishu_session.specs.Written.{IsRecorded}
 use Rattle.kishu_session.specs.declared.session.Session.{Session}
-use Rattle.kishu_serve.specs.Asking.{to_come, Knows}
 use Rattle.kishu_serve.specs.Headline.{IsPart}
-use Rattle.kishu_serve.specs.declared.asking.Requests.{Requests}
+use Rattle.kishu_serve.specs.Work.{to_do, Knows}
+use Rattle.kishu_serve.specs.declared.work.Work.{Work}
 
--- The disk, or the output, has failed: its count of faults has risen.
-abbrev pub DiskFailed : State → State → Type 0
-DiskFailed old new = Rises old.disk_faults new.disk_faults
-
+-- The output has failed: its count of faults has risen.
 abbrev pub OutputFailed : State → State → Type 0
 OutputFailed old new = Rises old.out_faults new.out_faults
 
--- ---- an answer goes out
+-- ---- something goes out
 
--- The output has grown by its line.
-abbrev pub IsPutOut : Answer → State → State → Type 0
-IsPutOut answer old new = Told old ((a : Said) → said_by answer ≡ Some a → new.out ≡ old.out ++ answer_line a)
+-- The output has grown by these bytes.
+abbrev pub AreOut : List ℕ → State → State → Type 0
+AreOut bytes old new = Told old (new.out ≡ old.out ++ bytes)
 
--- A stop leaves a prefix of it.
-abbrev pub PutsOut : Answer → State → State → Type 0
-PutsOut answer old new = (a : Said) → said_by answer ≡ Some a → Elapses old new (DuringPut old (answer_line a))
+-- A stop leaves a prefix of them.
+abbrev pub GoOut : List ℕ → State → State → Type 0
+GoOut bytes old new = Elapses old new (DuringPut old bytes)
+
+-- So it is with the line of an answer.
+abbrev pub IsAnswerOut : Answer → State → State → Type 0
+IsAnswerOut answer old new = Told old ((a : Said) → said_by answer ≡ Some a → new.out ≡ old.out ++ answer_line a)
+
+abbrev pub AnswerGoesOut : Answer → State → State → Type 0
+AnswerGoesOut answer old new = (a : Said) → said_by answer ≡ Some a → GoOut (answer_line a) old new
 
 -- ---- one request
 
@@ -51,12 +55,12 @@ abbrev pub WritesOne : State → State → Type 0
 WritesOne old new = (new.file ≡ old.file) ⊎ IsRecorded old.file new.file
 
 -- Each stop leaves a part of these.
-abbrev pub StopsInPart : State → State → Graph → List Request → Type 0
-StopsInPart old new g requests = Elapses old new (IsPart old g requests)
+abbrev pub StopsInPart : State → State → Graph → List Item → Type 0
+StopsInPart old new g items = Elapses old new (IsPart old g items)
 
--- ---- the requests of a run
+-- ---- the items of a run
 
--- Where it is known what is to come and the session is attached, this holds of the graph and the requests.
-abbrev pub WhereKnown : Requests → SourceState → Session → State → (Graph → List Request → Type 0) → Type 0
-WhereKnown requests source session host P =
-    Told host (Knows requests source → (g : Graph) → IsAttached session host g → P g (to_come requests source.left))
+-- Where it is known what is to do and the session is attached, this holds of the graph and the items.
+abbrev pub WhereKnown : Work → SourceState → Session → State → (Graph → List Item → Type 0) → Type 0
+WhereKnown work source session host P =
+    Told host (Knows work source → (g : Graph) → IsAttached session host g → P g (to_do work g source.left))

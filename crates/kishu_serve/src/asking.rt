@@ -1,17 +1,16 @@
 // What a run is asked: requests, one after another.
-ghost use Rattle.std.specs.Prelude.{◌≡◌, ◌≤◌, ◌<◌, ◌+◌, [], length, true, false, None, Ok, IfOk, IfSome, OnOk, IsErr, IsErrOf, option_map, unwrap_or};
-ghost use Rattle.kishu_language.specs.Limits.{longest_text};
+ghost use Rattle.std.specs.Prelude.{◌≡◌, ◌<◌, ◌≤◌, ◌^◌, length, true, false, None, Ok, IfOk, IfSome, IsErrOf, option_map, unwrap_or};
 ghost use Rattle.kishu_model.specs.Request.{unreadable};
-ghost use Rattle.kishu_model.specs.Task.{one_cell, session, cell_request, line_request};
+ghost use Rattle.kishu_model.specs.requests.Cells.{HasRoom};
+ghost use Rattle.kishu_model.specs.Task.{cell_request, line_request};
 ghost use Rattle.kishu_model.specs.Values.{request_of};
-ghost use Rattle.kishu_input.specs.Sources.{InputFailed, TakesMoreThan, TakesAtMost};
+ghost use Rattle.kishu_input.specs.Sources.{InputFailed};
 ghost use Rattle.kishu_input.specs.Telling.{KeepsCount};
-ghost use Rattle.kishu_serve.specs.Asking.{asked_of, form_by, reads_lines, is_session, taken_by, turns_left, IsNext, IsAtEnd, IsAtLimit, KeepsTaken, IsNextOfLines, IsAtEndOfLines, IsAtLimitOfLines, AsksFor, IsOneCell, KeepsLimit};
+ghost use Rattle.kishu_serve.specs.Asking.{asked_of, reads_lines, turns_left, HaveRoom, IsNext, IsAtEnd, IsAtLimit, KeepsTaken, IsNextOfLines, IsAtEndOfLines, IsAtLimitOfLines};
 ghost use Rattle.kishu_input.specs.declared.whole.InputStop.TheVariants.{Fault, TooLong};
 
-use crate::words::Form;
 use kishu_host::Source;
-use kishu_input::{InputStop, LineReader, read_input};
+use kishu_input::{InputStop, LineReader};
 use kishu_lines::read_request;
 use kishu_model::Request;
 use std::alloc::{AllocError, Global};
@@ -38,14 +37,16 @@ impl Asked {
 
     /// What a line asks for.
     fn of_line(alloc: Global, line: &[u8]) -> Result<Asked, AllocError>
-        ensures { IfOk result (λ asked. asked_of asked ≡ line_request line.now) }
+        ensures asked { IfOk result (λ asked. asked_of asked ≡ line_request line.now) }
+        ensures room { length line.now < 2 ^ 24 → IfOk result (λ asked. HasRoom (asked_of asked)) }
     {
         Ok(Asked::of(read_request(alloc, line)?))
     }
 
     /// What an input that is one cell asks for: it is a cell's text where it is UTF-8.
-    fn of_input(alloc: Global, input: &[u8]) -> Result<Asked, AllocError>
-        ensures { IfOk result (λ asked. asked_of asked ≡ cell_request input.now) }
+    pub(crate) fn of_input(alloc: Global, input: &[u8]) -> Result<Asked, AllocError>
+        ensures asked { IfOk result (λ asked. asked_of asked ≡ cell_request input.now) }
+        ensures room { IfOk result (λ asked. HasRoom (asked_of asked)) }
     {
         match std::str::from_utf8(input) {
             Ok(text) => Ok(Asked::Request(Request::Cell {
@@ -74,6 +75,7 @@ fn next_in<S: Source>(
 ) -> Result<Option<Asked>, InputStop>
     ensures next { IfOk result (λ found. IfSome found (λ asked.
         IsNextOfLines reader.old (S.source source.old) reader.new (S.source source.new) (asked_of asked))) }
+    ensures room { IfOk result (λ found. IfSome found (λ asked. HasRoom (asked_of asked))) }
     ensures end { result ≡ Ok None → IsAtEndOfLines reader.old (S.source source.old) (S.source source.new) }
     ensures too_long { IsErrOf result TooLong → IsAtLimitOfLines reader.old (S.source source.old) }
     ensures taken { KeepsCount reader.old (S.source source.old) reader.new (S.source source.new) }
@@ -92,57 +94,21 @@ fn next_in<S: Source>(
 }
 
 impl Requests {
-    /// The requests of a form of words, for which the input is read whole where it is one cell.
-    pub(crate) fn of_form<S: Source>(
-        alloc: Global,
-        form: Form,
-        source: &mut S,
-    ) -> Result<Requests, InputStop>
-        ensures asked { IfOk result (λ rs.
-            AsksFor (form_by form) (S.source source.old) rs (S.source source.new)) }
-        ensures cell { IfOk result (λ rs. form_by form ≡ one_cell → IsOneCell rs) }
-        ensures limits { IfOk result (λ rs.
-            form_by form ≡ session → KeepsLimit (S.source source.old) rs (S.source source.new)) }
-        ensures lines { IfOk result (λ rs. reads_lines rs ≡ is_session (form_by form)) }
-        ensures none_taken { IfOk result (λ rs. taken_by rs ≡ 0) }
-        ensures read { OnOk result (form_by form ≡ one_cell
-            → (S.source source.old).tells ≡ true → (S.source source.new).left ≡ []) }
-        ensures unread { (form_by form ≡ one_cell → ⊥) → source.new ≡ source.old }
-        ensures cells_alone { IsErr result → form_by form ≡ one_cell }
-        ensures too_long { IsErrOf result TooLong
-            → TakesMoreThan longest_text (S.source source.old) (S.source source.new) }
-        ensures limit { OnOk result (form_by form ≡ one_cell
-            → (S.source source.old).tells ≡ true → length (S.source source.old).left ≤ longest_text) }
-        ensures taken { TakesAtMost (longest_text + 4096) (S.source source.old) (S.source source.new) }
-        ensures tells { (S.source source.new).tells ≡ (S.source source.old).tells }
-        ensures fault { IsErrOf result Fault → InputFailed (S.source source.old) (S.source source.new) }
-        ensures faults { (S.source source.old).in_faults ≤ (S.source source.new).in_faults }
-    {
-        match form {
-            Form::Session => Ok(Requests::Lines(LineReader::new(alloc))),
-            Form::One(request) => Ok(Requests::One(Asked::Request(request))),
-            Form::Cell => {
-                let input = read_input(alloc, source)?;
-                match Asked::of_input(alloc, &input) {
-                    Ok(asked) => Ok(Requests::One(asked)),
-                    Err(AllocError) => Err(InputStop::NoMemory),
-                }
-            }
-        }
-    }
-
     /// The next request, if one is to come.
     pub(crate) fn next<S: Source>(
         &mut self,
         alloc: Global,
         source: &mut S,
     ) -> Result<Option<Asked>, InputStop>
+        requires room { HaveRoom self.old }
         ensures next { IfOk result (λ found. IfSome found (λ asked.
             IsNext self.old (S.source source.old) self.new (S.source source.new) (asked_of asked))) }
         ensures end { result ≡ Ok None → IsAtEnd self.old (S.source source.old) (S.source source.new) }
         ensures too_long { IsErrOf result TooLong
             → (reads_lines self.old ≡ true) × IsAtLimit self.old (S.source source.old) }
 
+        ensures room { HaveRoom self.new }
+        ensures asked_room { IfOk result (λ found. IfSome found (λ asked. HasRoom (asked_of asked))) }
         ensures lines { reads_lines self.new ≡ reads_lines self.old }
         ensures one_more { IfOk result (λ found. IfSome found (λ asked.
             turns_left self.new < turns_left self.old)) }

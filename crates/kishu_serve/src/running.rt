@@ -2,11 +2,13 @@
 ghost use Rattle.std.specs.Prelude.{◌≡◌, ◌≤◌, ◌⊎◌, ◌+◌, true, false, OnOk, IsOk, IsErrOf};
 ghost use Rattle.kishu_model.specs.Serve.{charges};
 ghost use Rattle.kishu_input.specs.Sources.{InputFailed};
-ghost use Rattle.kishu_serve.specs.Asking.{reads_lines, Knows, IsLimited, IsRead, KeepsTaken};
+ghost use Rattle.kishu_session.specs.Faults.{DiskFailed};
+ghost use Rattle.kishu_serve.specs.Asking.{reads_lines, HaveRoom, Knows, IsLimited, IsRead, KeepsTaken};
 ghost use Rattle.kishu_serve.specs.Filling.{FillsByAny};
 ghost use Rattle.kishu_serve.specs.Headline.{IsWhole};
 ghost use Rattle.kishu_serve.specs.Recorded.{AreRecorded};
-ghost use Rattle.kishu_serve.specs.Serving.{DiskFailed, OutputFailed, IsOpen, WhereAttached, WhereKnown, StopsInPart};
+ghost use Rattle.kishu_serve.specs.Serving.{OutputFailed, IsOpen, WhereAttached, WhereKnown, StopsInPart};
+ghost use Rattle.kishu_serve.specs.declared.work.Work.TheVariants.{Answers};
 ghost use Rattle.kishu_serve.specs.declared.serving.Stop.TheVariants.{HeapFull, DiskFault, InputFault, OutputFault, TooLong};
 
 use crate::asking::Requests;
@@ -44,21 +46,22 @@ pub(crate) fn serve_all<H: Host, S: Source, L: Ledger>(
 ) -> Result<(), Stop>
     requires going { session.old.halted ≡ false }
     requires stands { IsOpen session.old (H.state host.old) }
+    requires room { HaveRoom requests.old }
 
     // All are answered where it succeeds, and all before a limit where one is reached.
     ensures whole { IsOk result ⊎ IsErrOf result TooLong
-        → WhereKnown requests.old (S.source source.old) session.old (H.state host.old) (λ g asked.
-        IsWhole (H.state host.old) (H.state host.new) g asked) }
-    ensures stop { WhereKnown requests.old (S.source source.old) session.old (H.state host.old) (λ g asked.
-        StopsInPart (H.state host.old) (H.state host.new) g asked) }
+        → WhereKnown (Answers requests.old) (S.source source.old) session.old (H.state host.old) (λ g items.
+        IsWhole (H.state host.old) (H.state host.new) g items) }
+    ensures stop { WhereKnown (Answers requests.old) (S.source source.old) session.old (H.state host.old) (λ g items.
+        StopsInPart (H.state host.old) (H.state host.new) g items) }
     ensures bytes { OnOk result (WhereAttached session.old (H.state host.old) (λ g.
         AreRecorded (reads_lines requests.old) (H.state host.old).file (H.state host.new).file)) }
     ensures least { OnOk result (
-        WhereKnown requests.old (S.source source.old) session.old (H.state host.old) (λ g asked.
-        steps.old + charges g asked ≤ steps.new)) }
+        WhereKnown (Answers requests.old) (S.source source.old) session.old (H.state host.old) (λ g items.
+        steps.old + charges g items ≤ steps.new)) }
     ensures full { IsErrOf result HeapFull
-        → WhereKnown requests.old (S.source source.old) session.old (H.state host.old) (λ g asked.
-        FillsByAny g asked) }
+        → WhereKnown (Answers requests.old) (S.source source.old) session.old (H.state host.old) (λ g items.
+        FillsByAny g items) }
 
     ensures read { OnOk result (Knows requests.old (S.source source.old)
         → IsRead requests.old (S.source source.new) × (IsLimited requests.old (S.source source.old) → ⊥)) }

@@ -1,12 +1,14 @@
 // One request of a run: it is applied, and its answer goes out.
 ghost use Rattle.std.specs.Prelude.{◌≡◌, ◌≤◌, ◌+◌, ◌∷◌, [], ℕ, List, false, IsSome, OnOk, IsErrOf};
-ghost use Rattle.kishu_model.specs.Serve.{after};
+ghost use Rattle.kishu_model.specs.requests.Cells.{HasRoom};
+ghost use Rattle.kishu_model.specs.Serve.{after, answered};
 ghost use Rattle.kishu_model.specs.Step.{charge_of};
 ghost use Rattle.kishu_model.specs.Values.{answer_of as said_by};
 ghost use Rattle.kishu_session.specs.Attached.{IsAttached};
 ghost use Rattle.kishu_session.specs.Filling.{FillsBy};
+ghost use Rattle.kishu_session.specs.Faults.{DiskFailed};
 ghost use Rattle.kishu_serve.specs.Asking.{asked_of};
-ghost use Rattle.kishu_serve.specs.Serving.{DiskFailed, OutputFailed, IsPutOut, PutsOut, WhereAttached, IsOpen, IsAnswered, WritesOne, StopsInPart};
+ghost use Rattle.kishu_serve.specs.Serving.{OutputFailed, IsAnswerOut, AnswerGoesOut, WhereAttached, IsOpen, IsAnswered, WritesOne, StopsInPart};
 ghost use Rattle.kishu_serve.specs.declared.serving.Stop.TheVariants.{HeapFull, DiskFault, InputFault, OutputFault, TooLong};
 
 use crate::asking::Asked;
@@ -31,10 +33,10 @@ pub(crate) enum Stop {
 /// Puts an answer's line out, by one call of the host.
 fn tell<H: Host>(alloc: Global, host: &mut H, answer: &Answer) -> Result<(), Stop>
     requires { IsSome (said_by answer.now) }
-    ensures answered { OnOk result (IsPutOut answer.now (H.state host.old) (H.state host.new)) }
+    ensures answered { OnOk result (IsAnswerOut answer.now (H.state host.old) (H.state host.new)) }
     ensures file { (H.state host.new).file ≡ (H.state host.old).file }
     ensures crash { (c : List ℕ) → (H.state host.new).may_leave c → (H.state host.old).may_leave c }
-    ensures stop { PutsOut answer.now (H.state host.old) (H.state host.new) }
+    ensures stop { AnswerGoesOut answer.now (H.state host.old) (H.state host.new) }
     ensures tells { (H.state host.new).tells ≡ (H.state host.old).tells }
     ensures no_disk { IsErrOf result DiskFault → ⊥ }
     ensures not_full { IsErrOf result HeapFull → ⊥ }
@@ -63,6 +65,7 @@ pub(crate) fn serve<H: Host, L: Ledger>(
 ) -> Result<(), Stop>
     requires going { session.old.halted ≡ false }
     requires stands { IsOpen session.old (H.state host.old) }
+    requires room { HasRoom (asked_of asked.now) }
 
     ensures attached { OnOk result (WhereAttached session.old (H.state host.old) (λ g.
         IsAttached session.new (H.state host.new) (after g (asked_of asked.now)))) }
@@ -76,7 +79,7 @@ pub(crate) fn serve<H: Host, L: Ledger>(
     ensures full { IsErrOf result HeapFull → WhereAttached session.old (H.state host.old) (λ g.
         FillsBy g (asked_of asked.now)) }
     ensures stop { WhereAttached session.old (H.state host.old) (λ g.
-        StopsInPart (H.state host.old) (H.state host.new) g (asked_of asked.now ∷ [])) }
+        StopsInPart (H.state host.old) (H.state host.new) g (answered (asked_of asked.now) ∷ [])) }
     ensures tells { (H.state host.new).tells ≡ (H.state host.old).tells }
     ensures no_input { (IsErrOf result InputFault → ⊥) × (IsErrOf result TooLong → ⊥) }
     ensures disk_fault { IsErrOf result DiskFault → DiskFailed (H.state host.old) (H.state host.new) }

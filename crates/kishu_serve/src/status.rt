@@ -1,6 +1,9 @@
-ghost use Rattle.std.specs.Prelude.{◌≡◌, IfOk, string_bytes};
+ghost use Rattle.std.specs.Prelude.{◌≡◌, ◌++◌, codes, IfOk, string_bytes};
+ghost use Rattle.kishu_model.specs.notebooks.Notebook.{reason, key_name};
+ghost use Rattle.kishu_notebook.specs.Values.{fault_of, key_of};
 ghost use Rattle.kishu_serve.specs.Statuses.{code_of, text_of};
 
+use kishu_notebook::{NotebookKey, NotebookRefusal};
 use std::alloc::{AllocError, Global};
 
 /// How a run ended.
@@ -14,6 +17,8 @@ pub enum Status {
     NotAJournal,
     /// The gate at this byte of the store file is open, and no record that fits follows it.
     Damaged { at: u64 },
+    /// The input of `run` is no notebook.
+    NotebookRefused(NotebookRefusal),
     /// The disk failed.
     DiskFault,
     /// The input failed.
@@ -22,8 +27,8 @@ pub enum Status {
     OutputFault,
     /// Memory ran out.
     NoMemory,
-    /// A line of a session reaches 2^24 bytes before its line feed, its input reaches 2^30 bytes, or
-    /// the input of `cell` has more than 1,048,576 bytes.
+    /// A line of a session reaches 2^24 bytes before its line feed, its input reaches 2^30 bytes, a
+    /// notebook reaches 2^26, or the input of `cell` has more than 1,048,576 bytes.
     InputTooLong,
     /// A cell would have begun with more than 2^31 nodes.
     HeapFull,
@@ -38,6 +43,7 @@ impl Status {
             Status::Done => 0,
             Status::Usage => 2,
             Status::NotAJournal | Status::Damaged { .. } => 3,
+            Status::NotebookRefused(_) => 4,
             Status::DiskFault => 5,
             Status::InputFault => 6,
             Status::OutputFault => 7,
@@ -57,6 +63,7 @@ impl Status {
             Status::Usage => String::from_str(alloc, "usage: kishu STORE COMMAND"),
             Status::NotAJournal => String::from_str(alloc, "not a journal"),
             Status::Damaged { at } => format!(in alloc; "damaged at {at}"),
+            Status::NotebookRefused(why) => refusal_text(alloc, *why),
             Status::DiskFault => String::from_str(alloc, "disk fault"),
             Status::InputFault => String::from_str(alloc, "input fault"),
             Status::OutputFault => String::from_str(alloc, "output fault"),
@@ -64,5 +71,40 @@ impl Status {
             Status::InputTooLong => String::from_str(alloc, "input too long"),
             Status::HeapFull => String::from_str(alloc, "heap full"),
         }
+    }
+}
+
+/// What is said of a notebook that is refused.
+fn refusal_text(alloc: Global, why: NotebookRefusal) -> Result<String, AllocError>
+    ensures { IfOk result (λ t. string_bytes t ≡ codes "notebook refused: " ++ reason (fault_of why)) }
+{
+    match why {
+        NotebookRefusal::NotJson => String::from_str(alloc, "notebook refused: not JSON"),
+        NotebookRefusal::NotNotebook { key } => key_text(alloc, key),
+        NotebookRefusal::Version { minor } => {
+            format!(in alloc; "notebook refused: minor {minor}")
+        }
+        NotebookRefusal::BadCell { index } => {
+            format!(in alloc; "notebook refused: cell {index}")
+        }
+        NotebookRefusal::RepeatedId { index } => {
+            format!(in alloc; "notebook refused: repeated id at cell {index}")
+        }
+        NotebookRefusal::NotWhole => {
+            String::from_str(alloc, "notebook refused: a number is not whole")
+        }
+    }
+}
+
+/// The same of one whose key is missing, or has another kind of value.
+fn key_text(alloc: Global, key: NotebookKey) -> Result<String, AllocError>
+    ensures { IfOk result (λ t.
+        string_bytes t ≡ codes "notebook refused: " ++ codes "key " ++ key_name (key_of key)) }
+{
+    match key {
+        NotebookKey::Format => String::from_str(alloc, "notebook refused: key nbformat"),
+        NotebookKey::Minor => String::from_str(alloc, "notebook refused: key nbformat_minor"),
+        NotebookKey::Metadata => String::from_str(alloc, "notebook refused: key metadata"),
+        NotebookKey::Cells => String::from_str(alloc, "notebook refused: key cells"),
     }
 }

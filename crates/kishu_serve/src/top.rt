@@ -1,35 +1,37 @@
 // A whole run.
-ghost use Rattle.std.specs.Prelude.{◌≡◌, ◌≤◌, ◌<◌, ◌⊎◌, ◌↔◌, ◌+◌, ℕ, length, true, false, Some, None, IsOk, IsSome, Err};
+ghost use Rattle.std.specs.Prelude.{◌≡◌, ◌≤◌, ◌<◌, ◌⊎◌, ◌+◌, ℕ, length, true, false, Some, None, OnOk, IsOk, IsErrOf, IsSome, Err};
 ghost use Rattle.kishu_host.specs.Host.{Told, Keeps};
 ghost use Rattle.kishu_input.specs.Sources.{InputFailed, TakesMoreThan, TakesAtMost};
-ghost use Rattle.kishu_input.specs.declared.whole.InputStop.TheVariants.{Fault as SourceFault, TooLong as PastLimit};
-ghost use Rattle.kishu_language.specs.Limits.{longest_text};
 ghost use Rattle.kishu_store.specs.Graph.{Graph};
 ghost use Rattle.kishu_store.specs.Holds.{Holds, IsForeign, IsBroken};
 ghost use Rattle.kishu_replay.specs.Replay.{replay_charge};
 ghost use Rattle.kishu_model.specs.Serve.{charges};
-ghost use Rattle.kishu_model.specs.Task.{one_cell, session as lines};
+ghost use Rattle.kishu_model.specs.Task.{session as lines};
+ghost use Rattle.kishu_model.specs.notebooks.Notebook.{Fault};
+ghost use Rattle.kishu_notebook.specs.Values.{fault_of};
+ghost use Rattle.kishu_notebook.specs.declared.refusal.NotebookRefusal.{NotebookRefusal};
+ghost use Rattle.kishu_session.specs.Faults.{DiskFailed};
 ghost use Rattle.kishu_session.specs.Written.{HoldsNone, Stays};
 ghost use Rattle.kishu_session.specs.declared.halt.Halt.TheVariants.{NotAJournal as Foreign, Damaged as Broken, DiskFault as NoDisk, HeapFull as Full};
-ghost use Rattle.kishu_serve.specs.Asking.{to_come, reads_lines, taken_by, Knows, IsLimited, IsRead as IsReadFor};
-ghost use Rattle.kishu_serve.specs.Filling.{Fills};
-ghost use Rattle.kishu_serve.specs.Headline.{IsWhole, IsRead, IsUnopened, most_taken, takes_many};
-ghost use Rattle.kishu_serve.specs.Promise.{OverGood, asked_by, ReadsInput, EndsInPart, StopsAsPromised, SettlesInPart, HoldsSome, PassesLimit, StaysWithin, FillsHeap, OverKnown};
-ghost use Rattle.kishu_serve.specs.Recorded.{IsWritten};
-ghost use Rattle.kishu_serve.specs.Serving.{DiskFailed, OutputFailed};
-ghost use Rattle.kishu_serve.specs.Words.{form_named};
+ghost use Rattle.kishu_serve.specs.Filling.{Fills, FillsByAny};
+ghost use Rattle.kishu_serve.specs.Headline.{IsWhole, IsRead, IsUnopened, ReadsWhole, longest_input, most_taken, writes_many, HasFault};
+ghost use Rattle.kishu_serve.specs.Promise.{OverGood, form_named, asked_by, ReadsInput, EndsInPart, StopsAsPromised, SettlesInPart, HoldsSome, PassesLimit, StaysWithin, RefusesNotebook, RefusesFor, FillsHeap, OverKnown};
+ghost use Rattle.kishu_serve.specs.Recorded.{AreRecorded, IsWritten};
+ghost use Rattle.kishu_serve.specs.Serving.{OutputFailed, IsOpen, WhereAttached, WhereKnown, StopsInPart};
+ghost use Rattle.kishu_serve.specs.Work.{to_do, HaveRoom, still_reads, records_many, taken_by, Knows, IsLimited, IsRead as IsReadFor};
 ghost use Rattle.kishu_serve.specs.declared.serving.Stop.TheVariants.{HeapFull as StopFull, DiskFault as StopDisk, InputFault as StopInput, OutputFault as StopOutput, TooLong as StopLong};
-ghost use Rattle.kishu_serve.specs.declared.status.Status.TheVariants.{Done, Usage, NotAJournal, Damaged, DiskFault, InputFault, OutputFault, NoMemory, InputTooLong, HeapFull};
+ghost use Rattle.kishu_serve.specs.declared.status.Status.TheVariants.{Done, Usage, NotAJournal, Damaged, NotebookRefused, DiskFault, InputFault, OutputFault, NoMemory, InputTooLong, HeapFull};
+ghost use Rattle.kishu_serve.specs.declared.work.Unread.TheVariants.{Fault as SourceFault, TooLong as PastLimit, Refused as Unfit};
 
 use crate::Status;
-use crate::asking::Requests;
+use crate::notebooks::run_notebook;
 use crate::running::serve_all;
 use crate::serving::Stop;
-use crate::words::read_words;
+use crate::work::{Unread, Work};
 use kishu_host::{Host, Source};
-use kishu_input::InputStop;
 use kishu_model::Steps;
 use kishu_session::{Halt, Session};
+use kishu_words::read_words;
 use std::alloc::{AllocError, Global};
 use std::sync::ledger::Ledger;
 
@@ -75,78 +77,129 @@ fn unopened(halt: Halt) -> Status
     }
 }
 
-/// How a run ends whose input isn't read.
-fn unread(stop: InputStop) -> Status
+/// How a run ends whose input, read whole, isn't what its words ask for.
+fn unread(stop: Unread) -> Status
     ensures fault { result ≡ InputFault → stop ≡ SourceFault }
     ensures too_long { result ≡ InputTooLong → stop ≡ PastLimit }
-    ensures these { (result ≡ InputFault) ⊎ (result ≡ InputTooLong) ⊎ (result ≡ NoMemory) }
+    ensures refused { (why : NotebookRefusal) → result ≡ NotebookRefused why → stop ≡ Unfit why }
+    ensures these { (result ≡ InputFault) ⊎ (result ≡ InputTooLong) ⊎ (result ≡ NoMemory)
+        ⊎ ((why : NotebookRefusal) × (stop ≡ Unfit why) × (result ≡ NotebookRefused why)) }
 {
     match stop {
-        InputStop::Fault => Status::InputFault,
-        InputStop::TooLong => Status::InputTooLong,
-        InputStop::NoMemory => Status::NoMemory,
+        Unread::Fault => Status::InputFault,
+        Unread::TooLong => Status::InputTooLong,
+        Unread::Refused(why) => Status::NotebookRefused(why),
+        Unread::NoMemory => Status::NoMemory,
     }
 }
 
-/// Opens the store, and answers each request as it comes.
-fn run_requests<H: Host, S: Source, L: Ledger>(
+/// Does what a run is to do, over a session that is open.
+fn carry_out<H: Host, S: Source, L: Ledger>(
     alloc: Global,
-    mut requests: Requests,
+    session: &mut Session,
+    work: Work,
+    source: &mut S,
+    host: &mut H,
+    steps: &mut Steps<L>,
+) -> Result<(), Stop>
+    requires going { session.old.halted ≡ false }
+    requires stands { IsOpen session.old (H.state host.old) }
+    requires room { HaveRoom work }
+
+    // All is done where it succeeds, and all before a limit where one is reached.
+    ensures whole { IsOk result ⊎ IsErrOf result StopLong
+        → WhereKnown work (S.source source.old) session.old (H.state host.old) (λ g items.
+        IsWhole (H.state host.old) (H.state host.new) g items) }
+    ensures stop { WhereKnown work (S.source source.old) session.old (H.state host.old) (λ g items.
+        StopsInPart (H.state host.old) (H.state host.new) g items) }
+    ensures bytes { OnOk result (WhereAttached session.old (H.state host.old) (λ g.
+        AreRecorded (records_many work) (H.state host.old).file (H.state host.new).file)) }
+    ensures least { OnOk result (
+        WhereKnown work (S.source source.old) session.old (H.state host.old) (λ g items.
+        steps.old + charges g items ≤ steps.new)) }
+    ensures full { IsErrOf result StopFull
+        → WhereKnown work (S.source source.old) session.old (H.state host.old) (λ g items.
+        FillsByAny g items) }
+
+    ensures read { OnOk result (Knows work (S.source source.old)
+        → IsReadFor work (S.source source.new) × (IsLimited work (S.source source.old) → ⊥)) }
+    ensures too_long { IsErrOf result StopLong → (still_reads work ≡ true)
+        × (Knows work (S.source source.old) → IsLimited work (S.source source.old)) }
+    ensures alone { still_reads work ≡ false → source.new ≡ source.old }
+    ensures taken { taken_by work ≡ 0
+        → TakesAtMost (most_taken (Some lines)) (S.source source.old) (S.source source.new) }
+
+    ensures tells { (H.state host.new).tells ≡ (H.state host.old).tells }
+    ensures disk_fault { IsErrOf result StopDisk → DiskFailed (H.state host.old) (H.state host.new) }
+    ensures output_fault { IsErrOf result StopOutput → OutputFailed (H.state host.old) (H.state host.new) }
+    ensures input_fault { IsErrOf result StopInput
+        → (still_reads work ≡ true) × InputFailed (S.source source.old) (S.source source.new) }
+    ensures disk { (H.state host.old).disk_faults ≤ (H.state host.new).disk_faults }
+    ensures outs { (H.state host.old).out_faults ≤ (H.state host.new).out_faults }
+{
+    match work {
+        Work::Answers(mut requests) => {
+            serve_all(alloc, session, &mut requests, source, host, steps)
+        }
+        Work::Runs(book) => run_notebook(session, host, book, steps),
+    }
+}
+
+/// Opens the store, and does what the run is to do.
+fn run_work<H: Host, S: Source, L: Ledger>(
+    alloc: Global,
+    work: Work,
     source: &mut S,
     host: &mut H,
     steps: &mut Steps<L>,
 ) -> Status
-    ensures run { OverKnown requests (S.source source.old) (H.state host.old) (λ g asked.
-        EndsInPart (H.state host.old) (H.state host.new) g asked) }
+    requires room { HaveRoom work }
+
+    ensures run { OverKnown work (S.source source.old) (H.state host.old) (λ g items.
+        EndsInPart (H.state host.old) (H.state host.new) g items) }
     ensures whole { (result ≡ Done) ⊎ (result ≡ InputTooLong)
-        → OverKnown requests (S.source source.old) (H.state host.old) (λ g asked.
-        IsWhole (H.state host.old) (H.state host.new) g asked) }
-    ensures stop { OverKnown requests (S.source source.old) (H.state host.old) (λ g asked.
-        StopsAsPromised (H.state host.old) (H.state host.new) g asked) }
-    ensures settled { OverKnown requests (S.source source.old) (H.state host.old) (λ g asked.
+        → OverKnown work (S.source source.old) (H.state host.old) (λ g items.
+        IsWhole (H.state host.old) (H.state host.new) g items) }
+    ensures stop { OverKnown work (S.source source.old) (H.state host.old) (λ g items.
+        StopsAsPromised (H.state host.old) (H.state host.new) g items) }
+    ensures settled { OverKnown work (S.source source.old) (H.state host.old) (λ g items.
         ((result ≡ DiskFault) × Keeps (H.state host.old) (H.state host.new))
-        ⊎ SettlesInPart (H.state host.old) (H.state host.new) g asked) }
+        ⊎ SettlesInPart (H.state host.old) (H.state host.new) g items) }
     ensures bytes { result ≡ Done → Told (H.state host.old)
-        (IsWritten (reads_lines requests) (H.state host.old).file (H.state host.new).file) }
+        (IsWritten (records_many work) (H.state host.old).file (H.state host.new).file) }
     ensures good { (result ≡ Done) ⊎ (result ≡ InputFault) ⊎ (result ≡ InputTooLong)
         → HoldsSome (H.state host.old) }
     ensures bad { Told (H.state host.old)
         (HoldsNone (H.state host.old).file → Stays (H.state host.old) (H.state host.new)) }
 
     ensures not_usage { result ≡ Usage → ⊥ }
+    ensures not_refused { (why : NotebookRefusal) → result ≡ NotebookRefused why → ⊥ }
     ensures foreign { result ≡ NotAJournal → Told (H.state host.old) (IsForeign (H.state host.old).file) }
     ensures damaged { (at : ℕ) → result ≡ Damaged at
         → Told (H.state host.old) (IsBroken (H.state host.old).file at) }
     ensures disk_fault { result ≡ DiskFault → DiskFailed (H.state host.old) (H.state host.new) }
     ensures output_fault { result ≡ OutputFault → OutputFailed (H.state host.old) (H.state host.new) }
     ensures input_fault { result ≡ InputFault
-        → (reads_lines requests ≡ true) × InputFailed (S.source source.old) (S.source source.new) }
+        → (still_reads work ≡ true) × InputFailed (S.source source.old) (S.source source.new) }
     ensures complete { Told (H.state host.old) ((g : Graph) → Holds (H.state host.old).file g
         → (result ≡ Done) ⊎ (result ≡ NoMemory) ⊎ (result ≡ InputTooLong) ⊎ (result ≡ HeapFull)
         ⊎ (result ≡ DiskFault) ⊎ (result ≡ InputFault) ⊎ (result ≡ OutputFault)) }
     ensures full { result ≡ HeapFull
         → Told (H.state host.old) ((g : Graph) × Holds (H.state host.old).file g
-        × (Knows requests (S.source source.old) → Fills g (to_come requests (S.source source.old).left))) }
-    ensures counted { result ≡ Done → OverKnown requests (S.source source.old) (H.state host.old) (λ g asked.
-        steps.old + replay_charge g g.head.commit + charges g asked ≤ steps.new) }
+        × (Knows work (S.source source.old) → Fills g (to_do work g (S.source source.old).left))) }
+    ensures counted { result ≡ Done → OverKnown work (S.source source.old) (H.state host.old) (λ g items.
+        steps.old + replay_charge g g.head.commit + charges g items ≤ steps.new) }
 
-    ensures read { result ≡ Done → Knows requests (S.source source.old)
-        → IsReadFor requests (S.source source.new) × (IsLimited requests (S.source source.old) → ⊥) }
-    ensures too_long { result ≡ InputTooLong → (reads_lines requests ≡ true)
-        × (Knows requests (S.source source.old) → IsLimited requests (S.source source.old)) }
-    ensures alone { reads_lines requests ≡ false → source.new ≡ source.old }
-    ensures taken { (S.source source.old).tells ≡ true → taken_by requests ≡ 0
-        → length (S.source source.old).left ≤ most_taken (Some lines) + length (S.source source.new).left }
+    ensures read { result ≡ Done → Knows work (S.source source.old)
+        → IsReadFor work (S.source source.new) × (IsLimited work (S.source source.old) → ⊥) }
+    ensures too_long { result ≡ InputTooLong → (still_reads work ≡ true)
+        × (Knows work (S.source source.old) → IsLimited work (S.source source.old)) }
+    ensures alone { still_reads work ≡ false → source.new ≡ source.old }
+    ensures taken { taken_by work ≡ 0
+        → TakesAtMost (most_taken (Some lines)) (S.source source.old) (S.source source.new) }
 {
     match Session::attach(alloc, host, steps) {
-        Ok(mut session) => served(serve_all(
-            alloc,
-            &mut session,
-            &mut requests,
-            source,
-            host,
-            steps,
-        )),
+        Ok(mut session) => served(carry_out(alloc, &mut session, work, source, host, steps)),
         Err(halt) => unopened(halt),
     }
 }
@@ -157,14 +210,20 @@ fn run_requests<H: Host, S: Source, L: Ledger>(
 ///
 /// - `STORE session` opens the store and answers each line of the input as it comes.
 /// - `STORE cell` runs the whole input as one cell, once it is read.
+/// - `STORE run` reads the whole input as a notebook, runs its code cells in order, each as a commit of
+///   its own, up to the first that is refused or doesn't end well, and writes the notebook with what they
+///   showed. With `--together`, at any place among the words, all those that are run are one commit.
 /// - `STORE log`, `STORE status`, `STORE checkout REF`, `STORE branch NAME` and `STORE branch NAME REF`
 ///   answer that one request, and read no input.
 ///
 /// An answer is one line, which goes out once its record is on the disk. What is refused is answered in
-/// one line too, and changes nothing. A line that reaches 2^24 bytes before its line feed, an input of
-/// `session` that reaches 2^30 bytes and one of `cell` of more than 1,048,576 end the run with
-/// `InputTooLong`, unless another cause comes before. Of no input of `session` more than 2^30 + 4,096
-/// bytes are taken, and of none of `cell` more than 1,052,672.
+/// one line too, and changes nothing. For the cells of a notebook no answers go out; the notebook does,
+/// once the last of their records is on the disk. An input that is no notebook is told by
+/// `NotebookRefused`, before the store is opened.
+///
+/// A line that reaches 2^24 bytes before its line feed, an input of `session` that reaches 2^30 bytes, a
+/// notebook that reaches 2^26 and an input of `cell` of more than 1,048,576 end the run with
+/// `InputTooLong`, unless another cause comes before. At most 4,096 bytes more than that are taken.
 ///
 /// At `Done` all is answered, and a stop from then on leaves the store with what was recorded. At any
 /// other status the store holds what the first requests left, and all their answers but the last are out.
@@ -178,31 +237,37 @@ pub fn kishu<H: Host, S: Source, L: Ledger>(
     // At each exit the store holds the graph after the first requests, and their answers are out, the last
     // in part.
     ensures run { OverGood (H.state host.old) (S.source source.old) (λ g.
-        EndsInPart (H.state host.old) (H.state host.new) g (asked_by words.now (S.source source.old))) }
+        EndsInPart (H.state host.old) (H.state host.new) g (asked_by words.now (S.source source.old) g)) }
 
     // Done: all requests are answered, nothing is pending, and the input of a form that reads was read to its
     // end.
     ensures done { result ≡ Done → OverGood (H.state host.old) (S.source source.old) (λ g.
-        IsWhole (H.state host.old) (H.state host.new) g (asked_by words.now (S.source source.old))
+        IsWhole (H.state host.old) (H.state host.new) g (asked_by words.now (S.source source.old) g)
         × IsRead (form_named words.now) (S.source source.new).left) }
 
     // A stop at any moment leaves what a stop at the start could leave, or so.
     ensures stop { OverGood (H.state host.old) (S.source source.old) (λ g.
-        StopsAsPromised (H.state host.old) (H.state host.new) g (asked_by words.now (S.source source.old))) }
+        StopsAsPromised (H.state host.old) (H.state host.new) g
+        (asked_by words.now (S.source source.old) g)) }
 
     // At an exit a stop leaves nothing but that, unless the host was never called, or the disk failed and all
     // is as it was: then a stop leaves nothing that a stop at the start couldn't leave.
     ensures settled { OverGood (H.state host.old) (S.source source.old) (λ g.
         (host.new ≡ host.old) ⊎ ((result ≡ DiskFault) × Keeps (H.state host.old) (H.state host.new))
-        ⊎ SettlesInPart (H.state host.old) (H.state host.new) g (asked_by words.now (S.source source.old))) }
+        ⊎ SettlesInPart (H.state host.old) (H.state host.new) g
+        (asked_by words.now (S.source source.old) g)) }
 
     // Done: each byte of the file is that of the old one, which was begun anew where it was short, or that of
-    // the records that were written behind it, one after another; one at most but in a session.
-    ensures bytes { result ≡ Done → Told (H.state host.old) (IsWritten (takes_many (form_named words.now))
+    // the records that were written behind it, one after another; one at most but in a session and in a run
+    // of cells one by one.
+    ensures bytes { result ≡ Done → Told (H.state host.old) (IsWritten (writes_many (form_named words.now))
         (H.state host.old).file (H.state host.new).file) }
 
     // Each status has its cause.
-    ensures usage { result ≡ Usage ↔ (form_named words.now ≡ None) }
+    ensures usage { result ≡ Usage → form_named words.now ≡ None }
+    ensures no_form { form_named words.now ≡ None → (result ≡ Usage) ⊎ (result ≡ NoMemory) }
+    ensures nothing { form_named words.now ≡ None
+        → (host.new ≡ host.old) × (source.new ≡ source.old) × (steps.new ≡ steps.old) }
     ensures unread { most_taken (form_named words.now) ≡ 0 → source.new ≡ source.old }
     ensures untouched { IsUnopened (form_named words.now) result → host.new ≡ host.old }
     ensures foreign { result ≡ NotAJournal → Told (H.state host.old) (IsForeign (H.state host.old).file) }
@@ -213,55 +278,64 @@ pub fn kishu<H: Host, S: Source, L: Ledger>(
     ensures output_fault { result ≡ OutputFault → OutputFailed (H.state host.old) (H.state host.new) }
     ensures reads { (result ≡ InputFault) ⊎ (result ≡ InputTooLong) → ReadsInput (form_named words.now) }
 
-    // Input past a limit is told so, unless another cause is met before: the input of a cell is read first,
-    // and a session's store is opened first. A session has then answered all lines before. At most 4,096
-    // bytes past the longest input are taken, however the run ends.
+    // Input past a limit is told so, unless another cause is met before: the input of a cell and a notebook
+    // are read first, and a session's store is opened first. A session has then answered all lines before. At
+    // most 4,096 bytes past the longest input are taken, however the run ends.
     ensures too_long { result ≡ InputTooLong → PassesLimit (form_named words.now) (S.source source.old) }
     ensures limit { result ≡ Done → StaysWithin (form_named words.now) (S.source source.old) }
-    ensures cell_limit { form_named words.now ≡ Some one_cell
-        → (S.source source.old).tells ≡ true → longest_text < length (S.source source.old).left
+    ensures whole_limit { ReadsWhole (form_named words.now)
+        → (S.source source.old).tells ≡ true
+        → longest_input (form_named words.now) < length (S.source source.old).left
         → (result ≡ InputTooLong) ⊎ (result ≡ InputFault) ⊎ (result ≡ NoMemory) }
-    ensures cell_taken { form_named words.now ≡ Some one_cell → result ≡ InputTooLong
-        → TakesMoreThan longest_text (S.source source.old) (S.source source.new) }
+    ensures whole_taken { ReadsWhole (form_named words.now) → result ≡ InputTooLong → TakesMoreThan
+        (longest_input (form_named words.now)) (S.source source.old) (S.source source.new) }
     ensures all_before { form_named words.now ≡ Some lines → result ≡ InputTooLong
         → OverGood (H.state host.old) (S.source source.old) (λ g.
-        IsWhole (H.state host.old) (H.state host.new) g (asked_by words.now (S.source source.old))) }
+        IsWhole (H.state host.old) (H.state host.new) g (asked_by words.now (S.source source.old) g)) }
     ensures opened { form_named words.now ≡ Some lines → (result ≡ InputFault) ⊎ (result ≡ InputTooLong)
         → HoldsSome (H.state host.old) }
     ensures taken { TakesAtMost (most_taken (form_named words.now)) (S.source source.old) (S.source source.new) }
+
+    // A notebook is refused just for the first fault that it has. The host isn't called then.
+    ensures refused { (why : NotebookRefusal) → result ≡ NotebookRefused why
+        → HasFault (form_named words.now) (S.source source.old) (fault_of why) }
+    ensures refuses { (fault : Fault) → (S.source source.old).tells ≡ true
+        → HasFault (form_named words.now) (S.source source.old) fault
+        → RefusesFor fault result ⊎ (result ≡ InputTooLong) ⊎ (result ≡ InputFault) ⊎ (result ≡ NoMemory) }
 
     // The heap is full only where a cell that leads to the head, or one that a request runs, would begin with
     // more than 2^31 nodes.
     ensures heap_full { result ≡ HeapFull
         → FillsHeap (form_named words.now) (H.state host.old) (S.source source.old) }
 
-    // Where no fault came, it does its work, unless memory ran out, the input is too long or the heap is
-    // full.
+    // Where no fault came, it does its work, unless memory ran out, the input is too long or no notebook, or
+    // the heap is full.
     ensures complete { OverGood (H.state host.old) (S.source source.old) (λ g. IsSome (form_named words.now)
         → (DiskFailed (H.state host.old) (H.state host.new) → ⊥)
         → (OutputFailed (H.state host.old) (H.state host.new) → ⊥)
         → (InputFailed (S.source source.old) (S.source source.new) → ⊥)
-        → (result ≡ Done) ⊎ (result ≡ NoMemory) ⊎ (result ≡ InputTooLong) ⊎ (result ≡ HeapFull)) }
+        → (result ≡ Done) ⊎ (result ≡ NoMemory) ⊎ (result ≡ InputTooLong) ⊎ (result ≡ HeapFull)
+        ⊎ RefusesNotebook result) }
 
     // Over a file that holds no graph it isn't done, the file stays, and nothing is put out.
     ensures good { result ≡ Done → HoldsSome (H.state host.old) }
     ensures bad { Told (H.state host.old)
         (HoldsNone (H.state host.old).file → Stays (H.state host.old) (H.state host.new)) }
 
-    // Done: each step of the cells that were run is counted. Where the words, a fault of a cell's input or
-    // its length end the run, none is.
+    // Done: each step of the cells that were run is counted. Where the words or an input that is read whole
+    // end the run, none is.
     ensures counted { result ≡ Done → OverGood (H.state host.old) (S.source source.old) (λ g.
-        steps.old + replay_charge g g.head.commit + charges g (asked_by words.now (S.source source.old))
+        steps.old + replay_charge g g.head.commit + charges g (asked_by words.now (S.source source.old) g)
         ≤ steps.new) }
     ensures idle { IsUnopened (form_named words.now) result → steps.new ≡ steps.old }
 {
-    let form = match read_words(alloc, words) {
-        Ok(Some(form)) => form,
+    let command = match read_words(alloc, words) {
+        Ok(Some(command)) => command,
         Ok(None) => return Status::Usage,
         Err(AllocError) => return Status::NoMemory,
     };
-    match Requests::of_form(alloc, form, source) {
-        Ok(requests) => run_requests(alloc, requests, source, host, steps),
+    match Work::of_command(alloc, command, source) {
+        Ok(work) => run_work(alloc, work, source, host, steps),
         Err(stop) => unread(stop),
     }
 }

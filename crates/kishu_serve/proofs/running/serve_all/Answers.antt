@@ -32,6 +32,7 @@ turn g c =
           let same = next (known-along before known) in
           (λ limited. same.2 ((before.limited known).0 limited), λ limited. (before.limited known).1 (same.1 limited));
       lines = c.next.ensures.lines ∙ before.lines;
+      room = c.next.ensures.room;
       taken = λ told. omega (arith, before.taken told, c.next.ensures.taken (before.source_tells ∙ told));
       host_tells = c.serve.ensures.tells ∙ before.host_tells;
       source_tells = c.next.ensures.tells ∙ before.source_tells;
@@ -59,6 +60,9 @@ loop-asked-preserved-in_ok-serve-4 g c = let c = (goal.at.loop-asked-preserved-i
 pub loop-asked-preserved-in_ok-serve-5 : goal.loop-asked-preserved-in_ok-serve-5
 loop-asked-preserved-in_ok-serve-5 g c = let c = (goal.at.loop-asked-preserved-in_ok-serve-5 g c).In_ok-serve in record { along = turn g c; alone = unread g c }
 
+pub loop-asked-preserved-in_ok-serve-6 : goal.loop-asked-preserved-in_ok-serve-6
+loop-asked-preserved-in_ok-serve-6 g c = let c = (goal.at.loop-asked-preserved-in_ok-serve-6 g c).In_ok-serve in record { along = turn g c; alone = unread g c }
+
 pub loop-asked-preserved : goal.loop-asked-preserved
 loop-asked-preserved g c = let c = (goal.at.loop-asked-preserved g c).In_ok-serve in record { along = turn g c; alone = unread g c }
 
@@ -69,6 +73,9 @@ serve-requires-clause-stands g c told =
     let stands = c.requires.stands first_told in
     let served = before.served first_told stands.0 stands.1 in
     (served.now, served.attached)
+
+pub serve-requires-clause-room : goal.serve-requires-clause-room
+serve-requires-clause-room g c = rw c.in-Some.is at c.in_ok-asked.ensures.asked_room
 
 -- ---- a request that isn't answered
 

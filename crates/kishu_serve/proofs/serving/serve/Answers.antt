@@ -2,7 +2,7 @@ use Rattle.std.proofs.Common.{◌≡◌, ◌≤◌, ◌+◌, ◌++◌, refl, sym
 use Rattle.kishu_host.specs.Host.{Elapses}
 use Rattle.kishu_model.specs.Answers.{bad_request, refused}
 use Rattle.kishu_model.specs.Request.{Request, unreadable}
-use Rattle.kishu_model.specs.Serve.{after, answer_of}
+use Rattle.kishu_model.specs.Serve.{after, answer_of, answered}
 use Rattle.kishu_model.specs.Step.{step, charge_of}
 use Rattle.kishu_model.specs.Values.{request_of}
 use Rattle.kishu_session.specs.Attached.{IsAttached}
@@ -16,8 +16,8 @@ returns-in_default-clause-stop g c told g' a =
     let st = g.H.Host.state in
     let s0 = st c.args.host.now in
     let s1 = st c.tell.new.host in
-    let stop = told-stop c.args.session.now s0 s1 g' unreadable _ a refl refl (c.tell.ensures.stop (refused bad_request) c.answer.ensures) in
-    subst (λ (q : Request). Elapses s0 s1 (IsPart s0 g' (q ∷ []))) (sym (ap asked_of c.in_default.is)) stop
+    let stop = told-stop c.args.session.now s0 s1 g' (answered unreadable) _ a refl refl (c.tell.ensures.stop (refused bad_request) c.answer.ensures) in
+    subst (λ (q : Request). Elapses s0 s1 (IsPart s0 g' (answered q ∷ []))) (sym (ap asked_of c.in_default.is)) stop
 
 pub returns-in-Ok-clause-bytes : goal.returns-in-Ok-clause-bytes
 returns-in-Ok-clause-bytes g c =
@@ -33,33 +33,33 @@ returns-in-Ok-clause-stop g c told g' a =
     let s1 = st c.apply.new.host in
     let s2 = st c.tell-in-Ok.new.host in
     let stop =
-    served-stop c.apply.new.self s0 s1 s2 g' q _ (c.in-Ok.ensures.attached told g' a) refl c.apply.ensures.out (c.apply.ensures.stop told a.durable g' a.at_end)
+    served-stop c.apply.new.self s0 s1 s2 g' (answered q) _ (c.in-Ok.ensures.attached told g' a) refl c.apply.ensures.out (c.apply.ensures.stop told g' a)
     (c.tell-in-Ok.ensures.stop (step g' q).answer (c.in-Ok.ensures.answered told g' a)) in
-    subst (λ (r : Request). Elapses s0 s2 (IsPart s0 g' (r ∷ []))) (sym (ap asked_of c.in-Request.is)) stop
+    subst (λ (r : Request). Elapses s0 s2 (IsPart s0 g' (answered r ∷ []))) (sym (ap asked_of c.in-Request.is)) stop
 
 pub returns-in-Err-HeapFull-clause-stop : goal.returns-in-Err-HeapFull-clause-stop
 returns-in-Err-HeapFull-clause-stop g c told g' a =
     let st = g.H.Host.state in
     let s0 = st c.args.host.now in
     let s1 = st c.apply.new.host in
-    subst (λ (r : Request). Elapses s0 s1 (IsPart s0 g' (r ∷ []))) (sym (ap asked_of c.in-Request.is))
-    (applied-stop s0 s1 g' (request_of c.in-Request.request) (c.apply.ensures.stop told a.durable g' a.at_end))
+    subst (λ (r : Request). Elapses s0 s1 (IsPart s0 g' (answered r ∷ []))) (sym (ap asked_of c.in-Request.is))
+    (applied-stop s0 s1 g' (answered (request_of c.in-Request.request)) (c.apply.ensures.stop told g' a))
 
 pub returns-in-Err-DiskFault-clause-stop : goal.returns-in-Err-DiskFault-clause-stop
 returns-in-Err-DiskFault-clause-stop g c told g' a =
     let st = g.H.Host.state in
     let s0 = st c.args.host.now in
     let s1 = st c.apply.new.host in
-    subst (λ (r : Request). Elapses s0 s1 (IsPart s0 g' (r ∷ []))) (sym (ap asked_of c.in-Request.is))
-    (applied-stop s0 s1 g' (request_of c.in-Request.request) (c.apply.ensures.stop told a.durable g' a.at_end))
+    subst (λ (r : Request). Elapses s0 s1 (IsPart s0 g' (answered r ∷ []))) (sym (ap asked_of c.in-Request.is))
+    (applied-stop s0 s1 g' (answered (request_of c.in-Request.request)) (c.apply.ensures.stop told g' a))
 
 pub returns-in-Err-NoMemory-clause-stop : goal.returns-in-Err-NoMemory-clause-stop
 returns-in-Err-NoMemory-clause-stop g c told g' a =
     let st = g.H.Host.state in
     let s0 = st c.args.host.now in
     let s1 = st c.apply.new.host in
-    subst (λ (r : Request). Elapses s0 s1 (IsPart s0 g' (r ∷ []))) (sym (ap asked_of c.in-Request.is))
-    (applied-stop s0 s1 g' (request_of c.in-Request.request) (c.apply.ensures.stop told a.durable g' a.at_end))
+    subst (λ (r : Request). Elapses s0 s1 (IsPart s0 g' (answered r ∷ []))) (sym (ap asked_of c.in-Request.is))
+    (applied-stop s0 s1 g' (answered (request_of c.in-Request.request)) (c.apply.ensures.stop told g' a))
 
 pub returns-in-Ok-clause-attached : goal.returns-in-Ok-clause-attached
 returns-in-Ok-clause-attached g c =

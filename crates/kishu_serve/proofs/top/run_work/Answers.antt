@@ -2,64 +2,63 @@ use Rattle.std.proofs.Common.{◌⊎◌, arith, inl, inr, ⊎_elim, sym, ◌∙�
 use Rattle.kishu_host.specs.Going.{now_has, now_each}
 use Rattle.kishu_store_laws.specs.Laws.{broken-holds, foreign-holds}
 use Rattle.kishu_session.specs.declared.halt.Halt.{Halt}
-use Rattle.kishu_serve.specs.Asking.{to_come}
+use Rattle.kishu_serve.specs.Work.{to_do}
 use Rattle.kishu_serve.specs.Headline.{IsPart}
 use Rattle.kishu_serve.specs.declared.serving.Stop.TheVariants.{TooLong}
-use Rattle.kishu_serve.proofs.Askings.{taken-most}
 use Rattle.kishu_serve.proofs.Parts.{attached-holds}
 use Rattle.kishu_serve.proofs.Runs.{none-done, start-part, opening-stop, part-from, serving-stop, whole-from, succeeded, written}
-use Rattle.kishu_serve.proofs.top.run_requests.Goals as goal
+use Rattle.kishu_serve.proofs.top.run_work.Goals as goal
 
-pub serve_all-requires-clause-stands : goal.serve_all-requires-clause-stands
-serve_all-requires-clause-stands g c told1 =
+pub carry_out-requires-clause-stands : goal.carry_out-requires-clause-stands
+carry_out-requires-clause-stands g c told1 =
     let told = sym c.attach.ensures.tells ∙ told1 in
     let good = c.in-Ok.ensures.good told in (good.0, c.in-Ok.ensures.attached told good.0 good.1)
 
 pub returns-in-Ok-clause-stop : goal.returns-in-Ok-clause-stop
 returns-in-Ok-clause-stop g c told knows g' holds =
     let st = g.H.Host.state in
-    let qs = to_come c.args.requests (g.S.Source.source c.args.source.now).left in
+    let qs = to_do c.args.work g' (g.S.Source.source c.args.source.now).left in
     let a = c.in-Ok.ensures.attached told g' holds in
-    serving-stop (st c.args.host.now) (st c.attach.new.host) g' qs (c.attach.ensures.stop told g' holds) c.attach.ensures.out (st c.serve_all.new.host)
-    (c.serve_all.ensures.stop (c.attach.ensures.tells ∙ told) knows g' a)
+    serving-stop (st c.args.host.now) (st c.attach.new.host) g' qs (c.attach.ensures.stop told g' holds) c.attach.ensures.out (st c.carry_out.new.host)
+    (c.carry_out.ensures.stop (c.attach.ensures.tells ∙ told) knows g' a)
 
 pub returns-in-Ok-clause-run : goal.returns-in-Ok-clause-run
 returns-in-Ok-clause-run g c told knows g' holds =
     let st = g.H.Host.state in
     let laws = g.met.H.Host in
-    let qs = to_come c.args.requests (g.S.Source.source c.args.source.now).left in
+    let qs = to_do c.args.work g' (g.S.Source.source c.args.source.now).left in
     let s0 = st c.args.host.now in
     let s1 = st c.attach.new.host in
-    let s2 = st c.serve_all.new.host in
+    let s2 = st c.carry_out.new.host in
     let told1 = c.attach.ensures.tells ∙ told in
     let a = c.in-Ok.ensures.attached told g' holds in
-    let stop = c.serve_all.ensures.stop told1 knows g' a in
+    let stop = c.carry_out.ensures.stop told1 knows g' a in
     part-from s0 s1 g' qs (c.attach.ensures.stop told g' holds) c.attach.ensures.out s2.file s2.out
-    (now_has s1 s2 (IsPart s1 g' qs) stop (laws.reads_now c.serve_all.new.host (stop.tells ∙ told1)) (laws.counts_now c.serve_all.new.host) (λ f o. laws.only_now c.attach.new.host f o told1)
+    (now_has s1 s2 (IsPart s1 g' qs) stop (laws.reads_now c.carry_out.new.host (stop.tells ∙ told1)) (laws.counts_now c.carry_out.new.host) (λ f o. laws.only_now c.attach.new.host f o told1)
     (start-part s1 g' qs (attached-holds _ s1 g' a) a.durable))
 
 pub returns-in-Ok-clause-settled : goal.returns-in-Ok-clause-settled
 returns-in-Ok-clause-settled g c told knows g' holds =
     let st = g.H.Host.state in
     let laws = g.met.H.Host in
-    let qs = to_come c.args.requests (g.S.Source.source c.args.source.now).left in
+    let qs = to_do c.args.work g' (g.S.Source.source c.args.source.now).left in
     let s0 = st c.args.host.now in
     let s1 = st c.attach.new.host in
-    let s2 = st c.serve_all.new.host in
+    let s2 = st c.carry_out.new.host in
     let told1 = c.attach.ensures.tells ∙ told in
     let a = c.in-Ok.ensures.attached told g' holds in
     inr (λ f now. part-from s0 s1 g' qs (c.attach.ensures.stop told g' holds) c.attach.ensures.out f s2.out
-    (now_each s1 s2 (IsPart s1 g' qs) (c.serve_all.ensures.stop told1 knows g' a) (laws.counts_now c.serve_all.new.host) (λ x o. laws.only_now c.attach.new.host x o told1)
+    (now_each s1 s2 (IsPart s1 g' qs) (c.carry_out.ensures.stop told1 knows g' a) (laws.counts_now c.carry_out.new.host) (λ x o. laws.only_now c.attach.new.host x o told1)
     (start-part s1 g' qs (attached-holds _ s1 g' a) a.durable) f now))
 
 pub returns-in-Ok-clause-whole : goal.returns-in-Ok-clause-whole
 returns-in-Ok-clause-whole g c ended told knows g' holds =
     let st = g.H.Host.state in
-    let qs = to_come c.args.requests (g.S.Source.source c.args.source.now).left in
+    let qs = to_do c.args.work g' (g.S.Source.source c.args.source.now).left in
     let a = c.in-Ok.ensures.attached told g' holds in
-    let so : IsOk c.serve_all.result ⊎ IsErrOf c.serve_all.result TooLong = ⊎_elim (λ done. inl (c.served.ensures.done done)) (λ long. inr (c.served.ensures.too_long long)) ended in
-    whole-from (st c.args.host.now) (st c.attach.new.host) g' qs (c.attach.ensures.stop told g' holds) c.attach.ensures.out (st c.serve_all.new.host)
-    (c.serve_all.ensures.whole so (c.attach.ensures.tells ∙ told) knows g' a)
+    let so : IsOk c.carry_out.result ⊎ IsErrOf c.carry_out.result TooLong = ⊎_elim (λ done. inl (c.served.ensures.done done)) (λ long. inr (c.served.ensures.too_long long)) ended in
+    whole-from (st c.args.host.now) (st c.attach.new.host) g' qs (c.attach.ensures.stop told g' holds) c.attach.ensures.out (st c.carry_out.new.host)
+    (c.carry_out.ensures.whole so (c.attach.ensures.tells ∙ told) knows g' a)
 
 pub returns-in-Ok-clause-bad : goal.returns-in-Ok-clause-bad
 returns-in-Ok-clause-bad g c told bad =
@@ -72,37 +71,34 @@ returns-in-Ok-clause-bytes g c done told =
     let told1 = c.attach.ensures.tells ∙ told in
     let good = c.in-Ok.ensures.good told in
     let a = c.in-Ok.ensures.attached told good.0 good.1 in
-    written _ (st c.args.host.now).file (st c.attach.new.host).file (st c.serve_all.new.host).file (c.in-Ok.ensures.begun told) (succeeded c.serve_all.result (c.served.ensures.done done) c.serve_all.ensures.bytes told1 good.0 a)
+    written _ (st c.args.host.now).file (st c.attach.new.host).file (st c.carry_out.new.host).file (c.in-Ok.ensures.begun told) (succeeded c.carry_out.result (c.served.ensures.done done) c.carry_out.ensures.bytes told1 good.0 a)
 
 pub returns-in-Ok-clause-full : goal.returns-in-Ok-clause-full
 returns-in-Ok-clause-full g c is told =
     let told1 = c.attach.ensures.tells ∙ told in
     let good = c.in-Ok.ensures.good told in
     let a = c.in-Ok.ensures.attached told good.0 good.1 in
-    (good.0, good.1, λ knows. inr (c.serve_all.ensures.full (c.served.ensures.full is) told1 knows good.0 a))
+    (good.0, good.1, λ knows. inr (c.carry_out.ensures.full (c.served.ensures.full is) told1 knows good.0 a))
 
 pub returns-in-Ok-clause-counted : goal.returns-in-Ok-clause-counted
 returns-in-Ok-clause-counted g c done told knows g' holds =
     let told1 = c.attach.ensures.tells ∙ told in
     let a = c.in-Ok.ensures.attached told g' holds in
     let ok = c.served.ensures.done done in
-    omega (arith, c.in-Ok.ensures.least told g' holds, succeeded c.serve_all.result ok c.serve_all.ensures.least told1 knows g' a)
+    omega (arith, c.in-Ok.ensures.least told g' holds, succeeded c.carry_out.result ok c.carry_out.ensures.least told1 knows g' a)
 
-pub returns-in-Ok-clause-taken : goal.returns-in-Ok-clause-taken
-returns-in-Ok-clause-taken g c tells none = omega (arith, none, c.serve_all.ensures.taken tells, taken-most c.serve_all.new.requests)
-
-pub returns-clause-run : goal.returns-clause-run
-returns-clause-run g c told knows g' holds =
+pub returns-in-Err-clause-run : goal.returns-in-Err-clause-run
+returns-in-Err-clause-run g c told knows g' holds =
     let st = g.H.Host.state in
     none-done (st c.args.host.now) g' _ _ _ (c.attach.ensures.held told g' holds) c.attach.ensures.out
 
-pub returns-clause-stop : goal.returns-clause-stop
-returns-clause-stop g c told knows g' holds =
+pub returns-in-Err-clause-stop : goal.returns-in-Err-clause-stop
+returns-in-Err-clause-stop g c told knows g' holds =
     let st = g.H.Host.state in
     opening-stop (st c.args.host.now) (st c.attach.new.host) g' _ (c.attach.ensures.stop told g' holds)
 
-pub returns-clause-settled : goal.returns-clause-settled
-returns-clause-settled g c told knows g' holds =
+pub returns-in-Err-clause-settled : goal.returns-in-Err-clause-settled
+returns-in-Err-clause-settled g c told knows g' holds =
     let st = g.H.Host.state in
     let s0 = st c.args.host.now in
     let s1 = st c.attach.new.host in
@@ -111,11 +107,11 @@ returns-clause-settled g c told knows g' holds =
       | inr each ↦ inr (λ f now. none-done s0 g' _ f s1.out (each f now) c.attach.ensures.out)
     ]
 
-pub returns-clause-damaged : goal.returns-clause-damaged
-returns-clause-damaged g c at is told = c.attach.ensures.damaged at (c.in-Err.is ∙ ap (λ (f : Halt). Err f) (c.unopened.ensures.damaged at is)) told
+pub returns-in-Err-clause-damaged : goal.returns-in-Err-clause-damaged
+returns-in-Err-clause-damaged g c at is told = c.attach.ensures.damaged at (c.in-Err.is ∙ ap (λ (f : Halt). Err f) (c.unopened.ensures.damaged at is)) told
 
-pub returns-clause-complete : goal.returns-clause-complete
-returns-clause-complete g c told g' holds =
+pub returns-in-Err-clause-complete : goal.returns-in-Err-clause-complete
+returns-in-Err-clause-complete g c told g' holds =
     let file = (g.H.Host.state c.args.host.now).file in
     elim c.unopened.ensures.these [
       | inl is ↦ absurd (foreign-holds file g' (c.attach.ensures.foreign (c.in-Err.is ∙ ap (λ (f : Halt). Err f) (c.unopened.ensures.foreign is)) told) holds)

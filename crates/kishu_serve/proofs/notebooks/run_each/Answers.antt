@@ -1,0 +1,88 @@
+use Rattle.std.proofs.Common.{◌≡◌, ◌+◌, ◌∷◌, ℕ, List, map, drop, refl, sym, ◌∙◌, ap, subst, arith}
+use Rattle.std.proofs.lemmas.Result.{err_from_is_err_and}
+use Rattle.std.specs.Rc.{rc_str_bytes}
+use Rattle.kishu_model.specs.Request.{cell}
+use Rattle.kishu_model.specs.Step.{step}
+use Rattle.kishu_model.specs.notebooks.Run.{with_answer}
+use Rattle.kishu_notebook.specs.Views.{data_of}
+use Rattle.kishu_serve.proofs.CellRuns.{drop-texts, cell-stop, cell-fills, goes-further, ends-here}
+use Rattle.kishu_serve.proofs.notebooks.run_each.Goals as goal
+
+pub run_request-requires-clause-stands : goal.run_request-requires-clause-stands
+run_request-requires-clause-stands g c told =
+    let before = c.loop-text.invariant in
+    let first_told = sym before.tells ∙ told in
+    let stands = c.requires.stands first_told in
+    let so = before.comes first_told stands.0 stands.1 in
+    (so.now, so.attached)
+
+pub returns-in_err-run_request-clause-stop : goal.returns-in_err-run_request-clause-stop
+returns-in_err-run_request-clause-stop g c told g' a =
+    let before = c.loop-text.invariant in
+    let so = before.comes told g' a in
+    let i = c.loop-text.text-index in
+    let texts = map rc_str_bytes c.args.texts.now in
+    let here = drop-texts c.args.texts.now i c.text-item.result c.loop-text-test.true c.text-item.is ∙ ap (λ (t : List ℕ). t ∷ drop (i + 1) texts) (sym c.in-Ok.ensures.cases) in
+    cell-stop i texts (data_of c.loop-text.notebook) so (rc_str_bytes c.in-Ok.text) here (g.H.Host.state c.run_request.new.host)
+    (c.run_request.ensures.stop (before.tells ∙ told) so.now so.attached)
+
+pub returns-in_err-run_request-clause-full : goal.returns-in_err-run_request-clause-full
+returns-in_err-run_request-clause-full g c is_full told g' a =
+    let before = c.loop-text.invariant in
+    let so = before.comes told g' a in
+    let i = c.loop-text.text-index in
+    let texts = map rc_str_bytes c.args.texts.now in
+    let here = drop-texts c.args.texts.now i c.text-item.result c.loop-text-test.true c.text-item.is ∙ ap (λ (t : List ℕ). t ∷ drop (i + 1) texts) (sym c.in-Ok.ensures.cases) in
+    let p = err_from_is_err_and c.from_residual.result c.from_residual.ensures.1 in
+    cell-fills i texts (data_of c.loop-text.notebook) so (rc_str_bytes c.in-Ok.text) here (g.H.Host.state c.run_request.new.host)
+    (c.in_err-run_request.ensures.full (cc (is_full, p.1, p.2)) (before.tells ∙ told) so.now so.attached)
+
+pub returns-then-not-branch-clause-stop : goal.returns-then-not-branch-clause-stop
+returns-then-not-branch-clause-stop g c told g' a =
+    let before = c.loop-text.invariant in
+    let so = before.comes told g' a in
+    let i = c.loop-text.text-index in
+    let texts = map rc_str_bytes c.args.texts.now in
+    let here = drop-texts c.args.texts.now i c.text-item.result c.loop-text-test.true c.text-item.is ∙ ap (λ (t : List ℕ). t ∷ drop (i + 1) texts) (sym c.in-Ok.ensures.cases) in
+    cell-stop i texts (data_of c.loop-text.notebook) so (rc_str_bytes c.in-Ok.text) here (g.H.Host.state c.run_request.new.host)
+    (c.run_request.ensures.stop (before.tells ∙ told) so.now so.attached)
+
+pub returns-then-not-branch-clause-comes : goal.returns-then-not-branch-clause-comes
+returns-then-not-branch-clause-comes g c told g' a =
+    let before = c.loop-text.invariant in
+    let so = before.comes told g' a in
+    let i = c.loop-text.text-index in
+    let texts = map rc_str_bytes c.args.texts.now in
+    let text = rc_str_bytes c.in-Ok.text in
+    let here = drop-texts c.args.texts.now i c.text-item.result c.loop-text-test.true c.text-item.is ∙ ap (λ (t : List ℕ). t ∷ drop (i + 1) texts) (sym c.in-Ok.ensures.cases) in
+    let now_told = before.tells ∙ told in
+    let ran = c.in_ok-run_request.ensures in
+    let set = data_of c.run_request.new.notebook in
+    let is_set = subst (λ (n : ℕ). set ≡ with_answer n (step so.now (cell text)).answer (data_of c.loop-text.notebook)) before.place (ran.set now_told so.now so.attached) in
+    ends-here i texts (data_of c.loop-text.notebook) so text here (g.H.Host.state c.run_request.new.host) c.run_request.new.session set c.run_request.new.steps
+    (ran.attached now_told so.now so.attached) c.run_request.ensures.out (ran.bytes now_told so.now so.attached) (ran.least now_told so.now so.attached)
+    (c.run_request.ensures.stop now_told so.now so.attached) is_set (cc (ran.goes_on now_told so.now so.attached, c.if-not-branch.true))
+
+pub loop-text-preserved : goal.loop-text-preserved
+loop-text-preserved g c =
+    let before = c.loop-text.invariant in
+    let ran = c.in_ok-run_request.ensures in
+    record {
+      going = ran.going;
+      place = ap (λ (n : ℕ). n + 1) before.place;
+      comes = λ told g' a.
+          let so = before.comes told g' a in
+          let i = c.loop-text.text-index in
+          let texts = map rc_str_bytes c.args.texts.now in
+          let text = rc_str_bytes c.in-Ok.text in
+          let here = drop-texts c.args.texts.now i c.text-item.result c.loop-text-test.true c.text-item.is ∙ ap (λ (t : List ℕ). t ∷ drop (i + 1) texts) (sym c.in-Ok.ensures.cases) in
+          let now_told = before.tells ∙ told in
+          let set = data_of c.run_request.new.notebook in
+          let is_set = subst (λ (n : ℕ). set ≡ with_answer n (step so.now (cell text)).answer (data_of c.loop-text.notebook)) before.place (ran.set now_told so.now so.attached) in
+          goes-further i texts (data_of c.loop-text.notebook) so text here (g.H.Host.state c.run_request.new.host) c.run_request.new.session set c.run_request.new.steps
+          (ran.attached now_told so.now so.attached) c.run_request.ensures.out (ran.bytes now_told so.now so.attached) (ran.least now_told so.now so.attached)
+          (c.run_request.ensures.stop now_told so.now so.attached) is_set (cc (ran.goes_on now_told so.now so.attached, c.if-not-branch.false)) (i + 1) refl;
+      tells = c.run_request.ensures.tells ∙ before.tells;
+      disk = omega (arith, before.disk, c.run_request.ensures.disk);
+      outs = omega (arith, before.outs, c.run_request.ensures.outs);
+    }

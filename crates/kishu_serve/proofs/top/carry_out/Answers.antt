@@ -1,0 +1,64 @@
+use Rattle.std.proofs.Common.{◌⊎◌, sym, subst, OnOk, IsOk, IsErrOf}
+use Rattle.kishu_serve.specs.Headline.{IsWhole}
+use Rattle.kishu_serve.specs.Recorded.{AreRecorded}
+use Rattle.kishu_serve.specs.Serving.{WhereAttached, WhereKnown, StopsInPart}
+use Rattle.kishu_serve.specs.Work.{records_many}
+use Rattle.kishu_serve.specs.declared.serving.Stop.TheVariants.{TooLong}
+use Rattle.kishu_serve.specs.declared.work.Work.{Work}
+use Rattle.kishu_serve.proofs.top.carry_out.Goals as goal
+
+-- ---- requests are answered
+
+pub returns-in-Answers-clause-whole : goal.returns-in-Answers-clause-whole
+returns-in-Answers-clause-whole g c =
+    let st = g.H.Host.state in
+    let src = g.S.Source.source in
+    let s0 = st c.args.host.now in
+    let s1 = st c.serve_all.new.host in
+    let i0 = src c.args.source.now in
+    let i1 = src c.serve_all.new.source in
+    let r = c.serve_all.result in
+    subst
+    (λ (w : Work). IsOk r ⊎ IsErrOf r TooLong → WhereKnown w i0 c.args.session.now s0 (λ g' items. IsWhole s0 s1 g' items))
+    (sym c.in-Answers.is) c.serve_all.ensures.whole
+
+pub returns-in-Answers-clause-stop : goal.returns-in-Answers-clause-stop
+returns-in-Answers-clause-stop g c =
+    let st = g.H.Host.state in
+    let src = g.S.Source.source in
+    let s0 = st c.args.host.now in
+    let s1 = st c.serve_all.new.host in
+    let i0 = src c.args.source.now in
+    let i1 = src c.serve_all.new.source in
+    let r = c.serve_all.result in
+    subst
+    (λ (w : Work). WhereKnown w i0 c.args.session.now s0 (λ g' items. StopsInPart s0 s1 g' items))
+    (sym c.in-Answers.is) c.serve_all.ensures.stop
+
+pub returns-in-Answers-clause-bytes : goal.returns-in-Answers-clause-bytes
+returns-in-Answers-clause-bytes g c =
+    let st = g.H.Host.state in
+    let src = g.S.Source.source in
+    let s0 = st c.args.host.now in
+    let s1 = st c.serve_all.new.host in
+    let i0 = src c.args.source.now in
+    let i1 = src c.serve_all.new.source in
+    let r = c.serve_all.result in
+    subst
+    (λ (w : Work). OnOk r (WhereAttached c.args.session.now s0 (λ g'. AreRecorded (records_many w) s0.file s1.file)))
+    (sym c.in-Answers.is) c.serve_all.ensures.bytes
+
+-- ---- a notebook is run
+
+pub returns-in-Runs-clause-bytes : goal.returns-in-Runs-clause-bytes
+returns-in-Runs-clause-bytes g c =
+    let st = g.H.Host.state in
+    let s0 = st c.args.host.now in
+    let s1 = st c.run_notebook.new.host in
+    let i0 = g.S.Source.source c.args.source.now in
+    let r = c.run_notebook.result in
+    let ran = c.run_notebook.ensures in
+    subst
+    (λ (w : Work). OnOk r (WhereAttached c.args.session.now s0 (λ g'. AreRecorded (records_many w) s0.file s1.file)))
+    (sym c.in-Runs.is)
+    ran.bytes

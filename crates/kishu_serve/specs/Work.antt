@@ -1,0 +1,80 @@
+-- What a run does, once its store is open.
+use Rattle.std.specs.Prelude.{◌≡◌, ◌≤◌, ◌↔◌, ℕ, Bool, true, false, not, List, [], ◌∷◌, length, Some, IsSome}
+use Rattle.kishu_host.specs.Source.{SourceState}
+use Rattle.kishu_store.specs.Graph.{Graph}
+use Rattle.kishu_model.specs.Request.{Request}
+use Rattle.kishu_model.specs.Serve.{Item, answered}
+use Rattle.kishu_model.specs.Task.{Form, one_cell, session, notebook, one_request, cell_request, limit_place, session_limits, task}
+use Rattle.kishu_serve.specs.Asking as asking
+use Rattle.kishu_serve.specs.Asking.{to_come, reads_lines}
+use Rattle.kishu_serve.specs.Notebooks.{items_of}
+use Rattle.kishu_serve.specs.declared.work.Work.{Work}
+use Rattle.kishu_serve.specs.declared.work.Work.TheVariants.{Answers, Runs}
+
+-- the items of a run, where the source has this left
+abbrev pub to_do : Work → Graph → List ℕ → List Item
+to_do (Answers requests) g left = to_come requests left
+to_do (Runs book) g left = items_of book g
+
+abbrev pub HaveRoom : Work → Type 0
+HaveRoom (Answers requests) = asking.HaveRoom requests
+HaveRoom (Runs book) = Unit {0}
+
+-- whether it reads lines, and whether it may write any number of records
+abbrev pub still_reads : Work → Bool
+still_reads (Answers requests) = reads_lines requests
+still_reads (Runs book) = false
+
+abbrev pub records_many : Work → Bool
+records_many (Answers requests) = reads_lines requests
+records_many (Runs book) = not book.together
+
+abbrev pub Knows : Work → SourceState → Type 0
+Knows (Answers requests) s = asking.Knows requests s
+Knows (Runs book) s = Unit {0}
+
+abbrev pub IsLimited : Work → SourceState → Type 0
+IsLimited (Answers requests) s = asking.IsLimited requests s
+IsLimited (Runs book) s = ⊥
+
+abbrev pub IsRead : Work → SourceState → Type 0
+IsRead (Answers requests) s = asking.IsRead requests s
+IsRead (Runs book) s = Unit {0}
+
+abbrev pub taken_by : Work → ℕ
+taken_by (Answers requests) = asking.taken_by requests
+taken_by (Runs book) = 0
+
+-- ---- what a form asks for: of the source before its work is made and after it
+
+abbrev pub is_session : Form → Bool
+is_session one_cell = false
+is_session session = true
+is_session (notebook together) = false
+is_session (one_request q) = false
+
+-- What words ask for is known: of a form that reads where the source tells what it has left.
+abbrev pub KnowsForm : Form → SourceState → Type 0
+KnowsForm one_cell s = s.tells ≡ true
+KnowsForm session s = s.tells ≡ true
+KnowsForm (notebook together) s = s.tells ≡ true
+KnowsForm (one_request q) s = Unit {0}
+
+-- It does what the run is to do.
+abbrev pub AsksFor : Form → SourceState → Work → SourceState → Type 0
+AsksFor form from work to = KnowsForm form from → (g : Graph) → to_do work g to.left ≡ task (Some form) g from.left
+
+-- It is the request that some bytes are as a cell.
+abbrev pub IsSomeCell : Request → Type 0
+IsSomeCell q = (input : List ℕ) × (q ≡ cell_request input)
+
+abbrev pub IsOneCell : Work → Type 0
+IsOneCell work = (input : List ℕ) × ((g : Graph) (left : List ℕ) → to_do work g left ≡ answered (cell_request input) ∷ [])
+
+-- The whole input was read, and has at most so many bytes.
+abbrev pub WithinWhole : ℕ → SourceState → SourceState → Type 0
+WithinWhole most from to = from.tells ≡ true → (to.left ≡ []) × (length from.left ≤ most)
+
+-- A limit is reached where the whole input reaches one.
+abbrev pub KeepsLimit : SourceState → Work → SourceState → Type 0
+KeepsLimit from work to = IsLimited work to ↔ IsSome (limit_place session_limits from.left)
