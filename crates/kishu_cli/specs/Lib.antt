@@ -1,5 +1,4 @@
 pub mod Silent
-pub mod Words
 pub mod Calls
 pub mod Faults
 pub mod Folders

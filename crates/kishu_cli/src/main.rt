@@ -17,13 +17,14 @@ mod words;
 use kishu_host::{Host, MemHost};
 use kishu_model::Steps;
 use kishu_serve::{Status, kishu};
+use kishu_words::store_path;
 use os::{Os, OsInput};
 use real::{RealHost, RealSource};
 use std::alloc::Global;
 use std::marker::Brand;
 use std::process::ExitCode;
 use std::sync::ledger::{Blank, Ledger};
-use words::{store_path, words_of};
+use words::words_of;
 
 fn main(rt: HostRuntime) -> ExitCode {
     let status = run(&rt);

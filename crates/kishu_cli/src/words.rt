@@ -1,7 +1,4 @@
 //! The words of the command line.
-ghost use Rattle.std.specs.Prelude.{◌≡◌, map, option_map, string_bytes};
-ghost use Rattle.kishu_cli.specs.Words.{begins_with_dash, store_word};
-
 use kishu_serve::Status;
 use std::{env, io};
 
@@ -21,22 +18,4 @@ pub fn words_of(rt: &HostRuntime) -> Result<Vec<String>, Status> {
         }
     }
     Ok(words)
-}
-
-/// The store's path: the first word that doesn't begin with `-`.
-pub fn store_path(words: &[String]) -> Option<&str>
-    ensures { option_map (λ p. p.now) result ≡ store_word (map string_bytes words.now) }
-{
-    for word in words {
-        if !begins_with_dash(word.as_str()) {
-            return Some(word.as_str());
-        }
-    }
-    None
-}
-
-fn begins_with_dash(word: &str) -> bool
-    ensures { result ≡ begins_with_dash word.now }
-{
-    matches!(word.as_bytes(), [b'-', ..])
 }
