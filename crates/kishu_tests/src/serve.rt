@@ -2,8 +2,10 @@ ghost use Rattle.std.specs.Prelude.{◌≡◌, ◌<◌};
 
 mod cells;
 mod language;
+mod notebooks;
 mod sessions;
 mod stops;
+mod user;
 mod values;
 
 use kishu_host::{Host, MemHost, MemSource, Source};
@@ -215,13 +217,24 @@ fn examples_that_spend_their_steps(rt: HostRuntime) -> Result<(), Fail> {
 #[test]
 fn words_and_statuses(rt: HostRuntime) -> Result<(), Fail> {
     let alloc = rt.alloc();
-    let forms: [&[&str]; 13] = [
+    let forms: [&[&str]; 24] = [
         &[],
         &["S"],
         &["S", "fly"],
         &["", "cell"],
         &["-S", "cell"],
         &["S", "cell", "--together"],
+        &["S", "log", "--together"],
+        &["S", "--together"],
+        &["--together"],
+        &["--together", "run"],
+        &["S", "--together", "--together", "run"],
+        &["S", "run", "--togethe"],
+        &["S", "run", "--together=true"],
+        &["S", "run", "--"],
+        &["S", "run", "x"],
+        &["S", "inspect"],
+        &["S", "gen", "7", "0"],
         &["S", "-"],
         &["S", "session", "x"],
         &["S", "log", "x"],

@@ -26,7 +26,7 @@ pub(super) fn run_words(
 }
 
 /// The lines of a session on an empty store, and the lines of its answers.
-const SESSIONS: [(&str, &str); 10] = [
+const SESSIONS: [(&str, &str); 12] = [
     ("", ""),
     (
         r#"{"op":"status"}"#,
@@ -149,6 +149,45 @@ const SESSIONS: [(&str, &str); 10] = [
 {"answer":"checkout","commit":1,"head":null}
 {"answer":"cell","commit":3,"count":2,"outcome":"ok","outputs":[{"data":{"text/plain":"1"},"execution_count":2,"metadata":{},"output_type":"execute_result"}]}
 {"answer":"log","branches":[{"commit":2,"name":"main"},{"commit":1,"name":"try"}],"path":[{"cells":1,"commit":3,"line":"x","parent":1},{"cells":1,"commit":1,"line":"x = 1","parent":0}]}
+"#,
+    ),
+    // Several cells make one commit. They run up to the first that isn't ok, each with steps of its own.
+    (
+        r#"{"op":"cells","texts":["a = 1","a // 0","a = 2"]}
+{"op":"cell","text":"a"}
+{"op":"cells","texts":["a += 1","print(a)","a"]}
+{"op":"log"}
+{"op":"status"}
+"#,
+        r#"{"answer":"cells","commit":1,"results":[{"count":1,"outcome":"ok","outputs":[]},{"count":2,"outcome":"error","outputs":[{"ename":"ZeroDivisionError","evalue":"division by zero","output_type":"error","traceback":["ZeroDivisionError: division by zero"]}]}]}
+{"answer":"cell","commit":2,"count":3,"outcome":"ok","outputs":[{"data":{"text/plain":"1"},"execution_count":3,"metadata":{},"output_type":"execute_result"}]}
+{"answer":"cells","commit":3,"results":[{"count":4,"outcome":"ok","outputs":[]},{"count":5,"outcome":"ok","outputs":[{"name":"stdout","output_type":"stream","text":"2\n"}]},{"count":6,"outcome":"ok","outputs":[{"data":{"text/plain":"2"},"execution_count":6,"metadata":{},"output_type":"execute_result"}]}]}
+{"answer":"log","branches":[{"commit":3,"name":"main"}],"path":[{"cells":3,"commit":3,"line":"a += 1","parent":2},{"cells":1,"commit":2,"line":"a","parent":1},{"cells":2,"commit":1,"line":"a = 1","parent":0}]}
+{"answer":"status","branch":"main","commit":3,"commits":4,"names":["a"],"records":3}
+"#,
+    ),
+    (
+        r#"{"op":"cells","texts":[]}
+{"op":"cells"}
+{"op":"cells","texts":"a = 1"}
+{"op":"cells","texts":["a = 1",1]}
+{"op":"cells","text":["a = 1"]}
+{"op":"cells","texts":["a = "],"at":"0"}
+{"op":"cells","texts":["a = ","a"]}
+{"op":"checkout","to":"0"}
+{"op":"cells","texts":[""]}
+{"op":"status"}
+"#,
+        r#"{"answer":"refused","number":1,"reason":"BadRequest"}
+{"answer":"refused","number":1,"reason":"BadRequest"}
+{"answer":"refused","number":1,"reason":"BadRequest"}
+{"answer":"refused","number":1,"reason":"BadRequest"}
+{"answer":"refused","number":1,"reason":"BadRequest"}
+{"answer":"refused","number":1,"reason":"BadRequest"}
+{"answer":"cells","commit":1,"results":[{"count":1,"outcome":"error","outputs":[{"ename":"SyntaxError","evalue":"invalid syntax, line 1","output_type":"error","traceback":["SyntaxError: invalid syntax, line 1"]}]}]}
+{"answer":"checkout","commit":0,"head":null}
+{"answer":"cells","commit":2,"results":[{"count":1,"outcome":"ok","outputs":[]}]}
+{"answer":"status","branch":null,"commit":2,"commits":3,"names":[],"records":3}
 "#,
     ),
 ];
@@ -301,7 +340,7 @@ fn answered(out: &[u8]) -> Option<usize> {
 }
 
 /// How many records a store holds, told by its status.
-fn records(alloc: Global, file: &[u8]) -> Result<Option<usize>, Fail> {
+pub(super) fn records(alloc: Global, file: &[u8]) -> Result<Option<usize>, Fail> {
     let mut host = host_over(alloc, file, Vec::new(alloc), None)?.ok_or("room")?;
     let status = run_words(alloc, &mut host, &["S", "status"], b"".as_slice())?;
     if status != Status::Done {
