@@ -1,7 +1,7 @@
 #!/usr/bin/env python3
 """Kills runs of Kishu at random moments, and looks whether anything that was acknowledged is lost.
 
-Usage: tools/compare/kill_runs.py [RUNS] [--program PROGRAM] [--only cells|sessions]      (300 of each where no number is given)
+Usage: tools/compare/kill_runs.py [RUNS] [--program PROGRAM] [--only cells|sessions|notebooks]      (300 of each where no number is given)
 
 PROGRAM is the built program; without it the script `kishu` is run first, which builds it by `rt` where it has to. Stores are on real
 files, and a run is killed (SIGKILL) after a random delay. What it put out before that is what it acknowledged.
@@ -9,11 +9,16 @@ files, and a run is killed (SIGKILL) after a random delay. What it put out befor
 Cells: each run commits one cell. After each run the store is opened by a run that isn't killed: its commit's number tells how many
 commits the store held. That number may not be below what was acknowledged, nor above it by more than the one cell that was under way.
 
-Sessions: each run is a session of 40 requests: cells, checkouts, branches, `log`, `status`, and some that are refused. What all of them
-are answered is known before, by session_rules.py. After each run the output has to be a prefix of these answers, and the file, byte by
+Sessions: each run is a session of 40 requests: cells, one or several at once, checkouts, branches, `log`, `status`, and some that are
+refused. What all of them are answered is known before, by session_rules.py. After each run the output has to be a prefix of these answers, and the file, byte by
 byte as store_rules.py reads it, has to hold the records of the answered requests in order, and at most that of the next request
 besides. Then `log` and `status` by runs that aren't killed have to tell just these. The next session goes on with the same store,
 which is new every 25 runs.
+
+Notebooks: each run takes a notebook of 40 code cells to a store of its own, every other one with `--together`. After the kill the
+store has to hold the commits of the first cells, one each and in order, or together those of all cells or none; all, where any byte
+of the notebook is out. Then a notebook of the other cells is run on that store, and isn't killed: it has to be written with just what
+they show behind the first ones.
 """
 import argparse
 import json
@@ -25,14 +30,16 @@ import sys
 import tempfile
 import time
 
+import notebook_rules
 import session_rules
-from store_rules import HEADER, Damaged, bodies_in
+from store_rules import HEADER, Damaged, bodies_in, commit_body
 
 TOP = pathlib.Path(__file__).resolve().parents[2]
 KISHU = os.path.join(TOP, "kishu")
 BUILT = os.path.join(TOP, "crates", "kishu_cli", "out", "kishu_cli")
 REQUESTS = 40
 RUNS_OF_A_STORE = 25
+CELLS = 40
 
 
 def complete(words, given):
@@ -126,6 +133,7 @@ def random_request(rng, graph, number):
         *[lambda: {"op": "cell", "text": f"x = {number}"}] * 5,
         *[lambda: {"op": "cell", "text": f"try: seen.append({number})\nexcept NameError: seen = [{number}]"}] * 3,
         *[lambda: {"op": "cell", "text": f"print(seen, {number})"}] * 2,
+        *[lambda: {"op": "cells", "texts": [f"x = {number}", f"print(x, {number})", f"x // {number % 2}", "x"]}] * 2,
         *[lambda: {"op": "checkout", "to": str(rng.randint(0, newest))}] * 2,
         lambda: {"op": "checkout", "to": rng.choice(["0", "0", "main", "none"])},
         lambda: {"op": "checkout", "to": rng.choice(list(graph.branches))},
@@ -195,20 +203,89 @@ def kill_sessions(program, folder, runs):
     )
 
 
+# Notebooks.
+
+
+def text_of(number):
+    """A cell that shows which cells ran before it."""
+    return "seen = [0]\nseen" if number == 0 else f"seen.append({number})\nseen"
+
+
+def notebook_of(numbers):
+    """A notebook of these cells, as a JSON value."""
+    shared = {"cell_type": "code", "execution_count": None, "metadata": {}, "outputs": []}
+    cells = [{"id": f"cell-{number}", "source": text_of(number).splitlines(keepends=True)} | shared for number in numbers]
+    return {"cells": cells, "metadata": {}, "nbformat": 4, "nbformat_minor": 5}
+
+
+def shown_by(numbers):
+    """The bytes of that notebook when its cells ran behind those before them."""
+    value = notebook_of(numbers)
+    for number, cell in zip(numbers, value["cells"]):
+        seen = {"text/plain": str(list(range(number + 1)))}
+        cell["execution_count"] = number + 1
+        cell["outputs"] = [{"data": seen, "execution_count": number + 1, "metadata": {}, "output_type": "execute_result"}]
+    return notebook_rules.pretty(value)
+
+
+def bodies_of(together):
+    """The bodies of the records of all cells."""
+    texts = [text_of(number).encode() for number in range(CELLS)]
+    return [commit_body(0, texts)] if together else [commit_body(number, [text]) for number, text in enumerate(texts)]
+
+
+def kill_notebook(program, store, together, delay):
+    """Kills one run of a notebook. How many cells were committed, and whether all of the notebook was out."""
+    words = [program, store, "run", *(["--together"] if together else [])]
+    out, ended = killed(words, json.dumps(notebook_of(range(CELLS))).encode(), delay)
+    whole, held = shown_by(range(CELLS)), held_bodies(content(store))
+    if not whole.startswith(out) or ended and out != whole:
+        raise ValueError("the output isn't a prefix of the notebook")
+    if held != bodies_of(together)[: len(held)]:
+        raise ValueError("the records aren't those of the first cells in order")
+    count = CELLS if together and held else len(held)
+    if out and count < CELLS:
+        raise ValueError(f"some of the notebook is out, and the store holds {count} cells")
+    rest = range(count, CELLS)
+    if complete(words, json.dumps(notebook_of(rest)).encode()) != shown_by(rest):
+        raise ValueError(f"the cells behind the first {count} don't go on from there")
+    return count, out == whole
+
+
+def kill_notebooks(program, folder, runs):
+    delays = random.Random()
+    given = json.dumps(notebook_of(range(CELLS))).encode()
+    span = span_of([program, os.path.join(folder, "notebook.kishu"), "run"], given)
+    cut = between = ended = 0
+    for i in range(runs):
+        try:
+            count, whole = kill_notebook(program, os.path.join(folder, f"notebook{i}.kishu"), i % 2 == 1, delays.uniform(0, span))
+        except ValueError as fault:
+            sys.exit(f"notebook {i}: {fault}")
+        except Damaged as damage:
+            sys.exit(f"notebook {i}: the store is damaged at {damage}")
+        cut, between, ended = cut + (not whole), between + (0 < count < CELLS), ended + whole
+    if cut == 0 or between == 0:
+        sys.exit(f"{cut} runs of notebooks were killed before their end, {between} of them between two cells: nothing was tried")
+    print(
+        f"{runs} runs of a notebook of {CELLS} cells killed, {cut} of them before their end, {between} between two cells; {ended} had written "
+        f"it; each store held the first cells in order, and the other cells went on from there"
+    )
+
+
 def main():
     words = argparse.ArgumentParser(usage=__doc__)
     words.add_argument("runs", type=int, nargs="?", default=300)
     words.add_argument("--program")
-    words.add_argument("--only", choices=("cells", "sessions"))
+    words.add_argument("--only", choices=("cells", "sessions", "notebooks"))
     given = words.parse_args()
     if given.program is None:
         subprocess.run([KISHU], stdout=subprocess.DEVNULL, check=False)
     program = os.path.abspath(given.program or BUILT)
     with tempfile.TemporaryDirectory() as folder:
-        if given.only != "sessions":
-            kill_cells(program, folder, given.runs)
-        if given.only != "cells":
-            kill_sessions(program, folder, given.runs)
+        for kind, kill in (("cells", kill_cells), ("sessions", kill_sessions), ("notebooks", kill_notebooks)):
+            if given.only in (None, kind):
+                kill(program, folder, given.runs)
 
 
 if __name__ == "__main__":

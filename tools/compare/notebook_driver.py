@@ -19,7 +19,7 @@ PROGRAM = r'''//! Reads the notebook on standard input, sets results in its code
 
 ghost use Rattle.std.specs.Prelude.{◌≡◌, ◌<◌, length};
 ghost use Rattle.kishu_notebook.specs.Views.{data_of};
-ghost use Rattle.kishu_notebook.specs.notebooks.Notebook.{sources_of};
+ghost use Rattle.kishu_model.specs.notebooks.Notebook.{sources_of};
 
 use kishu_model::{CellResult, Outcome, Output};
 use kishu_notebook::{Notebook, NotebookFault, NotebookKey, NotebookRefusal};
@@ -193,7 +193,7 @@ fn main(rt: HostRuntime) -> ExitCode {
 PROOFS = {
     "proofs/set_all/Invariants.antt": '''use Rattle.std.proofs.Common.{◌≡◌, length}
 use Rattle.kishu_notebook.specs.Views.{data_of}
-use Rattle.kishu_notebook.specs.notebooks.Notebook.{sources_of}
+use Rattle.kishu_model.specs.notebooks.Notebook.{sources_of}
 use Rattle.notebook_driver.proofs.set_all.Given as goal
 
 abbrev pub invariant-loop-at : goal.invariant-loop-at

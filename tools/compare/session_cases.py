@@ -1,4 +1,5 @@
-"""Makes random cases for sessions.py: runs on one store, with request lines of which the most are good, and harm to the file between."""
+"""Makes random cases for sessions.py: runs on one store, with request lines and notebooks of which the most are good, and harm to the
+file between."""
 import dataclasses
 import json
 
@@ -6,6 +7,7 @@ import python_cells
 import session_rules
 from agree_programs import Maker
 from agree_forms import POOLS
+from session_rules import TOGETHER
 from store_rules import CLOSED, HEADER, OPEN, Damaged, NotAJournal, opened
 
 STORE = "store"
@@ -32,12 +34,17 @@ BAD_REFERENCES = ["007", "00", "01", "999", "", "-1", "+1", "1 ", " 1", "nope", 
 WORDS = [
     [], [STORE], [STORE, "fly"], [STORE, "log", "x"], [STORE, "session", "x"], [STORE, "checkout"], [STORE, "branch"], ["log"], [STORE, ""],
     [STORE, "checkout", "1", "2"], [STORE, "branch", "a", "main", "x"], ["-x", STORE, "log"], [STORE, "log", ""], [STORE, "status", "--together"],
+    [STORE, "run", "x"], [STORE, "run", "--together", "--together"], ["--together", "run"], [STORE, "cell", "--together"], [STORE, "--togethe", "run"],
+    [STORE, "run", "--together=true"], [STORE, "--together"], [STORE, "run", "--"], ["--together"],
     ["", "log"], [STORE, "checkout", "-1"], [STORE, "branch", "-a"], [STORE, "branch", "a", ""], [STORE, "Log"], ["--", STORE, "log"],
 ]
 BAD_LINES = [
     b"", b" ", b"{}", b"[]", b"null", b'"log"', b"log", b'{"op":"fly"}', b'{"op":"Log"}', b'{"op":""}', b'{"op":"log"',
     b'{"op":"log"}}', b'{"op":"log","x":1}', b'{"op":"status","to":"0"}', b'{"op":"cell"}', b'{"op":"cell","text":1}',
-    b'{"op":"cell","text":["a"]}', b'{"op":"cell","text":null}', b'{"op":"checkout"}', b'{"op":"checkout","to":0}',
+    b'{"op":"cell","text":["a"]}', b'{"op":"cells","texts":[]}', b'{"op":"cells","texts":"a"}', b'{"op":"cells","text":["a"]}',
+    b'{"op":"cells"}', b'{"op":"cells","texts":["a",1]}', b'{"op":"cells","texts":[["a"]]}', b'{"op":"cells","texts":["a","\\ud800"]}',
+    b'{"op":"cells","texts":["a"],"text":"a"}', b'{"op":"cell","texts":["a"]}', b'{"op":"cells","texts":{"0":"a"}}', b'{"op":"cells","texts":null}',
+    b'{"op":"cell","text":null}', b'{"op":"checkout"}', b'{"op":"checkout","to":0}',
     b'{"op":"checkout","to":"0","at":"0"}', b'{"op":"branch"}', b'{"op":"branch","at":"0"}',
     b'{"op":"branch","name":"a","at":null}', b'{"op":"branch","name":true}', b'{"op":["log"]}', b'{"Op":"log"}',
     b"{'op':'log'}", b'{"op":"log",}', b'{op:"log"}', b'\xef\xbb\xbf{"op":"log"}', b'{"op":"log"}\x00', b'{"op":"l\\og"}',
@@ -51,7 +58,7 @@ BAD_LINES = [
 ODD_LINES = [
     b' { "op" : "log" } ', b'\t{"op"\r:"status"}\r', b'{"\\u006fp":"l\\u006fg"}', b'{"op":1,"op":"status"}', b'{"op":"status","op":"log"}',
     b'{"op":' + b"[" * 126 + b"]" * 126 + b',"op":"status"}', b'{"op":"fly","op":"log"}',
-    b'{"to":"0","to":"main","op":"checkout"}', b'{"at":"0","op":"branch","name":"\\u0074ry"}',
+    b'{"texts":1,"op":"cells","texts":["","#"]}', b'{"to":"0","to":"main","op":"checkout"}', b'{"at":"0","op":"branch","name":"\\u0074ry"}',
 ]
 
 
@@ -148,7 +155,7 @@ class Player:
         self.random = self.maker.random
         self.size = size
         self.functions = {}  # of each commit
-        self.case = Case(self.first_file(), [], {""})
+        self.case = Case(self.first_file(), [], {"", "#"})
         self.file = self.case.file
 
     def chance(self, share):
@@ -192,7 +199,9 @@ class Player:
             return self.step(Run(self.pick(*WORDS), b"print(1)")) if session else self.step(Run([STORE, "status"], b""))
         if chance < 0.65:
             return self.step(Run([STORE, "session"], self.input_of(session)))
-        if chance < 0.75:
+        if chance < 0.77:
+            return self.step(Run(self.shuffled([STORE, "run", *self.pick([], [TOGETHER])]), self.notebook(session)))
+        if chance < 0.84:
             data = self.cell(session).encode() if self.chance(0.95) else self.pick(b"\xff", b"print(1)\xc3")
             return self.step(Run([STORE, "cell"], data))
         name, reference = self.name(session), self.reference(session)
@@ -224,6 +233,8 @@ class Player:
             return self.written({"op": "checkout", "to": self.reference(session)})
         if chance < 0.33:
             return self.written({"op": "branch", "name": self.name(session)} | ({"at": self.reference(session)} if self.chance(0.5) else {}))
+        if chance < 0.43:
+            return self.written({"op": "cells", "texts": self.cells(session)})
         return self.written({"op": "cell", "text": self.cell(session)})
 
     def written(self, request):
@@ -258,6 +269,57 @@ class Player:
             self.case.known.add(text)
             self.functions[len(graph.parents)] = dict(self.maker.functions)
             return text
+
+    def cells(self, session):
+        """Cells whose meaning is known one behind the other, and perhaps some behind one that isn't ok."""
+        trial, texts = session_rules.Session(session.file, self.case.known), []
+        for _ in range(self.pick(1, 2, 2, 3, 4)):
+            texts.append(self.cell(trial))
+            if trial.told({"op": "cell", "text": texts[-1]})["outcome"] != "ok" and self.chance(0.7):
+                break
+        self.functions[len(session.graph.parents)] = dict(self.maker.functions)
+        return texts
+
+    # notebooks
+
+    def shuffled(self, words):
+        """The words with the flag at any place."""
+        plain = [word for word in words if word != TOGETHER]
+        for _ in range(words.count(TOGETHER)):
+            plain.insert(self.random.randrange(len(plain) + 1), TOGETHER)
+        return plain
+
+    def notebook(self, session):
+        """The bytes of a notebook of known cells, or now and then what is none."""
+        texts = self.cells(session) if self.chance(0.9) else []
+        value = {"cells": [self.code_cell(text) for text in texts], "metadata": {}, "nbformat": 4, "nbformat_minor": 5}
+        for _ in range(self.pick(0, 0, 1, 2)):
+            other = {"cell_type": self.pick("markdown", "raw"), "metadata": {"a": [1, None]}, "source": self.source("# a title\nprint(1)")}
+            value["cells"].insert(self.random.randrange(len(value["cells"]) + 1), other)
+        for number, cell in enumerate(value["cells"]):
+            cell["id"] = f"cell-{number}"
+        if self.chance(0.15):
+            self.spoil(value)
+        data = json.dumps(value, ensure_ascii=self.chance(0.3), indent=self.pick(None, 1)).encode()
+        return self.pick(data[:-1], b"", b"[]", data + b"{", b"\xff" + data) if self.chance(0.05) else data
+
+    def source(self, text):
+        return text.splitlines(keepends=True) if self.chance(0.7) else text
+
+    def code_cell(self, text):
+        old = self.pick([], [{"output_type": "display_data", "data": {"image/png": "iVBORw0KGgo="}, "metadata": {}}])
+        return {"cell_type": "code", "execution_count": self.pick(None, 7), "metadata": {}, "outputs": old, "source": self.source(text)}
+
+    def spoil(self, value):
+        """Makes a fault in a notebook, if it can have it."""
+        cell = self.pick(*value["cells"], {})
+        self.pick(
+            lambda: cell.pop("metadata", None), lambda: cell.pop("id", None), lambda: cell.update(id="cell-0"), lambda: cell.update(source=1),
+            lambda: cell.update(id="a b"), lambda: cell.update(cell_type="other"), lambda: cell.update(execution_count=-1),
+            lambda: cell.update(outputs=[{}]), lambda: value.update(nbformat_minor=4), lambda: value.update(nbformat=3),
+            lambda: value.update(metadata=[]), lambda: value.update(cells={}), lambda: value["metadata"].update(a=self.pick(0.5, 2**64, -(2**63) - 1)),
+            lambda: value.pop("nbformat_minor"),
+        )()
 
     def some_cell(self, space, functions):
         self.maker.meet(space, functions)

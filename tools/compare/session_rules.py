@@ -1,22 +1,24 @@
 """The rules of requests, answers and runs, read a second time: by docs/LINES.md, docs/STORE.md and docs/RULES.md, and by nothing of
 the program. The state at a commit is what CPython makes of the cells on its path, from an empty namespace."""
 import json
-import math
 import re
 
+import notebook_rules
 import python_cells
+from json_rules import json_of, real
 from store_rules import (
     LONGEST_CELL, MOST_RECORDS, Damaged, NotAJournal, appended, commit_body, entry_of, is_branch_name, move_to_branch_body,
     move_to_commit_body, name_body, opened,
 )
 
 LONGEST_LINE = 2**24
-DEEPEST = 127
 REASONS = {1: "BadRequest", 2: "NoSuchRef", 3: "BadName", 4: "NameTaken", 5: "StoreFull", 6: "CellTooLong"}
 KEYS = {
-    "cell": ["op", "text"], "checkout": ["op", "to"], "branch": ["name", "op"], "log": ["op"], "status": ["op"],
+    "cell": ["op", "text"], "cells": ["op", "texts"], "checkout": ["op", "to"], "branch": ["name", "op"], "log": ["op"], "status": ["op"],
 }
 USAGE = b"usage: kishu STORE COMMAND\n"
+TOO_LONG = b"input too long\n"
+TOGETHER = "--together"
 
 
 class Refused(Exception):
@@ -26,54 +28,17 @@ class Refused(Exception):
 # Lines.
 
 
-def depth_of(text):
-    """How deep brackets stand in one another, outside texts."""
-    depth = deepest = 0
-    for sign in re.findall(r"[\[\]{}]", re.sub(r'"(?:[^"\\]|\\.)*"', "", text)):
-        depth += (sign in "[{") - (sign in "]}")
-        deepest = max(deepest, depth)
-    return deepest
-
-
-def is_lone(value):
-    """Whether half of a surrogate pair stands in a text of a value."""
-    if isinstance(value, list):
-        return any(is_lone(part) for part in value)
-    return isinstance(value, str) and any("\ud800" <= sign <= "\udfff" for sign in value)
-
-
-def pairs_of(pairs):
-    if any(is_lone(key) or is_lone(value) for key, value in pairs):
-        raise ValueError
-    return dict(pairs)
-
-
-def finite(text):
-    number = float(text)
-    if math.isinf(number):
-        raise ValueError
-    return number
-
-
-def no_number(text):
-    raise ValueError(text)
-
-
-def value_of(line):
-    """The JSON value that a line is. ValueError: it is none."""
-    text = line.decode("utf-8")
-    if depth_of(text) > DEEPEST:
-        raise ValueError
-    return json.loads(text, object_pairs_hook=pairs_of, parse_float=finite, parse_constant=no_number)
+def are_texts(value):
+    return isinstance(value, list) and value != [] and all(isinstance(part, str) for part in value)
 
 
 def request_of(line):
     """The request that a line is, as the dict of its keys. None: it is none."""
     try:
-        value = value_of(line)
+        value = json_of(line, int, real)
     except ValueError:
         return None
-    if not isinstance(value, dict) or not all(isinstance(part, str) for part in value.values()):
+    if not isinstance(value, dict) or not all(are_texts(part) if key == "texts" else isinstance(part, str) for key, part in value.items()):
         return None
     keys = sorted(value)
     wanted = KEYS.get(value.get("op"))
@@ -133,15 +98,25 @@ class Session:
         if self.graph.records >= MOST_RECORDS:
             raise Refused(5)
 
-    def cell(self, text):
-        if len(text.encode()) > LONGEST_CELL:
+    def commit(self, texts):
+        """Runs texts in order, up to the first whose outcome isn't ok, and commits those that ran. Their results."""
+        if any(len(text.encode()) > LONGEST_CELL for text in texts):
             raise Refused(6)
         self.room()
-        count = self.graph.count(self.graph.commit) + 1
-        outcome, *told = self.run(text, self.state())
-        self.record(commit_body(self.graph.commit, [text.encode()]))
-        outputs = python_cells.outputs_of(*told, count)
-        return {"answer": "cell", "commit": self.graph.commit, "count": count, "outcome": outcome, "outputs": outputs}
+        count, results = self.graph.count(self.graph.commit), []
+        for number, text in enumerate(texts, count + 1):
+            outcome, *told = self.run(text, self.state())
+            results.append({"count": number, "outcome": outcome, "outputs": python_cells.outputs_of(*told, number)})
+            if outcome != "ok":
+                break
+        self.record(commit_body(self.graph.commit, [text.encode() for text in texts[: len(results)]]))
+        return results
+
+    def cell(self, text):
+        return {"answer": "cell"} | self.commit([text])[0] | {"commit": self.graph.commit}
+
+    def cells(self, texts):
+        return {"answer": "cells", "results": self.commit(texts), "commit": self.graph.commit}
 
     def checkout(self, to):
         target = self.graph.resolve(to)
@@ -181,27 +156,36 @@ class Session:
             "names": python_cells.names_in(self.state()), "records": graph.records,
         }
 
-    def answer(self, request):
-        """The answer's line to a request; None is what isn't one."""
+    def told(self, request):
+        """The answer to a request; None is what isn't one."""
         try:
             if request is None:
                 raise Refused(1)
             parts = {key: part for key, part in request.items() if key != "op"}
-            return answer_line(getattr(self, request["op"])(**parts))
+            return getattr(self, request["op"])(**parts)
         except Refused as refusal:
             number = refusal.args[0]
-            return answer_line({"answer": "refused", "number": number, "reason": REASONS[number]})
+            return {"answer": "refused", "number": number, "reason": REASONS[number]}
+
+    def answer(self, request):
+        """The answer's line."""
+        return answer_line(self.told(request))
 
 
 # Runs.
 
 
 def form_of(words):
-    """The form of a command line: `session`, `cell`, or the request that the words are. None: they have none."""
-    if len(words) < 2 or any(word == "" or word.startswith("-") for word in words):
+    """The form of a command line: `session`, `cell`, `run`, `run together`, or the request that the words are. None: they have none."""
+    if any(word == "" or word.startswith("-") and word != TOGETHER for word in words):
         return None
-    command, *more = words[1:]
-    if command in ("session", "cell") and not more:
+    together, plain = words.count(TOGETHER), [word for word in words if word != TOGETHER]
+    if len(plain) < 2 or together > 1:
+        return None
+    command, *more = plain[1:]
+    if together:
+        return "run together" if command == "run" and not more else None
+    if command in ("session", "cell", "run") and not more:
         return command
     if command in ("log", "status") and not more:
         return {"op": command}
@@ -220,23 +204,34 @@ def cell_of(data):
         return None
 
 
+def lines_answered(session, data):
+    """What a session answers, and whether its input is too long."""
+    lines, too_long = lines_of(data)
+    return b"".join(session.answer(request_of(line)) for line in lines), too_long
+
+
 def expected(words, data, file, known=None):
     """Status, its text, output and file of a run. None is a file that isn't there."""
     form = form_of(words)
     if form is None:
         return 2, USAGE, b"", file
-    if form == "cell" and len(data) > LONGEST_CELL:
-        return 9, b"input too long\n", b"", file
+    runs = form in ("run", "run together")
+    if form == "cell" and len(data) > LONGEST_CELL or runs and len(data) >= notebook_rules.LONGEST:
+        return 9, TOO_LONG, b"", file
     try:
+        notebook = notebook_rules.read(data) if runs else None
         session = Session(file, known)
+    except notebook_rules.Refused as refusal:
+        return 4, b"notebook refused: %s\n" % refusal.args[0].encode(), b"", file
     except NotAJournal:
         return 3, b"not a journal\n", b"", file
     except Damaged as damage:
         return 3, b"damaged at %d\n" % damage.args[0], b"", file
+    if runs:
+        out = notebook_rules.pretty(notebook_rules.run(notebook, form == "run together", session.told))
+        return 0, b"", out, session.file
     if form == "session":
-        lines, too_long = lines_of(data)
-        requests = [request_of(line) for line in lines]
-    else:
-        too_long, requests = False, [cell_of(data) if form == "cell" else form]
-    out = b"".join(session.answer(request) for request in requests)
-    return (9, b"input too long\n", out, session.file) if too_long else (0, b"", out, session.file)
+        out, too_long = lines_answered(session, data)
+        return (9, TOO_LONG, out, session.file) if too_long else (0, b"", out, session.file)
+    out = session.answer(cell_of(data) if form == "cell" else form)
+    return 0, b"", out, session.file

@@ -6,8 +6,8 @@ Usage: tools/compare/sessions.py --program PROGRAM [--cases COUNT] [--seed SEED]
        tools/compare/sessions.py --program PROGRAM --full                             sessions on a store that is full or nearly
 
 PROGRAM is the built program, crates/kishu_cli/out/kishu_cli. A case is one store and some runs on it: of `session` with lines of
-requests, and of `cell`, `log`, `status`, `checkout` and `branch`. Lines are cells, checkouts by number and by branch, branches,
-`log` and `status`, some of them refused, and lines that are no request. Between runs a file may be harmed: cut, a byte changed or
+requests, of `run` with a notebook, and of `cell`, `log`, `status`, `checkout` and `branch`. Lines are cells, several cells at once,
+checkouts by number and by branch, branches, `log` and `status`, some of them refused, and lines that are no request. Between runs a file may be harmed: cut, a byte changed or
 taken out, the gate at its end opened, a gate before it closed. Before the random cases come some that are always the same, about
 limits and ends of lines, and one session that gets each line when the line before is answered. Case K of a seed depends on these
 two numbers alone, and later cases are longer.
@@ -15,7 +15,7 @@ two numbers alone, and later cases are longer.
 Compared are the status, its text, the output and every byte of the file after each run. The first case that differs is reduced
 by leaving out runs, lines and harm, and shown whole; then the script ends with status 1.
 
-The rules are those of session_rules.py and store_rules.py, which stand on the documents and on nothing of the program. What a cell
+The rules are those of session_rules.py, notebook_rules.py and store_rules.py, which stand on the documents and on nothing of the program. What a cell
 gives is what CPython 3.11 makes of the cells on the commit's path (python_cells.py), so the cells are of forms that both languages
 mean alike: those of agree_forms.py, and some about what names share. A cell whose exception has a text that isn't known is left out.
 An input of 2^30 bytes and a body of 2^30 bytes aren't tried.
@@ -24,6 +24,7 @@ import argparse
 import collections
 import copy
 import itertools
+import json
 import os
 import select
 import subprocess
@@ -40,6 +41,7 @@ LONGEST = 24
 
 # Lines of sessions.
 CELL, LOG, STATUS = b'{"op":"cell","text":"%s"}', b'{"op":"log"}', b'{"op":"status"}'
+CELLS = b'{"op":"cells","texts":["%s","%s"]}'
 SHARED = [
     CELL % b"a = [1]; b = a", CELL % b"b.append(2)", b'{"op":"checkout","to":"1"}', CELL % b"print(a, a is b)", LOG, STATUS,
     b'{"op":"checkout","to":"main"}', CELL % b"print(a, a is b)", LOG, b'{"op":"checkout","to":"0"}', STATUS,
@@ -56,27 +58,45 @@ REFUSED = [
     b'{"op":"branch","name":"main"}', b'{"op":"branch","name":"9"}', b'{"op":"checkout","to":"999"}', b'{"op":"checkout","to":"00"}',
     b'{"op":"fly"}', b'{"op":"branch","name":"try"}', LOG,
 ]
+TOGETHER = [
+    b'{"op":"cells","texts":["a = 1","a // 0","a = 2"]}', CELL % b"a", b'{"op":"cells","texts":["a += 1","print(a)","a"]}', LOG,
+    b'{"op":"checkout","to":"1"}', b'{"op":"cells","texts":[]}', b'{"op":"cells","texts":["x = = 1","a"]}', LOG, STATUS,
+]
 LONG_CELL = b"#" * LONGEST_CELL
 
 
 def session_case(*lines):
     """A case of one session on a new store. The cells of its lines are meant alike."""
     requests = [session_rules.request_of(line) for line in lines]
-    known = {request["text"] for request in requests if request and "text" in request}
+    known = {text for request in requests if request for text in [request.get("text", ""), *request.get("texts", [])]}
     return Case(None, [Run([STORE, "session"], b"\n".join(lines))], known)
 
 
 def same_cases():
     """Cases about limits, ends of lines and what a user does first."""
-    for lines in ([b""], [b"", b""], [STATUS], [LOG, b"", b"", b""], SHARED, [*SHARED, b""], RING, DEFAULTS, SPENT, REFUSED):
+    for lines in ([b""], [b"", b""], [STATUS], [LOG, b"", b"", b""], SHARED, [*SHARED, b""], RING, DEFAULTS, SPENT, REFUSED, TOGETHER):
         yield session_case(*lines)
     by_hand = session_case(*SHARED, b"")
     yield Case(None, [Run([STORE, "session"], by_hand.steps[0].data, typed=True)], by_hand.known)
     yield session_case(CELL % LONG_CELL, CELL % (LONG_CELL + b"#"), STATUS, b"")
+    yield session_case(CELLS % (b"1", LONG_CELL), CELLS % (b"1", LONG_CELL + b"#"), STATUS, b"")
     for spaces in (2**24 - 1 - len(STATUS), 2**24 - len(STATUS)):
         yield session_case(STATUS, b" " * spaces + STATUS, LOG)
     yield session_case(STATUS, b" " * 2**24)
     yield Case(None, [Run([STORE, "cell"], LONG_CELL + more) for more in (b"#", b"")], {LONG_CELL.decode()})
+    for words in ([STORE, "run"], [session_rules.TOGETHER, STORE, "run"]):
+        steps = [Run(words, notebook_of(*texts)) for texts in ((), ("a = 1", "a", "a // 0", "a = 2"), ("a", LONG_CELL.decode() + "#", "a"))]
+        yield Case(None, steps, {"a = 1", "a", "a // 0", "a = 2"})
+        short = notebook_of("a = 1")
+        inputs = (b"", b"[]", b" " * 2**26, short + b" " * (2**26 - 1 - len(short)))
+        yield Case(None, [Run(words, data) for data in inputs], {"a = 1"})
+
+
+def notebook_of(*texts):
+    """The bytes of a notebook of these code cells."""
+    shared = {"cell_type": "code", "execution_count": None, "metadata": {}, "outputs": []}
+    cells = [{"id": f"cell-{number}", "source": text} | shared for number, text in enumerate(texts)]
+    return json.dumps({"cells": cells, "metadata": {}, "nbformat": 4, "nbformat_minor": 5}).encode()
 
 
 def full_cases():
@@ -84,13 +104,15 @@ def full_cases():
     moves = record(move_to_commit_body(0))
     known = {"x = 1", ""}
     lines = [
-        CELL % (LONG_CELL + b"#"), CELL % b"x = 1", b'{"op":"checkout","to":"9"}', b'{"op":"checkout","to":"1"}', b'{"op":"branch","name":"main"}',
+        CELL % (LONG_CELL + b"#"), CELL % b"x = 1", CELLS % (b"x = 1", b""), CELLS % (b"x = 1", LONG_CELL + b"#"), b'{"op":"checkout","to":"9"}', b'{"op":"checkout","to":"1"}', b'{"op":"branch","name":"main"}',
         b'{"op":"branch","name":"9"}', b'{"op":"branch","name":"b","at":"9"}', b'{"op":"branch","name":"b"}', STATUS, LOG,
     ]
     runs = [Run([STORE, "session"], b"\n".join(lines)), *(Run([STORE, *words], b"") for words in (["cell"], ["checkout", "0"], ["status"]))]
     for count in (MOST_RECORDS - 1, MOST_RECORDS):
         file = HEADER + moves * count + b"\0"
         yield Case(file, runs, known)
+        for words in ([STORE, "run"], [STORE, "run", "--together"]):
+            yield Case(file, [Run(words, notebook_of("x = 1", "", "x = 1"))], known)
     yield Case(HEADER + moves * (MOST_RECORDS + 1) + b"\0", [Run([STORE, "status"], b"")], known)
 
 

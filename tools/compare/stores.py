@@ -12,6 +12,7 @@ What is expected comes of session_rules.py and store_rules.py, which stand on th
 are ones that CPython runs alike, so their outputs are its; a case that would run another, since a byte in a cell was changed, is left
 out. Sessions are compared by sessions.py.
 """
+import json
 import os
 import random
 import subprocess
@@ -30,7 +31,7 @@ LENGTHS = [LONGEST_CELL - 1, LONGEST_CELL]
 KNOWN = {*CELLS, *("#" * length for length in LENGTHS)}
 NO_TEXTS = [b"\xff", b"print(1)\xc3", b"\xed\xa0\x80", b"\xf4\x90\x80\x80", b"\xc0\x80"]
 NO_NAMES = [b"", b"9", b"-a", b"a b", b"a.b", "\u00e9".encode(), b"a" * 65, b"a" * 255, b"\xff", b"a\n"]
-FORMS = ["cell"] * 8 + ["log"] * 3 + ["status"] * 2 + ["checkout"] * 3 + ["branch"] * 3
+FORMS = ["cell"] * 8 + ["run"] * 3 + ["log"] * 3 + ["status"] * 2 + ["checkout"] * 3 + ["branch"] * 3
 
 
 # Bodies.
@@ -161,18 +162,30 @@ def words_of(rng, store):
     if rng.random() < 0.95:
         form = rng.choice(FORMS)
         reference = rng.choice(["0", "1", "2", "3", "main", "b0", "b1", "00", "01", "007", "none"])
-        more = {"checkout": [reference], "branch": rng.choice([["new"], ["b1"], ["main"], ["9"], ["new", reference]])}
+        more = {"run": rng.choice([[], ["--together"]]), "checkout": [reference], "branch": rng.choice([["new"], ["b1"], ["main"], ["9"], ["new", reference]])}
         return [store, form, *more.get(form, [])]
     return rng.choice([
         [], [store], ["cell"], [store, "Cell"], [store, "cell "], [store, "cell", ""], [store, "cell", "x"], ["", "cell"],
         ["", store, "cell"], ["-x", store, "cell"], [store, "cell", "-"], ["--together", store, "cell"],
         [store, "cell", "--together"], ["--", store, "cell"], [store, "--", "cell"], [store, "log", "1"], [store, "checkout"],
+        ["--together", store, "run"], [store, "--together", "run"], [store, "--together", "run", "--together"], [store, "run", "x"],
         [store, "branch"], [store, "branch", "a", "0", "1"], [store, "checkout", "0", "1"], [store, "status", "-"],
     ])
 
 
-def input_of(rng):
+def notebook_of(rng):
+    """A notebook of up to three cells."""
+    cells = [
+        {"cell_type": "code", "execution_count": None, "id": f"cell-{number}", "metadata": {}, "outputs": [], "source": rng.choice(CELLS)}
+        for number in range(rng.randrange(4))
+    ]
+    return json.dumps({"cells": cells, "metadata": {}, "nbformat": 4, "nbformat_minor": rng.choice([5, 5, 5, 5, 4])}).encode()
+
+
+def input_of(rng, words):
     chance = rng.random()
+    if "run" in words and chance < 0.9:
+        return notebook_of(rng)
     if chance < 0.03:
         return rng.choice(NO_TEXTS)
     if chance < 0.05:
@@ -213,7 +226,8 @@ def main():
     rng, differ, left_out, statuses = random.Random(seed), 0, 0, {}
     with tempfile.TemporaryDirectory() as folder:
         for case in range(count):
-            file, words, data = file_of(rng), words_of(rng, "store"), input_of(rng)
+            file, words = file_of(rng), words_of(rng, "store")
+            data = input_of(rng, words)
             want = wanted(words, data, file)
             if want is None:
                 left_out += 1
