@@ -93,6 +93,11 @@ meets i s = Ok (node i, record { rest = s.rest; met = if i == s.met then suc s.m
 abbrev pub node_number : (ℕ → Bool) → Reader Value
 node_number there = λ s. (keeping (λ i. nat_le i s.met && there i) number >>= meets) s
 
+-- a range, whose step isn't 0
+abbrev pub range_of_three : Reader Value
+range_of_three =
+    whole_number >>= λ start. whole_number >>= λ stop. keeping (λ step. not (int_eq step (pos 0))) whole_number >>= λ step. give (range start stop step)
+
 abbrev pub value_behind : (ℕ → Bool) → ℕ → Reader Value
 value_behind there kind =
     if kind == 0 then give none
@@ -100,7 +105,7 @@ value_behind there kind =
     else if kind == 2 then give (bool true)
     else if kind == 3 then (whole_number >>= λ z. give (integer z))
     else if kind == 4 then (spelled >>= λ cs. give (text cs))
-    else if kind == 5 then (whole_number >>= λ start. whole_number >>= λ stop. keeping (λ step. not (int_eq step (pos 0))) whole_number >>= λ step. give (range start stop step))
+    else if kind == 5 then range_of_three
     else if kind == 6 then (keeping (λ n. nat_lt n builtins) byte >>= λ n. give (builtin n))
     else if kind == 7 then (keeping (λ n. nat_lt n classes) byte >>= λ n. give (class n))
     else node_number there
@@ -136,7 +141,8 @@ values there = number >>= λ n. repeated n (value there)
 -- so many keys with their values, where the keys are none of these and no two of them are one
 abbrev pub pairs : {K : Type 0} → (K → K → Bool) → Reader K → (ℕ → Bool) → ℕ → List K → Reader (List (K × Value))
 pairs same one there zero seen = give []
-pairs same one there (suc n) seen = keeping (λ x. not (list_any (same x) seen)) one >>= λ x. value there >>= λ v. pairs same one there n (x ∷ seen) >>= λ es. give ((x, v) ∷ es)
+pairs same one there (suc n) seen =
+    keeping (λ x. not (list_any (same x) seen)) one >>= λ x. value there >>= λ v. pairs same one there n (x ∷ seen) >>= λ es. give ((x, v) ∷ es)
 
 abbrev pub entries : (ℕ → Bool) → ℕ → Reader (List (Key × Value))
 entries there n = pairs is_one key there n []
@@ -214,7 +220,8 @@ abbrev pub at_end : {A : Type 0} → A → Reader A
 at_end a = λ s. only_if (length s.rest == 0) (give a) s
 
 abbrev pub whole_picture : Reader State
-whole_picture = number >>= λ n. names n None >>= λ ns. node_count >>= λ m. rows (λ i. nat_lt i m) m 0 >>= λ ms. at_end (record { names = ns; nodes = ms })
+whole_picture =
+    number >>= λ n. names n None >>= λ ns. node_count >>= λ m. rows (λ i. nat_lt i m) m 0 >>= λ ms. at_end (record { names = ns; nodes = ms })
 
 abbrev pub with_place : ℕ → Reading State → Result State ℕ
 with_place size (Ok r) = Ok r.0

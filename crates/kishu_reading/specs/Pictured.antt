@@ -1,5 +1,5 @@
--- Which states can stand in a picture as they are.
-use Rattle.std.specs.Prelude.{◌≡◌, ⊤, ℕ, List}
+-- Which states can stand in a picture as they are, and which bytes are one.
+use Rattle.std.specs.Prelude.{◌≡◌, ◌<◌, ⊤, ℕ, List}
 use Rattle.std.specs.List.{AllByRecursion}
 use Rattle.kishu_language.specs.declared.profile.Profile.TheVariants.{One}
 use Rattle.kishu_meaning.specs.values.Values.{Node, list, tuple, dict, object, function, exception, State}
@@ -28,3 +28,11 @@ pub record IsInPicture (p : State) : Type 0 where
 pub record IsPictureOf (bs : List ℕ) (p : State) : Type 0 where
   pub state : IsInPicture p
   pub is : bs ≡ state_bytes p
+
+-- the picture of some state
+abbrev pub IsPicture : List ℕ → Type 0
+IsPicture bs = (p : State) × IsPictureOf bs p
+
+-- Each is a byte.
+abbrev pub AreBytes : List ℕ → Type 0
+AreBytes = AllByRecursion (λ b. b < 256)
