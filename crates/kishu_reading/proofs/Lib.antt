@@ -1,1 +1,2 @@
+mod CodeExamples
 mod Examples
