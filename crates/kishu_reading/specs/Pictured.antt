@@ -17,10 +17,14 @@ HasKnownProfile (object as') = ⊤
 HasKnownProfile (function profile code vs) = profile ≡ One
 HasKnownProfile (exception kind vs) = ⊤
 
+-- Each is.
+abbrev pub AreKnown : List Node → Type 0
+AreKnown = AllByRecursion HasKnownProfile
+
 -- A state that is its own picture: what it holds can be written, and its nodes stand in the order of first meeting.
 pub record IsInPicture (p : State) : Type 0 where
   pub state : IsState p
-  pub known : AllByRecursion HasKnownProfile p.nodes
+  pub known : AreKnown p.nodes
   pub fits : StateFits p
   pub order : IsInOrder p
 

@@ -5,3 +5,4 @@ pub mod GivenRows
 pub mod StateLaws
 pub mod PictureLaws
 pub mod PlaceLaws
+pub mod OwnLaws
