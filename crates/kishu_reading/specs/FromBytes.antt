@@ -96,7 +96,8 @@ node_number there = λ s. (keeping (λ i. nat_le i s.met && there i) number >>= 
 -- a range, whose step isn't 0
 abbrev pub range_of_three : Reader Value
 range_of_three =
-    whole_number >>= λ start. whole_number >>= λ stop. keeping (λ step. not (int_eq step (pos 0))) whole_number >>= λ step. give (range start stop step)
+    whole_number >>= λ start. whole_number >>= λ stop.
+    keeping (λ step. not (int_eq step (pos 0))) whole_number >>= λ step. give (range start stop step)
 
 abbrev pub value_behind : (ℕ → Bool) → ℕ → Reader Value
 value_behind there kind =
