@@ -1,0 +1,4 @@
+pub mod Classes
+pub mod Marks
+pub mod Gathering
+pub mod Held
