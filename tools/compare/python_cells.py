@@ -92,10 +92,18 @@ def text_of(error):
     raise Unlike(f"{name}: {text}")
 
 
+def has_foreign_names(tree):
+    """Whether a name of the tree isn't ASCII: CPython takes it, and Kishu finds a fault there."""
+    names = (getattr(node, field, None) for node in ast.walk(tree) for field in ("id", "name", "attr", "arg"))
+    return any(isinstance(name, str) and not name.isascii() for name in names)
+
+
 def parsed(text):
     """The code of a cell, and that of its last expression where it ends with one."""
     try:
         tree = ast.parse(text)
+        if has_foreign_names(tree):
+            raise Unlike("a name isn't ASCII")
         last = tree.body.pop() if tree.body and isinstance(tree.body[-1], ast.Expr) else None
         return compile(tree, "cell", "exec"), last and compile(ast.Expression(last.value), "cell", "eval")
     except (SyntaxError, ValueError) as error:
