@@ -21,7 +21,8 @@ pub(crate) fn put_value(
     requires met { (i : ℕ) → value_of value.now ≡ node i → In i found.now.keys }
     requires few { length found.now.keys < 2 ^ 32 }
     requires short { length (value_bytes (value_at found.now.keys value.now)) < 2 ^ 32 }
-    ensures bytes { OnOk result (out.new.items ≡ out.old.items ++ value_bytes (value_at found.now.keys value.now)) }
+    ensures bytes { OnOk result (
+        out.new.items ≡ out.old.items ++ value_bytes (value_at found.now.keys value.now)) }
     ensures fits { OnOk result (ValueFits (value_at found.now.keys value.now)) }
 {
     match value {
