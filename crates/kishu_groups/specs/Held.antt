@@ -5,6 +5,7 @@ use Rattle.std.specs.declared.alloc.Global.{Global}
 use Rattle.std.specs.declared.rc.RcStr.{RcStr}
 use Rattle.std.specs.declared.vec.Vec.{Vec}
 use Rattle.kishu_meaning.specs.values.Values.{Node, State}
+use Rattle.kishu_heap.specs.Costs.{Reads}
 use Rattle.kishu_names.specs.Namespace.{Namespace}
 use Rattle.kishu_objects.specs.Groups.{groups}
 use Rattle.kishu_objects.specs.Picture.{order}
@@ -13,9 +14,9 @@ use Rattle.kishu_objects.specs.Picture.{order}
 abbrev pub held : List Node → Namespace → State
 held nodes names = record { names = names.bound; nodes = nodes }
 
--- how many nodes names reach
-abbrev pub node_count : State → List (List ℕ) → ℕ
-node_count s of = length (order s of)
+-- At most as many reads were counted as there are nodes that the names reach.
+abbrev pub ReadsNodes : State → List (List ℕ) → (old new : ℕ) → Type 0
+ReadsNodes s of old new = Reads (length (order s of)) old new
 
 abbrev pub texts_of : Vec (RcStr Global) Global → List (List ℕ)
 texts_of v = map rc_str_bytes v.items

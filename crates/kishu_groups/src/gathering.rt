@@ -15,7 +15,8 @@ fn place_of(
     places: &[usize],
     first: usize,
 ) -> Result<usize, AllocError>
-    ensures { IfOk result (Placed (slice_get places.now first) (groups_of groups.old) (groups_of groups.new)) }
+    ensures { IfOk result (Placed (slice_get places.now first)
+        (groups_of groups.old) (groups_of groups.new)) }
 {
     if let Some(place) = places.get(first) {
         return Ok(*place);
@@ -28,7 +29,8 @@ fn place_of(
 /// Puts a name behind those of a group.
 fn put(groups: &mut Vec<Vec<RcStr>>, place: usize, name: &RcStr) -> Result<(), AllocError>
     requires { place < length groups.old.items }
-    ensures { OnOk result (groups_of groups.new ≡ grown (groups_of groups.old) place (rc_str_bytes name.now)) }
+    ensures { OnOk result (
+        groups_of groups.new ≡ grown (groups_of groups.old) place (rc_str_bytes name.now)) }
 {
     let name = name.clone()?;
     groups[place].push(name)?;
@@ -43,7 +45,8 @@ pub(crate) fn gathered(
 ) -> Result<Vec<Vec<RcStr>>, AllocError>
     requires many { length classes.old ≡ length of.now }
     requires firsts { AreFirsts classes.old }
-    ensures { IfOk result (λ v. groups_of v ≡ by_class classes.old (map rc_str_bytes of.now) (length of.now)) }
+    ensures { IfOk result (λ v.
+        groups_of v ≡ by_class classes.old (map rc_str_bytes of.now) (length of.now)) }
 {
     let mut groups = Vec::new(alloc);
     let mut places = Vec::new(alloc);

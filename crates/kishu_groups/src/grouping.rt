@@ -1,9 +1,8 @@
 ghost use Rattle.std.specs.Prelude.{IsTrue, IfOk, length, map};
 ghost use Rattle.std.specs.Rc.{rc_str_bytes};
 ghost use Rattle.kishu_meaning.specs.values.Sound.{are_sound_names};
-ghost use Rattle.kishu_heap.specs.Costs.{Reads};
 ghost use Rattle.kishu_objects.specs.Lists.{Rise};
-ghost use Rattle.kishu_groups.specs.Held.{AreGroups, held, node_count};
+ghost use Rattle.kishu_groups.specs.Held.{AreGroups, held, ReadsNodes};
 
 use crate::gathering::gathered;
 use crate::walk::classified;
@@ -19,8 +18,8 @@ use std::sync::ledger::Ledger;
 /// plain value is a group by itself, and so is one that isn't bound.
 ///
 /// The names of `of` stand in byte order, each once. So do the names of each group, and the groups
-/// by their first names. Each node that the names reach takes one step of the counter, and no other
-/// is looked at. An error says that no memory is left.
+/// by their first names. The counter takes at most as many steps as there are nodes that the names
+/// reach. An error says that no memory is left.
 pub fn groups<L: Ledger>(
     alloc: Global,
     heap: &Heap,
@@ -31,7 +30,7 @@ pub fn groups<L: Ledger>(
     requires sound { IsTrue (are_sound_names (length heap.now) names.now.bound) }
     requires order { Rise (map rc_str_bytes of.now) }
     ensures groups { IfOk result (AreGroups (held heap.now names.now) (map rc_str_bytes of.now)) }
-    ensures reads { Reads (node_count (held heap.now names.now) (map rc_str_bytes of.now)) steps.old steps.new }
+    ensures reads { ReadsNodes (held heap.now names.now) (map rc_str_bytes of.now) steps.old steps.new }
 {
     let mut classes = classified(alloc, heap, names, of, steps)?;
     gathered(alloc, of, &mut classes)

@@ -96,7 +96,8 @@ impl Marks {
     ) -> Result<(), AllocError>
         requires marks { AreMarks (marks_of self.old) }
         requires label { label < length self.old.classes }
-        ensures noted { OnOk result (Notes label (numbers (entry_values entries.now.entries)) self.old self.new) }
+        ensures noted { OnOk result (
+            Notes label (numbers (entry_values entries.now.entries)) self.old self.new) }
         ensures kept { OnOk result (Keeps self.old self.new) }
     {
         for i in 0..entries.len() {
@@ -115,7 +116,8 @@ impl Marks {
     ) -> Result<(), AllocError>
         requires marks { AreMarks (marks_of self.old) }
         requires label { label < length self.old.classes }
-        ensures noted { OnOk result (Notes label (numbers (attr_values attributes.now.entries)) self.old self.new) }
+        ensures noted { OnOk result (
+            Notes label (numbers (attr_values attributes.now.entries)) self.old self.new) }
         ensures kept { OnOk result (Keeps self.old self.new) }
     {
         for i in 0..attributes.len() {

@@ -2,9 +2,8 @@
 ghost use Rattle.std.specs.Prelude.{◌≡◌, ◌<◌, IsTrue, IfOk, OnOk, length, map};
 ghost use Rattle.std.specs.Rc.{rc_str_bytes};
 ghost use Rattle.kishu_meaning.specs.values.Sound.{are_sound_names, is_sound_heap};
-ghost use Rattle.kishu_heap.specs.Costs.{Reads};
 ghost use Rattle.kishu_objects.specs.Lists.{Rise};
-ghost use Rattle.kishu_groups.specs.Held.{held, node_count};
+ghost use Rattle.kishu_groups.specs.Held.{held, ReadsNodes};
 ghost use Rattle.kishu_groups.specs.Marks.{AreMarks, Keeps, Notes, NotesNames, marks_of, nodes_under};
 ghost use Rattle.kishu_groups.specs.Gathering.{Classifies};
 
@@ -56,7 +55,7 @@ pub(crate) fn classified<L: Ledger>(
     requires order { Rise (map rc_str_bytes of.now) }
     ensures classes { IfOk result (Classifies (held heap.now names.now) (map rc_str_bytes of.now)) }
     ensures sound { OnOk result (IsTrue (is_sound_heap heap.now)) }
-    ensures reads { Reads (node_count (held heap.now names.now) (map rc_str_bytes of.now)) steps.old steps.new }
+    ensures reads { ReadsNodes (held heap.now names.now) (map rc_str_bytes of.now) steps.old steps.new }
 {
     let mut marks = Marks::new(alloc, of.len())?;
     note_names(&mut marks, names, of)?;
