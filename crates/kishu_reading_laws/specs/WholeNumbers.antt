@@ -4,26 +4,8 @@ use Rattle.std.specs.Int.{w64, w128, to_be_bytes, from_be_bytes, cast_unsigned, 
 use Rattle.std.proofs.Common.{◌∙◌, ap, arith}
 use Rattle.std.proofs.lemmas.Nat.{be_bytes_8, from_be_bytes-to_be_bytes_8}
 use Rattle.std.proofs.lemmas.Int.{of_z-to_z}
+use Rattle.kishu_bytes_laws.specs.NumberLaws.{halves}
 use mir.ValLaws as laws
-
-pub halves : (n : ℕ) → to_be_bytes w128 n ≡ to_be_bytes w64 (n / 18446744073709551616) ++ to_be_bytes w64 (n % 18446744073709551616)
-halves n =
-    let h7 : n / 1329227995784915872903807060280344576 % 256 ≡ n / 18446744073709551616 / 72057594037927936 % 256 = omega arith in
-    let h6 : n / 5192296858534827628530496329220096 % 256 ≡ n / 18446744073709551616 / 281474976710656 % 256 = omega arith in
-    let h5 : n / 20282409603651670423947251286016 % 256 ≡ n / 18446744073709551616 / 1099511627776 % 256 = omega arith in
-    let h4 : n / 79228162514264337593543950336 % 256 ≡ n / 18446744073709551616 / 4294967296 % 256 = omega arith in
-    let h3 : n / 309485009821345068724781056 % 256 ≡ n / 18446744073709551616 / 16777216 % 256 = omega arith in
-    let h2 : n / 1208925819614629174706176 % 256 ≡ n / 18446744073709551616 / 65536 % 256 = omega arith in
-    let h1 : n / 4722366482869645213696 % 256 ≡ n / 18446744073709551616 / 256 % 256 = omega arith in
-    let l7 : n / 72057594037927936 % 256 ≡ n % 18446744073709551616 / 72057594037927936 % 256 = omega arith in
-    let l6 : n / 281474976710656 % 256 ≡ n % 18446744073709551616 / 281474976710656 % 256 = omega arith in
-    let l5 : n / 1099511627776 % 256 ≡ n % 18446744073709551616 / 1099511627776 % 256 = omega arith in
-    let l4 : n / 4294967296 % 256 ≡ n % 18446744073709551616 / 4294967296 % 256 = omega arith in
-    let l3 : n / 16777216 % 256 ≡ n % 18446744073709551616 / 16777216 % 256 = omega arith in
-    let l2 : n / 65536 % 256 ≡ n % 18446744073709551616 / 65536 % 256 = omega arith in
-    let l1 : n / 256 % 256 ≡ n % 18446744073709551616 / 256 % 256 = omega arith in
-    let l0 : n % 256 ≡ n % 18446744073709551616 % 256 = omega arith in
-    cc
 
 joined : (a b c d e f g h i j k l m n o p high low all : ℕ)
     → a * 72057594037927936 + b * 281474976710656 + c * 1099511627776 + d * 4294967296 + e * 16777216 + f * 65536 + g * 256 + h ≡ high
