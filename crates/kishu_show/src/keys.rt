@@ -73,7 +73,9 @@ fn tuple_text(alloc: Global, parts: &[KeyPart]) -> Result<String, AllocError>
 }
 
 /// The text of a key, which is the repr of the value that it stands for.
-pub(crate) fn key_text(alloc: Global, key: &Key) -> Result<String, AllocError>
+///
+/// Errors: `AllocError`, where there was no memory.
+pub fn key_text(alloc: Global, key: &Key) -> Result<String, AllocError>
     ensures { IfOk result (λ s. chars (string_bytes s) ≡ key_text (key_of key.now)) }
 {
     match key {

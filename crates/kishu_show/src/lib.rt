@@ -17,5 +17,7 @@ mod reprs;
 mod shows;
 
 pub use fault::ShowFault;
+pub use keys::key_text;
+pub use plain::plain_text;
 pub use reprs::repr_of;
 pub use shows::show;

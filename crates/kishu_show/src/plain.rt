@@ -106,7 +106,9 @@ fn class_text(alloc: Global, class: ClassId) -> Result<String, AllocError>
 
 /// The repr of a value that has no node (Library Reference, "Built-in Functions": repr). A node's
 /// text isn't known from its number: it is empty here.
-pub(crate) fn plain_text(alloc: Global, value: &Value) -> Result<String, AllocError>
+///
+/// Errors: `AllocError`, where there was no memory.
+pub fn plain_text(alloc: Global, value: &Value) -> Result<String, AllocError>
     ensures { IfOk result (λ s. chars (string_bytes s) ≡ repr_text (value_of value.now)) }
 {
     match value {
