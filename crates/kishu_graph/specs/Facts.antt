@@ -6,7 +6,7 @@ use Rattle.std.specs.declared.alloc.Global.{Global}
 use Rattle.std.specs.declared.rc.RcStr.{RcStr}
 use Rattle.kishu_language.specs.declared.profile.Profile.{Profile}
 use Rattle.kishu_store.specs.Branches.{with_branch_at}
-use Rattle.kishu_store.specs.CommitLines.{line_in}
+use Rattle.kishu_store.specs.CommitLines.{first_line, first_characters, longest_line, line_in}
 use Rattle.kishu_store.specs.Graph.{Graph, Commit, Target, back_in, moved_with, with_commit}
 use Rattle.kishu_graph.specs.declared.commits.Commit as rust
 use Rattle.kishu_graph.specs.declared.fault.GraphFault.{GraphFault}
@@ -31,6 +31,10 @@ below n most = if nat_lt n most then Some n else None
 -- where a branch begins, by the text that may say so
 abbrev pub start_from : Option (Bor (List ℕ)) → Graph → Option ℕ
 start_from at g = start_of (option_map (λ text. text.now) at) g
+
+-- the line of a commit whose first cell is this text
+abbrev pub line_of_text : List ℕ → List ℕ
+line_of_text text = first_characters longest_line (first_line text)
 
 -- ---- the way back
 

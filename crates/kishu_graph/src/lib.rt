@@ -19,4 +19,4 @@ mod tests;
 pub use fault::GraphFault;
 pub use graph::Graph;
 pub use kishu_store::Target;
-pub use lines::line_of;
+pub use lines::{line_of, shared_line_of};

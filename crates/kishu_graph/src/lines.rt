@@ -4,7 +4,8 @@ ghost use Rattle.std.specs.Rc.{rc_str_bytes};
 ghost use Rattle.std.specs.Str.{IsCharBoundary};
 ghost use Rattle.kishu_language.specs.tokens.Lines.{line_feed};
 ghost use Rattle.kishu_language.specs.tokens.PlainLines.{carriage_return};
-ghost use Rattle.kishu_store.specs.CommitLines.{first_line, first_characters, longest_line, goes_on};
+ghost use Rattle.kishu_store.specs.CommitLines.{goes_on};
+ghost use Rattle.kishu_graph.specs.Facts.{line_of_text};
 
 use std::alloc::{AllocError, Global};
 use std::rc::RcStr;
@@ -27,7 +28,7 @@ fn goes_on(byte: u8) -> bool
 
 /// How many bytes of a text its line has.
 fn line_length(text: &[u8]) -> usize
-    ensures line { take result text.now ≡ first_characters longest_line (first_line text.now) }
+    ensures line { take result text.now ≡ line_of_text text.now }
     ensures whole { IsCharBoundary text.now result }
 {
     let mut left = LONGEST_LINE;
@@ -49,8 +50,20 @@ fn line_length(text: &[u8]) -> usize
 /// The line of a commit whose first cell is this text: up to its first line feed or carriage return, cut
 /// to 60 characters. An error says that no memory is left.
 pub fn line_of(alloc: Global, text: &str) -> Result<RcStr, AllocError>
-    ensures { IfOk result (λ line. rc_str_bytes line ≡ first_characters longest_line (first_line text.now)) }
+    ensures { IfOk result (λ line. rc_str_bytes line ≡ line_of_text text.now) }
 {
     let (line, _) = text.split_at(line_length(text.as_bytes()));
     RcStr::from_str(alloc, line)
+}
+
+/// The line of a commit whose first cell is this text, as `line_of` gives it. Where the text is its own
+/// line, the two are shared. An error says that no memory is left.
+pub fn shared_line_of(alloc: Global, text: &RcStr) -> Result<RcStr, AllocError>
+    ensures { IfOk result (λ line. rc_str_bytes line ≡ line_of_text (rc_str_bytes text.now)) }
+{
+    let bytes = text.as_str().as_bytes();
+    if line_length(bytes) == bytes.len() {
+        return Ok(text.clone()?);
+    }
+    line_of(alloc, text.as_str())
 }
