@@ -8,7 +8,7 @@ ghost use Rattle.kishu_record.specs.Entries.{entry_of};
 ghost use Rattle.kishu_journal.specs.Following.{GoOn, GainsCommit, IsFull, FitsNot};
 
 use crate::Entry;
-use kishu_graph::{Graph, GraphFault, line_of};
+use kishu_graph::{Graph, GraphFault, shared_line_of};
 use kishu_language::Profile;
 use kishu_record::MoveTo;
 use std::alloc::{AllocError, Global};
@@ -39,7 +39,7 @@ fn add_commit(
     ensures refused { result ≡ Ok false → IsFull graph.old }
     ensures stays { result ≡ Ok false → graph.new ≡ graph.old }
 {
-    let line = line_of(alloc, cells[0].as_str())?;
+    let line = shared_line_of(alloc, &cells[0])?;
     is_made(graph.add_commit(profile, cells.len() as u32, line))
 }
 

@@ -11,7 +11,7 @@ returns-clause-made c made g s =
     let cells = c.args.cells.now in
     let texts = map rc_str_bytes cells in
     let count : length texts ≡ length cells = length-map cells rc_str_bytes in
-    let text : rc_str_bytes (get_or cells 0 c.index-cells-0.result) ≡ c.as_str.result.now = ap rc_str_bytes (sym c.index-cells-0.is) ∙ sym c.as_str.ensures.value in
+    let text : rc_str_bytes (get_or cells 0 c.index-cells-0.result) ≡ rc_str_bytes c.index-cells-0.result = ap rc_str_bytes (sym c.index-cells-0.is) in
     let line : line_in texts ≡ rc_str_bytes c.in_ok-line.line =
     line-first cells c.index-cells-0.result c.requires.some ∙ ap (λ (t : List ℕ). first_characters longest_line (first_line t)) text ∙ sym c.in_ok-line.ensures in
     added c.args.graph.now c.add_commit.new.self c.add_commit.result c.args.profile texts _ _ (c.is_made.ensures.made made) a.room a.stands count line g s
