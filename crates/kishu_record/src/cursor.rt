@@ -3,8 +3,9 @@ ghost use Rattle.std.specs.Rc.{rc_str_bytes};
 ghost use Rattle.kishu_bytes.specs.Numbers.{four};
 ghost use Rattle.kishu_store.specs.EntryBytes.{eight, text_bytes, name_bytes, many};
 ghost use Rattle.kishu_store.specs.Rules.{IsCell, AreCells, IsTitle};
-ghost use Rattle.kishu_record.specs.Entries.{texts_of};
+ghost use Rattle.kishu_record.specs.Entries.{texts_of, cell_bytes, cell_list_bytes, title_bytes};
 ghost use Rattle.kishu_record.specs.Readings.{Begins};
+ghost use Rattle.kishu_record.specs.Took.{Took};
 
 use kishu_language::LONGEST_TEXT;
 use std::alloc::{AllocError, Global};
@@ -73,7 +74,7 @@ impl<'a> Cursor<'a> {
 
     /// The next cell's text, or none where no such text follows.
     fn text(&mut self, alloc: Global) -> Result<Option<RcStr>, AllocError>
-        ensures found { IfOk result (λ o. IfSome o (λ t. self.old.rest.now ≡ text_bytes (rc_str_bytes t) ++ self.new.rest.now)) }
+        ensures found { IfOk result (λ o. IfSome o (λ t. Took self.old (cell_bytes t) self.new)) }
         ensures fits { IfOk result (λ o. IfSome o (λ t. IsCell (rc_str_bytes t))) }
         ensures none { result ≡ Ok None → Begins text_bytes IsCell self.old.rest.now → ⊥ }
     {
@@ -96,14 +97,15 @@ impl<'a> Cursor<'a> {
     /// The texts of the next cells behind their number, or none where no such texts follow.
     pub(crate) fn texts(&mut self, alloc: Global) -> Result<Option<Vec<RcStr>>, AllocError>
         requires { length self.old.rest.now < 2 ^ 32 }
-        ensures found { IfOk result (λ o. IfSome o (λ v. self.old.rest.now ≡ many text_bytes (texts_of v) ++ self.new.rest.now)) }
+        ensures found { IfOk result (λ o. IfSome o (λ v. Took self.old (cell_list_bytes v) self.new)) }
         ensures fit { IfOk result (λ o. IfSome o (λ v. AreCells (texts_of v))) }
         ensures none { result ≡ Ok None → Begins (many text_bytes) AreCells self.old.rest.now → ⊥ }
     {
         let Some(count) = self.number() else {
             return Ok(None);
         };
-        let mut texts = Vec::new(alloc);
+        // Most commits have one cell.
+        let mut texts = Vec::with_capacity(alloc, 1)?;
         for _ in 0..count {
             let Some(text) = self.text(alloc)? else {
                 return Ok(None);
@@ -115,7 +117,7 @@ impl<'a> Cursor<'a> {
 
     /// The next name of a branch, or none where no text of at most 255 bytes follows.
     pub(crate) fn title(&mut self, alloc: Global) -> Result<Option<RcStr>, AllocError>
-        ensures found { IfOk result (λ o. IfSome o (λ t. self.old.rest.now ≡ name_bytes (rc_str_bytes t) ++ self.new.rest.now)) }
+        ensures found { IfOk result (λ o. IfSome o (λ t. Took self.old (title_bytes t) self.new)) }
         ensures fits { IfOk result (λ o. IfSome o (λ t. IsTitle (rc_str_bytes t))) }
         ensures none { result ≡ Ok None → Begins name_bytes IsTitle self.old.rest.now → ⊥ }
     {

@@ -1,11 +1,11 @@
 // The parts of a head. Numbers stand with their highest byte first.
-ghost use Rattle.std.specs.Prelude.{◌≡◌, ◌<◌, ◌≤◌, ◌^◌, ◌++◌, length, map, flat_map, OnOk};
+ghost use Rattle.std.specs.Prelude.{◌≡◌, ◌<◌, ◌≤◌, ◌^◌, ◌++◌, length, OnOk};
 ghost use Rattle.std.specs.Rc.{rc_str_bytes};
 ghost use Rattle.kishu_bytes.specs.Numbers.{four};
 ghost use Rattle.kishu_store.specs.EntryBytes.{eight, text_bytes, name_bytes, many, group_bytes, stored_bytes};
 ghost use Rattle.kishu_store.specs.Groups.{IsGroup, IsStored};
 ghost use Rattle.std.specs.List.{AllByRecursion};
-ghost use Rattle.kishu_record.specs.Entries.{texts_of, groups_of, all_stored_of};
+ghost use Rattle.kishu_record.specs.Entries.{texts_of, groups_of, all_stored_of, all_bytes};
 
 use std::alloc::AllocError;
 use std::rc::RcStr;
@@ -91,7 +91,7 @@ pub(crate) fn put_stored(
 
 /// Appends pictures, one behind another.
 pub(crate) fn put_pictures(out: &mut Vec<u8>, pictures: &[Vec<u8>]) -> Result<(), AllocError>
-    ensures { OnOk result (out.new.items ≡ out.old.items ++ flat_map (λ p. p) (map (λ p. p.items) pictures.now)) }
+    ensures { OnOk result (out.new.items ≡ out.old.items ++ all_bytes pictures.now) }
 {
     for picture in pictures {
         out.extend_from_slice(picture)?;

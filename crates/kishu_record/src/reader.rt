@@ -8,7 +8,7 @@ ghost use Rattle.kishu_store.specs.Entries.{lengths_in, move};
 ghost use Rattle.kishu_store.specs.EntryBytes.{head_of};
 ghost use Rattle.kishu_store.specs.Rules.{KeepsRules, IsEntry};
 ghost use Rattle.kishu_record.specs.Entries.{entry_of, move_of as goal_in};
-ghost use Rattle.kishu_record.specs.Readings.{IsHead};
+ghost use Rattle.kishu_record.specs.Readings.{IsHead, LacksProfile};
 ghost use Rattle.kishu_record.specs.declared.entry.EntryFault.TheVariants.{NoEntry};
 
 use crate::cursor::Cursor;
@@ -22,7 +22,7 @@ use std::rc::RcStr;
 fn profile(cursor: &mut Cursor) -> Option<Profile>
     ensures found { IfSome result (λ p. cursor.old.rest.now ≡ profile_number p ∷ cursor.new.rest.now) }
     ensures known { IfSome result (λ p. p ≡ newest_profile) }
-    ensures none { result ≡ None → (rest : List ℕ) → cursor.old.rest.now ≡ profile_number newest_profile ∷ rest → ⊥ }
+    ensures none { result ≡ None → LacksProfile cursor.old.rest.now }
 {
     match cursor.byte()? {
         1 => Some(Profile::One),

@@ -1,10 +1,10 @@
-ghost use Rattle.std.specs.Prelude.{◌≡◌, ◌<◌, ◌≤◌, ◌^◌, ◌++◌, ◌∷◌, [], length, map, flat_map, IfOk, OnOk};
+ghost use Rattle.std.specs.Prelude.{◌≡◌, ◌<◌, ◌≤◌, ◌^◌, ◌++◌, length, IfOk};
 ghost use Rattle.std.specs.Rc.{rc_str_bytes};
-ghost use Rattle.kishu_bytes.specs.Numbers.{four, profile_number};
-ghost use Rattle.kishu_store.specs.Entries.{commit, move, name};
+ghost use Rattle.kishu_bytes.specs.Numbers.{profile_number};
+ghost use Rattle.kishu_store.specs.Entries.{move, name};
 ghost use Rattle.kishu_store.specs.EntryBytes.{head_of, body_of};
 ghost use Rattle.kishu_store.specs.Rules.{IsEntry, IsTitle};
-ghost use Rattle.kishu_record.specs.Entries.{entry_of, record_of, move_of, texts_of, groups_of, all_stored_of};
+ghost use Rattle.kishu_record.specs.Entries.{entry_of, record_of, move_of, behind_length, commit_with, commit_head};
 
 use crate::entry::{Entry, MoveTo};
 use crate::parts::{put_groups, put_name, put_number, put_pictures, put_stored, put_texts};
@@ -31,7 +31,7 @@ pub fn encode(alloc: Global, entry: &Entry, pictures: &[Vec<u8>]) -> Result<Vec<
 /// What the record says, behind its length.
 fn headed(alloc: Global, entry: &Entry) -> Result<Vec<u8>, AllocError>
     requires { IsEntry (entry_of entry.now) }
-    ensures { IfOk result (λ v. v.items ≡ four (length (head_of (entry_of entry.now))) ++ head_of (entry_of entry.now)) }
+    ensures { IfOk result (λ v. v.items ≡ behind_length (head_of (entry_of entry.now))) }
 {
     let head = head_bytes(alloc, entry)?;
     let mut body = Vec::new(alloc);
@@ -68,8 +68,8 @@ fn commit_head(
     dropped: &Vec<Vec<RcStr>>,
     stored: &Vec<(Vec<RcStr>, u64)>,
 ) -> Result<Vec<u8>, AllocError>
-    requires { IsEntry (commit parent profile (texts_of cells.now) (groups_of dropped.now) (all_stored_of stored.now)) }
-    ensures { IfOk result (λ v. v.items ≡ head_of (commit parent profile (texts_of cells.now) (groups_of dropped.now) (all_stored_of stored.now))) }
+    requires { IsEntry (commit_with parent profile cells.now dropped.now stored.now) }
+    ensures { IfOk result (λ v. v.items ≡ commit_head parent profile cells.now dropped.now stored.now) }
 {
     let mut head = Vec::new(alloc);
     head.push(COMMIT)?;
