@@ -1,5 +1,5 @@
 // The graph after some calls, and what it refuses.
-use crate::{Graph, GraphFault, line_of};
+use crate::{Graph, GraphFault, line_of, shared_line_of};
 use kishu_language::Profile;
 use std::alloc::{AllocError, Global};
 use std::rc::RcStr;
@@ -199,6 +199,8 @@ fn lines_of_cells(rt: HostRuntime) -> Result<(), Fail> {
     ];
     for (text, wanted) in rows {
         assert_eq!(rt; line_of(alloc, text)?.as_str(), wanted, "{text}");
+        let shared = shared_line_of(alloc, &line(alloc, text)?)?;
+        assert_eq!(rt; shared.as_str(), wanted, "{text}");
     }
     Ok(())
 }
