@@ -70,6 +70,7 @@ fn next_record<H: Host>(
     ensures record { IfOk result (λ o. IfSome o (λ r. RecordAt (H.state host.old) at r.0)) }
     ensures rules { IfOk result (λ o. IfSome o (λ r. IsRecord (plain (entry_of r.0)))) }
     ensures made { IfOk result (λ o. IfSome o (λ r. GoOn graph.old r.0 graph.new)) }
+    ensures stays { result ≡ Ok None → graph.new ≡ graph.old }
     ensures size { IfOk result (λ o. IfSome o (λ r. r.1 ≡ length (body_of (plain (entry_of r.0))))) }
     ensures within { IfOk result (λ o. IfSome o (λ r. at + before_body + r.1 < len)) }
     ensures closed { result ≡ Ok None → Told (H.state host.old) (IsShut (H.state host.old).file at) }
@@ -129,6 +130,29 @@ fn is_header(head: &[u8]) -> bool
     head == HEADER.as_slice()
 }
 
+/// Reads the header of a file of this length.
+fn read_header<H: Host>(host: &mut H, len: u64) -> Result<(), JournalFault>
+    requires len { Told (H.state host.old) (len ≡ length (H.state host.old).file) }
+    requires long { fresh_length < len }
+    ensures quiet { IsQuiet (H.state host.old) (H.state host.new) }
+    ensures head { OnOk result (Told (H.state host.old) (take 16 (H.state host.old).file ≡ header)) }
+    ensures foreign { IsErrOf result NotAJournal → WasForeign (H.state host.old) }
+    ensures not_damaged { (at : ℕ) → IsErrOf result (Damaged at) → ⊥ }
+    ensures disk_fault { IsErrOf result DiskFault → DiskRises (H.state host.old) (H.state host.new) }
+    ensures reads { ReadsAtMost (H.state host.old).reads (H.state host.new).reads 16 }
+{
+    let mut head = [0; 16];
+    match read_exact(host, 0, &mut head) {
+        Ok(true) => {}
+        Ok(false) => return Err(JournalFault::NotAJournal),
+        Err(Failed) => return Err(JournalFault::DiskFault),
+    }
+    if !is_header(&head) {
+        return Err(JournalFault::NotAJournal);
+    }
+    Ok(())
+}
+
 /// Reads a file of this length, which is too long to be begun anew.
 fn read_store<H: Host>(
     alloc: Global,
@@ -144,15 +168,7 @@ fn read_store<H: Host>(
     ensures disk_fault { IsErrOf result DiskFault → DiskRises (H.state host.old) (H.state host.new) }
     ensures reads { ReadsAtMost (H.state host.old).reads (H.state host.new).reads len }
 {
-    let mut head = [0; 16];
-    match read_exact(host, 0, &mut head) {
-        Ok(true) => {}
-        Ok(false) => return Err(JournalFault::NotAJournal),
-        Err(Failed) => return Err(JournalFault::DiskFault),
-    }
-    if !is_header(&head) {
-        return Err(JournalFault::NotAJournal);
-    }
+    read_header(host, len)?;
     read_records(alloc, host, len)
 }
 

@@ -2,7 +2,7 @@ use Rattle.std.proofs.Common.{◌∙◌, ap, take, List, ℕ, arith}
 use Rattle.std.proofs.lemmas.List.{take_at}
 use Rattle.kishu_store.specs.Holds.{header}
 use Rattle.kishu_store_laws.specs.Laws.{length-header}
-use Rattle.kishu_journal.proofs.opening.read_store.Goals as goal
+use Rattle.kishu_journal.proofs.opening.read_header.Goals as goal
 
 pub returns-then-not-is_header-clause-foreign : goal.returns-then-not-is_header-clause-foreign
 returns-then-not-is_header-clause-foreign g c err told =
