@@ -14,3 +14,4 @@ mod Cuts
 mod Appending
 mod OneSum
 mod WindowLemmas
+mod Stored

@@ -3,7 +3,7 @@ use Rattle.std.specs.Prelude.{◌≡◌, ◌≢◌, ◌<◌, ◌≤◌, ℕ, ◌
 use Rattle.kishu_bytes.specs.Numbers.{four}
 use Rattle.kishu_record.specs.declared.entry.Entry as program
 use Rattle.kishu_record.specs.Entries.{entry_of}
-use Rattle.kishu_store.specs.Entries.{Entry, Record}
+use Rattle.kishu_store.specs.Entries.{Entry, Record, commit, move, name}
 use Rattle.kishu_store.specs.EntryBytes.{body_of}
 use Rattle.kishu_store.specs.Fitting.{Fits, changed}
 use Rattle.kishu_store.specs.Graph.{Graph}
@@ -15,6 +15,13 @@ use Rattle.kishu_journal.specs.Stands.{with_record}
 -- what was found, without the places
 abbrev pub entries_of : List (ℕ × program.Entry) → List Entry
 entries_of found = map (λ p. entry_of p.1) found
+
+-- the cells of the commits that records tell, by the commits' numbers from 1 on
+abbrev pub cells_in : List Entry → List (List (List ℕ))
+cells_in [] = []
+cells_in (commit parent profile cells dropped stored ∷ es) = cells ∷ cells_in es
+cells_in (move to ∷ es) = cells_in es
+cells_in (name title number ∷ es) = cells_in es
 
 -- between a gate and the body of the record behind it: the gate and eight bytes
 abbrev pub before_body : ℕ

@@ -6,3 +6,4 @@ pub mod Going
 pub mod Opened
 pub mod Facts
 pub mod Windows
+pub mod Stores

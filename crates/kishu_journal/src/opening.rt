@@ -33,7 +33,7 @@ const FRESH: [u8; 17] = *b"KISHU-JOURNAL-1\n\0";
 
 /// Begins a short file anew.
 #[tactic(auto, unfolding(kishu_store::specs::Holds::header))]
-fn begin<H: Host>(host: &mut H) -> Result<(), Failed>
+pub(crate) fn begin<H: Host>(host: &mut H) -> Result<(), Failed>
     requires { Told (H.state host.old) (length (H.state host.old).file ≤ fresh_length) }
     ensures fresh { OnOk result (Told (H.state host.old) ((H.state host.new).file ≡ fresh)) }
     ensures durable { OnOk result (IsDurable (H.state host.old) (H.state host.new)) }
@@ -52,7 +52,7 @@ fn begin<H: Host>(host: &mut H) -> Result<(), Failed>
 }
 
 /// What the record behind the gate at a place says, and its body's length. The graph is changed by it.
-fn next_record<H: Host>(
+pub(crate) fn next_record<H: Host>(
     alloc: Global,
     host: &mut H,
     window: &mut Window,
@@ -131,7 +131,7 @@ fn is_header(head: &[u8]) -> bool
 }
 
 /// Reads the header of a file of this length.
-fn read_header<H: Host>(host: &mut H, len: u64) -> Result<(), JournalFault>
+pub(crate) fn read_header<H: Host>(host: &mut H, len: u64) -> Result<(), JournalFault>
     requires len { Told (H.state host.old) (len ≡ length (H.state host.old).file) }
     requires long { fresh_length < len }
     ensures quiet { IsQuiet (H.state host.old) (H.state host.new) }

@@ -133,6 +133,22 @@ fn opens_stores(rt: HostRuntime) -> Result<(), Fail> {
 }
 
 #[test]
+fn opens_stores_with_their_graphs(rt: HostRuntime) -> Result<(), Fail> {
+    let alloc = rt.alloc();
+    for case in &CASES {
+        let name = case.name;
+        let mut host = host_with(alloc, case.file)?;
+        let answer = match Journal::open_store(alloc, &mut host) {
+            Ok(store) => Ok(store.graph.records() as usize),
+            Err(fault) => Err(fault),
+        };
+        assert_eq!(rt; answer, case.answer, "{name}");
+        assert_eq!(rt; host.file(), case.after, "{name}");
+    }
+    Ok(())
+}
+
+#[test]
 fn answers_a_record_with_its_place(rt: HostRuntime) -> Result<(), Fail> {
     let alloc = rt.alloc();
     let mut host = host_with(alloc, &STORE)?;
@@ -324,6 +340,22 @@ fn makes_the_graph_of_records(rt: HostRuntime) -> Result<(), Fail> {
     assert_eq!(rt; branches[0].1, 3);
     assert_eq!(rt; branches[1].0.as_str(), "try");
     assert_eq!(rt; branches[1].1, 2);
+    Ok(())
+}
+
+#[test]
+fn answers_the_cells_of_commits(rt: HostRuntime) -> Result<(), Fail> {
+    let alloc = rt.alloc();
+    let bodies = [&BODY, TO_ROOT, TRY, FIRST];
+    let mut host = host_with(alloc, &store_of(alloc, &bodies)?)?;
+    let store = Journal::open_store(alloc, &mut host).expect(&rt, "it opens");
+    assert!(rt; !store.journal.is_closed());
+    assert_eq!(rt; store.graph.commits(), 3);
+    assert_eq!(rt; store.graph.head().commit, 2);
+    assert_eq!(rt; store.cells.len(), 2);
+    assert_eq!(rt; store.cells[0].len(), 1);
+    assert_eq!(rt; store.cells[0][0].as_str(), "print(1 + 2)");
+    assert_eq!(rt; store.cells[1][0].as_str(), "a");
     Ok(())
 }
 

@@ -1,0 +1,22 @@
+use Rattle.std.proofs.Common.{◌<◌, ◌≤◌, ◌-◌}
+use Rattle.kishu_journal.specs.Going.{IsQuiet, ReadsAtMost}
+use Rattle.kishu_journal.specs.Windows.{Shows, end_of}
+use Rattle.kishu_journal.proofs.Stored.{ReachedStore}
+use Rattle.kishu_journal.proofs.open_store.read_graph.Given as goal
+
+abbrev pub invariant-loop-cells : goal.invariant-loop-cells
+invariant-loop-cells g l =
+    let st = g.H.Host.state in
+    record {
+      inside : l.at < l.len;
+      quiet : IsQuiet (st l.fn.host) (st l.host);
+      shows : Shows (st l.host) l.window;
+      from : l.window.from ≤ l.at;
+      most : end_of l.window ≤ l.len;
+      least : 16 ≤ end_of l.window;
+      reads : ReadsAtMost (st l.fn.host).reads (st l.host).reads (end_of l.window - 16);
+      reached : ReachedStore (st l.fn.host) l.cells l.at l.graph;
+    }
+
+abbrev pub decreases-loop-cells : goal.decreases-loop-cells
+decreases-loop-cells g l = l.len - l.at

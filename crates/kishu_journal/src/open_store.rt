@@ -1,0 +1,160 @@
+// The opening of a store whose graph is made while its records are read.
+ghost use Rattle.std.specs.Prelude.{◌≡◌, ◌≤◌, ◌<◌, ◌⊎◌, ◌-◌, ◌^◌, ℕ, length, take, false, IfOk, OnOk, IsErrOf};
+ghost use Rattle.kishu_host.specs.Host.{Told};
+ghost use Rattle.kishu_store.specs.Holds.{header, fresh_length};
+ghost use Rattle.kishu_journal.specs.Facts.{DiskRises, FailsBy, FailsOutside, WasForeign, WasBroken, WhereForeign, WhereBroken, WhereGood};
+ghost use Rattle.kishu_journal.specs.Facts.{IsDurable, KeepsLong, StaysShort, BeginsShort, Settles, StopsAtOpening, ReadsFile};
+ghost use Rattle.kishu_journal.specs.Going.{IsQuiet, ReadsAtMost};
+ghost use Rattle.kishu_journal.specs.Stores.{GainsCells, IsRead, Opens};
+ghost use Rattle.kishu_journal.specs.declared.journal.JournalFault.TheVariants.{DiskFault, NotAJournal, Damaged};
+
+use crate::opening::{begin, next_record, read_header};
+use crate::read::settle;
+use crate::window::Window;
+use crate::{Entry, Journal, JournalFault};
+use kishu_graph::Graph;
+use kishu_host::Host;
+use std::alloc::{AllocError, Global};
+use std::rc::RcStr;
+
+/// A store that is open.
+#[derive(Drop)]
+pub struct OpenStore {
+    /// Where the records end.
+    pub journal: Journal,
+    /// The graph to which they lead.
+    pub graph: Graph,
+    /// The texts of the cells of each commit, by the commits' numbers from 1 on.
+    pub cells: Vec<Vec<RcStr>>,
+}
+
+/// Puts the cells of the commit that an entry tells, if it tells one, behind these.
+fn keep_cells(cells: &mut Vec<Vec<RcStr>>, entry: Entry) -> Result<(), AllocError>
+    ensures { OnOk result (GainsCells cells.old cells.new entry) }
+{
+    match entry {
+        Entry::Commit { cells: texts, .. } => {
+            cells.push(texts)?;
+            Ok(())
+        }
+        Entry::Move { .. } => Ok(()),
+        Entry::Name { .. } => Ok(()),
+    }
+}
+
+/// Reads the records of a file of this length: the graph to which they lead, the cells of its commits, and
+/// the place of the closed gate behind them.
+fn read_graph<H: Host>(
+    alloc: Global,
+    host: &mut H,
+    len: u64,
+) -> Result<(Graph, Vec<Vec<RcStr>>, u64), JournalFault>
+    requires len { Told (H.state host.old) (len ≡ length (H.state host.old).file) }
+    requires long { fresh_length < len }
+    requires header { Told (H.state host.old) (take 16 (H.state host.old).file ≡ header) }
+    ensures quiet { IsQuiet (H.state host.old) (H.state host.new) }
+    ensures read { IfOk result (λ r. IsRead (H.state host.new) r.2 r.0 r.1) }
+    ensures damaged { (at : ℕ) → IsErrOf result (Damaged at) → WasBroken (H.state host.old) at }
+    ensures disk_fault { IsErrOf result DiskFault → DiskRises (H.state host.old) (H.state host.new) }
+    ensures not_foreign { IsErrOf result NotAJournal → ⊥ }
+    ensures reads { ReadsAtMost (H.state host.old).reads (H.state host.new).reads (len - 16) }
+{
+    let Ok(mut graph) = Graph::new(alloc) else {
+        return Err(JournalFault::NoMemory);
+    };
+    let mut window = Window::new(alloc, 16);
+    let mut cells = Vec::new(alloc);
+    let mut at = 16;
+    while let Some((entry, size)) = next_record(alloc, host, &mut window, &mut graph, at, len)? {
+        at = at + 9 + size;
+        let Ok(()) = keep_cells(&mut cells, entry) else {
+            return Err(JournalFault::NoMemory);
+        };
+    }
+    Ok((graph, cells, at))
+}
+
+/// Reads a file of this length, which is too long to be begun anew.
+fn read_store<H: Host>(
+    alloc: Global,
+    host: &mut H,
+    len: u64,
+) -> Result<(Graph, Vec<Vec<RcStr>>, u64), JournalFault>
+    requires len { Told (H.state host.old) (len ≡ length (H.state host.old).file) }
+    requires long { fresh_length < len }
+    ensures quiet { IsQuiet (H.state host.old) (H.state host.new) }
+    ensures read { IfOk result (λ r. IsRead (H.state host.new) r.2 r.0 r.1) }
+    ensures foreign { IsErrOf result NotAJournal → WasForeign (H.state host.old) }
+    ensures damaged { (at : ℕ) → IsErrOf result (Damaged at) → WasBroken (H.state host.old) at }
+    ensures disk_fault { IsErrOf result DiskFault → DiskRises (H.state host.old) (H.state host.new) }
+    ensures reads { ReadsAtMost (H.state host.old).reads (H.state host.new).reads len }
+{
+    read_header(host, len)?;
+    read_graph(alloc, host, len)
+}
+
+impl Journal {
+    /// Opens a store as `attach` does, and makes the graph of its records while it reads them: no record
+    /// is kept but for its commit's cells.
+    ///
+    /// - `NotAJournal`: the file has more than 17 bytes and another header.
+    /// - `Damaged`: at that place stands the first open gate behind which no whole record stands that
+    ///   fits the graph of those before it.
+    /// - `DiskFault`: a call of the host failed.
+    /// - `NoMemory`: there was no memory for the graph and the cells.
+    pub fn open_store<H: Host>(alloc: Global, host: &mut H) -> Result<OpenStore, JournalFault>
+        // It opens only a file that holds a graph, makes that graph, and answers the cells of its commits.
+        ensures opens { IfOk result (Opens (H.state host.old) (H.state host.new)) }
+        ensures opened { IfOk result (λ s. s.journal.closed ≡ false) }
+        ensures durable { IsErrOf result DiskFault ⊎ IsDurable (H.state host.old) (H.state host.new) }
+        ensures out { (H.state host.new).out ≡ (H.state host.old).out }
+        ensures kept { KeepsLong (H.state host.old) (H.state host.new) }
+        ensures short { StaysShort (H.state host.old) (H.state host.new) }
+
+        // A short file is begun anew with a closed gate of 0.
+        ensures begun { OnOk result (BeginsShort (H.state host.old) (H.state host.new)) }
+
+        // Until a sync has succeeded all is as it was. Then a stop leaves the file as it reads, or a short one in the place of a short one.
+        ensures settled { Settles (IsErrOf result DiskFault) (H.state host.old) (H.state host.new) }
+
+        // A stop leaves a file that a stop at its start could leave, or a short one in the place of a short one.
+        ensures stop { StopsAtOpening (H.state host.old) (H.state host.new) }
+        ensures tells { (H.state host.new).tells ≡ (H.state host.old).tells }
+
+        ensures foreign { IsErrOf result NotAJournal → WasForeign (H.state host.old) }
+        ensures damaged { (at : ℕ) → IsErrOf result (Damaged at) → WasBroken (H.state host.old) at }
+        ensures disk_fault { IsErrOf result DiskFault → DiskRises (H.state host.old) (H.state host.new) }
+
+        // What it answers where want of memory and the disk don't come between.
+        ensures foreign_file { WhereForeign (H.state host.old) (FailsBy NotAJournal result) }
+        ensures broken_file { WhereBroken (H.state host.old) (λ at. FailsBy (Damaged at) result) }
+        ensures good_file { WhereGood (H.state host.old) (FailsOutside result) }
+
+        ensures disk { (H.state host.old).disk_faults ≤ (H.state host.new).disk_faults }
+        ensures outs { (H.state host.old).out_faults ≤ (H.state host.new).out_faults }
+        ensures reads { ReadsFile (H.state host.old) (H.state host.new) }
+    {
+        let Ok(len) = settle(host) else {
+            return Err(JournalFault::DiskFault);
+        };
+        if len <= 17 {
+            let Ok(()) = begin(host) else {
+                return Err(JournalFault::DiskFault);
+            };
+            let Ok(graph) = Graph::new(alloc) else {
+                return Err(JournalFault::NoMemory);
+            };
+            return Ok(OpenStore {
+                journal: Journal::at(16),
+                graph,
+                cells: Vec::new(alloc),
+            });
+        }
+        let (graph, cells, place) = read_store(alloc, host, len)?;
+        Ok(OpenStore {
+            journal: Journal::at(place),
+            graph,
+            cells,
+        })
+    }
+}
