@@ -10,7 +10,7 @@ use Rattle.kishu_history.specs.Versions.{Stop, version, stored, dropped, kept, l
 use Rattle.kishu_history.specs.Tables.{Row, Table, Change, bytes_in, table_of, rows_from}
 use Rattle.kishu_history.specs.Touched.{touched, dropped_among, stored_among}
 use Rattle.kishu_history.specs.Checkout.{to_keep, to_load, to_drop, carried}
-use Rattle.kishu_history.specs.Sizes.{size}
+use Rattle.kishu_objects.specs.Sizes.{size}
 
 abbrev x : List ℕ
 x = codes "x"

@@ -30,7 +30,8 @@ ghost use Rattle.kishu_objects.specs.Locality.{Reached, Leaves};
 ghost use Rattle.kishu_history.specs.Checkout.{to_keep, to_load, to_drop, carried};
 ghost use Rattle.kishu_history.specs.Live.{IsLive, IsPictureOf};
 ghost use Rattle.kishu_history.specs.Stored.{bytes_at, Held, Stored, Keeps, KeepsRecords, joined, AreNewRows};
-ghost use Rattle.kishu_history.specs.Sizes.{size_among, size, most_bytes, StaySmall};
+ghost use Rattle.kishu_objects.specs.Sizes.{size_among, size, most_bytes};
+ghost use Rattle.kishu_history.specs.Sizes.{StaySmall};
 ghost use Rattle.kishu_history.specs.AllNames.{all_names, AreWhole};
 ghost use Rattle.kishu_history.specs.Good.{IsGoodStore, IsAttached, IsWholeStore, IsWholeAttached};
 

@@ -8,6 +8,7 @@ pub mod Loading
 pub mod Groups
 pub mod Components
 pub mod Bytes
+pub mod Sizes
 pub mod Fits
 pub mod Pairings
 pub mod States

@@ -14,7 +14,8 @@ use Rattle.kishu_objects.specs.States.{IsSoundState}
 use Rattle.kishu_history.specs.Paths.{stops, ReplaysAreStates}
 use Rattle.kishu_history.specs.Accessed.{accessed_by}
 use Rattle.kishu_objects.specs.Locality.{Leaves}
-use Rattle.kishu_history.specs.Sizes.{most_bytes, size, StaySmall, size_among}
+use Rattle.kishu_objects.specs.Sizes.{most_bytes, size, size_among}
+use Rattle.kishu_history.specs.Sizes.{StaySmall}
 use Rattle.kishu_objects.specs.Groups.{groups_of}
 use Rattle.kishu_history.specs.Changed.{Group, changed}
 use Rattle.kishu_history.specs.Touched.{holds_any, classes, dropped_among, stored_among}

@@ -25,7 +25,8 @@ use Rattle.kishu_state_laws.specs.keeping.Running.{empty_is_state}
 use Rattle.kishu_history.specs.Changed.{Group}
 use Rattle.kishu_history.specs.Good.{IsGoodStore, IsWrittenStore}
 use Rattle.kishu_history.specs.Paths.{stops_in, changes_in}
-use Rattle.kishu_history.specs.Sizes.{size, most_bytes, StaySmall, AllStaySmall}
+use Rattle.kishu_objects.specs.Sizes.{size, most_bytes}
+use Rattle.kishu_history.specs.Sizes.{StaySmall, AllStaySmall}
 use Rattle.kishu_history.specs.Tables.{Row, group_in, groups_in, Change, AreRight}
 use Rattle.kishu_history.specs.Versions.{Stop, at_end, version, stored}
 use Rattle.kishu_history_laws.specs.Choices.{in_map, not_told}

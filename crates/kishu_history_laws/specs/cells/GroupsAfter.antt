@@ -16,7 +16,7 @@ use Rattle.kishu_history.specs.Changed.{Group}
 use Rattle.kishu_objects.specs.States.{IsSoundState}
 use Rattle.kishu_history.specs.Tables.{first_name}
 use Rattle.kishu_history.specs.Touched.{holds_any, is_touched, classes, IsKept}
-use Rattle.kishu_history.specs.Sizes.{size}
+use Rattle.kishu_objects.specs.Sizes.{size}
 use Rattle.kishu_objects.specs.Locality.{Leaves}
 use Rattle.kishu_history_laws.specs.states.AlikeLaws.{not_true}
 use Rattle.kishu_history_laws.specs.Choices.{rise_one, not_false}

@@ -11,7 +11,7 @@ use Rattle.kishu_history.specs.Tables.{Row, Table, groups_in, bytes_in, after, I
 use Rattle.kishu_history.specs.Touched.{holds_any, classes, stored_among, change_told}
 use Rattle.kishu_history.specs.Live.{IsLive}
 use Rattle.kishu_history.specs.Stored.{Stored}
-use Rattle.kishu_history.specs.Sizes.{size_among}
+use Rattle.kishu_objects.specs.Sizes.{size_among}
 use Rattle.kishu_history_laws.specs.states.AlikeLaws.{state_decides}
 use Rattle.kishu_history_laws.specs.tables.SplitLaws.{after_takes}
 use Rattle.kishu_history_laws.specs.checkouts.CheckoutLaws.{live_cut}

@@ -16,7 +16,7 @@ use Rattle.kishu_history.specs.Tables.{Row, Table, group_in, groups_in, IsTable,
 use Rattle.kishu_history.specs.Checkout.{is_row_of, to_keep, to_load, to_drop, without_names, with_pictures, carried}
 use Rattle.kishu_history.specs.Live.{IsPictureOf, IsLive}
 use Rattle.kishu_history.specs.Stored.{Stored}
-use Rattle.kishu_history.specs.Sizes.{size_among, size}
+use Rattle.kishu_objects.specs.Sizes.{size_among, size}
 use Rattle.kishu_history_laws.specs.states.AlikeLaws.{not_true}
 use Rattle.kishu_history_laws.specs.Choices.{not_false}
 use Rattle.kishu_history_laws.specs.checkouts.CheckoutLaws.{row_of, of_row}

@@ -14,7 +14,7 @@ use Rattle.kishu_history.specs.Tables.{Row, Table, groups_in, bytes_in, Change, 
 use Rattle.kishu_history.specs.Paths.{stops_in, table_in, ReplaysAreStates, AreRows}
 use Rattle.kishu_history.specs.Live.{IsLive}
 use Rattle.kishu_history.specs.Stored.{Held}
-use Rattle.kishu_history.specs.Sizes.{size_among, most_bytes}
+use Rattle.kishu_objects.specs.Sizes.{size_among, most_bytes}
 use Rattle.kishu_history.specs.Good.{IsGoodStore, IsAttached, IsWholeStore, IsWholeAttached}
 use Rattle.kishu_history_laws.specs.states.SameLaws.{same_listed, same_pictures}
 use Rattle.kishu_history_laws.specs.versions.PathLaws.{end_replay}
