@@ -5,7 +5,7 @@ use Rattle.serde_json.proofs.OnLiterals.{serde_json_on_literals}
 use Rattle.kishu_meaning.specs.declared.result.Outcome.TheVariants.{Done, Raised, Stopped}
 use Rattle.kishu_meaning.specs.values.Values.{stream, shown, fault}
 use Rattle.kishu_store.specs.Graph.{new_graph}
-use Rattle.kishu_model.specs.Answers.{answer_line, ran_cell, ran_cells, checked_out, branched, logged, told_status, refused, store_full, no_such_ref, bad_name, name_taken, cell_too_long, state_too_large}
+use Rattle.kishu_model.specs.Answers.{answer_line, ran_cell, ran_cells, checked_out, branched, logged, told_status, inspected, refused, store_full, no_such_ref, bad_name, name_taken, cell_too_long, state_too_large}
 use Rattle.kishu_model.specs.Request.{unreadable}
 use Rattle.kishu_model.specs.Serve.{answered, answers}
 
@@ -75,6 +75,22 @@ answer-status-names : answer_line (told_status (record { branch = None; commit =
     ≡ codes "{\"answer\":\"status\",\"branch\":null,\"commit\":3,\"commits\":5,\"names\":[\"a\",\"b\"],\"records\":7}\n"
 unfolding digits serde_json_on_literals
 answer-status-names = refl
+
+answer-inspect : answer_line (inspected 1 ((codes "a", codes "#0") ∷ (codes "b", codes "#0") ∷ []) ((codes "list" ∷ codes "1" ∷ []) ∷ []))
+    ≡ codes "{\"answer\":\"inspect\",\"commit\":1,\"names\":{\"a\":\"#0\",\"b\":\"#0\"},\"nodes\":[[\"list\",\"1\"]]}\n"
+unfolding digits serde_json_on_literals
+answer-inspect = refl
+
+-- nothing is bound
+answer-inspect-root : answer_line (inspected 0 [] []) ≡ codes "{\"answer\":\"inspect\",\"commit\":0,\"names\":{},\"nodes\":[]}\n"
+unfolding digits serde_json_on_literals
+answer-inspect-root = refl
+
+-- Names that don't stand in order are put in order, and of one that is told twice the last text stays.
+answer-inspect-order : answer_line (inspected 1 ((codes "b", codes "2") ∷ (codes "a", codes "'x'") ∷ (codes "b", codes "3") ∷ []) [])
+    ≡ codes "{\"answer\":\"inspect\",\"commit\":1,\"names\":{\"a\":\"'x'\",\"b\":\"3\"},\"nodes\":[]}\n"
+unfolding digits serde_json_on_literals
+answer-inspect-order = refl
 
 refused-no-such-ref : answer_line (refused no_such_ref) ≡ codes "{\"answer\":\"refused\",\"number\":2,\"reason\":\"NoSuchRef\"}\n"
 unfolding digits serde_json_on_literals

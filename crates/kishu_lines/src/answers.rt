@@ -1,15 +1,15 @@
 ghost use Rattle.std.specs.Prelude.{◌≡◌, ℕ, map, option_map, IsSome, IfOk, IfSome};
 ghost use Rattle.std.specs.Rc.{rc_str_bytes};
-ghost use Rattle.serde_json.specs.Data.{array, string};
+ghost use Rattle.serde_json.specs.Data.{array, no_members, object, string};
 ghost use Rattle.serde_json.specs.View.{items_of, view};
 ghost use Rattle.kishu_model.specs.Answers as spec;
-ghost use Rattle.kishu_model.specs.Answers.{answer_data, branch_data, entry_data, row_data, ran_cell, ran_cells, counted_data, checked_out, branched, logged, told_status, refused};
+ghost use Rattle.kishu_model.specs.Answers.{answer_data, branch_data, entry_data, row_data, ran_cell, ran_cells, counted_data, checked_out, branched, logged, told_status, inspected, node_data, with_texts, refused};
 ghost use Rattle.kishu_meaning.specs.values.Values.{report_of};
-ghost use Rattle.kishu_model.specs.Values.{counted_of, entry_of, numbered, refusal_of, row_of};
+ghost use Rattle.kishu_model.specs.Values.{counted_of, entry_of, named_of, numbered, refusal_of, row_of, texts_of};
 
 use kishu_model::{CellResult, Counted, Outcome, PathRow, Refusal};
 use kishu_outputs::outputs_json;
-use serde_json::{Value, json};
+use serde_json::{Map, Value, json};
 use std::alloc::{AllocError, Global};
 use std::rc::RcStr;
 
@@ -216,6 +216,48 @@ fn texts_json(alloc: Global, texts: &[RcStr]) -> Result<Value, AllocError>
     let mut items = Vec::new(alloc);
     for text in texts {
         let item = text_json(alloc, text)?;
+        items.push(item)?;
+    }
+    Ok(Value::Array(items))
+}
+
+/// What the names are bound to, and the nodes that they reach.
+pub(crate) fn inspect_json(
+    alloc: Global,
+    commit: u32,
+    names: &[(RcStr, RcStr)],
+    nodes: &[Vec<RcStr>],
+) -> Result<Value, AllocError>
+    ensures { IfOk result
+        (λ v. view v ≡ answer_data (inspected commit (map named_of names.now) (map texts_of nodes.now))) }
+{
+    let names = named_json(alloc, names)?;
+    let nodes = nodes_json(alloc, nodes)?;
+    json!(in alloc; {"answer": "inspect", "commit": commit, "names": names, "nodes": nodes})
+}
+
+/// Texts at their names.
+fn named_json(alloc: Global, names: &[(RcStr, RcStr)]) -> Result<Value, AllocError>
+    ensures { IfOk result
+        (λ v. view v ≡ object (with_texts (map named_of names.now) no_members)) }
+{
+    let mut members = Map::new(alloc);
+    for named in names {
+        let name = String::from_str(alloc, named.0.as_str())?;
+        let text = text_json(alloc, &named.1)?;
+        let _ = members.insert(name, text)?;
+    }
+    Ok(Value::Object(members))
+}
+
+/// Nodes, each as its texts.
+fn nodes_json(alloc: Global, nodes: &[Vec<RcStr>]) -> Result<Value, AllocError>
+    ensures { IfOk result
+        (λ v. view v ≡ array (items_of (map node_data (map texts_of nodes.now)))) }
+{
+    let mut items = Vec::new(alloc);
+    for node in nodes {
+        let item = texts_json(alloc, node)?;
         items.push(item)?;
     }
     Ok(Value::Array(items))

@@ -4,7 +4,8 @@ ghost use Rattle.kishu_model.specs.Answers.{answer_data, answer_line};
 ghost use Rattle.kishu_model.specs.Values.{answer_of};
 
 use crate::answers::{
-    branch_json, cell_json, cells_json, checkout_json, log_json, refused_json, status_json,
+    branch_json, cell_json, cells_json, checkout_json, inspect_json, log_json, refused_json,
+    status_json,
 };
 use kishu_model::Answer;
 use serde_json::Value;
@@ -49,6 +50,11 @@ fn answer_json(alloc: Global, answer: &Answer) -> Result<Value, AllocError>
             names,
             records,
         } => status_json(alloc, branch, *commit, *commits, names, *records),
+        Answer::Inspect {
+            commit,
+            names,
+            nodes,
+        } => inspect_json(alloc, *commit, names, nodes),
         Answer::Refused { number, bytes } => refused_json(alloc, *number, *bytes),
     }
 }

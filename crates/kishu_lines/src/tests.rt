@@ -413,6 +413,50 @@ fn writes_statuses(rt: HostRuntime) -> Result<(), Fail> {
     Ok(())
 }
 
+/// The texts of a node.
+fn node_of(alloc: Global, texts: &[&str]) -> Result<Vec<RcStr>, Fail> {
+    let mut node = Vec::new(alloc);
+    for text in texts {
+        node.push(text_of(alloc, *text)?)?;
+    }
+    Ok(node)
+}
+
+#[test]
+fn writes_what_is_bound(rt: HostRuntime) -> Result<(), Fail> {
+    let alloc = rt.alloc();
+    let shared = Answer::Inspect {
+        commit: 1,
+        names: vec![in alloc;
+            (text_of(alloc, "a")?, text_of(alloc, "#0")?),
+            (text_of(alloc, "b")?, text_of(alloc, "#0")?),
+        ]?,
+        nodes: vec![in alloc; node_of(alloc, &["list", "1"])?]?,
+    };
+    assert_eq!(rt;
+        line_of(alloc, &shared)?.as_str(),
+        "{\"answer\":\"inspect\",\"commit\":1,\"names\":{\"a\":\"#0\",\"b\":\"#0\"},\"nodes\":[[\"list\",\"1\"]]}\n"
+    );
+    let several = Answer::Inspect {
+        commit: 2,
+        names: vec![in alloc;
+            (text_of(alloc, "d")?, text_of(alloc, "#0")?),
+            (text_of(alloc, "f")?, text_of(alloc, "#1")?),
+            (text_of(alloc, "n")?, text_of(alloc, "None")?),
+        ]?,
+        nodes: vec![in alloc;
+            node_of(alloc, &["dict", "'k'", "#0", "(1, 2)", "'\u{e9}'"])?,
+            node_of(alloc, &["function", "1", "def f(x=[]): return \"x\"", "#2"])?,
+            node_of(alloc, &["list"])?,
+        ]?,
+    };
+    assert_eq!(rt;
+        line_of(alloc, &several)?.as_str(),
+        "{\"answer\":\"inspect\",\"commit\":2,\"names\":{\"d\":\"#0\",\"f\":\"#1\",\"n\":\"None\"},\"nodes\":[[\"dict\",\"'k'\",\"#0\",\"(1, 2)\",\"'\u{e9}'\"],[\"function\",\"1\",\"def f(x=[]): return \\\"x\\\"\",\"#2\"],[\"list\"]]}\n"
+    );
+    Ok(())
+}
+
 /// Each refusal with its line.
 const REFUSALS: [(Refusal, &str); 7] = [
     (

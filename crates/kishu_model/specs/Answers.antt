@@ -1,6 +1,6 @@
 -- Answers, and the line that tells one: the compact text of a JSON value, its keys in byte order, and a line feed (serde_json; nbformat 4.5, "Code cell outputs").
 use Rattle.std.specs.Prelude.{ℕ, List, [], ◌∷◌, ◌++◌, map, codes, Option, Some, None}
-use Rattle.serde_json.specs.Data.{Data, null, number, string, array, object, no_items, item, Members, no_members, member, unsigned}
+use Rattle.serde_json.specs.Data.{Data, null, number, string, array, object, no_items, item, Members, no_members, member, put, unsigned}
 use Rattle.serde_json.specs.View.{items_of}
 use Rattle.serde_json.specs.Written.{compact_text}
 use Rattle.kishu_meaning.specs.declared.result.Outcome.{Outcome}
@@ -51,6 +51,8 @@ pub data Answer : Type 0 where
   -- the branches with their commits, and the path from the head's commit back
   logged : (branches : List (List ℕ × ℕ)) → (path : List PathRow) → Answer
   told_status : Standing → Answer
+  -- the commit on which the head stands, each name with the text of its value, and the texts of each node that the names reach
+  inspected : (commit : ℕ) → (names : List (List ℕ × List ℕ)) → (nodes : List (List (List ℕ))) → Answer
   refused : Refusal → Answer
 
 abbrev pub refusal_number : Refusal → ℕ
@@ -116,6 +118,15 @@ row_data row =
     (member (codes "line") (string row.line) (member (codes "parent") (number (unsigned row.parent)) no_members)))
     )
 
+-- texts at their names; the names stand in byte order, and where one is told twice its last text stays
+abbrev pub with_texts : List (List ℕ × List ℕ) → Members → Members
+with_texts [] ms = ms
+with_texts (b ∷ bs) ms = with_texts bs (put b.0 (string b.1) ms)
+
+-- the texts of a node
+abbrev pub node_data : List (List ℕ) → Data
+node_data texts = array (items_of (map string texts))
+
 -- a state that is too large is told with its bytes
 abbrev pub refusal_bytes : Refusal → Option ℕ
 refusal_bytes bad_request = None
@@ -153,6 +164,12 @@ answer_data (told_status s) =
     (member (codes "commit") (number (unsigned s.commit))
     (member (codes "commits") (number (unsigned s.commits))
     (member (codes "names") (array (items_of (map string s.names))) (member (codes "records") (number (unsigned s.records)) no_members)))))
+    )
+answer_data (inspected commit names nodes) =
+    object (
+    member (codes "answer") (string (codes "inspect"))
+    (member (codes "commit") (number (unsigned commit))
+    (member (codes "names") (object (with_texts names no_members)) (member (codes "nodes") (array (items_of (map node_data nodes))) no_members)))
     )
 answer_data (refused r) =
     object (

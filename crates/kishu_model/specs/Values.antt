@@ -3,8 +3,9 @@ use Rattle.std.specs.Prelude.{ℕ, ◌==◌, if◌then◌else◌, List, map, Opt
 use Rattle.std.specs.Rc.{rc_str_bytes}
 use Rattle.std.specs.declared.alloc.Global.{Global}
 use Rattle.std.specs.declared.rc.RcStr.{RcStr}
+use Rattle.std.specs.declared.vec.Vec.{Vec}
 use Rattle.kishu_meaning.specs.values.Values.{report_of}
-use Rattle.kishu_model.specs.Answers.{Refusal, bad_request, no_such_ref, bad_name, name_taken, store_full, cell_too_long, state_too_large, Counted, PathRow, Answer, ran_cell, ran_cells, checked_out, branched, logged, told_status, refused}
+use Rattle.kishu_model.specs.Answers.{Refusal, bad_request, no_such_ref, bad_name, name_taken, store_full, cell_too_long, state_too_large, Counted, PathRow, Answer, ran_cell, ran_cells, checked_out, branched, logged, told_status, inspected, refused}
 use Rattle.kishu_model.specs.Request.{Request, cell, cells, checkout, branch, log, status}
 use Rattle.kishu_model.specs.declared.request.Request as rust_request
 use Rattle.kishu_model.specs.declared.request.Request.TheVariants as asks
@@ -57,6 +58,13 @@ row_of row = record { cells = row.cells; commit = row.commit; line = rc_str_byte
 abbrev pub entry_of : RcStr Global × ℕ → List ℕ × ℕ
 entry_of b = (rc_str_bytes b.0, b.1)
 
+-- a name with a text, and the texts of a node
+abbrev pub named_of : RcStr Global × RcStr Global → List ℕ × List ℕ
+named_of b = (rc_str_bytes b.0, rc_str_bytes b.1)
+
+abbrev pub texts_of : Vec (RcStr Global) Global → List (List ℕ)
+texts_of texts = map rc_str_bytes texts.items
+
 -- None is a number that no refusal has, or bytes that don't go with it.
 abbrev pub answer_of : rust_answer.Answer → Option Answer
 answer_of (answers.Cell commit count result) = Some (ran_cell commit count (report_of result))
@@ -66,4 +74,5 @@ answer_of (answers.Branch commit name) = Some (branched commit (rc_str_bytes nam
 answer_of (answers.Log branches path) = Some (logged (map entry_of branches.items) (map row_of path.items))
 answer_of (answers.Status head commit commits names records) =
     Some (told_status (record { branch = option_map rc_str_bytes head; commit = commit; commits = commits; names = map rc_str_bytes names.items; records = records }))
+answer_of (answers.Inspect commit names nodes) = Some (inspected commit (map named_of names.items) (map texts_of nodes.items))
 answer_of (answers.Refused number bytes) = option_map refused (numbered number bytes)

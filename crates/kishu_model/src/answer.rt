@@ -61,6 +61,15 @@ pub enum Answer {
         names: Vec<RcStr>,
         records: u32,
     },
+    /// The names that are bound at the head's commit, in byte order, each with the text of its value, and a
+    /// row of texts for each node that they reach, in the order of first meeting. The text of a value that
+    /// is a node is `#` and the number of its row, from 0; of another one it is the repr. A row begins with
+    /// the kind of its node.
+    Inspect {
+        commit: u32,
+        names: Vec<(RcStr, RcStr)>,
+        nodes: Vec<Vec<RcStr>>,
+    },
     /// The request was refused: the number of the refusal, and where the state is too large its bytes.
     Refused {
         number: u8,
@@ -84,6 +93,7 @@ impl Answer {
             Answer::Branch { .. } => false,
             Answer::Log { .. } => false,
             Answer::Status { .. } => false,
+            Answer::Inspect { .. } => false,
             Answer::Refused { .. } => false,
         }
     }

@@ -181,6 +181,7 @@ impl Notebook {
             Answer::Branch { .. } => Ok(()),
             Answer::Log { .. } => Ok(()),
             Answer::Status { .. } => Ok(()),
+            Answer::Inspect { .. } => Ok(()),
         }
     }
 

@@ -2,7 +2,7 @@
 use Rattle.std.specs.Prelude.{◌≡◌, Option, Some, None, option_map}
 use Rattle.kishu_graph.specs.declared.fault.GraphFault.{GraphFault}
 use Rattle.kishu_graph.specs.declared.fault.GraphFault.TheVariants.{NoSuchRef, BadName, NameTaken, StoreFull, NoMemory}
-use Rattle.kishu_model.specs.Answers.{Answer, ran_cell, ran_cells, checked_out, branched, logged, told_status, refused, Refusal, no_such_ref, bad_name, name_taken, store_full}
+use Rattle.kishu_model.specs.Answers.{Answer, ran_cell, ran_cells, checked_out, branched, logged, told_status, inspected, refused, Refusal, no_such_ref, bad_name, name_taken, store_full}
 
 abbrev pub refusal_by : GraphFault → Option Refusal
 refusal_by NoSuchRef = Some no_such_ref
@@ -19,6 +19,7 @@ refusal_in (checked_out commit branch) = None
 refusal_in (branched commit name) = None
 refusal_in (logged branches path) = None
 refusal_in (told_status s) = None
+refusal_in (inspected commit names nodes) = None
 refusal_in (refused r) = Some r
 
 -- One answer refuses what the other does.
