@@ -9,8 +9,8 @@ use Rattle.serde_json.specs.Events.{members_len}
 use Rattle.serde_json.specs.Find.{get_member, as_str, as_array}
 use Rattle.serde_json.specs.Read.{read}
 use Rattle.serde_json.specs.View.{items_of}
-use Rattle.kishu_model.specs.Reading.{Tells, tells_cell, tells_cells, tells_checkout, tells_branch, tells_branch_at, tells_log, tells_status, Reads, has_members, text_at, cell_in, texts_in, texts_at, cells_of_texts, cells_in, checkout_in, branch_at_in, branch_named_in, branch_in, alone_in, asked_in, request_in, reading}
-use Rattle.kishu_model.specs.Request.{Request, cell, cells, checkout, branch, log, status}
+use Rattle.kishu_model.specs.Reading.{Tells, tells_cell, tells_cells, tells_checkout, tells_branch, tells_branch_at, tells_log, tells_status, tells_inspect, Reads, has_members, text_at, cell_in, texts_in, texts_at, cells_of_texts, cells_in, checkout_in, branch_at_in, branch_named_in, branch_in, alone_in, asked_in, request_in, reading}
+use Rattle.kishu_model.specs.Request.{Request, cell, cells, checkout, branch, log, status, inspect}
 use Rattle.kishu_lines.proofs.Members.{Ascends, AscendsIn, ascends_read, one_member, two_members, three_members}
 
 all_texts : (texts : List (List ℕ)) → texts_in (items_of (map string texts)) ≡ Some texts
@@ -26,6 +26,7 @@ told_is_read (tells_branch name) = refl
 told_is_read (tells_branch_at name at) = refl
 told_is_read tells_log = refl
 told_is_read tells_status = refl
+told_is_read tells_inspect = refl
 
 -- ---- the other way
 
@@ -133,13 +134,21 @@ read_alone ms op asked q tells found is =
 same_op : (op word : List ℕ) (ms : Members) → bytes_eq op word ≡ true → get_member (codes "op") ms ≡ Some (string op) → get_member (codes "op") ms ≡ Some (string word)
 same_op op word ms is found = found ∙ ap (λ (w : List ℕ). Some (string w)) ((bytes_eq-Decides op word).0 is)
 
+read_inspect : (b : Bool) (ms : Members) (op : List ℕ) (q : Request) → bytes_eq op (codes "inspect") ≡ b → get_member (codes "op") ms ≡ Some (string op)
+    → cond b (alone_in inspect (object ms)) None ≡ Some q → Tells (object ms) q
+read_inspect true ms op q word found is = read_alone ms (codes "inspect") inspect q tells_inspect (same_op op (codes "inspect") ms word found) is
+read_inspect false ms op q word found is = absurd (none-some q is)
+
+abbrev very_last_in : List ℕ → Data → Option Request
+very_last_in op d = cond (bytes_eq op (codes "inspect")) (alone_in inspect d) None
+
 read_status : (b : Bool) (ms : Members) (op : List ℕ) (q : Request) → bytes_eq op (codes "status") ≡ b → get_member (codes "op") ms ≡ Some (string op)
-    → cond b (alone_in status (object ms)) None ≡ Some q → Tells (object ms) q
+    → cond b (alone_in status (object ms)) (very_last_in op (object ms)) ≡ Some q → Tells (object ms) q
 read_status true ms op q word found is = read_alone ms (codes "status") status q tells_status (same_op op (codes "status") ms word found) is
-read_status false ms op q word found is = absurd (none-some q is)
+read_status false ms op q word found is = read_inspect (bytes_eq op (codes "inspect")) ms op q refl found is
 
 abbrev last_in : List ℕ → Data → Option Request
-last_in op d = cond (bytes_eq op (codes "status")) (alone_in status d) None
+last_in op d = cond (bytes_eq op (codes "status")) (alone_in status d) (very_last_in op d)
 
 read_log : (b : Bool) (ms : Members) (op : List ℕ) (q : Request) → bytes_eq op (codes "log") ≡ b → get_member (codes "op") ms ≡ Some (string op)
     → cond b (alone_in log (object ms)) (last_in op (object ms)) ≡ Some q → Tells (object ms) q

@@ -64,6 +64,7 @@ fn asked_in(alloc: Global, op: &str, value: &Value) -> Result<Option<Request>, A
         "branch" => branch_in(alloc, value),
         "log" => Ok(alone_in(Request::Log, value)),
         "status" => Ok(alone_in(Request::Status, value)),
+        "inspect" => Ok(alone_in(Request::Inspect, value)),
         _ => Ok(None),
     }
 }

@@ -34,6 +34,7 @@ fn told(alloc: Global, request: &Option<Request>) -> Result<String, Fail> {
         }
         Some(Request::Log) => String::from_str(alloc, "log")?,
         Some(Request::Status) => String::from_str(alloc, "status")?,
+        Some(Request::Inspect) => String::from_str(alloc, "inspect")?,
     })
 }
 
@@ -62,7 +63,7 @@ fn cell_line(
 }
 
 /// Lines that are requests. The first seven are the examples of docs/LINES.md.
-const REQUESTS: [(&str, &str); 25] = [
+const REQUESTS: [(&str, &str); 26] = [
     (
         "{\"op\":\"cell\",\"text\":\"a = [1]; b = a\"}",
         "cell a = [1]; b = a",
@@ -79,6 +80,7 @@ const REQUESTS: [(&str, &str); 25] = [
     ),
     ("{\"op\":\"log\"}", "log"),
     ("{\"op\":\"status\"}", "status"),
+    ("{\"op\":\"inspect\"}", "inspect"),
     // in another order, with white space around and between
     ("{\"text\":\"x\",\"op\":\"cell\"}", "cell x"),
     (" \t\r{ \"op\" :\t\"log\"\r} ", "log"),

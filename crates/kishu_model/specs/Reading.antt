@@ -6,7 +6,7 @@ use Rattle.serde_json.specs.Events.{members_len}
 use Rattle.serde_json.specs.Find.{get, as_str, as_array, as_object}
 use Rattle.serde_json.specs.Read.{read}
 use Rattle.serde_json.specs.View.{items_of}
-use Rattle.kishu_model.specs.Request.{Request, cell, cells, checkout, branch, log, status}
+use Rattle.kishu_model.specs.Request.{Request, cell, cells, checkout, branch, log, status, inspect}
 
 -- A request's value is an object with these keys and no others. Their order in the line is free; here they stand in byte order.
 pub data Tells : Data → Request → Type 0 where
@@ -17,6 +17,7 @@ pub data Tells : Data → Request → Type 0 where
   tells_branch_at : (name at : List ℕ) → Tells (object (member (codes "at") (string at) (member (codes "name") (string name) (member (codes "op") (string (codes "branch")) no_members)))) (branch name (Some at))
   tells_log : Tells (object (member (codes "op") (string (codes "log")) no_members)) log
   tells_status : Tells (object (member (codes "op") (string (codes "status")) no_members)) status
+  tells_inspect : Tells (object (member (codes "op") (string (codes "inspect")) no_members)) inspect
 
 -- The line is UTF-8, and its value tells the request.
 pub record Reads (line : List ℕ) (q : Request) : Type 0 where
@@ -74,6 +75,7 @@ asked_in op d =
     else if bytes_eq op (codes "branch") then branch_in d
     else if bytes_eq op (codes "log") then alone_in log d
     else if bytes_eq op (codes "status") then alone_in status d
+    else if bytes_eq op (codes "inspect") then alone_in inspect d
     else None
 
 unfoldable pub request_in : Data → Option Request

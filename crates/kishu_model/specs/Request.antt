@@ -10,6 +10,7 @@ pub data Request : Type 0 where
   branch : (name : List ℕ) → (at : Option (List ℕ)) → Request
   log : Request
   status : Request
+  inspect : Request
   -- what has no reading as a request
   unreadable : Request
 

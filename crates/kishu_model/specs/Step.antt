@@ -2,13 +2,14 @@
 use Rattle.std.specs.Prelude.{ℕ}
 use Rattle.kishu_store.specs.Graph.{Graph}
 use Rattle.kishu_model.specs.Answers.{bad_request}
-use Rattle.kishu_model.specs.Request.{Request, cell, cells, checkout, branch, log, status, unreadable, Stepped, refused_with}
+use Rattle.kishu_model.specs.Request.{Request, cell, cells, checkout, branch, log, status, inspect, unreadable, Stepped, refused_with}
 use Rattle.kishu_model.specs.requests.Cell.{step_cell, charge_of_cell}
 use Rattle.kishu_model.specs.requests.Cells.{step_cells, charge_of_cells}
 use Rattle.kishu_model.specs.requests.Checkout.{step_checkout}
 use Rattle.kishu_model.specs.requests.Branch.{step_branch}
 use Rattle.kishu_model.specs.requests.Log.{step_log}
 use Rattle.kishu_model.specs.requests.Status.{step_status}
+use Rattle.kishu_model.specs.requests.Inspect.{step_inspect}
 
 abbrev pub step : Graph → Request → Stepped
 step g unreadable = refused_with bad_request g
@@ -18,6 +19,7 @@ step g (checkout to) = step_checkout to g
 step g (branch name at) = step_branch name at g
 step g log = step_log g
 step g status = step_status g
+step g inspect = step_inspect g
 
 -- the steps that a request takes by its own cells; a refused one takes none
 abbrev pub charge_of : Graph → Request → ℕ
@@ -28,3 +30,4 @@ charge_of g (checkout to) = 0
 charge_of g (branch name at) = 0
 charge_of g log = 0
 charge_of g status = 0
+charge_of g inspect = 0

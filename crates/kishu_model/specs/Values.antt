@@ -6,7 +6,7 @@ use Rattle.std.specs.declared.rc.RcStr.{RcStr}
 use Rattle.std.specs.declared.vec.Vec.{Vec}
 use Rattle.kishu_meaning.specs.values.Values.{report_of}
 use Rattle.kishu_model.specs.Answers.{Refusal, bad_request, no_such_ref, bad_name, name_taken, store_full, cell_too_long, state_too_large, Counted, PathRow, Answer, ran_cell, ran_cells, checked_out, branched, logged, told_status, inspected, refused}
-use Rattle.kishu_model.specs.Request.{Request, cell, cells, checkout, branch, log, status}
+use Rattle.kishu_model.specs.Request.{Request, cell, cells, checkout, branch, log, status, inspect}
 use Rattle.kishu_model.specs.declared.request.Request as rust_request
 use Rattle.kishu_model.specs.declared.request.Request.TheVariants as asks
 use Rattle.kishu_model.specs.declared.refusal.Refusal as rust_refusal
@@ -23,6 +23,7 @@ request_of (asks.Checkout to) = checkout (rc_str_bytes to)
 request_of (asks.Branch name at) = branch (rc_str_bytes name) (option_map rc_str_bytes at)
 request_of asks.Log = log
 request_of asks.Status = status
+request_of asks.Inspect = inspect
 
 abbrev pub refusal_of : rust_refusal.Refusal → Refusal
 refusal_of refuses.BadRequest = bad_request

@@ -4,3 +4,4 @@ pub mod Checkout
 pub mod Branch
 pub mod Log
 pub mod Status
+pub mod Inspect

@@ -17,4 +17,6 @@ pub enum Request {
     Log,
     /// To tell where the head stands, which names are bound there, and how large the store is.
     Status,
+    /// To tell the names that are bound at the head's commit, and the nodes that they reach.
+    Inspect,
 }

@@ -1,7 +1,7 @@
 -- Rows of command lines, computed on the definitions.
 use Rattle.std.proofs.Common.{◌≡◌, refl, Option, Some, None, List, [], ◌∷◌, true, false}
 use Rattle.std.specs.Prelude.{codes}
-use Rattle.kishu_model.specs.Request.{branch, checkout, log, status}
+use Rattle.kishu_model.specs.Request.{branch, checkout, inspect, log, status}
 use Rattle.kishu_model.specs.Task.{notebook, one_cell, one_request, session}
 use Rattle.kishu_words.specs.Words.{form_of, store_word}
 
@@ -28,6 +28,9 @@ the_log = refl
 
 the_status : form_of (codes "S" ∷ codes "status" ∷ []) ≡ Some (one_request status)
 the_status = refl
+
+an_inspection : form_of (codes "S" ∷ codes "inspect" ∷ []) ≡ Some (one_request inspect)
+an_inspection = refl
 
 a_checkout : form_of (codes "S" ∷ codes "checkout" ∷ codes "1" ∷ []) ≡ Some (one_request (checkout (codes "1")))
 a_checkout = refl

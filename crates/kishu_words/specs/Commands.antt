@@ -2,7 +2,7 @@
 use Rattle.std.specs.Prelude.{ℕ, List, Option, map, option_map}
 use Rattle.std.specs.Borrow.{Bor}
 use Rattle.std.specs.Rc.{rc_str_bytes}
-use Rattle.kishu_model.specs.Request.{checkout, branch, log, status}
+use Rattle.kishu_model.specs.Request.{checkout, branch, log, status, inspect}
 use Rattle.kishu_model.specs.Task as model
 use Rattle.kishu_words.specs.declared.command.Command as rust
 use Rattle.kishu_words.specs.declared.command.Command.TheVariants as commands
@@ -13,6 +13,7 @@ form_by commands.Cell = model.one_cell
 form_by (commands.Run together) = model.notebook together
 form_by commands.Log = model.one_request log
 form_by commands.Status = model.one_request status
+form_by commands.Inspect = model.one_request inspect
 form_by (commands.Checkout to) = model.one_request (checkout (rc_str_bytes to))
 form_by (commands.Branch name at) = model.one_request (branch (rc_str_bytes name) (option_map rc_str_bytes at))
 

@@ -5,7 +5,7 @@ use Rattle.std.specs.Str.{bytes_eq}
 use Rattle.std.specs.String.{string_bytes}
 use Rattle.std.specs.declared.string.String.{String}
 use Rattle.std.specs.declared.alloc.Global.{Global}
-use Rattle.kishu_model.specs.Request.{checkout, branch, log, status}
+use Rattle.kishu_model.specs.Request.{checkout, branch, log, status, inspect}
 use Rattle.kishu_model.specs.Task.{Form, one_cell, session, one_request, notebook}
 
 abbrev pub texts : List (String Global) → List (List ℕ)
@@ -64,6 +64,7 @@ alone_form together command =
     else if bytes_eq command (codes "cell") then Some one_cell
     else if bytes_eq command (codes "log") then Some (one_request log)
     else if bytes_eq command (codes "status") then Some (one_request status)
+    else if bytes_eq command (codes "inspect") then Some (one_request inspect)
     else None
 
 -- with one word behind it, and with two

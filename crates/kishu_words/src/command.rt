@@ -14,6 +14,8 @@ pub enum Command {
     Log,
     /// To tell where the head stands.
     Status,
+    /// To tell the names that are bound at the head's commit, and the nodes that they reach.
+    Inspect,
     /// To put the head on what the reference names.
     Checkout { to: RcStr },
     /// To make a branch of this name at what the reference names, or without one at the head's

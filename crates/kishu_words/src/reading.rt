@@ -61,6 +61,9 @@ fn alone(command: &str, together: bool) -> Option<Command>
     if is(command, "status") {
         return Some(Command::Status);
     }
+    if is(command, "inspect") {
+        return Some(Command::Inspect);
+    }
     None
 }
 
@@ -142,7 +145,7 @@ fn command_of(alloc: Global, matches: &ArgMatches) -> Result<Option<Command>, Al
 
 /// The command that the words of a command line are, without the program's name.
 ///
-/// - `STORE session`, `STORE cell`, `STORE run`, `STORE log` and `STORE status`.
+/// - `STORE session`, `STORE cell`, `STORE run`, `STORE log`, `STORE status` and `STORE inspect`.
 /// - `STORE checkout REF`, `STORE branch NAME` and `STORE branch NAME REF`.
 /// - `--together` stands once at any place of the words of `run`, and nowhere else.
 ///

@@ -11,7 +11,7 @@ use Rattle.kishu_store.specs.Limits.{most_records, newest_profile}
 use Rattle.kishu_store.specs.Graph.{Graph, newest, with_commit, count_of}
 use Rattle.kishu_replay.specs.Replay.{replay, charge_in}
 use Rattle.kishu_model.specs.Answers.{Counted, ran_cells, bad_request, cell_too_long, store_full}
-use Rattle.kishu_model.specs.Request.{Request, cell, cells, checkout, branch, log, status, unreadable, Stepped, refused_with}
+use Rattle.kishu_model.specs.Request.{Request, cell, cells, checkout, branch, log, status, inspect, unreadable, Stepped, refused_with}
 
 -- a run that ended well
 abbrev pub is_ok : Outcome → Bool
@@ -86,3 +86,4 @@ HasRoom (checkout to) = Unit {0}
 HasRoom (branch name at) = Unit {0}
 HasRoom log = Unit {0}
 HasRoom status = Unit {0}
+HasRoom inspect = Unit {0}
