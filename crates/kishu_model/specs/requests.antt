@@ -1,3 +1,4 @@
+pub mod TooLarge
 pub mod Cell
 pub mod Cells
 pub mod Checkout

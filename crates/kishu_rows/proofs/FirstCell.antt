@@ -10,7 +10,7 @@ use Rattle.std.specs.Str.{chars, is_utf8}
 use Rattle.kishu_language.specs.declared.profile.Profile.TheVariants.{One}
 use Rattle.kishu_language.specs.tokens.Names.{reserved_words}
 use Rattle.kishu_rows.proofs.OnLiterals.{cells_on_literals}
-use Rattle.kishu_store.specs.Graph.{Graph, new_graph}
+use Rattle.kishu_store.specs.Graph.{Graph, new_graph, with_commit}
 use Rattle.kishu_model.specs.Answers.{answer_line}
 use Rattle.kishu_model.specs.Request.{cell, unreadable}
 use Rattle.kishu_model.specs.Serve.{answered}
@@ -121,6 +121,10 @@ first_record = record {
   small = omega arith;
 }
 
+first_graph : (step new_graph (cell (codes "print(1 + 2)"))).graph ≡ with_commit One (codes "print(1 + 2)" ∷ []) new_graph
+unfolding cells_on_literals
+first_graph = refl
+
 first_holds : Holds (front (plain (commit 0 One (codes "print(1 + 2)" ∷ []) [] []) ∷ []) ++ 0 ∷ []) (step new_graph (cell (codes "print(1 + 2)"))).graph
 unfolding header framed head_of body_of
-first_holds = inr (omega arith, plain (commit 0 One (codes "print(1 + 2)" ∷ []) [] []) ∷ [], record { gate = 0; rest = []; split = refl; closed = λ e. absurd (omega arith); fit = (first_record, first_fits, tt) }, refl)
+first_holds = inr (omega arith, plain (commit 0 One (codes "print(1 + 2)" ∷ []) [] []) ∷ [], record { gate = 0; rest = []; split = refl; closed = λ e. absurd (omega arith); fit = (first_record, first_fits, tt) }, first_graph)

@@ -2,6 +2,7 @@ pub mod OnLiterals
 mod FirstCell
 mod Records
 mod Sessions
+mod Bound
 mod Inputs
 mod Notebooks
 mod Files

@@ -15,7 +15,7 @@ abbrev went_back : Graph
 went_back = after changed (checkout (codes "1"))
 
 back_answer : answer_of changed (checkout (codes "1")) ≡ codes "{\"answer\":\"checkout\",\"commit\":1,\"head\":null}\n"
-unfolding digits serde_json_on_literals
+unfolding cells_on_literals
 back_answer = refl
 
 there_answer : answer_of went_back (cell (codes "print(a, a is b)"))
@@ -25,7 +25,7 @@ there_answer = refl
 
 log_answer : answer_of (after went_back (cell (codes "print(a, a is b)"))) log
     ≡ codes "{\"answer\":\"log\",\"branches\":[{\"commit\":2,\"name\":\"main\"}],\"path\":[{\"cells\":1,\"commit\":3,\"line\":\"print(a, a is b)\",\"parent\":1},{\"cells\":1,\"commit\":1,\"line\":\"a = [1]; b = a\",\"parent\":0}]}\n"
-unfolding digits serde_json_on_literals
+unfolding cells_on_literals
 log_answer = refl
 
 there_status : answer_of (after went_back (cell (codes "print(a, a is b)"))) status
@@ -36,7 +36,7 @@ there_status = refl
 -- A log's line is the cell's first one, and a character isn't cut in two: 60 of them are told, whatever bytes they have.
 long_line : answer_of (after new_graph (cell (codes "'0123456789012345678901234567890123456789012345678901234567" ++ 195 ∷ 169 ∷ codes "0'\r\nx"))) log
     ≡ codes "{\"answer\":\"log\",\"branches\":[{\"commit\":1,\"name\":\"main\"}],\"path\":[{\"cells\":1,\"commit\":1,\"line\":\"'0123456789012345678901234567890123456789012345678901234567" ++ 195 ∷ 169 ∷ codes "\",\"parent\":0}]}\n"
-unfolding digits serde_json_on_literals
+unfolding cells_on_literals
 long_line = refl
 
 -- A list that holds itself comes back as one.
@@ -44,7 +44,7 @@ abbrev holds_itself : Graph
 holds_itself = after_all new_graph (map answered (cell (codes "a = []") ∷ cell (codes "a.append(a)") ∷ cell (codes "print(a)") ∷ checkout (codes "0") ∷ []))
 
 main_answer : answer_of holds_itself (checkout (codes "main")) ≡ codes "{\"answer\":\"checkout\",\"commit\":3,\"head\":\"main\"}\n"
-unfolding digits serde_json_on_literals
+unfolding cells_on_literals
 main_answer = refl
 
 itself_answer : answer_of (after holds_itself (checkout (codes "main"))) (cell (codes "print(a, a[0] is a)"))

@@ -1,17 +1,19 @@
 -- Several cells: they run on the state of the head's commit, one after another up to the first that doesn't end well, and those that were run are one commit.
-use Rattle.std.specs.Prelude.{◌≤◌, ℕ, suc, ◌+◌, ◌^◌, nat_le, nat_lt, Bool, true, false, if◌then◌else◌, List, [], ◌∷◌, length}
+-- None is kept where one leaves a state that is too large.
+use Rattle.std.specs.Prelude.{◌≤◌, ℕ, suc, ◌+◌, ◌^◌, nat_le, nat_lt, Bool, true, false, not, ◌&&◌, if◌then◌else◌, List, [], ◌∷◌, length}
 use Rattle.std.specs.List.{list_any}
 use Rattle.kishu_language.specs.Limits.{longest_text}
 use Rattle.kishu_language.specs.declared.profile.Profile.{Profile}
 use Rattle.kishu_meaning.specs.declared.result.Outcome.{Outcome}
 use Rattle.kishu_meaning.specs.declared.result.Outcome.TheVariants.{Done, Raised, Stopped}
-use Rattle.kishu_meaning.specs.values.Values.{State}
+use Rattle.kishu_meaning.specs.values.Values.{Ran, State}
 use Rattle.kishu_meaning.specs.cells.Meaning.{run}
 use Rattle.kishu_store.specs.Limits.{most_records, newest_profile}
 use Rattle.kishu_store.specs.Graph.{Graph, newest, with_commit, count_of}
-use Rattle.kishu_replay.specs.Replay.{replay, charge_in}
+use Rattle.kishu_replay.specs.Replay.{replay, after_cells, charge_in}
 use Rattle.kishu_model.specs.Answers.{Counted, ran_cells, bad_request, cell_too_long, store_full}
 use Rattle.kishu_model.specs.Request.{Request, cell, cells, checkout, branch, log, status, inspect, unreadable, Stepped, refused_with}
+use Rattle.kishu_model.specs.requests.TooLarge.{is_too_large, unless_too_large}
 
 -- a run that ended well
 abbrev pub is_ok : Outcome → Bool
@@ -19,11 +21,15 @@ is_ok Done = true
 is_ok Raised = false
 is_ok Stopped = false
 
--- The cells that are run, from this state on: a further one only after a run that ended well. Each has a budget of its own.
+-- After this run a further cell is run: it ended well, and the state that it left isn't too large.
+abbrev pub is_followed : Ran → Bool
+is_followed r = is_ok r.report.outcome && not (is_too_large r.state)
+
+-- The cells that are run, from this state on. Each has a budget of its own.
 abbrev pub cells_run : Profile → List (List ℕ) → State → List (List ℕ)
 cells_run profile [] state = []
 cells_run profile (text ∷ texts) state =
-    text ∷ (if is_ok (run profile text state).report.outcome then cells_run profile texts (run profile text state).state else [])
+    text ∷ (if is_followed (run profile text state) then cells_run profile texts (run profile text state).state else [])
 
 -- what the runs of these cells show, from this state on; the first is the count-th cell on the path
 abbrev pub results_from : (count : ℕ) → Profile → List (List ℕ) → State → List Counted
@@ -38,6 +44,10 @@ cells_on texts g = cells_run newest_profile texts (replay g g.head.commit)
 abbrev pub results_on : List (List ℕ) → Graph → List Counted
 results_on texts g = results_from (suc (count_of g g.head.commit)) newest_profile (cells_on texts g) (replay g g.head.commit)
 
+-- the state that they leave
+abbrev pub left_on : List (List ℕ) → Graph → State
+left_on texts g = after_cells newest_profile (cells_on texts g) (replay g g.head.commit)
+
 abbrev pub cells_committed : List (List ℕ) → Graph → Stepped
 cells_committed texts g = record {
   graph = with_commit newest_profile (cells_on texts g) g;
@@ -51,15 +61,16 @@ charge_for_cells texts g = charge_in newest_profile (cells_on texts g) (replay g
 abbrev pub is_too_long : List ℕ → Bool
 is_too_long text = nat_lt longest_text (length text)
 
--- A text that is too long is no cell, and a store that is full takes none. Without texts there is no cell that a commit could hold, and so no request.
+-- A text that is too long is no cell, and a store that is full takes none: they aren't run. A state that is too large isn't kept.
+-- Without texts there is no cell that a commit could hold, and so no request.
 abbrev pub step_cells : List (List ℕ) → Graph → Stepped
 step_cells [] g = refused_with bad_request g
 step_cells (text ∷ texts) g =
     if list_any is_too_long (text ∷ texts) then refused_with cell_too_long g
     else if nat_le most_records g.records then refused_with store_full g
-    else cells_committed (text ∷ texts) g
+    else unless_too_large (left_on (text ∷ texts) g) g (cells_committed (text ∷ texts) g)
 
--- Refused cells take no step.
+-- Cells that aren't run take no step. Those that are run take their own, though a state may be too large.
 abbrev pub charge_of_cells : List (List ℕ) → Graph → ℕ
 charge_of_cells [] g = 0
 charge_of_cells (text ∷ texts) g =
