@@ -5,5 +5,6 @@ pub mod Step
 pub mod Serve
 pub mod Reading
 pub mod notebooks
+pub mod generated
 pub mod Task
 pub mod Values
