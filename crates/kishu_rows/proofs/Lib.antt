@@ -6,3 +6,4 @@ mod Bound
 mod Inputs
 mod Notebooks
 mod Files
+mod Generated
