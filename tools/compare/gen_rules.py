@@ -1,4 +1,4 @@
-"""The requests that `STORE gen START N` makes, read a second time: by docs/LINES.md, and by nothing of the program."""
+"""The requests that `STORE gen START N` makes, read a second time: by docs/RULES.md, and by nothing of the program."""
 import hashlib
 
 LARGEST_START, MOST_REQUESTS = 2**31 - 1, 100_000

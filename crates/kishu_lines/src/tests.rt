@@ -62,7 +62,7 @@ fn cell_line(
     line_of(alloc, &answer)
 }
 
-/// Lines that are requests. The first seven are the examples of docs/LINES.md.
+/// Lines that are requests. The first eight are the examples of docs/LINES.md.
 const REQUESTS: [(&str, &str); 26] = [
     (
         "{\"op\":\"cell\",\"text\":\"a = [1]; b = a\"}",

@@ -21,7 +21,7 @@ step g log = step_log g
 step g status = step_status g
 step g inspect = step_inspect g
 
--- the steps that a request takes by its own cells; a refused one takes none
+-- the steps that a request takes by its own cells; one that is refused before any is run takes none
 abbrev pub charge_of : Graph → Request → ℕ
 charge_of g unreadable = 0
 charge_of g (cell text) = charge_of_cell text g

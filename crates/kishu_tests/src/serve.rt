@@ -217,7 +217,7 @@ fn examples_that_spend_their_steps(rt: HostRuntime) -> Result<(), Fail> {
 #[test]
 fn words_and_statuses(rt: HostRuntime) -> Result<(), Fail> {
     let alloc = rt.alloc();
-    let forms: [&[&str]; 24] = [
+    let forms: [&[&str]; 23] = [
         &[],
         &["S"],
         &["S", "fly"],
@@ -233,7 +233,6 @@ fn words_and_statuses(rt: HostRuntime) -> Result<(), Fail> {
         &["S", "run", "--together=true"],
         &["S", "run", "--"],
         &["S", "run", "x"],
-        &["S", "inspect"],
         &["S", "gen", "7", "0"],
         &["S", "-"],
         &["S", "session", "x"],
