@@ -3,6 +3,7 @@ the program. The state at a commit is what CPython makes of the cells on its pat
 import json
 import re
 
+import bound_rules
 import notebook_rules
 import python_cells
 from json_rules import json_of, real
@@ -12,9 +13,10 @@ from store_rules import (
 )
 
 LONGEST_LINE = 2**24
-REASONS = {1: "BadRequest", 2: "NoSuchRef", 3: "BadName", 4: "NameTaken", 5: "StoreFull", 6: "CellTooLong"}
+REASONS = {1: "BadRequest", 2: "NoSuchRef", 3: "BadName", 4: "NameTaken", 5: "StoreFull", 6: "CellTooLong", 7: "StateTooLarge"}
 KEYS = {
     "cell": ["op", "text"], "cells": ["op", "texts"], "checkout": ["op", "to"], "branch": ["name", "op"], "log": ["op"], "status": ["op"],
+    "inspect": ["op"],
 }
 USAGE = b"usage: kishu STORE COMMAND\n"
 TOO_LONG = b"input too long\n"
@@ -22,7 +24,7 @@ TOGETHER = "--together"
 
 
 class Refused(Exception):
-    """The request is refused for the reason of the number that is the argument."""
+    """The request is refused for the reason of the number that is the first argument; the second one is of the bytes that a state takes."""
 
 
 # Lines.
@@ -98,8 +100,18 @@ class Session:
         if self.graph.records >= MOST_RECORDS:
             raise Refused(5)
 
+    def fits(self):
+        """Refuses a state that is too large, and leaves that of the head."""
+        try:
+            size = bound_rules.size(self.state())
+        except python_cells.Unlike:
+            return
+        if size > bound_rules.MOST_BYTES:
+            self.space = None
+            raise Refused(7, size)
+
     def commit(self, texts):
-        """Runs texts in order, up to the first whose outcome isn't ok, and commits those that ran. Their results."""
+        """Runs texts in order, up to the first whose outcome isn't ok, and commits those that ran, unless one leaves a state that is too large. Their results."""
         if any(len(text.encode()) > LONGEST_CELL for text in texts):
             raise Refused(6)
         self.room()
@@ -107,6 +119,7 @@ class Session:
         for number, text in enumerate(texts, count + 1):
             outcome, *told = self.run(text, self.state())
             results.append({"count": number, "outcome": outcome, "outputs": python_cells.outputs_of(*told, number)})
+            self.fits()
             if outcome != "ok":
                 break
         self.record(commit_body(self.graph.commit, [text.encode() for text in texts[: len(results)]]))
@@ -156,6 +169,10 @@ class Session:
             "names": python_cells.names_in(self.state()), "records": graph.records,
         }
 
+    def inspect(self):
+        names, nodes = bound_rules.inspected(self.state())
+        return {"answer": "inspect", "commit": self.graph.commit, "names": names, "nodes": nodes}
+
     def told(self, request):
         """The answer to a request; None is what isn't one."""
         try:
@@ -164,8 +181,8 @@ class Session:
             parts = {key: part for key, part in request.items() if key != "op"}
             return getattr(self, request["op"])(**parts)
         except Refused as refusal:
-            number = refusal.args[0]
-            return {"answer": "refused", "number": number, "reason": REASONS[number]}
+            number, *size = refusal.args
+            return {"answer": "refused", "number": number, "reason": REASONS[number]} | ({"bytes": size[0]} if size else {})
 
     def answer(self, request):
         """The answer's line."""
@@ -187,7 +204,7 @@ def form_of(words):
         return "run together" if command == "run" and not more else None
     if command in ("session", "cell", "run") and not more:
         return command
-    if command in ("log", "status") and not more:
+    if command in ("log", "status", "inspect") and not more:
         return {"op": command}
     if command == "checkout" and len(more) == 1:
         return {"op": "checkout", "to": more[0]}

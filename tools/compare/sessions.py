@@ -40,7 +40,7 @@ SECONDS = 60
 LONGEST = 24
 
 # Lines of sessions.
-CELL, LOG, STATUS = b'{"op":"cell","text":"%s"}', b'{"op":"log"}', b'{"op":"status"}'
+CELL, LOG, STATUS, INSPECT = b'{"op":"cell","text":"%s"}', b'{"op":"log"}', b'{"op":"status"}', b'{"op":"inspect"}'
 CELLS = b'{"op":"cells","texts":["%s","%s"]}'
 SHARED = [
     CELL % b"a = [1]; b = a", CELL % b"b.append(2)", b'{"op":"checkout","to":"1"}', CELL % b"print(a, a is b)", LOG, STATUS,
@@ -62,6 +62,15 @@ TOGETHER = [
     b'{"op":"cells","texts":["a = 1","a // 0","a = 2"]}', CELL % b"a", b'{"op":"cells","texts":["a += 1","print(a)","a"]}', LOG,
     b'{"op":"checkout","to":"1"}', b'{"op":"cells","texts":[]}', b'{"op":"cells","texts":["x = = 1","a"]}', LOG, STATUS,
 ]
+BOUND = [
+    INSPECT, CELL % b"a = [1]; b = a", INSPECT, CELL % b"a.append(a); b = 0", INSPECT, b'{"op":"checkout","to":"1"}', INSPECT,
+    CELL % b"t = (1, 'x'); d = {'k': t, (1, 2): None, 3: a}; e = ValueError('no', d)", CELL % b"o = SimpleNamespace(left=d, low=-1)", INSPECT,
+    CELL % b"b = len; c = list; r = range(0, 3); u = True; o.up = o", INSPECT, b'{"op":"inspect","at":"1"}',
+]
+LARGE = [
+    CELL % b"s = 'x' * 1000000", CELL % b"a = [s] * 300", CELL % b"a", b'{"op":"cells","texts":["b = 1","a = [s] * 300","c = 2"]}', STATUS,
+    CELL % b"a = [s] * 267; b = [a, a]", CELL % b"b.append('x' * 500000)", STATUS,
+]
 LONG_CELL = b"#" * LONGEST_CELL
 
 
@@ -74,7 +83,7 @@ def session_case(*lines):
 
 def same_cases():
     """Cases about limits, ends of lines and what a user does first."""
-    for lines in ([b""], [b"", b""], [STATUS], [LOG, b"", b"", b""], SHARED, [*SHARED, b""], RING, DEFAULTS, SPENT, REFUSED, TOGETHER):
+    for lines in ([b""], [b"", b""], [STATUS], [LOG, b"", b"", b""], SHARED, [*SHARED, b""], RING, DEFAULTS, SPENT, REFUSED, TOGETHER, BOUND, LARGE):
         yield session_case(*lines)
     by_hand = session_case(*SHARED, b"")
     yield Case(None, [Run([STORE, "session"], by_hand.steps[0].data, typed=True)], by_hand.known)
