@@ -7,7 +7,7 @@ use std::process::Abort;
 use std::test::Fail;
 
 /// Words, a notebook, what is written of it, and the answer to `log` behind the run.
-const RUNS: [(&[&str], &str, &str, &str); 7] = [
+const RUNS: [(&[&str], &str, &str, &str); 8] = [
     // A notebook as Jupyter writes it. The third code cell isn't run, and keeps its picture.
     (
         &["S", "run"],
@@ -343,6 +343,54 @@ const RUNS: [(&[&str], &str, &str, &str); 7] = [
 }
 "#,
         r#"{"answer":"log","branches":[{"commit":1,"name":"main"}],"path":[{"cells":2,"commit":1,"line":"a = 1","parent":0}]}
+"#,
+    ),
+    // A cell that leaves a state that is too large isn't kept, and no further cell is run.
+    (
+        &["S", "run"],
+        r#"{"cells":[{"cell_type":"code","execution_count":null,"id":"a","metadata":{},"outputs":[],"source":"s = 'x' * 1000000"},{"cell_type":"code","execution_count":7,"id":"b","metadata":{},"outputs":[],"source":"a = [s] * 300"},{"cell_type":"code","execution_count":null,"id":"c","metadata":{},"outputs":[],"source":"1"}],"metadata":{},"nbformat":4,"nbformat_minor":5}"#,
+        r#"{
+  "cells": [
+    {
+      "cell_type": "code",
+      "execution_count": 1,
+      "id": "a",
+      "metadata": {},
+      "outputs": [],
+      "source": "s = 'x' * 1000000"
+    },
+    {
+      "cell_type": "code",
+      "execution_count": null,
+      "id": "b",
+      "metadata": {},
+      "outputs": [
+        {
+          "ename": "StateTooLarge",
+          "evalue": "",
+          "output_type": "error",
+          "traceback": [
+            "StateTooLarge: "
+          ]
+        }
+      ],
+      "source": "a = [s] * 300"
+    },
+    {
+      "cell_type": "code",
+      "execution_count": null,
+      "id": "c",
+      "metadata": {},
+      "outputs": [],
+      "source": "1"
+    }
+  ],
+  "metadata": {},
+  "nbformat": 4,
+  "nbformat_minor": 5
+}
+"#,
+        r#"{"answer":"log","branches":[{"commit":1,"name":"main"}],"path":[{"cells":1,"commit":1,"line":"s = 'x' * 1000000","parent":0}]}
 "#,
     ),
     // Without code cells there is no commit.

@@ -26,7 +26,7 @@ pub(super) fn run_words(
 }
 
 /// The lines of a session on an empty store, and the lines of its answers.
-const SESSIONS: [(&str, &str); 12] = [
+const SESSIONS: [(&str, &str); 15] = [
     ("", ""),
     (
         r#"{"op":"status"}"#,
@@ -190,6 +190,51 @@ const SESSIONS: [(&str, &str); 12] = [
 {"answer":"status","branch":null,"commit":2,"commits":3,"names":[],"records":3}
 "#,
     ),
+    // One list under two names, and one that holds itself, seen before and after the way back.
+    (
+        r#"{"op":"inspect"}
+{"op":"cell","text":"a = [1]; b = a"}
+{"op":"inspect"}
+{"op":"cell","text":"a.append(a); b = 0"}
+{"op":"inspect"}
+{"op":"checkout","to":"1"}
+{"op":"inspect"}
+"#,
+        r##"{"answer":"inspect","commit":0,"names":{},"nodes":[]}
+{"answer":"cell","commit":1,"count":1,"outcome":"ok","outputs":[]}
+{"answer":"inspect","commit":1,"names":{"a":"#0","b":"#0"},"nodes":[["list","1"]]}
+{"answer":"cell","commit":2,"count":2,"outcome":"ok","outputs":[]}
+{"answer":"inspect","commit":2,"names":{"a":"#0","b":"0"},"nodes":[["list","1","#0"]]}
+{"answer":"checkout","commit":1,"head":null}
+{"answer":"inspect","commit":1,"names":{"a":"#0","b":"#0"},"nodes":[["list","1"]]}
+"##,
+    ),
+    // A node of each kind, and values that are none. What no name reaches isn't told.
+    (
+        r#"{"op":"cell","text":"t = (1, 'x')\nlost = [t]\nd = {'k': t, (1, 2): None}\no = SimpleNamespace(left=d, low=-1)\ndef f(x=[], y=2): return x\ne = ValueError('no')\ndel lost"}
+{"op":"cell","text":"b = len; c = list; r = range(0, 3); u = True"}
+{"op":"inspect"}
+"#,
+        r##"{"answer":"cell","commit":1,"count":1,"outcome":"ok","outputs":[]}
+{"answer":"cell","commit":2,"count":2,"outcome":"ok","outputs":[]}
+{"answer":"inspect","commit":2,"names":{"b":"<built-in function len>","c":"<class 'list'>","d":"#0","e":"#1","f":"#2","o":"#3","r":"range(0, 3)","t":"#4","u":"True"},"nodes":[["dict","'k'","#4","(1, 2)","None"],["exception","ValueError","'no'"],["function","1","def f(x=[], y=2): return x","#5","2"],["object","left","#0","low","-1"],["tuple","1","'x'"],["list"]]}
+"##,
+    ),
+    // A state of more than 2^28 bytes isn't kept, nor are cells of which one leaves it.
+    (
+        r#"{"op":"cell","text":"s = 'x' * 1000000"}
+{"op":"cell","text":"a = [s] * 300"}
+{"op":"cell","text":"a"}
+{"op":"cells","texts":["b = 1","a = [s] * 300","c = 2"]}
+{"op":"status"}
+"#,
+        r#"{"answer":"cell","commit":1,"count":1,"outcome":"ok","outputs":[]}
+{"answer":"refused","bytes":301001535,"number":7,"reason":"StateTooLarge"}
+{"answer":"cell","commit":2,"count":2,"outcome":"error","outputs":[{"ename":"NameError","evalue":"name 'a' is not defined","output_type":"error","traceback":["NameError: name 'a' is not defined"]}]}
+{"answer":"refused","bytes":301001562,"number":7,"reason":"StateTooLarge"}
+{"answer":"status","branch":"main","commit":2,"commits":3,"names":["s"],"records":2}
+"#,
+    ),
 ];
 
 #[test]
@@ -231,10 +276,15 @@ fn answers_the_same_in_many_runs(rt: HostRuntime) -> Result<(), Fail> {
 }
 
 /// Words over the store of two commits with `try` at the first, and what is put out.
-const WORDS: [(&[&str], &str); 6] = [
+const WORDS: [(&[&str], &str); 7] = [
     (
         &["S", "status"],
         r#"{"answer":"status","branch":"main","commit":1,"commits":2,"names":[],"records":1}
+"#,
+    ),
+    (
+        &["S", "inspect"],
+        r#"{"answer":"inspect","commit":1,"names":{},"nodes":[]}
 "#,
     ),
     (
