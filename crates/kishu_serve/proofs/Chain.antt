@@ -12,6 +12,7 @@ use Rattle.kishu_model.specs.Serve.{after, answer_of, Item, answered, after_item
 use Rattle.kishu_model.specs.Step.{charge_of}
 use Rattle.kishu_session.specs.Attached.{IsAttached}
 use Rattle.kishu_session.specs.Filling.{FillsBy}
+use Rattle.kishu_session.specs.Small.{small-after-all}
 use Rattle.kishu_session.specs.Written.{IsRecorded}
 use Rattle.kishu_session.specs.declared.session.Session.{Session}
 use Rattle.kishu_input.specs.declared.whole.InputStop.{InputStop}
@@ -90,7 +91,7 @@ reached-first g i is now out (inr (inr whole)) =
 module _ (s0 s1 s2 : State) (g now : Graph) (all rest : List Item) (i : Item) (steps0 steps1 : ℕ) (comes : Comes s0 s1 g now all (i ∷ rest) steps0 steps1) where
   first-part : (f o : List ℕ) → IsPart s1 now (i ∷ []) f o → IsPart s0 g all f o
   first-part f o p =
-      comes.parts f o (record { now = p.now; printed = p.printed; holds = p.holds; out_is = p.out_is; reached = reached-first now i rest p.now p.printed p.reached })
+      comes.parts f o (record { now = p.now; printed = p.printed; holds = p.holds; out_is = p.out_is; reached = reached-first now i rest p.now p.printed p.reached; small = p.small })
 
   pub more-stop : Elapses s1 s2 (IsPart s1 now (i ∷ [])) → Elapses s0 s2 (IsPart s0 g all)
   more-stop time = goes_on s0 s1 s2 (IsPart s0 g all) (IsPart s1 now (i ∷ [])) comes.stop time first-part
@@ -108,6 +109,7 @@ module _ (s0 s1 s2 : State) (g now : Graph) (all rest : List Item) (i : Item) (s
           holds = p.holds;
           out_is = p.out_is ∙ ap (λ (l : List ℕ). l ++ p.printed) said ∙ append_assoc s1.out (bytes_of now i) p.printed;
           reached = inr (inr (p.printed, refl, p.reached));
+          small = λ all. p.small (small-after-all now (i ∷ []) all);
         })
 
     pub comes-more : (steps2 : ℕ) → steps1 + charge_by now i ≤ steps2 → Elapses s1 s2 (IsPart s1 now (i ∷ [])) → Comes s0 s2 g (after_item now i) all rest steps0 steps2
@@ -127,6 +129,7 @@ module _ (s0 s : State) (g now : Graph) (all : List Item) (steps0 steps : ℕ) (
     holds = subst (λ (x : Graph). Holds s.file x) comes.ends (attached-holds session s now a);
     out_is = sym (append-nil s.out) ∙ comes.said;
     durable = a.durable;
+    small = small-after-all g all;
   }
 
   pub comes-least : steps0 + charges g all ≤ steps

@@ -107,13 +107,15 @@ alone-knows (Answers rs) s alone = alone-asks rs s alone
 alone-knows (Runs book) s alone = tt
 
 module _ (g : Graph) (input : List ℕ) where
-  by-cell : (b : Bool) → FillsBy g (if b then cell input else unreadable) → IsFull (replay g g.head.commit)
-  by-cell true full = full
+  -- by its own cell, or by one that leads to the head, on the way back to it
+  by-cell : (b : Bool) → FillsBy g (if b then cell input else unreadable) → FillsOnPath g ⊎ IsFull (replay g g.head.commit)
+  by-cell true (inl full) = inr full
+  by-cell true (inr back) = inl back.1
   by-cell false full = absurd full
 
   full-cell : Fills g (answered (cell_request input) ∷ []) → FillsOnPath g ⊎ IsFull (replay g g.head.commit)
   full-cell (inl path) = inl path
-  full-cell (inr (inl full)) = inr (by-cell (is_utf8 input) full)
+  full-cell (inr (inl full)) = by-cell (is_utf8 input) full
   full-cell (inr (inr none)) = absurd none
 
 pub fills-form : (f : Form) (work : Work) (old mid : SourceState) (g : Graph) → AsksFor f old work mid → (f ≡ one_cell → IsOneCell work) → still_reads work ≡ is_session f

@@ -10,6 +10,7 @@ use Rattle.kishu_store_laws.specs.Laws.{ends-holds}
 use Rattle.kishu_model.specs.Serve.{Item, after_item, bytes_of, IsPrefix}
 use Rattle.kishu_session.specs.Attached.{IsAttached}
 use Rattle.kishu_session.specs.Journals.{IsJournalOf, BeforeOrAfter}
+use Rattle.kishu_session.specs.Small.{small-after-all}
 use Rattle.kishu_session.specs.Written.{IsRecorded}
 use Rattle.kishu_session.specs.declared.session.Session.{Session}
 use Rattle.kishu_serve.specs.Headline.{IsPart}
@@ -32,11 +33,18 @@ attached-kept session s0 s1 g same crash a = record {
 module _ (s : State) (g : Graph) (i : Item) where
   -- nothing is done yet
   pub part-none : (file out : List ℕ) → Holds file g → out ≡ s.out → IsPart s g (i ∷ []) file out
-  part-none file out holds same = record { now = g; printed = []; holds = holds; out_is = same ∙ sym (append-nil s.out); reached = inl (refl, refl) }
+  part-none file out holds same = record { now = g; printed = []; holds = holds; out_is = same ∙ sym (append-nil s.out); reached = inl (refl, refl); small = λ all. all }
 
   -- it is done, and a part of what is written for it is out
   pub part-done : (file out p : List ℕ) → Holds file (after_item g i) → out ≡ s.out ++ p → IsPrefix p (bytes_of g i) → IsPart s g (i ∷ []) file out
-  part-done file out p holds is prefix = record { now = after_item g i; printed = p; holds = holds; out_is = is; reached = inr (inl (refl, prefix)) }
+  part-done file out p holds is prefix = record {
+    now = after_item g i;
+    printed = p;
+    holds = holds;
+    out_is = is;
+    reached = inr (inl (refl, prefix));
+    small = small-after-all g (i ∷ []);
+  }
 
   -- while it is applied
   pub part-applied : (file out : List ℕ) → BeforeOrAfter s g (after_item g i) file out → IsPart s g (i ∷ []) file out

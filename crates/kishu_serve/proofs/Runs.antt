@@ -24,7 +24,7 @@ reached-none g [] = (refl, refl)
 reached-none g (q ∷ qs) = inl (refl, refl)
 
 pub none-done : (s : State) (g : Graph) (qs : List Item) (file out : List ℕ) → Holds file g → out ≡ s.out → IsPart s g qs file out
-none-done s g qs file out holds same = record { now = g; printed = []; holds = holds; out_is = same ∙ sym (append-nil s.out); reached = reached-none g qs }
+none-done s g qs file out holds same = record { now = g; printed = []; holds = holds; out_is = same ∙ sym (append-nil s.out); reached = reached-none g qs; small = λ all. all }
 
 -- as it reads at the start
 pub start-part : (s : State) (g : Graph) (qs : List Item) → Holds s.file g → Only s.file s.may_leave → (file out : List ℕ) → Now s file out → IsPart s g qs file out
@@ -36,13 +36,13 @@ module _ (s0 s1 : State) (g : Graph) (qs : List Item) (opening : Elapses s0 s1 (
 
   module _ (same : s1.out ≡ s0.out) where
     pub part-from : (f o : List ℕ) → IsPart s1 g qs f o → IsPart s0 g qs f o
-    part-from f o h = record { now = h.now; printed = h.printed; holds = h.holds; out_is = h.out_is ∙ ap (λ (l : List ℕ). l ++ h.printed) same; reached = h.reached }
+    part-from f o h = record { now = h.now; printed = h.printed; holds = h.holds; out_is = h.out_is ∙ ap (λ (l : List ℕ). l ++ h.printed) same; reached = h.reached; small = h.small }
 
     pub serving-stop : (s2 : State) → Elapses s1 s2 (IsPart s1 g qs) → Elapses s0 s2 (RunStop s0 g qs)
     serving-stop s2 serving = goes_on s0 s1 s2 (RunStop s0 g qs) (IsPart s1 g qs) opening-stop serving (λ f o h. inr (part-from f o h))
 
     pub whole-from : (s2 : State) → IsWhole s1 s2 g qs → IsWhole s0 s2 g qs
-    whole-from s2 w = record { holds = w.holds; out_is = w.out_is ∙ ap (λ (l : List ℕ). l ++ answers g qs) same; durable = w.durable }
+    whole-from s2 w = record { holds = w.holds; out_is = w.out_is ∙ ap (λ (l : List ℕ). l ++ answers g qs) same; durable = w.durable; small = w.small }
 
 -- what holds where a call succeeded, once it has
 pub succeeded : {T E P : Type 0} (r : Result T E) → IsOk r → OnOk r P → P

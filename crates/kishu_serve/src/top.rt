@@ -213,8 +213,8 @@ fn run_work<H: Host, S: Source, L: Ledger>(
 /// - `STORE run` reads the whole input as a notebook, runs its code cells in order, each as a commit of
 ///   its own, up to the first that is refused or doesn't end well, and writes the notebook with what they
 ///   showed. With `--together`, at any place among the words, all those that are run are one commit.
-/// - `STORE log`, `STORE status`, `STORE checkout REF`, `STORE branch NAME` and `STORE branch NAME REF`
-///   answer that one request, and read no input.
+/// - `STORE log`, `STORE status`, `STORE inspect`, `STORE checkout REF`, `STORE branch NAME` and
+///   `STORE branch NAME REF` answer that one request, and read no input.
 ///
 /// An answer is one line, which goes out once its record is on the disk. What is refused is answered in
 /// one line too, and changes nothing. For the cells of a notebook no answers go out; the notebook does,

@@ -168,6 +168,7 @@ impl Work {
             Command::Run { together } => Ok(Work::Runs(book(alloc, source, together)?)),
             Command::Log => Ok(Work::one(Request::Log)),
             Command::Status => Ok(Work::one(Request::Status)),
+            Command::Inspect => Ok(Work::one(Request::Inspect)),
             Command::Checkout { to } => Ok(Work::one(Request::Checkout { to })),
             Command::Branch { name, at } => Ok(Work::one(Request::Branch { name, at })),
         }
