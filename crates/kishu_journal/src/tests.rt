@@ -9,6 +9,7 @@ use kishu_host::MemHost;
 use kishu_language::Profile;
 use std::alloc::{AllocError, Global};
 use std::process::Abort;
+use std::rc::RcStr;
 use std::test::Fail;
 
 /// A store with one commit, whose parent is commit 0 and whose one cell is `print(1 + 2)`.
@@ -343,6 +344,17 @@ fn makes_the_graph_of_records(rt: HostRuntime) -> Result<(), Fail> {
     Ok(())
 }
 
+/// The first cell of a commit, or an empty text where it has none.
+fn first_cell(commits: &[Vec<RcStr>], at: usize) -> &str {
+    let Some(cells) = commits.get(at) else {
+        return "";
+    };
+    match cells.as_slice() {
+        [first, ..] => first.as_str(),
+        [] => "",
+    }
+}
+
 #[test]
 fn answers_the_cells_of_commits(rt: HostRuntime) -> Result<(), Fail> {
     let alloc = rt.alloc();
@@ -352,10 +364,10 @@ fn answers_the_cells_of_commits(rt: HostRuntime) -> Result<(), Fail> {
     assert!(rt; !store.journal.is_closed());
     assert_eq!(rt; store.graph.commits(), 3);
     assert_eq!(rt; store.graph.head().commit, 2);
-    assert_eq!(rt; store.cells.len(), 2);
-    assert_eq!(rt; store.cells[0].len(), 1);
-    assert_eq!(rt; store.cells[0][0].as_str(), "print(1 + 2)");
-    assert_eq!(rt; store.cells[1][0].as_str(), "a");
+    let commits = store.cells.as_slice();
+    assert_eq!(rt; commits.len(), 2);
+    assert_eq!(rt; first_cell(commits, 0), "print(1 + 2)");
+    assert_eq!(rt; first_cell(commits, 1), "a");
     Ok(())
 }
 
