@@ -13,6 +13,7 @@ use Rattle.kishu_store.specs.Fitting.{on_branch, changed_by}
 use Rattle.kishu_store.specs.Graph.{Commit, Graph, newest, new_graph, with_commit, with_head, with_branch, path, path_in, cell_count, count_of}
 use Rattle.kishu_replay.specs.Replay.{after_cells, after_commits, replay, charge_in, charge_on, replay_charge}
 use Rattle.kishu_store.specs.Rules.{IsEntry}
+use Rattle.kishu_journal.specs.Found.{cells_in}
 use Rattle.kishu_session.specs.Texts.{cells_by_number, AreNewest}
 
 -- what a commit with these cells adds to a graph
@@ -65,13 +66,6 @@ module _ (profile : Profile) (cells : List (List ℕ)) (g : Graph) where
   replay-older c older = ap (λ (ks : List Commit). after_commits ks empty) (path-older c older)
 
 -- ---- the cells of all commits
-
--- those of the commits that records tell
-abbrev pub cells_in : List Entry → List (List (List ℕ))
-cells_in [] = []
-cells_in (commit parent profile cells dropped stored ∷ es) = cells ∷ cells_in es
-cells_in (move to ∷ es) = cells_in es
-cells_in (name title number ∷ es) = cells_in es
 
 -- no commit comes by a move to a branch
 on-branch : (title : List ℕ) (o : Option ℕ) (g : Graph) → (on_branch title o g).commits ≡ g.commits

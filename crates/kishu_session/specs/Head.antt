@@ -1,8 +1,12 @@
 -- What a session keeps of its store's graph, and the state at its head.
 use Rattle.std.specs.Prelude.{◌≡◌, ◌≤◌, ℕ, suc, ◌+◌, List, map}
+use Rattle.std.specs.declared.alloc.Global.{Global}
+use Rattle.std.specs.declared.rc.RcStr.{RcStr}
+use Rattle.std.specs.declared.vec.Vec.{Vec}
 use Rattle.kishu_language.specs.declared.profile.Profile.TheVariants.{One}
 use Rattle.kishu_store.specs.Graph.{Graph, newest, with_commit, count_of}
 use Rattle.kishu_graph.specs.Kept.{Kept, HasShapeOf, StandsFor}
+use Rattle.kishu_journal.specs.Stores.{cells_of as lists_of}
 use Rattle.kishu_replay.specs.Replay.{replay, replay_charge}
 use Rattle.kishu_session.specs.Cells.{cells_of}
 use Rattle.kishu_session.specs.Filling.{FillsOnPath}
@@ -27,6 +31,18 @@ pub record IsAt (head : Head) (g : Graph) : Type 0 where
   pub count : head.cells ≡ count_of g g.head.commit
   pub live : state_of head.live ≡ replay g g.head.commit
 
+-- ---- what was read of a store
+
+-- What is kept stands for the graph, and these are the cells of all its commits, which run under the newest profile.
+pub record IsReadOf (kept : Kept) (lists : Vec (Vec (RcStr Global) Global) Global) (g : Graph) : Type 0 where
+  pub graph : IsGraphOf kept g
+  pub cells : lists_of lists ≡ cells_by_number g.commits
+  pub profiles : AreNewest g.commits
+
+-- The head stands where the graph that was read does.
+abbrev pub StandsBy : Kept → Vec (Vec (RcStr Global) Global) Global → Head → Type 0
+StandsBy kept lists head = (g : Graph) → IsReadOf kept lists g → IsAt head g
+
 -- ---- the cells that lead to the head
 
 -- the steps that they take
@@ -40,6 +56,13 @@ CountsPath head before now = (g : Graph) → Keeps head g → before + head_char
 -- One of these cells would begin with too many nodes.
 abbrev pub FillsPath : Head → Type 0
 FillsPath head = (g : Graph) → Keeps head g → FillsOnPath g
+
+-- The same of a graph that was read.
+abbrev pub CountsRead : Kept → Vec (Vec (RcStr Global) Global) Global → (before now : ℕ) → Type 0
+CountsRead kept lists before now = (g : Graph) → IsReadOf kept lists g → before + head_charge g ≤ now
+
+abbrev pub FillsRead : Kept → Vec (Vec (RcStr Global) Global) Global → Type 0
+FillsRead kept lists = (g : Graph) → IsReadOf kept lists g → FillsOnPath g
 
 -- The head stands at what it kept before.
 abbrev pub Reaches : (old new : Head) → Type 0

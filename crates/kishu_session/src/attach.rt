@@ -59,21 +59,21 @@ impl Session {
         // Each step of the cells is counted.
         ensures least { OnOk result (CountsCells (H.state host.old) steps.old steps.new) }
     {
-        let (journal, entries) = match Journal::attach(alloc, host) {
-            Ok((journal, entries)) => (journal, entries),
+        let store = match Journal::open_store(alloc, host) {
+            Ok(store) => store,
             Err(JournalFault::NotAJournal) => return Err(Halt::NotAJournal),
             Err(JournalFault::Damaged { at }) => return Err(Halt::Damaged { at }),
             Err(JournalFault::DiskFault) => return Err(Halt::DiskFault),
             Err(JournalFault::NoMemory) => return Err(Halt::NoMemory),
         };
-        let head = match Head::of_records(alloc, &entries, steps) {
+        let head = match Head::of_store(alloc, store.graph, store.cells, steps) {
             Ok(head) => head,
             Err(Unrun::HeapFull) => return Err(Halt::HeapFull),
             Err(Unrun::NoMemory) => return Err(Halt::NoMemory),
         };
         Ok(Session {
             alloc,
-            journal,
+            journal: store.journal,
             head,
             halted: false,
         })
