@@ -1,0 +1,4 @@
+pub mod Pushing
+pub mod Spelling
+pub mod Places
+pub mod Bindings
