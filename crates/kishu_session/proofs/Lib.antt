@@ -6,9 +6,10 @@ mod Ran
 mod Steps
 mod MoveSteps
 mod HeadFacts
+mod Refused
+mod Large
 mod CellSteps
 mod CellsSteps
-mod Refused
 mod RefusedBranch
 mod MovedFacts
 mod BranchFacts

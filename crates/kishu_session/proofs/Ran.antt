@@ -1,22 +1,39 @@
--- Cells that are run one after another, up to the first that doesn't end well.
+-- Cells that are run one after another, up to the first that doesn't end well or leaves a state that is too large.
 use Rattle.std.proofs.Common.{◌≡◌, ◌<◌, ◌≤◌, ◌+◌, ◌^◌, inr, ℕ, zero, suc, Bool, true, false, if◌then◌else◌, List, [], ◌∷◌, ◌++◌, length, take, refl, sym, ◌∙◌, ap, subst, arith, length-append, append_assoc}
+use Rattle.std.specs.Prelude.{not, ◌&&◌}
 use Rattle.std.proofs.lemmas.List.{append-nil}
 use Rattle.std.specs.declared.alloc.Global.{Global}
 use Rattle.std.specs.declared.rc.RcStr.{RcStr}
 use Rattle.kishu_language.specs.declared.profile.Profile.TheVariants.{One}
 use Rattle.kishu_meaning.specs.cells.Meaning.{run}
-use Rattle.kishu_meaning.specs.values.Values.{State}
+use Rattle.kishu_meaning.specs.values.Values.{Ran, State}
 use Rattle.kishu_model.specs.Answers.{Counted}
-use Rattle.kishu_model.specs.requests.Cells.{is_ok, cells_run, results_from}
+use Rattle.kishu_model.specs.requests.Cells.{is_ok, is_followed, cells_run, results_from}
+use Rattle.kishu_model.specs.requests.TooLarge.{is_too_large}
 use Rattle.kishu_replay.specs.Replay.{after_cells, charge_in, FillsIn}
 use Rattle.kishu_session.specs.TextLists.{texts_of}
 
--- A further cell is run after one that ended well, and none after another.
+-- ---- whether a further cell is run
+
+module _ (r : Ran) where
+  pub follows : is_ok r.report.outcome ≡ true → is_too_large r.state ≡ false → is_followed r ≡ true
+  follows well small = ap (λ (b : Bool). b && not (is_too_large r.state)) well ∙ ap (λ (b : Bool). not b) small
+
+  pub ends-ill : is_ok r.report.outcome ≡ false → is_followed r ≡ false
+  ends-ill ill = ap (λ (b : Bool). b && not (is_too_large r.state)) ill
+
+  none-more : (b : Bool) → (b && false) ≡ false
+  none-more true = refl
+  none-more false = refl
+
+  pub ends-large : is_too_large r.state ≡ true → is_followed r ≡ false
+  ends-large large = ap (λ (b : Bool). is_ok r.report.outcome && not b) large ∙ none-more (is_ok r.report.outcome)
+
 module _ (t : List ℕ) (ts : List (List ℕ)) (s : State) where
-  further : is_ok (run One t s).report.outcome ≡ true → cells_run One (t ∷ ts) s ≡ t ∷ cells_run One ts (run One t s).state
+  further : is_followed (run One t s) ≡ true → cells_run One (t ∷ ts) s ≡ t ∷ cells_run One ts (run One t s).state
   further well = ap (λ (b : Bool). t ∷ (if b then cells_run One ts (run One t s).state else [])) well
 
-  last : is_ok (run One t s).report.outcome ≡ false → cells_run One (t ∷ ts) s ≡ t ∷ []
+  last : is_followed (run One t s) ≡ false → cells_run One (t ∷ ts) s ≡ t ∷ []
   last ill = ap (λ (b : Bool). t ∷ (if b then cells_run One ts (run One t s).state else [])) ill
 
 -- of all these cells, from this state, with so many cells before them on the path and so many steps counted
@@ -38,12 +55,16 @@ module _ (all : List (List ℕ)) (s0 : State) (before n0 : ℕ) where
     pub least : n0 + charge_in One ran s0 ≤ n + charge_in One (cells_run One rest s) s
     pub full : FillsIn One (cells_run One rest s) s → FillsIn One ran s0
 
-  -- after the last that is run
+  -- the state after the last that is run, and the steps that are counted then
+  pub record Left (s : State) (n : ℕ) : Type 0 where
+    pub state : s ≡ after_cells One ran s0
+    pub least : n0 + charge_in One ran s0 ≤ n
+
+  -- with those that were taken, and what they showed
   pub record Ended (taken : List (List ℕ)) (shown : List Counted) (s : State) (n : ℕ) : Type 0 where
     pub ran_is : taken ≡ ran
     pub shown_is : IsCounted → shown ≡ shows
-    pub state : s ≡ after_cells One ran s0
-    pub least : n0 + charge_in One ran s0 ≤ n
+    pub left : Left s n
 
   pub going-begin : Going [] all [] s0 n0
   going-begin = record { ran_is = refl; shown_is = λ few. ap (λ (k : ℕ). results_from (suc k) One ran s0) (omega arith); state = refl; least = omega arith; full = λ f. f }
@@ -52,14 +73,21 @@ module _ (all : List (List ℕ)) (s0 : State) (before n0 : ℕ) where
   going-none taken shown s n g = record {
     ran_is = sym (append-nil taken) ∙ g.ran_is;
     shown_is = λ few. sym (append-nil shown) ∙ g.shown_is few;
-    state = g.state;
-    least = omega (arith, g.least);
+    left = record { state = g.state; least = omega (arith, g.least) };
   }
 
   -- one cell more
   module _ (taken : List (List ℕ)) (t : List ℕ) (rest : List (List ℕ)) (shown : List Counted) (s : State) (n : ℕ) (g : Going taken (t ∷ rest) shown s n) where
     abbrev next : State
     next = (run One t s).state
+
+    pub left-end : is_followed (run One t s) ≡ false → (m : ℕ) → n + (run One t s).charge ≤ m → Left next m
+    left-end ill m spent =
+        let f = last t rest s ill in
+        record {
+          state = ap (λ (l : List (List ℕ)). after_cells One l s) (sym f) ∙ g.state;
+          least = omega (arith, g.least, spent, ap (λ (l : List (List ℕ)). charge_in One l s) f);
+        }
 
     abbrev shows_next : Counted
     shows_next = record { count = suc (before + length shown); report = (run One t s).report }
@@ -75,7 +103,7 @@ module _ (all : List (List ℕ)) (s0 : State) (before n0 : ℕ) where
           ∙ ap (λ (cs : List (List ℕ)). shown ++ results_from (suc (before + length shown)) One cs s) (sym is)
           ∙ g.shown_is few
 
-      pub going-on : is_ok (run One t s).report.outcome ≡ true → (now : List (List ℕ)) (m : ℕ) → now ≡ taken ++ (t ∷ []) → n + (run One t s).charge ≤ m → Going now rest more next m
+      pub going-on : is_followed (run One t s) ≡ true → (now : List (List ℕ)) (m : ℕ) → now ≡ taken ++ (t ∷ []) → n + (run One t s).charge ≤ m → Going now rest more next m
       going-on well now m is spent =
           let f = further t rest s well in
           record {
@@ -90,14 +118,13 @@ module _ (all : List (List ℕ)) (s0 : State) (before n0 : ℕ) where
             full = λ h. g.full (subst (λ (l : List (List ℕ)). FillsIn One l s) (sym f) (inr h));
           }
 
-      pub going-end : is_ok (run One t s).report.outcome ≡ false → (now : List (List ℕ)) (m : ℕ) → now ≡ taken ++ (t ∷ []) → n + (run One t s).charge ≤ m → Ended now more next m
+      pub going-end : is_followed (run One t s) ≡ false → (now : List (List ℕ)) (m : ℕ) → now ≡ taken ++ (t ∷ []) → n + (run One t s).charge ≤ m → Ended now more next m
       going-end ill now m is spent =
           let f = last t rest s ill in
           record {
             ran_is = is ∙ ap (λ (l : List (List ℕ)). taken ++ l) (sym f) ∙ g.ran_is;
             shown_is = λ few. sym (append-nil more) ∙ shown-on [] f few;
-            state = ap (λ (l : List (List ℕ)). after_cells One l s) (sym f) ∙ g.state;
-            least = omega (arith, g.least, spent, ap (λ (l : List (List ℕ)). charge_in One l s) f);
+            left = left-end ill m spent;
           }
 
 -- ---- those that were run are the first of all

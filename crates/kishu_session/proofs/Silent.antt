@@ -1,8 +1,7 @@
 -- What is refused has no record.
-use Rattle.std.proofs.Common.{◌≡◌, ℕ, Bool, true, false, if◌then◌else◌, List, length, Option, Some, None, refl, sym, ◌∙◌, ap, subst, arith}
-use Rattle.std.specs.Prelude.{nat_le, nat_lt, not, is_some, option_map}
+use Rattle.std.proofs.Common.{◌≡◌, ℕ, Bool, true, false, if◌then◌else◌, List, [], ◌∷◌, Option, Some, None, refl, sym, ◌∙◌, ap, subst, arith}
+use Rattle.std.specs.Prelude.{nat_le, not, is_some, option_map}
 use Rattle.std.proofs.Math.Logic.{∥∥₁_elim}
-use Rattle.kishu_language.specs.Limits.{longest_text}
 use Rattle.kishu_store.specs.Branches.{commit_of, is_branch_name}
 use Rattle.kishu_store.specs.Entries.{Entry}
 use Rattle.kishu_meaning.specs.values.Values.{State}
@@ -10,9 +9,8 @@ use Rattle.kishu_store.specs.Graph.{Graph, Target, with_branch, with_commit}
 use Rattle.kishu_store.specs.Limits.{most_records, newest_profile}
 use Rattle.kishu_store.specs.References.{resolve}
 use Rattle.kishu_store_laws.specs.GraphLaws.{changed-counted}
-use Rattle.kishu_model.specs.Answers.{Answer, Refusal, branched, cell_too_long, store_full, bad_name, name_taken}
-use Rattle.kishu_model.specs.Request.{Request, Stepped, cell, cells, checkout, branch, log, status, unreadable, refused_with}
-use Rattle.kishu_model.specs.requests.Cell.{committed}
+use Rattle.kishu_model.specs.Answers.{Answer, Refusal, branched, store_full, bad_name, name_taken}
+use Rattle.kishu_model.specs.Request.{Request, Stepped, cell, cells, checkout, branch, log, status, inspect, unreadable, refused_with}
 use Rattle.kishu_model.specs.requests.Cells.{cells_run}
 use Rattle.kishu_model.specs.requests.Checkout.{checkout_to, went_to}
 use Rattle.kishu_model.specs.requests.Branch.{branch_at, start_of}
@@ -20,7 +18,7 @@ use Rattle.kishu_model.specs.Step.{step}
 use Rattle.kishu_model.specs.Values.{answer_of}
 use Rattle.kishu_record.specs.Entries.{entry_of}
 use Rattle.kishu_record.specs.declared.entry.Entry as program
-use Rattle.kishu_session.specs.Committing.{unless_refused, after_on}
+use Rattle.kishu_session.specs.Committing.{left_by, left_by_cells, unless_refused, kept_with, after_on}
 use Rattle.kishu_session.specs.Known.{IsGraphOf, IsKnown}
 use Rattle.kishu_session.specs.Lives.{state_of}
 use Rattle.kishu_session.specs.Prepared.{LeadsTo, Leads, Prepares, RefusesFor}
@@ -59,16 +57,15 @@ module _ (g : Graph) (r : Refusal) where
 
   on-stays : (now : State) (q : Request) → refusal_in (step g q).answer ≡ Some r → after_on now g q ≡ g
   on-stays now unreadable e = refl
-  on-stays now (cell text) e =
-      choice (nat_lt longest_text (length text)) (refused_with cell_too_long g) (if nat_le most_records g.records then refused_with store_full g else committed text g) (here cell_too_long)
-      (choice (nat_le most_records g.records) (refused_with store_full g) (committed text g) (here store_full) (accepted (committed text g) refl)) e
-  on-stays now (cells texts) e = ap (λ (o : Option Refusal). unless_refused o (with_commit newest_profile (cells_run newest_profile texts now) g) g) e
+  on-stays now (cell text) e = ap (λ (o : Option Refusal). unless_refused o (kept_with (left_by text now) (with_commit newest_profile (text ∷ []) g) g) g) e
+  on-stays now (cells texts) e = ap (λ (o : Option Refusal). unless_refused o (kept_with (left_by_cells texts now) (with_commit newest_profile (cells_run newest_profile texts now) g) g) g) e
   on-stays now (checkout to) e = to-stays (resolve g to) e
   on-stays now (branch title at) e =
       choice (not (is_branch_name title)) (refused_with bad_name g) (if is_some (commit_of title g.branches) then refused_with name_taken g else branch_at title (start_of at g) g) (here bad_name)
       (choice (is_some (commit_of title g.branches)) (refused_with name_taken g) (branch_at title (start_of at g) g) (here name_taken) (at-stays title (start_of at g))) e
   on-stays now log e = refl
   on-stays now status e = refl
+  on-stays now inspect e = refl
 
 -- A record changes a graph.
 never-same : (g : Graph) (e : Entry) → Leads g e g → ⊥

@@ -7,16 +7,17 @@ use Rattle.kishu_language.specs.Limits.{longest_text}
 use Rattle.kishu_store.specs.Limits.{most_records}
 use Rattle.kishu_model.specs.Answers.{cell_too_long, store_full}
 use Rattle.kishu_model.specs.Request.{Stepped, cell, refused_with}
-use Rattle.kishu_model.specs.requests.Cell.{committed, charge_for}
+use Rattle.kishu_model.specs.requests.Cell.{committed, ran_on, charge_for}
+use Rattle.kishu_model.specs.requests.TooLarge.{unless_too_large}
 use Rattle.kishu_model.specs.Step.{step, charge_of}
 
 -- ---- cells
 
 module _ (g : Graph) (text : List ℕ) where
   abbrev by-tests : (long full : Bool) → Stepped
-  by-tests long full = if long then refused_with cell_too_long g else if full then refused_with store_full g else committed text g
+  by-tests long full = if long then refused_with cell_too_long g else if full then refused_with store_full g else unless_too_large (ran_on text g).state g (committed text g)
 
-  pub step-cell : length text ≤ longest_text → g.records < most_records → step g (cell text) ≡ committed text g
+  pub step-cell : length text ≤ longest_text → g.records < most_records → step g (cell text) ≡ unless_too_large (ran_on text g).state g (committed text g)
   step-cell short room =
       let l : nat_lt longest_text (length text) ≡ false = grind (arith, nat_tests) in
       let f : nat_le most_records g.records ≡ false = grind (arith, nat_tests) in

@@ -1,5 +1,6 @@
 -- What a request gives, over the graph of the host's file: `s` is the host before, `t` the host after.
 use Rattle.std.specs.Prelude.{◌≡◌, ◌≤◌, ◌⊎◌, ℕ, ◌+◌, Some}
+use Rattle.kishu_history.specs.Sizes.{StaysSmall}
 use Rattle.kishu_host.specs.Host.{State, Told, Only, Elapses}
 use Rattle.kishu_store.specs.Graph.{Graph}
 use Rattle.kishu_model.specs.declared.answer.Answer.{Answer}
@@ -54,3 +55,7 @@ RecordsOne old s t = Told s ((g : Graph) → IsAtEnd old s g → (t.file ≡ s.f
 -- Where a stop before left the file alone, a stop at any moment leaves the graph before or after the request, and no output.
 abbrev pub LeavesHere : Session → (s t : State) → Request → Type 0
 LeavesHere old s t q = Told s (Only s.file s.may_leave → (g : Graph) → IsAtEnd old s g → Elapses s t (BeforeOrAfter s g (after_here old g q)))
+
+-- Where no replay of a graph is too large, none of the graph after the request is.
+abbrev pub KeepsSmall : Request → Type 0
+KeepsSmall q = (g : Graph) → StaysSmall g → StaysSmall (after g (request_of q))

@@ -83,3 +83,9 @@ KeepsWith old new cells = (g : Graph) → Keeps old g → Keeps new (with_commit
 
 abbrev pub CountsMore : (old new : Head) → ℕ → Type 0
 CountsMore old new more = (g : Graph) → Keeps old g → old.cells ≡ count_of g g.head.commit → new.cells ≡ count_of g g.head.commit + more
+
+-- ---- whichever graph it is
+
+-- There is a graph at whose head it is.
+abbrev pub IsAtSome : Head → Type 0
+IsAtSome head = ∥ ((g : Graph) × IsAt head g) ∥₁

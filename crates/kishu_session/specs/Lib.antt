@@ -1,8 +1,10 @@
 pub mod TextLists
 pub mod Texts
 pub mod Growth
+pub mod Small
 pub mod Known
 pub mod Lives
+pub mod Running
 pub mod Cells
 pub mod Moves
 pub mod Asked

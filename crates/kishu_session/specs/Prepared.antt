@@ -4,6 +4,7 @@ use Rattle.kishu_store.specs.Graph.{Graph}
 use Rattle.kishu_store.specs.Entries.{Entry, plain}
 use Rattle.kishu_store.specs.Fitting.{Fits, changed}
 use Rattle.kishu_store.specs.Rules.{IsRecord}
+use Rattle.kishu_model.specs.Answers.{Refusal, refused}
 use Rattle.kishu_model.specs.declared.answer.Answer as rust_answer
 use Rattle.kishu_model.specs.Request.{Request}
 use Rattle.kishu_model.specs.Serve.{after}
@@ -11,12 +12,12 @@ use Rattle.kishu_model.specs.Step.{step, charge_of}
 use Rattle.kishu_model.specs.Values.{answer_of}
 use Rattle.kishu_graph.specs.Kept.{Kept, StandsFor}
 use Rattle.kishu_record.specs.Entries.{entry_of}
-use Rattle.kishu_session.specs.Committing.{after_on}
+use Rattle.kishu_session.specs.Committing.{after_on, LeavesTooLarge}
 use Rattle.kishu_session.specs.Filling.{FillsBy}
-use Rattle.kishu_session.specs.Head.{IsAt}
+use Rattle.kishu_session.specs.Head.{IsAt, Reaches}
 use Rattle.kishu_session.specs.Known.{IsGraphOf}
 use Rattle.kishu_session.specs.Lives.{state_of}
-use Rattle.kishu_session.specs.Refusing.{RefusesAs}
+use Rattle.kishu_session.specs.Refusing.{RefusesAs, RefusesSize}
 use Rattle.kishu_session.specs.declared.head.Head.{Head}
 use Rattle.kishu_session.specs.declared.prepared.Prepared.{Prepared}
 
@@ -65,3 +66,30 @@ CountsAt head q before now = (g : Graph) → IsAt head g → before + charge_of 
 -- A cell of the request would begin with too many nodes.
 abbrev pub FillsAt : Head → Request → Type 0
 FillsAt head q = (g : Graph) → IsAt head g → FillsBy g q
+
+-- ---- states that are too large
+
+-- The head's commit was replayed: what is kept of the graph is as it was, and the session is at its head.
+pub record IsBack (old new : Head) : Type 0 where
+  pub graph : new.graph ≡ old.graph
+  pub stored : new.stored ≡ old.stored
+  pub at : Reaches old new
+
+-- The request is refused, without a record, and the head's commit was replayed.
+pub record IsRefusedBack (old new : Head) (r : Refusal) (prepared : Prepared) : Type 0 where
+  pub answer : answer_of prepared.answer ≡ Some (refused r)
+  pub entry : prepared.entry ≡ None
+  pub back : IsBack old new
+
+-- The answer refuses no state for its size.
+abbrev pub RefusesNoSize : rust_answer.Answer → Type 0
+RefusesNoSize a = (bytes : ℕ) → RefusesSize (answer_of a) bytes → ⊥
+
+-- A state is refused for its size just where the request's cells left it. It has no record, and the session goes back to its head.
+abbrev pub RefusesLarge : (old new : Head) → Request → Prepared → Type 0
+RefusesLarge old new q prepared =
+    (bytes : ℕ) → RefusesSize (answer_of prepared.answer) bytes → LeavesTooLarge (state_of old.live) q bytes × (prepared.entry ≡ None) × IsBack old new
+
+-- Whatever else has no record changes nothing.
+abbrev pub StaysWithout : (old new : Head) → Prepared → Type 0
+StaysWithout old new prepared = prepared.entry ≡ None → RefusesNoSize prepared.answer → new ≡ old

@@ -1,14 +1,15 @@
 // The answering of requests.
-ghost use Rattle.std.specs.Prelude.{◌≡◌, ◌≤◌, ◌⊎◌, ◌↔◌, true, IfOk, IfErr, OnOk, IsErr, IsErrOf, IsSome};
+ghost use Rattle.std.specs.Prelude.{ℕ, ◌≡◌, ◌≤◌, ◌⊎◌, ◌↔◌, true, IfOk, IfErr, OnOk, IsErr, IsErrOf, IsSome};
 ghost use Rattle.kishu_replay.specs.Replay.{IsFull};
 ghost use Rattle.kishu_model.specs.Values.{request_of, answer_of};
 ghost use Rattle.kishu_model.specs.requests.Cells.{HasRoom};
-ghost use Rattle.kishu_session.specs.Applying.{IsAnswer, StaysAttached, Fills, Counts, StaysAtEnd, RecordsOne, LeavesBeforeOrAfter, LeavesHere};
+ghost use Rattle.kishu_session.specs.Applying.{IsAnswer, StaysAttached, Fills, Counts, StaysAtEnd, RecordsOne, LeavesBeforeOrAfter, LeavesHere, KeepsSmall};
 ghost use Rattle.kishu_session.specs.Attached.{IsReady};
+ghost use Rattle.kishu_session.specs.Committing.{LeavesTooLarge};
 ghost use Rattle.kishu_session.specs.Faults.{DiskFailed};
 ghost use Rattle.kishu_session.specs.Lives.{state_of};
 ghost use Rattle.kishu_session.specs.Prepared.{RefusesFor};
-ghost use Rattle.kishu_session.specs.Refusing.{IsRefusal};
+ghost use Rattle.kishu_session.specs.Refusing.{IsRefusal, RefusesSize};
 ghost use Rattle.kishu_session.specs.declared.halt.Halt.TheVariants.{DiskFault, NoMemory, HeapFull, Closed};
 
 use crate::live::Unrun;
@@ -28,7 +29,7 @@ impl Session {
     ///
     /// - `Closed`: an earlier call ended the session. The host isn't called.
     /// - `DiskFault`: a call of the host failed. The store holds the graph before or after the request.
-    /// - `HeapFull`: a cell would have begun with more than 2^31 nodes.
+    /// - `HeapFull`: a cell would have begun with more than 2^31 nodes, of the request or on the way back.
     /// - `NoMemory`: there was no memory.
     pub fn apply<H: Host, L: Ledger>(
         &mut self,
@@ -53,11 +54,23 @@ impl Session {
         ensures bytes { OnOk result (RecordsOne self.old (H.state host.old) (H.state host.new)) }
 
         // On every host the answer is one, a request is refused just for the causes that the session's graph
-        // gives, and a refusal leaves host, graph, nodes and names as they were.
+        // gives, or for a state's size, and a refusal for such a cause leaves host, graph, nodes and names as
+        // they were.
         ensures is_one { IfOk result (λ a. IsSome (answer_of a)) }
         ensures refuses { IfOk result (RefusesFor self.old.head.graph (request_of request.now)) }
         ensures refused { IfOk result (λ a. IsRefusal (answer_of a)
             → (host.new ≡ host.old) × (self.new.head ≡ self.old.head)) }
+
+        // A state is refused for its size just where the request's cells left it, above 2^28 bytes, which are
+        // told. Host and graph, nodes and names are then as they were.
+        ensures too_large { IfOk result (λ a. (bytes : ℕ) → RefusesSize (answer_of a) bytes
+            → LeavesTooLarge (state_of self.old.head.live) (request_of request.now) bytes
+            × (host.new ≡ host.old) × (self.new.head.graph ≡ self.old.head.graph)) }
+        ensures back { IfOk result (λ a. (bytes : ℕ) → RefusesSize (answer_of a) bytes
+            → state_of self.new.head.live ≡ state_of self.old.head.live) }
+
+        // A graph without a replay that is too large becomes one of that kind.
+        ensures small { KeepsSmall request.now }
 
         // A stop at any moment leaves the graph before or after the request, and no output: from an attached
         // session, and from one that stands at the file's end.

@@ -1,16 +1,19 @@
 // What a session keeps of its store's graph, and the state at its head.
-ghost use Rattle.std.specs.Prelude.{◌≡◌, ◌≤◌, OnOk, IsErrOf};
+ghost use Rattle.std.specs.Prelude.{◌≡◌, ◌≤◌, IfOk, OnOk, IsErrOf};
 ghost use Rattle.kishu_replay.specs.Replay.{IsFull};
 ghost use Rattle.kishu_session.specs.Head.{Reaches, CountsPath, FillsPath};
+ghost use Rattle.kishu_model.specs.Values.{refusal_of};
 ghost use Rattle.kishu_session.specs.Lives.{state_of};
+ghost use Rattle.kishu_session.specs.Prepared.{IsRefusedBack};
 ghost use Rattle.kishu_session.specs.declared.live.Unrun.TheVariants.{HeapFull};
 
 use crate::cells::texts_along;
 use crate::commit_cells::CommitCells;
 use crate::live::{Live, Unrun};
+use crate::prepared::Prepared;
 use crate::replaying::run_all;
 use kishu_graph::Graph;
-use kishu_model::Steps;
+use kishu_model::{Refusal, Steps};
 use std::alloc::Global;
 use std::sync::ledger::Ledger;
 
@@ -42,5 +45,20 @@ impl Head {
         run_all(self.alloc, &texts, &mut self.live, steps)?;
         self.cells = texts.len() as u64;
         Ok(())
+    }
+
+    /// Goes back to the head's commit, since cells left a state that is too large, and refuses them.
+    pub(crate) fn back<L: Ledger>(
+        &mut self,
+        refusal: Refusal,
+        steps: &mut Steps<L>,
+    ) -> Result<Prepared, Unrun>
+        ensures refused { IfOk result (IsRefusedBack self.old self.new (refusal_of refusal)) }
+        ensures counted { OnOk result (steps.old ≤ steps.new) }
+        ensures full { IsErrOf result HeapFull → FillsPath self.old }
+        ensures beyond { IsErrOf result HeapFull → IsFull (state_of self.new.live) }
+    {
+        self.replay(steps)?;
+        Ok(Prepared::refused(refusal))
     }
 }

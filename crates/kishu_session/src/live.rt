@@ -1,15 +1,19 @@
 // What cells have left, and the running of one more.
-ghost use Rattle.std.specs.Prelude.{◌≡◌, ◌≤◌, ◌+◌, [], IsTrue, IfOk, OnOk, IsErrOf, length};
+ghost use Rattle.std.specs.Prelude.{◌≡◌, ◌≤◌, ◌+◌, [], Some, IsTrue, IfOk, OnOk, IsErrOf, length, option_map};
 ghost use Rattle.kishu_meaning.specs.moments.Accesses.{with_accesses};
 ghost use Rattle.kishu_language.specs.Limits.{longest_text};
 ghost use Rattle.kishu_replay.specs.Replay.{IsFull};
 ghost use Rattle.kishu_meaning.specs.values.Sound.{are_sound_names};
 ghost use Rattle.kishu_meaning.specs.values.Values.{empty, report_of};
+ghost use Rattle.kishu_inspect.specs.Sized.{size_refused};
+ghost use Rattle.kishu_model.specs.Values.{answer_of, refusal_of};
+ghost use Rattle.kishu_model.specs.requests.Inspect.{told_at};
+ghost use Rattle.kishu_objects.specs.Picture.{whole};
 ghost use Rattle.kishu_session.specs.declared.live.Unrun.TheVariants.{HeapFull};
 
 use kishu_heap::Heap;
 use kishu_interp::run_cell;
-use kishu_model::{CellResult, Profile, Steps};
+use kishu_model::{Answer, CellResult, Profile, Refusal, Steps};
 use kishu_names::Names;
 use std::alloc::{AllocError, Global};
 use std::sync::ledger::Ledger;
@@ -92,5 +96,30 @@ impl Live {
             steps,
         )?;
         Ok(result)
+    }
+
+    /// The refusal of a state that is too large. None says that it isn't.
+    pub(crate) fn too_large<L: Ledger>(
+        &self,
+        alloc: Global,
+        steps: &mut Steps<L>,
+    ) -> Result<Option<Refusal>, AllocError>
+        ensures refusal { IfOk result (λ o. option_map refusal_of o ≡ size_refused (state_of self.now)) }
+        ensures counted { steps.old ≤ steps.new }
+    {
+        kishu_inspect::too_large(alloc, &self.heap, &self.names, steps)
+    }
+
+    /// What is bound, told at this commit.
+    pub(crate) fn told<L: Ledger>(
+        &self,
+        alloc: Global,
+        commit: u32,
+        steps: &mut Steps<L>,
+    ) -> Result<Answer, AllocError>
+        ensures answer { IfOk result (λ a. answer_of a ≡ Some (told_at commit (whole (state_of self.now)))) }
+        ensures counted { steps.old ≤ steps.new }
+    {
+        kishu_inspect::told(alloc, &self.heap, &self.names, commit, steps)
     }
 }

@@ -4,5 +4,6 @@ pub(crate) mod branch;
 pub(crate) mod cell;
 pub(crate) mod cells;
 pub(crate) mod checkout;
+pub(crate) mod inspect;
 pub(crate) mod log;
 pub(crate) mod status;

@@ -1,5 +1,6 @@
 // A session.
 ghost use Rattle.std.specs.Prelude.{◌≡◌, false};
+ghost use Rattle.kishu_session.specs.Head.{IsAtSome};
 ghost use Rattle.kishu_session.specs.Known.{IsKnown};
 
 use crate::head::Head;
@@ -18,6 +19,7 @@ pub struct Session {
     pub(crate) halted: bool,
     ghost going: { halted ≡ false → journal.closed ≡ false },
     ghost known: { halted ≡ false → IsKnown head.graph },
+    ghost at: { halted ≡ false → IsAtSome head },
 }
 
 impl Session {

@@ -3,7 +3,7 @@ ghost use Rattle.std.specs.Prelude.{◌≡◌, None, IfOk, IfErr, OnErr, IsErrOf
 ghost use Rattle.kishu_session.specs.Asked.{branch_for};
 ghost use Rattle.kishu_session.specs.Branching.{BranchesAt, IsCause};
 ghost use Rattle.kishu_session.specs.Known.{IsKnown};
-ghost use Rattle.kishu_session.specs.Prepared.{Prepares, RefusesFor, AnswersAt, MayBeRecorded};
+ghost use Rattle.kishu_session.specs.Prepared.{Prepares, RefusesFor, RefusesLarge, AnswersAt, MayBeRecorded, StaysWithout};
 ghost use Rattle.kishu_session.specs.TextLists.{text_in};
 ghost use Rattle.kishu_session.specs.declared.live.Unrun.TheVariants.{HeapFull};
 
@@ -36,7 +36,8 @@ impl Head {
         ensures refuses { IfOk result (λ p. RefusesFor self.old.graph (branch_for name.now at.now) p.answer) }
         ensures answered { IfOk result (AnswersAt self.old self.new (branch_for name.now at.now)) }
         ensures record { IfOk result MayBeRecorded }
-        ensures stays { IfOk result (λ p. p.entry ≡ None → self.new ≡ self.old) }
+        ensures stays { IfOk result (StaysWithout self.old self.new) }
+        ensures large { IfOk result (RefusesLarge self.old self.new (branch_for name.now at.now)) }
         ensures not_full { IsErrOf result HeapFull → ⊥ }
     {
         match add_branch(&mut self.graph, name.as_str(), at) {

@@ -1,5 +1,5 @@
 // Several cells: they run on the live state, one after another up to the first that doesn't end well, and
-// those that were run are one commit.
+// those that were run are one commit. None is kept where one leaves a state that is too large.
 ghost use Rattle.std.specs.Prelude.{◌≡◌, ◌≤◌, ◌<◌, ◌+◌, ◌^◌, ◌++◌, ◌∷◌, [], length, map, take, suc, false, None, IfOk, OnOk, IsErrOf, IsSome};
 ghost use Rattle.std.specs.List.{list_any};
 ghost use Rattle.kishu_meaning.specs.values.Values.{report_of};
@@ -8,8 +8,9 @@ ghost use Rattle.kishu_replay.specs.Replay.{IsFull};
 ghost use Rattle.kishu_model.specs.Values.{counted_of};
 ghost use Rattle.kishu_model.specs.requests.Cells.{is_ok, is_too_long, texts_size, largest_texts};
 ghost use Rattle.kishu_session.specs.Asked.{cells_for};
-ghost use Rattle.kishu_session.specs.Lives.{state_of, ran_of, shown_of, state_after_ran, charge_of_ran, FillsRan};
-ghost use Rattle.kishu_session.specs.Prepared.{Prepares, RefusesFor, AnswersAt, MayBeRecorded, CountsAt, FillsAt};
+ghost use Rattle.kishu_session.specs.Lives.{state_of, state_after_ran, charge_of_ran, FillsRan};
+ghost use Rattle.kishu_session.specs.Prepared.{Prepares, RefusesFor, AnswersAt, MayBeRecorded, CountsAt, FillsAt, RefusesLarge, StaysWithout};
+ghost use Rattle.kishu_session.specs.Running.{IsGivenBy};
 ghost use Rattle.kishu_session.specs.TextLists.{texts_of, AreShort};
 ghost use Rattle.kishu_session.specs.declared.live.Unrun.TheVariants.{HeapFull};
 
@@ -58,20 +59,27 @@ fn push_result(results: &mut Vec<Counted>, before: u64, ran: CellResult) -> Resu
     Ok(())
 }
 
-/// Runs cells in order up to the first that doesn't end well, and answers what each that was run showed.
-/// So many cells are on the path before the first of them.
+/// What running cells gives.
+#[derive(Drop)]
+enum Several {
+    /// What each that was run showed.
+    Shown(Vec<Counted>),
+    /// The last that was run left a state that is too large.
+    TooLarge(Refusal),
+}
+
+/// Runs cells in order up to the first that doesn't end well or leaves a state that is too large. So many
+/// cells are on the path before the first of them.
 fn run_cells<L: Ledger>(
     alloc: Global,
     texts: &[RcStr],
     before: u64,
     live: &mut Live,
     steps: &mut Steps<L>,
-) -> Result<Vec<Counted>, Unrun>
-    requires { AreShort texts.now }
-    ensures few { IfOk result (λ v. length v.items ≤ length texts.now) }
-    ensures ran { IfOk result (λ v. take (length v.items) (texts_of texts.now) ≡ ran_of live.old texts.now) }
-    ensures shown { IfOk result (λ v. before + length texts.now < 2 ^ 64
-        → map counted_of v.items ≡ shown_of before live.old texts.now) }
+) -> Result<Several, Unrun>
+    requires short { AreShort texts.now }
+    requires some { 0 < length texts.now }
+    ensures gives { IfOk result (IsGivenBy before live.old texts.now) }
     ensures state { OnOk result (state_of live.new ≡ state_after_ran live.old texts.now) }
     ensures least { OnOk result (steps.old + charge_of_ran live.old texts.now ≤ steps.new) }
     ensures full { IsErrOf result HeapFull → FillsRan live.old texts.now }
@@ -80,17 +88,23 @@ fn run_cells<L: Ledger>(
     let mut results = Vec::new(alloc);
     for text in texts {
         let ran = live.run(alloc, text.as_str(), steps)?;
+        let found = live.too_large(alloc, steps)?;
+        match found {
+            Some(refusal) => return Ok(Several::TooLarge(refusal)),
+            None => {}
+        }
         let goes_on = ended_well(&ran);
         push_result(&mut results, before, ran)?;
         if !goes_on {
-            return Ok(results);
+            return Ok(Several::Shown(results));
         }
     }
-    Ok(results)
+    Ok(Several::Shown(results))
 }
 
 impl Head {
-    /// Runs cells for which the store has room, and prepares the commit of those that were run.
+    /// Runs cells for which the store has room, and prepares the commit of those that were run. They are
+    /// refused where one leaves a state that is too large.
     fn commit_cells<L: Ledger>(
         &mut self,
         texts: &[RcStr],
@@ -104,13 +118,18 @@ impl Head {
         ensures refuses { IfOk result (λ p. RefusesFor self.old.graph (cells_for texts.now) p.answer) }
         ensures answered { IfOk result (AnswersAt self.old self.new (cells_for texts.now)) }
         ensures record { IfOk result MayBeRecorded }
-        ensures some { IfOk result (λ p. IsSome p.entry) }
+        ensures stays { IfOk result (StaysWithout self.old self.new) }
+        ensures large { IfOk result (RefusesLarge self.old self.new (cells_for texts.now)) }
         ensures least { OnOk result (CountsAt self.old (cells_for texts.now) steps.old steps.new) }
         ensures full { IsErrOf result HeapFull → FillsAt self.old (cells_for texts.now) }
         ensures beyond { IsErrOf result HeapFull → IsFull (state_of self.new.live) }
     {
         self.live.clear_record();
-        let results = run_cells(self.alloc, texts, self.cells, &mut self.live, steps)?;
+        let several = run_cells(self.alloc, texts, self.cells, &mut self.live, steps)?;
+        let results = match several {
+            Several::Shown(results) => results,
+            Several::TooLarge(refusal) => return self.back(refusal, steps),
+        };
         let (ran, _) = texts.split_at(results.len());
         let entry = commit_entry(self.alloc, self.graph.head().commit, ran)?;
         let commit = self.add_commit(ran)?;
@@ -122,7 +141,7 @@ impl Head {
 
     /// Runs cells on the live state, one after another up to the first that doesn't end well, and prepares
     /// the commit of those that were run. Cells of which one is too long are refused, and so are cells for a
-    /// store that is full.
+    /// store that is full, and cells of which one leaves a state that is too large.
     pub(crate) fn cells<L: Ledger>(
         &mut self,
         texts: &[RcStr],
@@ -133,7 +152,8 @@ impl Head {
         ensures refuses { IfOk result (λ p. RefusesFor self.old.graph (cells_for texts.now) p.answer) }
         ensures answered { IfOk result (AnswersAt self.old self.new (cells_for texts.now)) }
         ensures record { IfOk result MayBeRecorded }
-        ensures stays { IfOk result (λ p. p.entry ≡ None → self.new ≡ self.old) }
+        ensures stays { IfOk result (StaysWithout self.old self.new) }
+        ensures large { IfOk result (RefusesLarge self.old self.new (cells_for texts.now)) }
         ensures least { OnOk result (CountsAt self.old (cells_for texts.now) steps.old steps.new) }
         ensures full { IsErrOf result HeapFull → FillsAt self.old (cells_for texts.now) }
         ensures beyond { IsErrOf result HeapFull → IsFull (state_of self.new.live) }

@@ -11,7 +11,7 @@ ghost use Rattle.kishu_session.specs.Head.{Reaches, FillsPath};
 ghost use Rattle.kishu_session.specs.Known.{IsKnown};
 ghost use Rattle.kishu_session.specs.Lives.{state_of};
 ghost use Rattle.kishu_session.specs.Moves.{move_by, entry_to, told_at};
-ghost use Rattle.kishu_session.specs.Prepared.{Prepares, RefusesFor, AnswersAt, MayBeRecorded, FillsAt};
+ghost use Rattle.kishu_session.specs.Prepared.{Prepares, RefusesFor, RefusesLarge, AnswersAt, MayBeRecorded, FillsAt, StaysWithout};
 ghost use Rattle.kishu_session.specs.TextLists.{text_in};
 ghost use Rattle.kishu_session.specs.declared.live.Unrun.TheVariants.{HeapFull};
 
@@ -64,7 +64,8 @@ impl Head {
         ensures refuses { IfOk result (λ p. RefusesFor self.old.graph (checkout to.now) p.answer) }
         ensures answered { IfOk result (AnswersAt self.old self.new (checkout to.now)) }
         ensures record { IfOk result MayBeRecorded }
-        ensures stays { IfOk result (λ p. p.entry ≡ None → self.new ≡ self.old) }
+        ensures stays { IfOk result (StaysWithout self.old self.new) }
+        ensures large { IfOk result (RefusesLarge self.old self.new (checkout to.now)) }
         ensures full { IsErrOf result HeapFull → FillsAt self.old (checkout to.now) }
         ensures beyond { IsErrOf result HeapFull → IsFull (state_of self.new.live) }
         ensures least { OnOk result (steps.old ≤ steps.new) }

@@ -2,7 +2,7 @@
 ghost use Rattle.std.specs.Prelude.{◌≡◌, ◌<◌, None, IfOk, IsErrOf, length};
 ghost use Rattle.kishu_model.specs.Request.{log};
 ghost use Rattle.kishu_session.specs.LogRows.{IsRowOf, AreRowsBack};
-ghost use Rattle.kishu_session.specs.Prepared.{Prepares, RefusesFor, AnswersAt};
+ghost use Rattle.kishu_session.specs.Prepared.{Prepares, RefusesFor, RefusesLarge, AnswersAt};
 ghost use Rattle.kishu_session.specs.declared.live.Unrun.TheVariants.{HeapFull};
 
 use crate::head::Head;
@@ -46,6 +46,7 @@ impl Head {
     pub(crate) fn log(&self) -> Result<Prepared, Unrun>
         ensures prepared { IfOk result (Prepares self.now self.now log) }
         ensures refuses { IfOk result (λ p. RefusesFor self.now.graph log p.answer) }
+        ensures large { IfOk result (RefusesLarge self.now self.now log) }
         ensures answered { IfOk result (AnswersAt self.now self.now log) }
         ensures entry { IfOk result (λ p. p.entry ≡ None) }
         ensures not_full { IsErrOf result HeapFull → ⊥ }

@@ -1,6 +1,7 @@
-use Rattle.std.proofs.Common.{◌≡◌, map, length, take, drop}
+use Rattle.std.proofs.Common.{◌≡◌, ◌<◌, ◌≤◌, false, map, length, take, drop}
 use Rattle.std.specs.Prelude.{IsTrue}
 use Rattle.kishu_model.specs.Values.{counted_of}
+use Rattle.kishu_model.specs.requests.TooLarge.{is_too_large}
 use Rattle.kishu_session.specs.Lives.{state_of}
 use Rattle.kishu_session.specs.TextLists.{texts_of, are_short}
 use Rattle.kishu_session.proofs.Ran.{Going}
@@ -13,5 +14,7 @@ invariant-loop-text g l =
     record {
       short : IsTrue (are_short rest);
       count : length l.results.items ≡ l.text-index;
+      within : l.text-index ≤ length l.texts;
+      small : 0 < l.text-index → is_too_large (state_of l.live) ≡ false;
       going : Going all (state_of l.fn.live) l.before l.fn.steps (take l.text-index all) rest (map counted_of l.results.items) (state_of l.live) l.steps;
     }

@@ -8,7 +8,9 @@ use Rattle.kishu_session.specs.Journals.{BeforeOrAfter}
 use Rattle.kishu_session.specs.Known.{IsGraphOf}
 use Rattle.kishu_session.specs.Lives.{state_of}
 use Rattle.kishu_session.specs.Prepared.{IsPrepared}
-use Rattle.kishu_session.proofs.Applied.{at-head, at-same, known-after, known-some}
+use Rattle.kishu_session.specs.Small.{small-after}
+use Rattle.kishu_session.proofs.Applied.{at-head, at-same, at-after, back-same, known-after, known-some}
+use Rattle.kishu_session.proofs.Large.{refusal-no-size}
 use Rattle.kishu_session.proofs.Recordings.{journal-good}
 use Rattle.kishu_session.proofs.Silent.{refused-silent}
 use Rattle.kishu_session.proofs.session.Session.apply.Goals as goal
@@ -38,6 +40,7 @@ invariant_of-self-2 g c =
     record {
       going = λ _. c.in-Ok-record.ensures.open;
       known = λ _. known-after self.head c.prepare.new.self (request_of c.args.request.now) c.in-Ok.prepared (self.known c.if-self.false) c.in-Ok.ensures.prepared;
+      at = λ _. at-after self.head c.prepare.new.self (request_of c.args.request.now) c.in-Ok.prepared (self.at c.if-self.false) c.in-Ok.ensures.answered;
     }
 
 pub returns-clause-is_one : goal.returns-clause-is_one
@@ -73,7 +76,15 @@ pub returns-clause-refused : goal.returns-clause-refused
 returns-clause-refused g c refusal =
     let self = c.args.self.now in
     let none = refused-silent self.head c.prepare.new.self (request_of c.args.request.now) c.in-Ok.prepared (self.known c.if-self.false) c.in-Ok.ensures.prepared c.in-Ok.ensures.refuses refusal in
-    (c.in-Ok-record.ensures.quiet none, c.in-Ok.ensures.stays none)
+    (c.in-Ok-record.ensures.quiet none, c.in-Ok.ensures.stays none (λ bytes size. refusal-no-size (answer_of c.in-Ok.prepared.answer) refusal.0 bytes refusal.1 size))
+
+pub returns-clause-too_large : goal.returns-clause-too_large
+returns-clause-too_large g c bytes size =
+    let l = c.in-Ok.ensures.large bytes size in
+    (l.0, c.in-Ok-record.ensures.quiet l.1, l.2.graph)
+
+pub returns-clause-back : goal.returns-clause-back
+returns-clause-back g c bytes size = back-same c.args.self.now.head c.prepare.new.self (c.args.self.now.at c.if-self.false) (c.in-Ok.ensures.large bytes size).2
 
 pub returns-clause-stop_here : goal.returns-clause-stop_here
 returns-clause-stop_here g c told only g' a =
@@ -86,3 +97,18 @@ returns-clause-stop g c told g' a =
     let st = g.H.Host.state in
     subst (λ (x : Graph). Elapses (st c.args.host.now) (st c.record.new.host) (BeforeOrAfter (st c.args.host.now) g' x))
     (at-head c.args.self.now.head g' (request_of c.args.request.now) a.at) (returns-clause-stop_here g c told a.durable g' a.at_end)
+
+pub returns-then-self-clause-small : goal.returns-then-self-clause-small
+returns-then-self-clause-small g c g' all = small-after g' all (request_of c.args.request.now)
+
+pub returns-in-Err-HeapFull-clause-small : goal.returns-in-Err-HeapFull-clause-small
+returns-in-Err-HeapFull-clause-small g c g' all = small-after g' all (request_of c.args.request.now)
+
+pub returns-in-Err-NoMemory-clause-small : goal.returns-in-Err-NoMemory-clause-small
+returns-in-Err-NoMemory-clause-small g c g' all = small-after g' all (request_of c.args.request.now)
+
+pub returns-in-Err-clause-small : goal.returns-in-Err-clause-small
+returns-in-Err-clause-small g c g' all = small-after g' all (request_of c.args.request.now)
+
+pub returns-clause-small : goal.returns-clause-small
+returns-clause-small g c g' all = small-after g' all (request_of c.args.request.now)

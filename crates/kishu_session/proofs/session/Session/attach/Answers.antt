@@ -52,7 +52,11 @@ invariant_of-result g c =
     let opens = c.in-Ok.ensures.opens in
     let read = read-of (st c.args.host.now) (st c.open_store.new.host) c.in-Ok.store opens in
     let at = c.in-Ok-of_store.ensures.at (graph_of (entries_of opens.read.found)) read in
-    record { going = λ _. c.in-Ok.ensures.opened; known = λ _. ∣ (graph_of (entries_of opens.read.found), at.keeps.graph) ∣₁ }
+    record {
+      going = λ _. c.in-Ok.ensures.opened;
+      known = λ _. ∣ (graph_of (entries_of opens.read.found), at.keeps.graph) ∣₁;
+      at = λ _. ∣ (graph_of (entries_of opens.read.found), at) ∣₁;
+    }
 
 pub returns-clause-at_end : goal.returns-clause-at_end
 returns-clause-at_end g c told =
