@@ -33,30 +33,39 @@ use Rattle.kishu_loading.specs.Seen.{keys_seen, names_seen}
 
 -- ---- readers
 
--- a value among these nodes
+-- a value among these nodes, behind the byte of its kind
 abbrev pub value_in : Nodes → Reader Value
 value_in n = moved_value n.base n.count
 
--- the number of one of them
+-- the number of one of them, in four bytes, as that of a node of the heap
 abbrev pub number_in : Nodes → Reader Value
 number_in n = λ s. read_as (moved n.base) (node_number (is_there n.count) s)
 
+-- the number of a builtin function, in one byte
 abbrev pub builtin_number : Reader ℕ
 builtin_number = keeping (λ n. nat_lt n builtins) byte
 
+-- the number of a class, in one byte
 abbrev pub class_number : Reader ℕ
 class_number = keeping (λ n. nat_lt n classes) byte
 
+-- the number of an exception's class, in one byte
 abbrev pub exception_number : Reader ℕ
 exception_number = keeping is_exception_class byte
 
+-- how many bytes a name has, in one byte and not 0
 abbrev pub short_length : Reader ℕ
 short_length = keeping (λ n. not (n == 0)) byte
 
+-- how many bytes code has, in four bytes
 abbrev pub code_length : Reader ℕ
 code_length = keeping (λ n. nat_le n longest_text) number
 
--- the number of the defaults of code
+-- code of so many bytes under the rules of a profile
+abbrev pub code_of : Profile → ℕ → Reader (List ℕ)
+code_of profile n = keeping (is_code profile) (bytes n)
+
+-- how many defaults the function of this code has, in four bytes
 abbrev pub defaults_number : Code → Reader ℕ
 defaults_number c = keeping (is_number (code_defaults c.profile (rc_str_bytes c.text))) number
 
@@ -88,6 +97,7 @@ abbrev pub ReadsAttributes : {X : Type 0} → (X → List (RcStr Global × rust.
     → Cursor → Result X Stop → Cursor → Type 0
 ReadsAttributes pairs n count = Reads (λ m. attributes_of (pairs m)) (attributes_by (value_in n) count)
 
+-- no number of one of these nodes is as high
 abbrev pub top_of : Nodes → ℕ
 top_of n = top n.base n.count
 
@@ -95,33 +105,39 @@ top_of n = top n.base n.count
 abbrev pub LeadsAmong : ℕ → rust.Value → Type 0
 LeadsAmong n v = IsTrue (is_sound n (value_of v))
 
--- Values and nodes exist and lead to nodes that are there.
+-- The value exists and leads to a node that is there.
 abbrev pub IsSoundValue : Nodes → rust.Value → Type 0
 IsSoundValue n = LeadsAmong (top_of n)
 
+-- the same of each value of a list, a tuple, defaults or arguments
 abbrev pub AreSoundValues : Nodes → Vec rust.Value Global → Type 0
 AreSoundValues n v = IsTrue (are_sound (top_of n) (map value_of v.items))
 
+-- the same of each value of a dict's entries, which are pairs of a key and a value
 abbrev pub AreSoundEntries : Nodes → List (rust_key.Key × rust.Value) → Type 0
 AreSoundEntries n es = IsTrue (list_all (λ e. is_sound (top_of n) e.1) (entries_of es))
 
+-- the same of an object's attributes, which are pairs of a name and a value, and the names are names
 abbrev pub AreSoundAttributes : Nodes → List (RcStr Global × rust.Value) → Type 0
 AreSoundAttributes n es = IsTrue (list_all (λ a. is_name a.0 && is_sound (top_of n) a.1) (attributes_of es))
 
+-- what a node leads to is there
 abbrev pub IsSoundNode : Nodes → rust_node.Node → Type 0
 IsSoundNode n m = IsTrue (is_sound_node (top_of n) (node_of m))
 
+-- the same of nodes, among so many
 abbrev pub AreSoundNodes : ℕ → Vec rust_node.Node Global → Type 0
 AreSoundNodes k v = IsTrue (are_sound_nodes k (map node_of v.items))
 
--- The key, or the name, is none of those that were seen.
+-- The key is none of those of these entries.
 abbrev pub IsNewKey : List (rust_key.Key × rust.Value) → rust_key.Key → Type 0
 IsNewKey es k = list_any (is_one (key_of k)) (keys_seen es) ≡ false
 
+-- the name is none of those of these attributes
 abbrev pub IsNewName : List (RcStr Global × rust.Value) → RcStr Global → Type 0
 IsNewName es x = list_any (bytes_eq (rc_str_bytes x)) (names_seen es) ≡ false
 
--- ---- what the code's values stand for
+-- ---- what the code's values stand for: lists for vectors, and for texts their bytes
 
 abbrev pub values_in : Vec rust.Value Global → List Value
 values_in v = map value_of v.items
@@ -144,7 +160,7 @@ parts_in v = map part_of v.items
 abbrev pub names_in : Vec (RcStr Global × rust.Value) Global → Names
 names_in v = names_of v.items
 
--- The names lead to such values.
+-- Each name is a name, and its value leads to one of so many nodes.
 abbrev pub AreSoundNames : ℕ → Vec (RcStr Global × rust.Value) Global → Type 0
 AreSoundNames n v = IsTrue (are_sound_names n (names_of v.items))
 
@@ -155,7 +171,3 @@ KeepLeading n old new = IsTrue (are_sound_names n old) → IsTrue (are_sound_nam
 -- It is none of the names.
 abbrev pub IsNoneOf : List ℕ → Vec (RcStr Global × rust.Value) Global → Type 0
 IsNoneOf x v = In x (map (λ b. b.0) (names_of v.items)) → ⊥
-
--- code of so many bytes under these rules
-abbrev pub code_of : Profile → ℕ → Reader (List ℕ)
-code_of profile n = keeping (is_code profile) (bytes n)
