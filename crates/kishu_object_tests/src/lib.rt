@@ -1,12 +1,14 @@
-//! Tests of states: tables of cells, with the groups and the pictures of the names that they leave, and
-//! whether they leave the same. They stand in a crate of their own, since a crate with tests is proved
-//! twice. There is nothing else here.
+//! Tests of states: tables of cells, with the groups and the pictures of the names that they leave,
+//! whether they leave the same, and what is loaded from their pictures. They stand in a crate of their
+//! own, since a crate with tests is proved twice. There is nothing else here.
 #![tactic(auto)]
 
 #[cfg(test)]
 mod cells;
 #[cfg(test)]
 mod groups;
+#[cfg(test)]
+mod loads;
 #[cfg(test)]
 mod pictures;
 #[cfg(test)]

@@ -68,7 +68,7 @@ pub(crate) fn is_short<L: Ledger>(
 }
 
 // The picture of all names, which can be made.
-fn whole<L: Ledger>(
+pub(crate) fn whole<L: Ledger>(
     alloc: Global,
     state: &State,
     steps: &mut Steps<L>,

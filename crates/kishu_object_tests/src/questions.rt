@@ -3,6 +3,7 @@ ghost use Rattle.std.specs.Prelude.{◌≡◌, ◌<◌};
 
 use crate::cells::after_cells;
 use crate::groups::{groups_told, rest_told};
+use crate::loads::loaded_told;
 use crate::pictures::{length_told, order_told, picture_told};
 use crate::sameness::same_told;
 use kishu_meaning::Steps;
@@ -25,6 +26,8 @@ pub(crate) enum Question {
     Picture,
     /// Whether other cells leave the same.
     Same,
+    /// Whether other cells leave the same as what is loaded from the picture of all names.
+    Loaded,
 }
 
 fn answer<L: Ledger>(
@@ -47,6 +50,7 @@ fn answer<L: Ledger>(
         Question::Length => length_told(alloc, &state, of.as_str(), &mut steps),
         Question::Picture => picture_told(alloc, &state, &mut steps),
         Question::Same => same_told(alloc, &state, of.as_str(), &mut steps),
+        Question::Loaded => loaded_told(alloc, &state, of.as_str(), &mut steps),
     }
 }
 
