@@ -85,7 +85,7 @@ pub record IsRefusedBack (old new : Head) (r : Refusal) (prepared : Prepared) : 
 abbrev pub RefusesNoSize : rust_answer.Answer → Type 0
 RefusesNoSize a = (bytes : ℕ) → RefusesSize (answer_of a) bytes → ⊥
 
--- A state is refused for its size just where the request's cells left it. It has no record, and the session goes back to its head.
+-- A state is refused for its size only where the request's cells left it. It has no record, and the session goes back to its head.
 abbrev pub RefusesLarge : (old new : Head) → Request → Prepared → Type 0
 RefusesLarge old new q prepared =
     (bytes : ℕ) → RefusesSize (answer_of prepared.answer) bytes → LeavesTooLarge (state_of old.live) q bytes × (prepared.entry ≡ None) × IsBack old new

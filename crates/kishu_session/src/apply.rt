@@ -61,7 +61,7 @@ impl Session {
         ensures refused { IfOk result (λ a. IsRefusal (answer_of a)
             → (host.new ≡ host.old) × (self.new.head ≡ self.old.head)) }
 
-        // A state is refused for its size just where the request's cells left it, above 2^28 bytes, which are
+        // A state is refused for its size only where the request's cells left it, above 2^28 bytes, which are
         // told. Host and graph, nodes and names are then as they were.
         ensures too_large { IfOk result (λ a. (bytes : ℕ) → RefusesSize (answer_of a) bytes
             → LeavesTooLarge (state_of self.old.head.live) (request_of request.now) bytes
