@@ -1,19 +1,10 @@
 -- The groups of a state's names, and those that change from one state to another (Kishu, "co-variable").
-use Rattle.std.specs.Prelude.{◌≡◌, ℕ, Bool, not, ◌&&◌, List, filter, Contains}
-use Rattle.std.specs.List.{list_any}
-use Rattle.std.specs.Str.{bytes_eq}
-use Rattle.std.specs.Cmp.Lexicographic.{pointwise}
+use Rattle.std.specs.Prelude.{◌≡◌, Bool, not, ◌&&◌, List, filter, Contains}
 use Rattle.kishu_meaning.specs.values.Values.{State}
 use Rattle.kishu_objects.specs.Picture.{picture}
 use Rattle.kishu_objects.specs.Groups.{groups_of}
-pub use Rattle.kishu_store.specs.Groups.{Group}
+pub use Rattle.kishu_store.specs.Groups.{Group, is_group, is_one_of}
 use Rattle.kishu_history.specs.Alike.{is_state}
-
-abbrev pub is_group : Group → Group → Bool
-is_group = pointwise bytes_eq
-
-abbrev pub is_one_of : Group → List Group → Bool
-is_one_of g = list_any (is_group g)
 
 -- The group is one of the state's, with this picture there.
 abbrev pub Stands : Group → State → State → Type 0

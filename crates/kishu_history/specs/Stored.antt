@@ -1,16 +1,13 @@
 -- What a file holds for the rows of tables.
-use Rattle.std.specs.Prelude.{◌≡◌, ◌≤◌, ℕ, List, [], ◌∷◌, ◌++◌, length, take, drop, Option, Some, None}
+use Rattle.std.specs.Prelude.{◌≡◌, ◌≤◌, ℕ, List, [], ◌∷◌, ◌++◌, length, Option, Some, None}
 use Rattle.kishu_meaning.specs.values.Values.{State}
 use Rattle.kishu_objects.specs.Bytes.{state_bytes}
 use Rattle.kishu_objects.specs.Picture.{picture}
 use Rattle.kishu_objects.specs.Fits.{StateFits}
 use Rattle.kishu_objects.specs.Lists.{In}
+pub use Rattle.kishu_store.specs.Tables.{bytes_at}
 use Rattle.kishu_history.specs.Tables.{Row, Table, groups_in, Change}
 use Rattle.kishu_history.specs.Touched.{stored_among}
-
--- the bytes at a row's place
-abbrev pub bytes_at : List ℕ → Row → List ℕ
-bytes_at file r = take r.len (drop r.place file)
 
 -- The file holds this picture at the row's place. The picture is one that bytes can tell: its numbers, texts and lengths fit.
 pub record Held (file : List ℕ) (r : Row) (p : State) : Type 0 where

@@ -1,76 +1,10 @@
--- Tables: the groups of a commit, with the commit that stored each and the place of its picture in the file.
-use Rattle.std.specs.Prelude.{◌≡◌, ℕ, ◌+◌, not, ⊤, List, [], ◌∷◌, map, filter}
-use Rattle.std.specs.List.{sum_by}
-use Rattle.std.specs.Ordering.{nat_cmp, match_ordering}
-use Rattle.std.specs.Cmp.Lexicographic.{slice_cmp}
+-- What holds of the tables of commits, on every store and on a good one.
+use Rattle.std.specs.Prelude.{◌≡◌, ℕ, ⊤, List, [], ◌∷◌, map}
 use Rattle.kishu_objects.specs.Lists.{In, Rise}
 use Rattle.kishu_objects.specs.Groups.{groups_of}
 pub use Rattle.kishu_store.specs.Groups.{first_name}
-use Rattle.kishu_history.specs.Changed.{Group, is_one_of}
+pub use Rattle.kishu_store.specs.Tables.{Row, Table, group_in, groups_in, first_in, len_in, bytes_in, Change, no_change, put_row, put_rows, without_groups, after, table_of, rows_from}
 use Rattle.kishu_history.specs.Versions.{Stop, at_end, version, stored, dropped}
-
-pub record Row : Type 0 where
-  pub group : Group
-  -- the commit that stored it
-  pub version : ℕ
-  -- where its picture begins in the file, and how long it is
-  pub place : ℕ
-  pub len : ℕ
-
-abbrev pub Table : Type 0
-Table = List Row
-
-abbrev pub group_in : Row → Group
-group_in r = r.group
-
-abbrev pub groups_in : Table → List Group
-groups_in = map group_in
-
-abbrev pub first_in : Row → List ℕ
-first_in r = first_name r.group
-
-abbrev pub len_in : Row → ℕ
-len_in r = r.len
-
--- the bytes that the pictures of a table take
-abbrev pub bytes_in : Table → ℕ
-bytes_in t = sum_by len_in t
-
--- what a commit changes: the groups that it drops, and the rows that it stores
-pub record Change : Type 0 where
-  pub dropped : List Group
-  pub stored : Table
-
-abbrev pub no_change : Change
-no_change = record { dropped = []; stored = [] }
-
--- ---- the table after commits
-
--- the table with a row more, in the order of first names
-abbrev pub put_row : Row → Table → Table
-put_row r [] = r ∷ []
-put_row r (q ∷ t) = match_ordering (slice_cmp nat_cmp (first_name r.group) (first_name q.group)) (r ∷ q ∷ t) (r ∷ q ∷ t) (q ∷ put_row r t)
-
-abbrev pub put_rows : List Row → Table → Table
-put_rows [] t = t
-put_rows (r ∷ rs) t = put_row r (put_rows rs t)
-
--- the rows of a table that stay: those of no dropped group
-abbrev pub without_groups : List Group → Table → Table
-without_groups gs t = filter (λ r. not (is_one_of r.group gs)) t
-
-abbrev pub after : Change → Table → Table
-after c t = put_rows c.stored (without_groups c.dropped t)
-
--- the table after these commits, the newest first; the root's is empty
-abbrev pub table_of : List Change → Table
-table_of [] = []
-table_of (c ∷ cs) = after c (table_of cs)
-
--- the rows of a commit's record, from its groups with the lengths of their pictures: these lie one behind another
-abbrev pub rows_from : (commit place : ℕ) → List (Group × ℕ) → Table
-rows_from commit place [] = []
-rows_from commit place (g ∷ gs) = record { group = g.0; version = commit; place = place; len = g.1 } ∷ rows_from commit (place + g.1) gs
 
 -- ---- on every store
 

@@ -1,4 +1,5 @@
 pub mod TableLaws
 pub mod RecordLaws
+pub mod FileLaws
 pub mod SplitLaws
 pub mod AllNamesLaws

@@ -14,7 +14,7 @@ ghost use Rattle.kishu_objects.specs.Picture.{picture, listed};
 ghost use Rattle.kishu_objects.specs.Reading.{IsInOrder};
 ghost use Rattle.kishu_objects.specs.Sound.{IsSound};
 ghost use Rattle.kishu_objects.specs.Lists.{In, Rise};
-ghost use Rattle.kishu_objects.specs.Bytes.{state_bytes};
+ghost use Rattle.kishu_objects.specs.Bytes.{state_bytes, picture_bytes};
 ghost use Rattle.kishu_objects.specs.Loading.{with_picture};
 ghost use Rattle.kishu_objects.specs.Fits.{StateFits};
 ghost use Rattle.kishu_history.specs.Alike.{is_state};
@@ -23,7 +23,9 @@ ghost use Rattle.kishu_history.specs.Changed.{Group, is_one_of, Stands, stands, 
 ghost use Rattle.kishu_objects.specs.States.{IsSoundState};
 ghost use Rattle.kishu_history.specs.Versions.{Stop, at_end, end_number, AreStates, Falls, Agree, IsVersion, version, stored, dropped, kept, loaded, left};
 ghost use Rattle.kishu_history.specs.Tables.{Row, Table, groups_in, first_name, first_in, bytes_in, Change, no_change, after, table_of, rows_from, IsTable, AreOfOne, AreRight, IsRight};
-ghost use Rattle.kishu_history.specs.Paths.{stops_in, stops, ReplaysAreStates, table_in, table_at, with_change, AreRows};
+ghost use Rattle.kishu_history.specs.Paths.{stops_in, stops, ReplaysAreStates, table_in, table_at, with_change, change_of, AreRows};
+ghost use Rattle.kishu_store_laws.specs.HistoryLaws.{AreChanges};
+ghost use Rattle.kishu_store_laws.specs.PlaceLaws.{StayIn};
 ghost use Rattle.kishu_history.specs.Touched.{holds_any, classes, dropped_among, stored_among, IsKept, change_told};
 ghost use Rattle.kishu_history.specs.Cut.{IsCut};
 ghost use Rattle.kishu_objects.specs.Locality.{Reached, Leaves};
@@ -75,6 +77,13 @@ pub fn records_give_tables()
     ensures recorded { (ks : List Commit) (of : ℕ → Change) → AreRows of → (c : ℕ) (r : Row) → In r (table_in ks of c) → In r (of r.version).stored × (r.version ≤ length ks) }
     ensures of_one { (ks : List Commit) (of : ℕ → Change) → AreRows of → (c d : ℕ) → AreOfOne (table_in ks of c) (table_in ks of d) }
     ensures fits { (c : Change) (t : Table) (commit : ℕ) → IsTable t → Rise (map first_in c.stored) → ((r : Row) → In r c.stored → In (first_in r) r.group) → ((r : Row) → In r c.stored → Rise r.group) → ((r : Row) → In r c.stored → r.version ≡ commit) → ((r : Row) → In r t → r.version < commit) → ((r q : Row) (x : List ℕ) → In r (after c t) → In q (after c t) → In x r.group → In x q.group → r ≡ q) → IsTable (after c t) }
+{}
+
+/// What a file's records change is what the laws above ask for: their rows have their commits' numbers and stand in order, each commit's table is one, and in a file that keeps the bytes at their places they are kept.
+pub fn files_give_tables()
+    ensures rows { (g : Graph) (cs : List Change) (place : ℕ) → AreChanges g cs place → AreRows (change_of cs) }
+    ensures tables { (g : Graph) (cs : List Change) (place : ℕ) → AreChanges g cs place → (c : ℕ) → IsTable (table_at g (change_of cs) c) }
+    ensures stays { (file grown : List ℕ) (cs : List Change) (newest : ℕ) → StayIn file grown cs → KeepsRecords file grown newest (change_of cs) }
 {}
 
 /// The rows of a record have its commit and its groups, and lie where its pictures lie. What a file holds at a row's place is one picture, it may be loaded for the row where it reads in order, and it stays in a file that begins alike.
@@ -193,12 +202,13 @@ pub fn sizes_are_told()
     ensures same { (s t : State) → IsSoundState s → IsSoundState t → Same s t → size s ≡ size t }
 {}
 
-/// Where a commit stores one group of all names: its table has that group alone, with this commit for its version, and is one; a state is the one that such a table tells where its picture is the stored one, and is the same as a state with that picture.
+/// Where a commit stores one group of all names: its table has that group alone, with this commit for its version, and is one; a state is the one that such a table tells where its picture is the stored one, and is the same as a state with that picture. The picture of all names takes at most what those of the groups take.
 pub fn commits_of_all_names()
     ensures groups { (ks : List Stop) (cs : List Change) → AreWhole ks cs → groups_in (table_of cs) ≡ all_names (at_end ks) }
     ensures version { (ks : List Stop) (cs : List Change) → AreWhole ks cs → (r : Row) → In r (table_of cs) → r.version ≡ end_number ks }
     ensures table { (s : State) (t : Table) → IsSoundState s → groups_in t ≡ all_names s → IsTable t }
     ensures live { (file : Option (List ℕ)) (t : Table) (s : State) → IsSoundState s → groups_in t ≡ all_names s → ((r : Row) → In r t → Stored file r (picture s r.group)) → IsLive (Stored file) t s }
+    ensures small { (s : State) → IsSoundState s → (x : List ℕ) → In x (listed s) → length (picture_bytes s (listed s)) ≤ size s }
     ensures same { (file : Option (List ℕ)) (t : Table) (s u : State) → IsLive (Stored file) t s → IsSoundState u → groups_in t ≡ all_names u → ((r : Row) (p : State) → In r t → Stored file r p → p ≡ picture u r.group) → Same s u }
 {}
 

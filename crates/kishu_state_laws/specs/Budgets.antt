@@ -106,12 +106,12 @@ thrown_widened n d x pos (both_raised {x = y} {s = s}) = same_run (with_charge (
 thrown_widened n d x pos (one_stopped {s = s} {e = f} z short) = stopped_run refl (omega (arith, z)) (omega (arith, short))
 
 -- what ends with fewer than d steps left makes its text with fewer
-last_short : {k n d : ℕ} {ns : List Node} {deep : ℕ} {e : Ends (Option (List ℕ))} → SafeEnds k n ns deep Any e → (end_of e).left < d → (last_moment e).left < d
+last_short : {k n d : ℕ} {ns : List Node} {deep : ℕ} {profile : Profile} {e : Ends (Option (List ℕ))} → SafeEnds k n ns deep profile Any e → (end_of e).left < d → (last_moment e).left < d
 last_short (fines l le after q g) short = short
 last_short (raiseds l {x = x} {s = s} le after q g) short = let p = falls_in ((show_thrown_s {k = l} x q).go l (omega arith) s g) in omega (arith, p, short)
 last_short (stoppeds l le after g) short = short
 
-ends_widened : {k n d n' : ℕ} {ns ns' : List Node} {deep deep' : ℕ} {e e' : Ends (Option (List ℕ))} → 0 < d → n + d ≤ widest_budget → WiderEnds d e e' → SafeEnds k n ns deep Any e → SafeEnds k n' ns' deep' Any e' → Widened n (ran_with n e) (ran_with (n + d) e')
+ends_widened : {k n d n' : ℕ} {ns ns' : List Node} {deep deep' : ℕ} {profile profile' : Profile} {e e' : Ends (Option (List ℕ))} → 0 < d → n + d ≤ widest_budget → WiderEnds d e e' → SafeEnds k n ns deep profile Any e → SafeEnds k n' ns' deep' profile' Any e' → Widened n (ran_with n e) (ran_with (n + d) e')
 ends_widened {n = n} {d = d} pos fits (both_fine {a = o} {s = s}) one two = same_run (with_charge (ended Done (shown_output o) s) n d s.left) (λ e. absurd (cc))
 ends_widened {n = n} {d = d} pos fits both_raised (raiseds l {x = x} {s = s} le after q g) two = let p : s.left ≤ n = after.0 in thrown_widened n d x pos ((show_thrown_s {k = l} x q).wide l (omega arith) s g d pos (omega (arith, p, fits)))
 ends_widened {n = n} {d = d} pos fits (one_stopped {s = s} {e = e'} z short) one two = let p = last_short two short in stopped_run refl (omega (arith, z)) (omega (arith, p))

@@ -4,9 +4,10 @@ use Rattle.std.specs.List.{AllByRecursion as Each}
 use Rattle.std.proofs.Common.{sym, subst, inl, inr}
 use Rattle.std.proofs.lemmas.Bool.{cases_Bool}
 use Rattle.kishu_store.specs.Entries.{Entry, commit, move, name, to_commit, to_branch, Record, entries_in}
-use Rattle.kishu_store.specs.Fitting.{AreRecords, on_branch, changed, changed_by}
+use Rattle.kishu_store.specs.Fitting.{on_branch, changed, changed_by}
 use Rattle.kishu_store.specs.Branches.{commit_of}
-use Rattle.kishu_store.specs.Graph.{Commit, Graph, new_graph, path_in}
+use Rattle.kishu_store.specs.Graph.{Commit, Graph, path_in}
+use Rattle.kishu_store.specs.Histories.{History, new_history, led, AreRecords}
 use Rattle.kishu_store.specs.Holds.{Holds}
 use Rattle.kishu_store.specs.Rules.{KeepsRules, AreCells}
 use Rattle.kishu_replay.specs.Replay.{replay}
@@ -31,13 +32,13 @@ texts_changed (move (to_commit number)) g keeps t = t
 texts_changed (move (to_branch title)) g keeps t = texts_on title (commit_of title g.branches) g t
 texts_changed (name title number) g keeps t = t
 
-texts_by : (rs : List Record) (g : Graph) → AreRecords g rs → AreTexts g.commits → AreTexts (changed_by g (entries_in rs)).commits
-texts_by [] g h t = t
-texts_by (r ∷ rs) g h t = texts_by rs (changed g r.entry) h.2 (texts_changed r.entry g h.0.rules t)
+texts_by : (rs : List Record) (h : History) → AreRecords h rs → AreTexts h.graph.commits → AreTexts (changed_by h.graph (entries_in rs)).commits
+texts_by [] h all t = t
+texts_by (r ∷ rs) h all t = texts_by rs (led h r.entry) all.2 (texts_changed r.entry h.graph all.0.rules t)
 
 pub held_texts : (file : List ℕ) (g : Graph) → Holds file g → AreTexts g.commits
 held_texts file g (inl h) = subst (λ z. AreTexts z.commits) (sym h.1) tt
-held_texts file g (inr h) = subst (λ z. AreTexts z.commits) (sym h.3) (texts_by h.1 new_graph h.2.fit tt)
+held_texts file g (inr h) = subst (λ z. AreTexts z.commits) (sym h.3) (texts_by h.1 new_history h.2.fit tt)
 
 texts_behind : (ks : List Commit) (k : Commit) → AreTexts ks → Each IsCell k.cells → AreTexts (ks ++ k ∷ [])
 texts_behind [] k h c = (c, tt)

@@ -7,6 +7,7 @@ pub mod Real
 pub mod Pictures
 pub mod Fitting
 pub mod HeldLaws
+pub mod Profiles
 pub mod Budgets
 pub mod Turns
 pub mod Depths

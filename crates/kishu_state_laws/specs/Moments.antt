@@ -1,13 +1,26 @@
 -- The moments of a run: what holds of each, and what holds of each two, one after the other.
-use Rattle.std.specs.Prelude.{◌≡◌, ℕ, ◌≤◌, length}
+use Rattle.std.specs.Prelude.{◌≡◌, ℕ, ◌≤◌, List, length}
 use Rattle.std.specs.List.{AllByRecursion as Each}
-use Rattle.kishu_meaning.specs.values.Values.{Value, integer, text}
+use Rattle.kishu_language.specs.declared.profile.Profile.{Profile}
+use Rattle.kishu_meaning.specs.values.Values.{Value, integer, text, Node, list, tuple, dict, object, function, exception}
 use Rattle.kishu_meaning.specs.moments.Moment.{Locals, Moment, M}
 use Rattle.kishu_meaning.specs.items.Walks.{Walk, along_list, along_dict, along_tuple, along_text, along_range}
 use Rattle.kishu_pairing_laws.specs.World.{end_of}
 use Rattle.kishu_objects.specs.State.{IsValue, AreValues, IsNode, AreNames, values_in, Grown}
 -- what stands there, if anything does
 pub use Rattle.kishu_soundness_laws.specs.Below.{Maybe}
+
+-- under this profile, where it is a function
+abbrev pub IsUnder : Profile → Node → Type 0
+IsUnder profile (list vs) = Unit {0}
+IsUnder profile (tuple vs) = Unit {0}
+IsUnder profile (dict es) = Unit {0}
+IsUnder profile (object es) = Unit {0}
+IsUnder profile (function other code vs) = other ≡ profile
+IsUnder profile (exception kind vs) = Unit {0}
+
+abbrev pub AreUnder : Profile → List Node → Type 0
+AreUnder profile = Each (IsUnder profile)
 
 -- A budget has at most as many steps as 64 bits hold.
 abbrev pub widest_budget : ℕ

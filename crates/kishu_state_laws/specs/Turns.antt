@@ -81,7 +81,7 @@ led s (fine a t) h = h
 led s (raised x t) h = tt
 led s (stopped t) h = tt
 
-safely : {A : Type 0} {k : ℕ} (Q : ℕ → A → Type 0) (s : Moment) {e : Ends A} → SafeEnds k s.left s.nodes s.depth Q e → IfFine (Later Q s) e
+safely : {A : Type 0} {k : ℕ} (Q : ℕ → A → Type 0) (s : Moment) {e : Ends A} → SafeEnds k s.left s.nodes s.depth s.profile Q e → IfFine (Later Q s) e
 safely Q s (fines l {a = a} {s = t} le after q g) = (leads s t after g, subst (λ k. Q k a) g.many q)
 safely Q s (raiseds l le after q g) = tt
 safely Q s (stoppeds l le after g) = tt

@@ -24,10 +24,10 @@ use Rattle.kishu_state_laws.specs.keeping.Running.{all_safe, cell_s, run_follows
 
 -- ---- within a run
 
-pub leads : {l : ℕ} (s t : Moment) → After s.left s.nodes s.depth t → IsMoment l t → Leads s t
+pub leads : {l : ℕ} (s t : Moment) → After s.left s.nodes s.depth s.profile t → IsMoment l t → Leads s t
 leads s t after g = record { holds = subst (λ k. IsMoment k t) g.many g; left = after.0; grown = after.1 }
 
-pub ends_lead : {A : Type 0} {k : ℕ} (s : Moment) (Q : ℕ → A → Type 0) {e : Ends A} → SafeEnds k s.left s.nodes s.depth Q e → Leads s (end_of e)
+pub ends_lead : {A : Type 0} {k : ℕ} (s : Moment) (Q : ℕ → A → Type 0) {e : Ends A} → SafeEnds k s.left s.nodes s.depth s.profile Q e → Leads s (end_of e)
 ends_lead s Q (fines l {s = t} le after q g) = leads s t after g
 ends_lead s Q (raiseds l {s = t} le after q g) = leads s t after g
 ends_lead s Q (stoppeds l {s = t} le after g) = leads s t after g

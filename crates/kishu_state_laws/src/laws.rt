@@ -25,12 +25,13 @@ ghost use Rattle.kishu_objects.specs.Picture.{picture, whole};
 ghost use Rattle.kishu_meaning.specs.moments.Accesses.{unbind};
 ghost use Rattle.kishu_pairing_laws.specs.World.{end_of};
 ghost use Rattle.kishu_state_laws.specs.Budgets.{IsStopped, Start, run_by, run_of};
-ghost use Rattle.kishu_state_laws.specs.Moments.{Holds, IsWalk, Leads, LeadsOn, LeadsWith, widest_budget};
+ghost use Rattle.kishu_state_laws.specs.Moments.{AreUnder, Holds, IsWalk, Leads, LeadsOn, LeadsWith, widest_budget};
 ghost use Rattle.kishu_state_laws.specs.Turns.{Outlasts, best_within, decide_within, for_within, sum_within, while_within};
 ghost use Rattle.kishu_objects.specs.State.{Grown, IsCell, IsCode, IsState, IsValue};
 ghost use Rattle.kishu_state_laws.specs.trees.Sound.{ExpressionSound, StatementSound, StatementsSound};
 ghost use Rattle.kishu_store.specs.Graph.{Commit, Graph, path};
 ghost use Rattle.kishu_store.specs.Holds.{Holds as HoldsGraph};
+ghost use Rattle.kishu_store.specs.Limits.{newest_profile};
 ghost use Rattle.std.specs.List.{AllByRecursion};
 ghost use Rattle.std.specs.Prelude.{Bool, List, Ok, [], length, suc, ℕ, ◌∷◌, ◌+◌, ◌≡◌, ◌↔◌, ◌≤◌, ◌<◌, ◌^◌};
 ghost use Rattle.std.specs.Str.{IsUtf8, chars};
@@ -63,6 +64,14 @@ pub fn cells_keep_states()
     ensures replays { (g : Graph) (c : ℕ) → AllByRecursion (λ (k : Commit). AllByRecursion IsCell k.cells) (path g c) → IsState (replay g c) }
     ensures texts { (file : List ℕ) (g : Graph) → HoldsGraph file g → AllByRecursion (λ (k : Commit). AllByRecursion IsCell k.cells) g.commits }
     ensures held { (file : List ℕ) (g : Graph) → HoldsGraph file g → (c : ℕ) → IsState (replay g c) }
+{}
+
+/// Cells that run under a profile keep all functions under it; so of a graph that a file holds the functions of each replay are under the newest profile.
+pub fn runs_keep_profiles()
+    ensures run { (profile : Profile) (text : List ℕ) (s : State) → IsCell text → IsState s → AreUnder profile s.nodes → AreUnder profile (run profile text s).state.nodes }
+    ensures cells { (profile : Profile) (cells : List (List ℕ)) (s : State) → AllByRecursion IsCell cells → IsState s → AreUnder profile s.nodes → AreUnder profile (after_cells profile cells s).nodes }
+    ensures replays { (profile : Profile) (g : Graph) (c : ℕ) → AllByRecursion (λ (k : Commit). AllByRecursion IsCell k.cells) (path g c) → AllByRecursion (λ (k : Commit). k.profile ≡ profile) (path g c) → AreUnder profile (replay g c).nodes }
+    ensures held { (file : List ℕ) (g : Graph) → HoldsGraph file g → (c : ℕ) → AreUnder newest_profile (replay g c).nodes }
 {}
 
 /// The tree of a cell's text is sound: its names, its numbers, its texts and the codes of its functions.

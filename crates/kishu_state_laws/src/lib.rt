@@ -9,7 +9,8 @@ mod places;
 
 pub use laws::{
     budgets_stop_runs, calls_never_run_out, cells_cannot_tell_states, cells_keep_states,
-    no_step_is_given_back, pictures_are_states, runs_keep_nodes, runs_keep_states, states_are_real,
-    states_fit, trees_are_sound, turns_never_run_out, what_reads_is_code,
+    no_step_is_given_back, pictures_are_states, runs_keep_nodes, runs_keep_profiles,
+    runs_keep_states, states_are_real, states_fit, trees_are_sound, turns_never_run_out,
+    what_reads_is_code,
 };
 pub use places::places_are_found;

@@ -1,14 +1,13 @@
--- Which records fit the graph of those before them, and how they change it.
+-- Which records fit the graph of those before them, and how they change it. What they ask of its commits' tables is said in `Histories`.
 use Rattle.std.specs.Prelude.{◌≡◌, ◌<◌, ◌≤◌, ℕ, IsTrue, List, [], ◌∷◌, Option, Some, None, is_some}
 use Rattle.kishu_store.specs.Branches.{commit_of, is_branch_name}
-use Rattle.kishu_store.specs.Entries.{Entry, commit, move, name, to_commit, to_branch, Record}
+use Rattle.kishu_store.specs.Entries.{Entry, commit, move, name, to_commit, to_branch}
 use Rattle.kishu_store.specs.Graph.{Graph, newest, with_commit, with_head, with_branch}
 use Rattle.kishu_store.specs.Limits.{most_records}
-use Rattle.kishu_store.specs.Rules.{IsRecord}
 
--- What each kind asks of the graph: a commit begins at the head's and has no groups yet; a move goes to a commit or a branch that is there; a branch has a name of that form, which no other has, and a commit that is there.
+-- What each kind asks of the graph: a commit begins at the head's; a move goes to a commit or a branch that is there; a branch has a name of that form, which no other has, and a commit that is there.
 abbrev pub GoesOn : Graph → Entry → Type 0
-GoesOn g (commit parent profile cells dropped stored) = (parent ≡ g.head.commit) × (dropped ≡ []) × (stored ≡ [])
+GoesOn g (commit parent profile cells dropped stored) = parent ≡ g.head.commit
 GoesOn g (move (to_commit number)) = number ≤ newest g
 GoesOn g (move (to_branch title)) = IsTrue (is_some (commit_of title g.branches))
 GoesOn g (name title number) = IsTrue (is_branch_name title) × (commit_of title g.branches ≡ None) × (number ≤ newest g)
@@ -34,8 +33,3 @@ changed g (name title number) = with_branch title number g
 abbrev pub changed_by : Graph → List Entry → Graph
 changed_by g [] = g
 changed_by g (e ∷ es) = changed_by (changed g e) es
-
--- each is a record, and fits the graph of those before it
-abbrev pub AreRecords : Graph → List Record → Type 0
-AreRecords g [] = Unit {0}
-AreRecords g (r ∷ rs) = IsRecord r × Fits g r.entry × AreRecords (changed g r.entry) rs

@@ -1,9 +1,10 @@
 -- Groups of names that stand together (Kishu, "co-variable"), as records tell them.
-use Rattle.std.specs.Prelude.{ℕ, ◌<◌, ◌^◌, IsTrue, List, [], ◌∷◌, length, map}
-use Rattle.std.specs.Cmp.Lexicographic.{slice_cmp}
-use Rattle.std.specs.List.{AllByRecursion}
+use Rattle.std.specs.Prelude.{ℕ, ◌<◌, ◌^◌, Bool, IsTrue, List, [], ◌∷◌, length, map}
+use Rattle.std.specs.Cmp.Lexicographic.{slice_cmp, pointwise}
+use Rattle.std.specs.List.{AllByRecursion, list_any}
 use Rattle.std.specs.List.Sorted.{IsStrictlySortedBy}
 use Rattle.std.specs.Ordering.{nat_cmp}
+use Rattle.std.specs.Str.{bytes_eq}
 use Rattle.kishu_language.specs.tokens.Names.{is_name}
 
 -- names, in byte order
@@ -13,6 +14,13 @@ Group = List (List ℕ)
 abbrev pub first_name : Group → List ℕ
 first_name [] = []
 first_name (name ∷ names) = name
+
+-- whether two have the same names
+abbrev pub is_group : Group → Group → Bool
+is_group = pointwise bytes_eq
+
+abbrev pub is_one_of : Group → List Group → Bool
+is_one_of g = list_any (is_group g)
 
 -- Names stand in byte order, each once.
 abbrev pub Rise : List (List ℕ) → Type 0

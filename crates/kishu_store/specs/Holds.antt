@@ -2,9 +2,11 @@
 use Rattle.std.specs.Prelude.{◌≡◌, ◌≢◌, ◌<◌, ◌≤◌, ◌⊎◌, ℕ, List, [], ◌∷◌, ◌++◌, length}
 use Rattle.kishu_store.specs.Entries.{Entry, Record, entries_in}
 use Rattle.kishu_store.specs.EntryBytes.{eight, body_of}
-use Rattle.kishu_store.specs.Fitting.{Fits, changed_by, AreRecords}
+use Rattle.kishu_store.specs.Fitting.{changed_by}
 use Rattle.kishu_store.specs.Graph.{Graph, new_graph}
+use Rattle.kishu_store.specs.Histories.{History, new_history, led_by, Follows, AreRecords}
 use Rattle.kishu_store.specs.Rules.{IsRecord}
+use Rattle.kishu_store.specs.Tables.{Change}
 
 -- KISHU-JOURNAL-1 and a line feed
 unfoldable pub header : List ℕ
@@ -41,7 +43,7 @@ pub record Ends (file : List ℕ) (rs : List Record) : Type 0 where
   pub rest : List ℕ
   pub split : file ≡ front rs ++ (gate ∷ rest)
   pub closed : gate ≢ open_gate
-  pub fit : AreRecords new_graph rs
+  pub fit : AreRecords new_history rs
 
 -- the graph of records that say this
 abbrev pub graph_of : List Entry → Graph
@@ -51,17 +53,36 @@ graph_of entries = changed_by new_graph entries
 abbrev pub graph_by : List Record → Graph
 graph_by rs = graph_of (entries_in rs)
 
+-- the history of records that say this, which has that graph
+abbrev pub history_of : List Entry → History
+history_of entries = led_by new_history entries
+
+abbrev pub history_by : List Record → History
+history_by rs = history_of (entries_in rs)
+
+-- what the commits of these records change, the newest first
+abbrev pub changes_by : List Record → List Change
+changes_by rs = (history_by rs).changes
+
 -- A file of at most 17 bytes holds the new graph, whatever they are.
 abbrev pub Holds : List ℕ → Graph → Type 0
 Holds file g = ((length file ≤ fresh_length) × (g ≡ new_graph)) ⊎ ((fresh_length < length file) × (rs : List Record) × Ends file rs × (g ≡ graph_by rs))
+
+-- What the commits of its records change, it gives: of a short file no commits.
+abbrev pub Gives : List ℕ → List Change → Type 0
+Gives file cs = ((length file ≤ fresh_length) × (cs ≡ [])) ⊎ ((fresh_length < length file) × (rs : List Record) × Ends file rs × (cs ≡ changes_by rs))
+
+-- The records of a file, with their pictures. A short file has none.
+abbrev pub HasRecords : List ℕ → List Record → Type 0
+HasRecords file rs = ((length file ≤ fresh_length) × (rs ≡ [])) ⊎ ((fresh_length < length file) × Ends file rs)
 
 -- A good store. Later stages ask more than that it holds a graph.
 abbrev pub IsGood : List ℕ → Type 0
 IsGood file = (g : Graph) × Holds file g
 
--- at an open gate: a whole record that fits the graph, and a byte behind it
-abbrev pub BeginsRecord : List ℕ → Graph → Record → Type 0
-BeginsRecord bytes g r = (rest : List ℕ) × (bytes ≡ open_gate ∷ (framed (body_of r) ++ rest)) × (0 < length rest) × IsRecord r × Fits g r.entry
+-- at an open gate: a whole record that fits behind those before, and a byte behind it
+abbrev pub BeginsRecord : List ℕ → History → Record → Type 0
+BeginsRecord bytes h r = (rest : List ℕ) × (bytes ≡ open_gate ∷ (framed (body_of r) ++ rest)) × (0 < length rest) × IsRecord r × Follows h r.entry
 
 -- The gate at that place is open, and no record that fits follows.
 pub record IsBroken (file : List ℕ) (at : ℕ) : Type 0 where
@@ -69,9 +90,9 @@ pub record IsBroken (file : List ℕ) (at : ℕ) : Type 0 where
   pub before : List Record
   pub rest : List ℕ
   pub split : file ≡ front before ++ (open_gate ∷ rest)
-  pub fit : AreRecords new_graph before
+  pub fit : AreRecords new_history before
   pub place : at ≡ end_of before
-  pub none : (r : Record) → BeginsRecord (open_gate ∷ rest) (graph_by before) r → ⊥
+  pub none : (r : Record) → BeginsRecord (open_gate ∷ rest) (history_by before) r → ⊥
 
 -- a longer file with another header
 abbrev pub IsForeign : List ℕ → Type 0

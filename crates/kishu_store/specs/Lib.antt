@@ -5,8 +5,10 @@ pub mod Targets
 pub mod References
 pub mod CommitLines
 pub mod Groups
+pub mod Tables
 pub mod Entries
 pub mod EntryBytes
 pub mod Rules
 pub mod Fitting
+pub mod Histories
 pub mod Holds

@@ -14,6 +14,10 @@ longest_title = 255
 abbrev pub longest_body : ℕ
 longest_body = 2 ^ 30
 
+-- the most bytes that the pictures of a commit's table take
+abbrev pub most_pictured : ℕ
+most_pictured = 2 ^ 28
+
 -- the profile under which new cells run
 abbrev pub newest_profile : Profile
 newest_profile = One

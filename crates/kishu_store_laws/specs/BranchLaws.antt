@@ -28,7 +28,7 @@ same_title x y = elim (cases_Bool (bytes_eq x y)) [
   | inr n ↦ inr ((λ e. false≢true (sym n ∙ (bytes_decides x y).1 e)), n)
 ]
 
-equal_titles : (x y : List ℕ) → Equal ≡ slice_cmp nat_cmp x y → x ≡ y
+pub equal_titles : (x y : List ℕ) → Equal ≡ slice_cmp nat_cmp x y → x ≡ y
 equal_titles x y e = (bytes_decides x y).0 (sym (ap is_eq e ∙ is_eq-slice_cmp x y))
 
 other_title : (x y : List ℕ) → Greater ≡ slice_cmp nat_cmp x y → bytes_eq x y ≡ false

@@ -1,4 +1,4 @@
--- What holds of each graph that records give.
+-- What holds of each graph to which records lead.
 use Rattle.std.specs.Prelude.{◌≡◌, ◌<◌, ◌≤◌, ℕ, suc, ◌+◌, IsTrue, List, [], ◌∷◌, length, Option, Some, None, IfSome, is_some, refl}
 use Rattle.std.specs.List.{AllByRecursion}
 use Rattle.std.specs.List.Sorted.{IsStrictlySortedBy}
@@ -6,9 +6,10 @@ use Rattle.std.proofs.Common.{sym, ◌∙◌, ap, subst, arith, inl, inr}
 use Rattle.std.proofs.lemmas.Bool.{false≢true}
 use Rattle.kishu_store.specs.Branches.{Branches, commit_of, with_branch_at, is_branch_name}
 use Rattle.kishu_store.specs.Entries.{Entry, commit, move, name, to_commit, to_branch, Record, entries_in}
-use Rattle.kishu_store.specs.Fitting.{Fits, on_branch, changed, changed_by, AreRecords}
+use Rattle.kishu_store.specs.Fitting.{Fits, on_branch, changed, changed_by}
 use Rattle.kishu_store.specs.Graph.{Commit, Graph, Target, new_graph, newest, moved_with}
 use Rattle.kishu_store.specs.Groups.{Rise}
+use Rattle.kishu_store.specs.Histories.{History, new_history, led, AreRecords}
 use Rattle.kishu_store.specs.Holds.{Holds, graph_by}
 use Rattle.kishu_store.specs.Limits.{most_records}
 use Rattle.kishu_store_laws.specs.BranchLaws.{titles_in, commit-with, commit-with-other, each-with, each-commit, rise-with}
@@ -117,13 +118,13 @@ changed-graph g (name title n) fits k = record {
 
 -- ---- many
 
-pub changed-graphs : (g : Graph) (rs : List Record) → AreRecords g rs → IsGraph g → IsGraph (changed_by g (entries_in rs))
-changed-graphs g [] all k = k
-changed-graphs g (r ∷ rs) all k = changed-graphs (changed g r.entry) rs all.2 (changed-graph g r.entry all.1 k)
+pub changed-graphs : (h : History) (rs : List Record) → AreRecords h rs → IsGraph h.graph → IsGraph (changed_by h.graph (entries_in rs))
+changed-graphs h [] all k = k
+changed-graphs h (r ∷ rs) all k = changed-graphs (led h r.entry) rs all.2 (changed-graph h.graph r.entry all.1.graph k)
 
 -- the graph of records that fit
-pub records-graph : (rs : List Record) → AreRecords new_graph rs → IsGraph (graph_by rs)
-records-graph rs all = changed-graphs new_graph rs all new-graph
+pub records-graph : (rs : List Record) → AreRecords new_history rs → IsGraph (graph_by rs)
+records-graph rs all = changed-graphs new_history rs all new-graph
 
 -- a graph that a file holds
 pub held-graph : (file : List ℕ) (g : Graph) → Holds file g → IsGraph g
@@ -142,14 +143,14 @@ changed-counted g (move (to_commit n)) fits = refl
 changed-counted g (move (to_branch title)) fits = on-counted g title (commit_of title g.branches) fits.goes_on
 changed-counted g (name title n) fits = refl
 
-pub counted-by : (g : Graph) (rs : List Record) → AreRecords g rs → (changed_by g (entries_in rs)).records ≡ g.records + length rs
-counted-by g [] all = omega arith
-counted-by g (r ∷ rs) all = omega (arith, counted-by (changed g r.entry) rs all.2, changed-counted g r.entry all.1)
+pub counted-by : (h : History) (rs : List Record) → AreRecords h rs → (changed_by h.graph (entries_in rs)).records ≡ h.graph.records + length rs
+counted-by h [] all = omega arith
+counted-by h (r ∷ rs) all = omega (arith, counted-by (led h r.entry) rs all.2, changed-counted h.graph r.entry all.1.graph)
 
 -- the graph of records that fit tells how many they are
-pub records-counted : (rs : List Record) → AreRecords new_graph rs → (graph_by rs).records ≡ length rs
-records-counted rs all = omega (arith, counted-by new_graph rs all)
+pub records-counted : (rs : List Record) → AreRecords new_history rs → (graph_by rs).records ≡ length rs
+records-counted rs all = omega (arith, counted-by new_history rs all)
 
 -- and so these are not too many
-pub records-most : (rs : List Record) → AreRecords new_graph rs → length rs ≤ most_records
+pub records-most : (rs : List Record) → AreRecords new_history rs → length rs ≤ most_records
 records-most rs all = omega (arith, records-counted rs all, (records-graph rs all).few)

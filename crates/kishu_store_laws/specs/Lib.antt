@@ -4,3 +4,7 @@ pub mod Laws
 pub mod BranchLaws
 pub mod GraphLaws
 pub mod TitleLaws
+pub mod TableLaws
+pub mod HistoryLaws
+pub mod PlaceLaws
+pub mod WalkLaws

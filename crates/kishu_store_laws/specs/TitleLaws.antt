@@ -5,7 +5,7 @@ use Rattle.std.specs.Str.{IsAscii}
 use Rattle.std.proofs.Common.{inl, inr, arith, leb-true, eqb-true}
 use Rattle.std.proofs.lemmas.Bool.{false≢true}
 use Rattle.std.proofs.lemmas.Str.{IsUtf8-from_ascii}
-use Rattle.kishu_language.specs.tokens.Names.{is_digit, is_letter, is_word_char, begins_with_letter, is_name, is_reserved_word}
+use Rattle.kishu_language.specs.tokens.Names.{is_digit, is_letter, is_word_char, begins_with_letter, is_reserved_word}
 use Rattle.kishu_store.specs.Branches.{is_branch_char, is_branch_name}
 use Rattle.kishu_store.specs.Groups.{IsName}
 use Rattle.kishu_store.specs.Rules.{IsTitle}

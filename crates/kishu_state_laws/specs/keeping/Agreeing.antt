@@ -1,6 +1,7 @@
 -- Computations that keep what holds of every state, and that go the same way as others from moments of some depth on.
 use Rattle.std.specs.Prelude.{◌≡◌, ℕ, zero, suc, ◌≤◌, nat_lt, Bool, true, false, if◌then◌else◌, List, Option, Some, None}
 use Rattle.std.proofs.Common.{refl, ap, ◌∙◌, arith}
+use Rattle.kishu_language.specs.declared.profile.Profile.{Profile}
 use Rattle.kishu_language.specs.trees.Tree.{Statements, no_statements, more_statements}
 use Rattle.kishu_meaning.specs.values.Values.{Value, Node}
 use Rattle.kishu_meaning.specs.moments.Moment.{Locals, Moment, Thrown, Ends, M, and_then, ◌>>=◌, ◌>>◌, give, throw, most_depth, back_at, recursion_error, deeper}
@@ -38,7 +39,7 @@ agree_later h m = record { safe = safe_later h m.safe; same = same_later h m.sam
 
 -- ---- one after the other
 
-ends_same : {A B : Type 0} {d k l n deep : ℕ} {ns : List Node} (Q : ℕ → A → Type 0) (f f' : A → M B) {e : Ends A} → k ≤ l → d ≤ deep → SafeEnds l n ns deep Q e → ((j : ℕ) → k ≤ j → (a : A) → Q j a → Same d j (f a) (f' a)) → and_then e f ≡ and_then e f'
+ends_same : {A B : Type 0} {d k l n deep : ℕ} {ns : List Node} {profile : Profile} (Q : ℕ → A → Type 0) (f f' : A → M B) {e : Ends A} → k ≤ l → d ≤ deep → SafeEnds l n ns deep profile Q e → ((j : ℕ) → k ≤ j → (a : A) → Q j a → Same d j (f a) (f' a)) → and_then e f ≡ and_then e f'
 ends_same {d = d} {deep = deep} Q f f' kl enough (fines j {a = a} {s = s} le after q g) h =
     let still : s.depth ≡ deep = after.2 in
     (h j (omega (arith, kl, le)) a q).go j (omega arith) s g (omega (arith, still, enough))
@@ -124,7 +125,7 @@ walk_along_a k u p h = record { safe = walk_along_s k u p (λ l le v q. (h l le 
 abbrev pub HandlerAgree : ℕ → ℕ → (Thrown → M Flow) → (Thrown → M Flow) → Type 0
 HandlerAgree d k handler handler' = (l : ℕ) → k ≤ l → (x : Thrown) → IsThrown l x → Agree d l IsFlow (handler x) (handler' x)
 
-after_same : {d k l n deep : ℕ} {ns : List Node} {e : Ends Flow} {handler handler' : Thrown → M Flow} {other other' : M Flow} → k ≤ l → d ≤ deep → SafeEnds l n ns deep IsFlow e → HandlerAgree d k handler handler' → Agree d k IsFlow other other' → after_body e handler other ≡ after_body e handler' other'
+after_same : {d k l n deep : ℕ} {ns : List Node} {profile : Profile} {e : Ends Flow} {handler handler' : Thrown → M Flow} {other other' : M Flow} → k ≤ l → d ≤ deep → SafeEnds l n ns deep profile IsFlow e → HandlerAgree d k handler handler' → Agree d k IsFlow other other' → after_body e handler other ≡ after_body e handler' other'
 after_same {deep = deep} kl enough (fines j {a = onward} {s = s} le after q g) h o = (let still : s.depth ≡ deep = after.2 in o.same.go j (omega (arith, kl, le)) s g (omega (arith, still, enough)))
 after_same kl enough (fines j {a = broke} le after q g) h o = refl
 after_same kl enough (fines j {a = continued} le after q g) h o = refl
@@ -138,7 +139,7 @@ attempt_a {other' = other'} {handler' = handler'} b h o = record {
   same = record { go = λ l le s g enough. after_same le enough (b.safe.go l le s g) h o ∙ ap (λ e. after_body e handler' other') (b.same.go l le s g enough) };
 }
 
-last_same : {d k l n deep : ℕ} {ns : List Node} {e : Ends Flow} {last last' : M Flow} → k ≤ l → d ≤ deep → SafeEnds l n ns deep IsFlow e → Agree d k IsFlow last last' → and_last e last ≡ and_last e last'
+last_same : {d k l n deep : ℕ} {ns : List Node} {profile : Profile} {e : Ends Flow} {last last' : M Flow} → k ≤ l → d ≤ deep → SafeEnds l n ns deep profile IsFlow e → Agree d k IsFlow last last' → and_last e last ≡ and_last e last'
 last_same {deep = deep} kl enough (fines j {a = f} {s = s} le after q g) h =
     (let still : s.depth ≡ deep = after.2 in ap (λ e. and_then e (λ g. unless_left g (give f))) (h.same.go j (omega (arith, kl, le)) s g (omega (arith, still, enough))))
 last_same {deep = deep} kl enough (raiseds j {x = x} {s = s} le after q g) h =

@@ -83,11 +83,11 @@ call_builtin_s m g h = if_s (m == print_number) (print_by_s g.named (codes " ") 
     (by_plain_s (builtin_name m) g.named (text_builtin m) (no_call_s (slice_get (builtin_calls print_plain) m) g.plain (each_get CallSafe (builtin_calls print_plain) m (builtins_safe print_plain (λ k vs a. print_s (codes " ") (line_feed ∷ []) vs a))) h.plain))
 
 new_object_s : {k : ℕ} (g : Given) → AreAttributes k g.named → Safe k IsValue (new_object g)
-new_object_s {k = k} g h = if_s (length g.plain == 0) (make_s (object g.named) (object_node k g.named h)) (bad_arguments_s (class_name namespace_class) (text_class namespace_class))
+new_object_s {k = k} g h = if_s (length g.plain == 0) (make_s (object g.named) (object_node k g.named h) (λ p. tt)) (bad_arguments_s (class_name namespace_class) (text_class namespace_class))
 
 pub construct_s : {k : ℕ} (m : ℕ) (g : Given) → IsGiven k g → Safe k IsValue (construct m g)
 construct_s m g h = if_s (m == namespace_class) (new_object_s g h.named)
-    (by_plain_s (class_name m) g.named (text_class m) (when_s (is_exception_class m) (λ e. make_s (exception m g.plain) (e, h.plain)) (λ e. no_call_s (slice_get (class_calls empty_object) m) g.plain (each_get CallSafe (class_calls empty_object) m (classes_safe empty_object (λ k vs a. new_object_s (record { plain = vs; named = [] }) (record { keys = record { each = tt; apart = tt }; values = tt })))) h.plain)))
+    (by_plain_s (class_name m) g.named (text_class m) (when_s (is_exception_class m) (λ e. make_s (exception m g.plain) (e, h.plain) (λ p. tt)) (λ e. no_call_s (slice_get (class_calls empty_object) m) g.plain (each_get CallSafe (class_calls empty_object) m (classes_safe empty_object (λ k vs a. new_object_s (record { plain = vs; named = [] }) (record { keys = record { each = tt; apart = tt }; values = tt })))) h.plain)))
 
 pub not_callable_s : {A : Type 0} {k : ℕ} {Q : ℕ → A → Type 0} (v : Value) → Safe k Q (not_callable v)
 not_callable_s v = kind_raise v _ (λ c. in_quotes c ++ codes " object is not callable") refl (λ c q. scalars_append (in_quotes c) (codes " object is not callable") (text_in_quotes c q) refl)

@@ -108,7 +108,7 @@ code_point_s k v p = bad_arguments_s (codes "ord") refl
 
 divided_by_s : (k : ℕ) (v w : Value) → IsValue k v → IsValue k w → Safe k IsValue (divided_by v w)
 divided_by_s k v w h g = by_number_s k (codes "divmod") (number_in v) _ refl (whole_number k v h) (λ a p. by_number_s k (codes "divmod") (number_in w) _ refl (whole_number k w g) (λ b q.
-    bind_s (operate_s operators.FloorDivide (integer a) (integer b) p q) (λ l le x r. bind_s (operate_s operators.Modulo (integer a) (integer b) p q) (λ l' le' y u. make_s (tuple (x ∷ y ∷ [])) (value_later l l' le' x r, (u, tt))))))
+    bind_s (operate_s operators.FloorDivide (integer a) (integer b) p q) (λ l le x r. bind_s (operate_s operators.Modulo (integer a) (integer b) p q) (λ l' le' y u. make_s (tuple (x ∷ y ∷ [])) (value_later l l' le' x r, (u, tt)) (λ p. tt)))))
 
 node_length_s : {k : ℕ} (o : Option Node) → Safe k IsValue (node_length o)
 node_length_s (Some (list vs)) = whole_s (pos (length vs))
@@ -137,7 +137,7 @@ instance_s k v c = instance_rest k v c
     instance_rest k v c = bind_s (node_now_s c) (λ l le o q. tuple_class_s v o)
 
 sorted_s : (k : ℕ) (v : Value) → IsValue k v → Safe k IsValue (sorted v)
-sorted_s k v p = plain_s (count_of_s v) (λ m. bind_s (then_s (spend_s (sort_steps m)) (items_of_s v p)) (λ l le vs q. bind_s (or_else_s AreValues (in_order vs) (bad_arguments_s (codes "sorted") refl) (λ l' le'. order_values l' vs (values_later l l' le' vs q))) (λ l' le' ws r. make_s (list ws) r)))
+sorted_s k v p = plain_s (count_of_s v) (λ m. bind_s (then_s (spend_s (sort_steps m)) (items_of_s v p)) (λ l le vs q. bind_s (or_else_s AreValues (in_order vs) (bad_arguments_s (codes "sorted") refl) (λ l' le'. order_values l' vs (values_later l l' le' vs q))) (λ l' le' ws r. make_s (list ws) r (λ p. tt))))
 
 text_of_s : {k : ℕ} {m : M (List ℕ)} → Safe k (λ l. IsText) m → Safe k IsValue (m >>= λ cs. give (text cs))
 text_of_s h = with_s h (λ cs q. value_s (text cs) q)
@@ -169,7 +169,7 @@ none_or_one_s name m f t e h k (v ∷ []) a = h k v a.0
 none_or_one_s name m f t e h k (v ∷ (w ∷ vs)) a = bad_arguments_s name t
 
 copied_s : {k : ℕ} (o : Option Node) → Maybe (IsNode k) o → Safe k IsValue (copied_dict o)
-copied_s (Some (dict es)) h = then_s (spend_s (length es)) (make_s (dict es) h)
+copied_s (Some (dict es)) h = then_s (spend_s (length es)) (make_s (dict es) h (λ p. tt))
 copied_s o h = bad_arguments_s (codes "dict") refl
 
 no_number_s : {k : ℕ} (o : Option ℤ) → Maybe IsWhole o → Safe k IsValue (or_no_number o)
@@ -188,7 +188,7 @@ tuple_of_s v (Some (tuple vs)) p = value_s v p
 tuple_of_s v o p = tuple_rest v p
   where
     tuple_rest : {k : ℕ} (v : Value) → IsValue k v → Safe k IsValue (all_items v >>= new_tuple)
-    tuple_rest v p = bind_s (walked_s v p) (λ l le vs q. make_s (tuple vs) q)
+    tuple_rest v p = bind_s (walked_s v p) (λ l le vs q. make_s (tuple vs) q (λ p. tt))
 
 range_from_s : {k : ℕ} (os : List (Option ℤ)) → Each (Maybe IsWhole) os → Safe k IsValue (range_from os)
 range_from_s (Some c ∷ []) h = value_s (range (pos 0) c (pos 1)) (refl, h.0, refl, refl)
@@ -202,13 +202,13 @@ numbers_whole k (v ∷ vs) h = (whole_number k v h.0, numbers_whole k vs h.1)
 
 class_s : (f : Call) → CallSafe f → (which : PlainClass) → CallSafe (class_call f which)
 class_s f h plains.bool = none_or_one_s (codes "bool") (give (bool false)) (λ v. truth v >>= λ b. give (bool b)) refl (λ k. value_s (bool false) tt) (λ k v p. plain_s (truth_s v) (λ b. value_s (bool b) tt))
-class_s f h plains.dict = none_or_one_s (codes "dict") (make (dict [])) (λ v. node_now v >>= copied_dict) refl (λ k. make_s (dict []) (tt, tt, tt)) (λ k v p. bind_s (node_now_s v) (λ l le o q. copied_s o q))
+class_s f h plains.dict = none_or_one_s (codes "dict") (make (dict [])) (λ v. node_now v >>= copied_dict) refl (λ k. make_s (dict []) (tt, tt, tt) (λ p. tt)) (λ k v p. bind_s (node_now_s v) (λ l le o q. copied_s o q))
 class_s f h plains.int = none_or_one_s (codes "int") (give (integer (pos 0))) number_from refl (λ k. value_s (integer (pos 0)) refl) number_from_s
-class_s f h plains.list = none_or_one_s (codes "list") (new_list []) (λ v. all_items v >>= new_list) refl (λ k. make_s (list []) tt) (λ k v p. bind_s (walked_s v p) (λ l le vs q. make_s (list vs) q))
+class_s f h plains.list = none_or_one_s (codes "list") (new_list []) (λ v. all_items v >>= new_list) refl (λ k. make_s (list []) tt (λ p. tt)) (λ k v p. bind_s (walked_s v p) (λ l le vs q. make_s (list vs) q (λ p. tt)))
 class_s f h plains.range = λ k vs a. range_from_s (map number_in vs) (numbers_whole k vs a)
 class_s f h plains.namespace = h
 class_s f h plains.str = none_or_one_s (codes "str") (give (text [])) (λ v. show v >>= λ cs. give (text cs)) refl (λ k. value_s (text []) refl) (λ k v p. text_of_s (show_s v p))
-class_s f h plains.tuple = none_or_one_s (codes "tuple") (new_tuple []) (λ v. node_now v >>= tuple_of v) refl (λ k. make_s (tuple []) tt) (λ k v p. bind_s (node_now_s v) (λ l le o q. tuple_of_s v o (value_later k l le v p)))
+class_s f h plains.tuple = none_or_one_s (codes "tuple") (new_tuple []) (λ v. node_now v >>= tuple_of v) refl (λ k. make_s (tuple []) tt (λ p. tt)) (λ k v p. bind_s (node_now_s v) (λ l le o q. tuple_of_s v o (value_later k l le v p)))
 
 pub classes_safe : (f : Call) → CallSafe f → Each CallSafe (class_calls f)
 classes_safe f h = each_map CallSafe (class_call f) (class_s f h) plain_classes

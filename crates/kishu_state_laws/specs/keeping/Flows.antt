@@ -1,6 +1,7 @@
 -- Ways out, exceptions, loops and handlers keep what holds of every state.
 use Rattle.std.specs.Prelude.{◌≡◌, ℕ, suc, ◌+◌, ◌<◌, ◌≤◌, if◌then◌else◌, List, [], ◌∷◌, codes, Option, Some, None}
 use Rattle.std.proofs.Common.{refl, sym, subst, arith}
+use Rattle.kishu_language.specs.declared.profile.Profile.{Profile}
 use Rattle.kishu_meaning.specs.values.Sound.{is_exception_class}
 use Rattle.kishu_meaning.specs.values.Values.{Value, class, node, Node, exception}
 use Rattle.kishu_meaning.specs.moments.Moment.{Moment, Thrown, fresh, thrown_object, Ends, fine, raised, stopped, M, ◌>>=◌, ◌>>◌, give, throw, tick, node_now}
@@ -36,7 +37,7 @@ onward_s = flow_s onward tt
 -- ---- exceptions
 
 pub object_of_s : {k : ℕ} (x : Thrown) → IsThrown k x → Safe k IsValue (object_of x)
-object_of_s (fresh kind vs) h = make_s (exception kind vs) h
+object_of_s (fresh kind vs) h = make_s (exception kind vs) h (λ p. tt)
 object_of_s (thrown_object i) h = value_s (node i) h
 
 no_exception_s : {A : Type 0} {k : ℕ} {Q : ℕ → A → Type 0} → Safe k Q no_exception
@@ -47,7 +48,7 @@ throw_object_s {k = k} (node i) h = bind_s (node_now_s (node i)) (λ l le o q. i
 throw_object_s v h = no_exception_s
 
 pub throw_value_s : {A : Type 0} {k : ℕ} {Q : ℕ → A → Type 0} (v : Value) → IsValue k v → Safe k Q (throw_value v)
-throw_value_s (class m) h = when_s (is_exception_class m) (λ e. bind_s (make_s (exception m []) (e, tt)) (λ l le v q. throw_object_s v q)) (λ e. no_exception_s)
+throw_value_s (class m) h = when_s (is_exception_class m) (λ e. bind_s (make_s (exception m []) (e, tt) (λ p. tt)) (λ l le v q. throw_object_s v q)) (λ e. no_exception_s)
 throw_value_s (node i) h = throw_object_s (node i) h
 throw_value_s v h = no_exception_s
 
@@ -121,7 +122,7 @@ walk_along_s k u {turn = turn} p h =
 abbrev HandlerSafe : ℕ → (Thrown → M Flow) → Type 0
 HandlerSafe k handler = (l : ℕ) → k ≤ l → (x : Thrown) → IsThrown l x → Safe l IsFlow (handler x)
 
-after_s : {k l n : ℕ} {ns : List Node} {deep : ℕ} {e : Ends Flow} {handler : Thrown → M Flow} {other : M Flow} → k ≤ l → SafeEnds l n ns deep IsFlow e → HandlerSafe k handler → Safe k IsFlow other → SafeEnds l n ns deep IsFlow (after_body e handler other)
+after_s : {k l n : ℕ} {ns : List Node} {deep : ℕ} {profile : Profile} {e : Ends Flow} {handler : Thrown → M Flow} {other : M Flow} → k ≤ l → SafeEnds l n ns deep profile IsFlow e → HandlerSafe k handler → Safe k IsFlow other → SafeEnds l n ns deep profile IsFlow (after_body e handler other)
 after_s kl (fines n {a = onward} {s = s} le after q g) h e = ends_later s le after (e.go n (omega (arith, kl, le)) s g)
 after_s kl (fines n {a = broke} le after q g) h e = fines n le after tt g
 after_s kl (fines n {a = continued} le after q g) h e = fines n le after tt g
@@ -130,7 +131,7 @@ after_s kl (raiseds n {x = x} {s = s} le after q g) h e = ends_later s le after 
 after_s kl (stoppeds n le after g) h e = stoppeds n le after g
 
 -- what ends with fewer than d steps left goes on so
-after_short : {k l d n : ℕ} {ns : List Node} {deep : ℕ} {e : Ends Flow} {handler : Thrown → M Flow} {other : M Flow} → k ≤ l → SafeEnds l n ns deep IsFlow e → (end_of e).left < d → HandlerSafe k handler → Safe k IsFlow other → (end_of (after_body e handler other)).left < d
+after_short : {k l d n : ℕ} {ns : List Node} {deep : ℕ} {profile : Profile} {e : Ends Flow} {handler : Thrown → M Flow} {other : M Flow} → k ≤ l → SafeEnds l n ns deep profile IsFlow e → (end_of e).left < d → HandlerSafe k handler → Safe k IsFlow other → (end_of (after_body e handler other)).left < d
 after_short kl (fines n {a = onward} {s = s} le after q g) short h e = let p = falls_in (e.go n (omega (arith, kl, le)) s g) in omega (arith, p, short)
 after_short kl (fines n {a = broke} le after q g) short h e = short
 after_short kl (fines n {a = continued} le after q g) short h e = short
@@ -138,7 +139,7 @@ after_short kl (fines n {a = returned v} le after q g) short h e = short
 after_short kl (raiseds n {x = x} {s = s} le after q g) short h e = let p = falls_in ((h n (omega (arith, kl, le)) x q).go n (omega arith) s g) in omega (arith, p, short)
 after_short kl (stoppeds n le after g) short h e = short
 
-after_wide : {k l d n n' : ℕ} {ns ns' : List Node} {deep deep' : ℕ} {e e' : Ends Flow} {handler : Thrown → M Flow} {other : M Flow} → k ≤ l → 0 < d → n + d ≤ widest_budget → WiderEnds d e e' → SafeEnds l n ns deep IsFlow e → SafeEnds l n' ns' deep' IsFlow e' → HandlerSafe k handler → Safe k IsFlow other → WiderEnds d (after_body e handler other) (after_body e' handler other)
+after_wide : {k l d n n' : ℕ} {ns ns' : List Node} {deep deep' : ℕ} {profile profile' : Profile} {e e' : Ends Flow} {handler : Thrown → M Flow} {other : M Flow} → k ≤ l → 0 < d → n + d ≤ widest_budget → WiderEnds d e e' → SafeEnds l n ns deep profile IsFlow e → SafeEnds l n' ns' deep' profile' IsFlow e' → HandlerSafe k handler → Safe k IsFlow other → WiderEnds d (after_body e handler other) (after_body e' handler other)
 after_wide {d = d} {n = most} kl pos fits both_fine (fines n {a = onward} {s = s} le after q g) two h e = let p : s.left ≤ most = after.0 in e.wide n (omega (arith, kl, le)) s g d pos (omega (arith, p, fits))
 after_wide kl pos fits both_fine (fines n {a = broke} le after q g) two h e = both_fine
 after_wide kl pos fits both_fine (fines n {a = continued} le after q g) two h e = both_fine
@@ -159,17 +160,17 @@ last_flow {n = n} f q h = bind_s h (λ m le f' r. unless_s f' r (flow_s f (flow_
 last_thrown : {n : ℕ} (x : Thrown) {last : M Flow} → IsThrown n x → Safe n IsFlow last → Safe n IsFlow (last >>= λ g. unless_left g (throw x))
 last_thrown {n = n} x q h = bind_s h (λ m le f' r. unless_s f' r (throw_s x (thrown_later n m le x q)))
 
-last_s : {k l n : ℕ} {ns : List Node} {deep : ℕ} {e : Ends Flow} {last : M Flow} → k ≤ l → SafeEnds l n ns deep IsFlow e → Safe k IsFlow last → SafeEnds l n ns deep IsFlow (and_last e last)
+last_s : {k l n : ℕ} {ns : List Node} {deep : ℕ} {profile : Profile} {e : Ends Flow} {last : M Flow} → k ≤ l → SafeEnds l n ns deep profile IsFlow e → Safe k IsFlow last → SafeEnds l n ns deep profile IsFlow (and_last e last)
 last_s kl (fines n {a = f} {s = s} le after q g) h = ends_later s le after ((last_flow f q (safe_later (omega (arith, kl, le)) h)).go n (omega arith) s g)
 last_s kl (raiseds n {x = x} {s = s} le after q g) h = ends_later s le after ((last_thrown x q (safe_later (omega (arith, kl, le)) h)).go n (omega arith) s g)
 last_s kl (stoppeds n le after g) h = stoppeds n le after g
 
-last_short : {k l d n : ℕ} {ns : List Node} {deep : ℕ} {e : Ends Flow} {last : M Flow} → k ≤ l → SafeEnds l n ns deep IsFlow e → (end_of e).left < d → Safe k IsFlow last → (end_of (and_last e last)).left < d
+last_short : {k l d n : ℕ} {ns : List Node} {deep : ℕ} {profile : Profile} {e : Ends Flow} {last : M Flow} → k ≤ l → SafeEnds l n ns deep profile IsFlow e → (end_of e).left < d → Safe k IsFlow last → (end_of (and_last e last)).left < d
 last_short kl (fines n {a = f} {s = s} le after q g) short h = let p = falls_in ((last_flow f q (safe_later (omega (arith, kl, le)) h)).go n (omega arith) s g) in omega (arith, p, short)
 last_short kl (raiseds n {x = x} {s = s} le after q g) short h = let p = falls_in ((last_thrown x q (safe_later (omega (arith, kl, le)) h)).go n (omega arith) s g) in omega (arith, p, short)
 last_short kl (stoppeds n le after g) short h = short
 
-last_wide : {k l d n n' : ℕ} {ns ns' : List Node} {deep deep' : ℕ} {e e' : Ends Flow} {last : M Flow} → k ≤ l → 0 < d → n + d ≤ widest_budget → WiderEnds d e e' → SafeEnds l n ns deep IsFlow e → SafeEnds l n' ns' deep' IsFlow e' → Safe k IsFlow last → WiderEnds d (and_last e last) (and_last e' last)
+last_wide : {k l d n n' : ℕ} {ns ns' : List Node} {deep deep' : ℕ} {profile profile' : Profile} {e e' : Ends Flow} {last : M Flow} → k ≤ l → 0 < d → n + d ≤ widest_budget → WiderEnds d e e' → SafeEnds l n ns deep profile IsFlow e → SafeEnds l n' ns' deep' profile' IsFlow e' → Safe k IsFlow last → WiderEnds d (and_last e last) (and_last e' last)
 last_wide {d = d} {n = most} kl pos fits both_fine (fines n {a = f} {s = s} le after q g) two h = let p : s.left ≤ most = after.0 in (last_flow f q (safe_later (omega (arith, kl, le)) h)).wide n (omega arith) s g d pos (omega (arith, p, fits))
 last_wide {d = d} {n = most} kl pos fits both_raised (raiseds n {x = x} {s = s} le after q g) two h = let p : s.left ≤ most = after.0 in (last_thrown x q (safe_later (omega (arith, kl, le)) h)).wide n (omega arith) s g d pos (omega (arith, p, fits))
 last_wide kl pos fits (one_stopped z short) one two h = one_stopped z (last_short kl two short h)
@@ -183,7 +184,7 @@ finally_s b h = record {
 pub with_handled : {l : ℕ} {s : Moment} (o : Option Value) → MaybeValue l o → IsMoment l s → IsMoment l (record s { handled = o })
 with_handled o h g = record { many = g.many; nodes = g.nodes; names = g.names; locals = g.locals; handled = h; budget = g.budget }
 
-handled_ends : {A : Type 0} {k n : ℕ} {ns : List Node} {deep : ℕ} (Q : ℕ → A → Type 0) (o : Option Value) {e : Ends A} → MaybeValue k o → SafeEnds k n ns deep Q e → SafeEnds k n ns deep Q (handled_as o e)
+handled_ends : {A : Type 0} {k n : ℕ} {ns : List Node} {deep : ℕ} {profile : Profile} (Q : ℕ → A → Type 0) (o : Option Value) {e : Ends A} → MaybeValue k o → SafeEnds k n ns deep profile Q e → SafeEnds k n ns deep profile Q (handled_as o e)
 handled_ends {k = k} Q o h (fines l le after q g) = fines l le after q (with_handled o (optional_later k l le o h) g)
 handled_ends {k = k} Q o h (raiseds l le after q g) = raiseds l le after q (with_handled o (optional_later k l le o h) g)
 handled_ends {k = k} Q o h (stoppeds l le after g) = stoppeds l le after (with_handled o (optional_later k l le o h) g)

@@ -147,7 +147,7 @@ module _ {k : ℕ} where
 
   pub value_of_key_s : (key : Key) → IsKey key → Safe k IsValue (value_of_key key)
   value_of_key_s (kk.single p) h = value_s (value_of_part p) (part_value k p h)
-  value_of_key_s (kk.tuple ps) h = then_s (spend_s (length ps)) (make_s (tuple (map value_of_part ps)) (parts_values k ps h))
+  value_of_key_s (kk.tuple ps) h = then_s (spend_s (length ps)) (make_s (tuple (map value_of_part ps)) (parts_values k ps h) (λ p. tt))
 
 values_of_keys_s : {k : ℕ} (ks : List Key) → Each IsKey ks → Safe k AreValues (values_of_keys ks)
 values_of_keys_s [] h = list_s [] tt

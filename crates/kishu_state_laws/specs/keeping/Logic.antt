@@ -4,13 +4,14 @@ use Rattle.std.specs.List.{AllByRecursion as Each}
 use Rattle.std.specs.Str.{all_scalars}
 use Rattle.std.proofs.Common.{refl, ap, sym, subst, ◌∙◌, arith, length-append, leb-true}
 use Rattle.std.proofs.lemmas.Bool.{leb-false}
+use Rattle.kishu_language.specs.declared.profile.Profile.{Profile}
 use Rattle.kishu_meaning.specs.values.Sound.{is_exception_class}
 use Rattle.kishu_meaning.specs.values.Values.{Value, none, bool, integer, text, range, builtin, class, node, Node, list, tuple, dict, object, function, exception}
 use Rattle.kishu_meaning.specs.values.Nodes.{changed}
 use Rattle.kishu_meaning.specs.moments.Moment.{Locals, Moment, Thrown, fresh, thrown_object, Ends, fine, raised, stopped, M, and_then, ◌>>=◌, ◌>>◌, give, throw, raise, or_else, spend, tick, most_depth, back_at, recursion_error, deeper, look, make, change, node_at, node_now, put_out}
 use Rattle.kishu_meaning.specs.moments.Counting.{Counted, answer, too_deep, spent, Count, ended_in, counted}
 use Rattle.kishu_meaning_laws.specs.CountLaws.{Falls, left_of, Wider, both_answer, both_deep, one_spent}
-pub use Rattle.kishu_state_laws.specs.Moments.{Maybe, IsMoment, widest_budget}
+pub use Rattle.kishu_state_laws.specs.Moments.{Maybe, IsMoment, IsUnder, AreUnder, widest_budget}
 pub use Rattle.kishu_soundness_laws.specs.BelowLaws.{each_append, each_get}
 use Rattle.kishu_pairing_laws.specs.World.{end_of}
 use Rattle.kishu_objects.specs.State.{IsValue, AreValues, IsNode, AreNames, values_in, Stays, the_same, lists, dicts, objects, Grown}
@@ -97,6 +98,18 @@ grown_changed f h i [] = tt
 grown_changed f h zero (n ∷ ns) = (h n, grown_self ns)
 grown_changed f h (suc i) (n ∷ ns) = (the_same n, grown_changed f h i ns)
 
+-- What stays is under the profile under which it was.
+stays_under : (profile : Profile) {n m : Node} → Stays n m → IsUnder profile n → IsUnder profile m
+stays_under profile (the_same n) u = u
+stays_under profile (lists vs ws) u = tt
+stays_under profile (dicts es fs) u = tt
+stays_under profile (objects es fs) u = tt
+
+changed_under : (profile : Profile) (f : Node → Node) → ((n : Node) → Stays n (f n)) → (i : ℕ) (ns : List Node) → AreUnder profile ns → AreUnder profile (changed f i ns)
+changed_under profile f h i [] u = tt
+changed_under profile f h zero (n ∷ ns) u = (stays_under profile (h n) u.0, u.1)
+changed_under profile f h (suc i) (n ∷ ns) u = (u.0, changed_under profile f h i ns u.1)
+
 pub grown_length : (ns ms : List Node) → Grown ns ms → length ns ≤ length ms
 grown_length [] ms g = omega arith
 grown_length (n ∷ ns) [] g = absurd g
@@ -120,17 +133,17 @@ at_left n h g = record { many = g.many; nodes = g.nodes; names = g.names; locals
 pub at_depth : {l : ℕ} {s : Moment} (d : ℕ) → IsMoment l s → IsMoment l (record s { depth = d })
 at_depth d g = record { many = g.many; nodes = g.nodes; names = g.names; locals = g.locals; handled = g.handled; budget = g.budget }
 
--- at a moment that follows one with n steps left and these nodes, at the same depth
-abbrev pub After : ℕ → List Node → ℕ → Moment → Type 0
-After n ns deep s = (s.left ≤ n) × Grown ns s.nodes × (s.depth ≡ deep)
+-- at a moment that follows one with n steps left and these nodes, at the same depth and under the same profile, under which functions stay
+abbrev pub After : ℕ → List Node → ℕ → Profile → Moment → Type 0
+After n ns deep profile s = (s.left ≤ n) × Grown ns s.nodes × (s.depth ≡ deep) × (s.profile ≡ profile) × (AreUnder profile ns → AreUnder profile s.nodes)
 
-pub stay : (s : Moment) → After s.left s.nodes s.depth s
-stay s = (omega arith, grown_self s.nodes, refl)
+pub stay : (s : Moment) → After s.left s.nodes s.depth s.profile s
+stay s = (omega arith, grown_self s.nodes, refl, refl, λ u. u)
 
-pub data SafeEnds {A : Type 0} (k n : ℕ) (ns : List Node) (deep : ℕ) (Q : ℕ → A → Type 0) : Ends A → Type 0 where
-  fines : (l : ℕ) {a : A} {s : Moment} → k ≤ l → After n ns deep s → Q l a → IsMoment l s → SafeEnds k n ns deep Q (fine a s)
-  raiseds : (l : ℕ) {x : Thrown} {s : Moment} → k ≤ l → After n ns deep s → IsThrown l x → IsMoment l s → SafeEnds k n ns deep Q (raised x s)
-  stoppeds : (l : ℕ) {s : Moment} → k ≤ l → After n ns deep s → IsMoment l s → SafeEnds k n ns deep Q (stopped s)
+pub data SafeEnds {A : Type 0} (k n : ℕ) (ns : List Node) (deep : ℕ) (profile : Profile) (Q : ℕ → A → Type 0) : Ends A → Type 0 where
+  fines : (l : ℕ) {a : A} {s : Moment} → k ≤ l → After n ns deep profile s → Q l a → IsMoment l s → SafeEnds k n ns deep profile Q (fine a s)
+  raiseds : (l : ℕ) {x : Thrown} {s : Moment} → k ≤ l → After n ns deep profile s → IsThrown l x → IsMoment l s → SafeEnds k n ns deep profile Q (raised x s)
+  stoppeds : (l : ℕ) {s : Moment} → k ≤ l → After n ns deep profile s → IsMoment l s → SafeEnds k n ns deep profile Q (stopped s)
 
 -- ---- with more steps to spend
 
@@ -147,40 +160,46 @@ pub data WiderEnds {A : Type 0} (d : ℕ) : Ends A → Ends A → Type 0 where
   one_stopped : {s : Moment} {e : Ends A} → s.left ≡ 0 → (end_of e).left < d → WiderEnds d (stopped s) e
 
 -- No step is given back.
-pub falls_in : {A : Type 0} {k n : ℕ} {ns : List Node} {deep : ℕ} {Q : ℕ → A → Type 0} {e : Ends A} → SafeEnds k n ns deep Q e → (end_of e).left ≤ n
+pub falls_in : {A : Type 0} {k n : ℕ} {ns : List Node} {deep : ℕ} {profile : Profile} {Q : ℕ → A → Type 0} {e : Ends A} → SafeEnds k n ns deep profile Q e → (end_of e).left ≤ n
 falls_in (fines l le after q g) = after.0
 falls_in (raiseds l le after q g) = after.0
 falls_in (stoppeds l le after g) = after.0
 
 -- from moments with k nodes or more
 pub record Safe {A : Type 0} (k : ℕ) (Q : ℕ → A → Type 0) (m : M A) : Type 0 where
-  pub go : (l : ℕ) → k ≤ l → (s : Moment) → IsMoment l s → SafeEnds l s.left s.nodes s.depth Q (m s)
+  pub go : (l : ℕ) → k ≤ l → (s : Moment) → IsMoment l s → SafeEnds l s.left s.nodes s.depth s.profile Q (m s)
   pub wide : (l : ℕ) → k ≤ l → (s : Moment) → IsMoment l s → (d : ℕ) → 0 < d → s.left + d ≤ widest_budget → WiderEnds d (m s) (m (more d s))
 
 pub safe_later : {A : Type 0} {k l : ℕ} {Q : ℕ → A → Type 0} {m : M A} → k ≤ l → Safe k Q m → Safe l Q m
 safe_later h m = record { go = λ n le s g. m.go n (omega (arith, h, le)) s g; wide = λ n le s g. m.wide n (omega (arith, h, le)) s g }
 
-pub after_on : (n : ℕ) (ns : List Node) (deep : ℕ) (s t : Moment) → After n ns deep s → After s.left s.nodes s.depth t → After n ns deep t
-after_on n ns deep s t g h = let p : s.left ≤ n = g.0 in let q : t.left ≤ s.left = h.0 in (omega (arith, p, q), grown_on ns s.nodes t.nodes g.1 h.1, h.2 ∙ g.2)
+pub after_on : (n : ℕ) (ns : List Node) (deep : ℕ) (profile : Profile) (s t : Moment) → After n ns deep profile s → After s.left s.nodes s.depth s.profile t → After n ns deep profile t
+after_on n ns deep profile s t g h = let p : s.left ≤ n = g.0 in let q : t.left ≤ s.left = h.0 in (
+  omega (arith, p, q),
+  grown_on ns s.nodes t.nodes g.1 h.1,
+  h.2 ∙ g.2,
+  h.3 ∙ g.3,
+  λ u. subst (λ r. AreUnder r t.nodes) g.3 (h.4 (subst (λ r. AreUnder r s.nodes) (sym g.3) (g.4 u))),
+)
 
 -- of ends from a moment that itself is a later one
-pub ends_later : {A : Type 0} {k l n : ℕ} {ns : List Node} {deep : ℕ} {Q : ℕ → A → Type 0} {e : Ends A} (s : Moment) → k ≤ l → After n ns deep s → SafeEnds l s.left s.nodes s.depth Q e → SafeEnds k n ns deep Q e
-ends_later {n = most} {ns = ns} {deep = deep} s h after (fines n {s = t} le a q g) = fines n (omega (arith, h, le)) (after_on most ns deep s t after a) q g
-ends_later {n = most} {ns = ns} {deep = deep} s h after (raiseds n {s = t} le a q g) = raiseds n (omega (arith, h, le)) (after_on most ns deep s t after a) q g
-ends_later {n = most} {ns = ns} {deep = deep} s h after (stoppeds n {s = t} le a g) = stoppeds n (omega (arith, h, le)) (after_on most ns deep s t after a) g
+pub ends_later : {A : Type 0} {k l n : ℕ} {ns : List Node} {deep : ℕ} {profile : Profile} {Q : ℕ → A → Type 0} {e : Ends A} (s : Moment) → k ≤ l → After n ns deep profile s → SafeEnds l s.left s.nodes s.depth s.profile Q e → SafeEnds k n ns deep profile Q e
+ends_later {n = most} {ns = ns} {deep = deep} {profile = profile} s h after (fines n {s = t} le a q g) = fines n (omega (arith, h, le)) (after_on most ns deep profile s t after a) q g
+ends_later {n = most} {ns = ns} {deep = deep} {profile = profile} s h after (raiseds n {s = t} le a q g) = raiseds n (omega (arith, h, le)) (after_on most ns deep profile s t after a) q g
+ends_later {n = most} {ns = ns} {deep = deep} {profile = profile} s h after (stoppeds n {s = t} le a g) = stoppeds n (omega (arith, h, le)) (after_on most ns deep profile s t after a) g
 
-bind_ends : {A B : Type 0} {k l n : ℕ} {ns : List Node} {deep : ℕ} (Q : ℕ → A → Type 0) (S : ℕ → B → Type 0) (f : A → M B) {e : Ends A} → k ≤ l → SafeEnds l n ns deep Q e → ((n : ℕ) → k ≤ n → (a : A) → Q n a → Safe n S (f a)) → SafeEnds l n ns deep S (and_then e f)
+bind_ends : {A B : Type 0} {k l n : ℕ} {ns : List Node} {deep : ℕ} {profile : Profile} (Q : ℕ → A → Type 0) (S : ℕ → B → Type 0) (f : A → M B) {e : Ends A} → k ≤ l → SafeEnds l n ns deep profile Q e → ((n : ℕ) → k ≤ n → (a : A) → Q n a → Safe n S (f a)) → SafeEnds l n ns deep profile S (and_then e f)
 bind_ends Q S f kl (fines n {a = a} {s = s} le after q g) h = ends_later s le after ((h n (omega (arith, kl, le)) a q).go n (omega arith) s g)
 bind_ends Q S f kl (raiseds n {s = s} le after q g) h = raiseds n le after q g
 bind_ends Q S f kl (stoppeds n {s = s} le after g) h = stoppeds n le after g
 
 -- what ends with fewer than d steps left goes on so
-short_ends : {A B : Type 0} {k l d n : ℕ} {ns : List Node} {deep : ℕ} (Q : ℕ → A → Type 0) (S : ℕ → B → Type 0) (f : A → M B) {e : Ends A} → k ≤ l → SafeEnds l n ns deep Q e → (end_of e).left < d → ((n : ℕ) → k ≤ n → (a : A) → Q n a → Safe n S (f a)) → (end_of (and_then e f)).left < d
+short_ends : {A B : Type 0} {k l d n : ℕ} {ns : List Node} {deep : ℕ} {profile : Profile} (Q : ℕ → A → Type 0) (S : ℕ → B → Type 0) (f : A → M B) {e : Ends A} → k ≤ l → SafeEnds l n ns deep profile Q e → (end_of e).left < d → ((n : ℕ) → k ≤ n → (a : A) → Q n a → Safe n S (f a)) → (end_of (and_then e f)).left < d
 short_ends Q S f kl (fines n {a = a} {s = s} le after q g) short h = let p = falls_in ((h n (omega (arith, kl, le)) a q).go n (omega arith) s g) in omega (arith, p, short)
 short_ends Q S f kl (raiseds n le after q g) short h = short
 short_ends Q S f kl (stoppeds n le after g) short h = short
 
-bind_wide : {A B : Type 0} {k l d n n' : ℕ} {ns ns' : List Node} {deep deep' : ℕ} (Q : ℕ → A → Type 0) (S : ℕ → B → Type 0) (f : A → M B) {e e' : Ends A} → k ≤ l → 0 < d → n + d ≤ widest_budget → WiderEnds d e e' → SafeEnds l n ns deep Q e → SafeEnds l n' ns' deep' Q e' → ((n : ℕ) → k ≤ n → (a : A) → Q n a → Safe n S (f a)) → WiderEnds d (and_then e f) (and_then e' f)
+bind_wide : {A B : Type 0} {k l d n n' : ℕ} {ns ns' : List Node} {deep deep' : ℕ} {profile profile' : Profile} (Q : ℕ → A → Type 0) (S : ℕ → B → Type 0) (f : A → M B) {e e' : Ends A} → k ≤ l → 0 < d → n + d ≤ widest_budget → WiderEnds d e e' → SafeEnds l n ns deep profile Q e → SafeEnds l n' ns' deep' profile' Q e' → ((n : ℕ) → k ≤ n → (a : A) → Q n a → Safe n S (f a)) → WiderEnds d (and_then e f) (and_then e' f)
 bind_wide {d = d} {n = most} Q S f kl pos fits both_fine (fines n {a = a} {s = s} le after q g) other h = let p : s.left ≤ most = after.0 in (h n (omega (arith, kl, le)) a q).wide n (omega arith) s g d pos (omega (arith, p, fits))
 bind_wide Q S f kl pos fits both_raised one other h = both_raised
 bind_wide Q S f kl pos fits (one_stopped z short) one other h = one_stopped z (short_ends Q S f kl other short h)
@@ -266,12 +285,12 @@ abbrev pub spend_by : Bool → ℕ → M (Unit {0})
 spend_by b n s = if b then fine tt (record s { left = s.left - n }) else stopped (record s { left = 0 })
 
 -- What was spent was there.
-spend_ends : (b : Bool) (n l : ℕ) (s : Moment) → nat_le n s.left ≡ b → IsMoment l s → SafeEnds l s.left s.nodes s.depth (λ _ _. n ≤ widest_budget) (spend_by b n s)
+spend_ends : (b : Bool) (n l : ℕ) (s : Moment) → nat_le n s.left ≡ b → IsMoment l s → SafeEnds l s.left s.nodes s.depth s.profile (λ _ _. n ≤ widest_budget) (spend_by b n s)
 spend_ends true n l s e g =
     let p = g.budget in
     let fits : n ≤ s.left = leb-true n s.left e in
-    fines l (omega arith) (omega arith, grown_self s.nodes, refl) (omega (arith, p, fits)) (at_left (s.left - n) (omega (arith, p)) g)
-spend_ends false n l s e g = stoppeds l (omega arith) (omega arith, grown_self s.nodes, refl) (at_left 0 (omega arith) g)
+    fines l (omega arith) (omega arith, grown_self s.nodes, refl, refl, λ u. u) (omega (arith, p, fits)) (at_left (s.left - n) (omega (arith, p)) g)
+spend_ends false n l s e g = stoppeds l (omega arith) (omega arith, grown_self s.nodes, refl, refl, λ u. u) (at_left 0 (omega arith) g)
 
 spend_wide : (n d : ℕ) (s : Moment) (b c : Bool) → nat_le n s.left ≡ b → nat_le n (s.left + d) ≡ c → 0 < d → WiderEnds d (spend_by b n s) (spend_by c n (more d s))
 spend_wide n d s true true e f pos =
@@ -291,7 +310,7 @@ spend_wide n d s false false e f pos = one_stopped refl pos
 pub spend_s : {k : ℕ} (n : ℕ) → Safe k (λ _ _. n ≤ widest_budget) (spend n)
 spend_s n = record { go = λ l le s g. spend_ends (nat_le n s.left) n l s refl g; wide = λ l le s g d pos fits. spend_wide n d s (nat_le n s.left) (nat_le n (s.left + d)) refl refl pos }
 
-ends_so : {A : Type 0} {k n : ℕ} {ns : List Node} {deep : ℕ} {Q S : ℕ → A → Type 0} {e : Ends A} → ((l : ℕ) (a : A) → Q l a → S l a) → SafeEnds k n ns deep Q e → SafeEnds k n ns deep S e
+ends_so : {A : Type 0} {k n : ℕ} {ns : List Node} {deep : ℕ} {profile : Profile} {Q S : ℕ → A → Type 0} {e : Ends A} → ((l : ℕ) (a : A) → Q l a → S l a) → SafeEnds k n ns deep profile Q e → SafeEnds k n ns deep profile S e
 ends_so h (fines l {a = a} le after q g) = fines l le after (h l a q) g
 ends_so h (raiseds l le after q g) = raiseds l le after q g
 ends_so h (stoppeds l le after g) = stoppeds l le after g
@@ -308,10 +327,10 @@ tick_s = spend_s 1
 pub out_s : {k : ℕ} (cs : List ℕ) → Safe k Any (put_out cs)
 out_s cs = record { go = λ l le s g. fines l (omega arith) (stay s) tt (record { many = g.many; nodes = g.nodes; names = g.names; locals = g.locals; handled = g.handled; budget = g.budget }); wide = λ l le s g d pos fits. both_fine }
 
-back_ends : {A : Type 0} {k n : ℕ} {ns : List Node} {deep : ℕ} (Q : ℕ → A → Type 0) (d : ℕ) {e : Ends A} → SafeEnds k n ns deep Q e → SafeEnds k n ns d Q (back_at d e)
-back_ends Q d (fines l le after q g) = fines l le (after.0, after.1, refl) q (at_depth d g)
-back_ends Q d (raiseds l le after q g) = raiseds l le (after.0, after.1, refl) q (at_depth d g)
-back_ends Q d (stoppeds l le after g) = stoppeds l le (after.0, after.1, refl) (at_depth d g)
+back_ends : {A : Type 0} {k n : ℕ} {ns : List Node} {deep : ℕ} {profile : Profile} (Q : ℕ → A → Type 0) (d : ℕ) {e : Ends A} → SafeEnds k n ns deep profile Q e → SafeEnds k n ns d profile Q (back_at d e)
+back_ends Q d (fines l le after q g) = fines l le (after.0, after.1, refl, after.3, after.4) q (at_depth d g)
+back_ends Q d (raiseds l le after q g) = raiseds l le (after.0, after.1, refl, after.3, after.4) q (at_depth d g)
+back_ends Q d (stoppeds l le after g) = stoppeds l le (after.0, after.1, refl, after.3, after.4) (at_depth d g)
 
 back_left : {A : Type 0} (d : ℕ) (e : Ends A) → (end_of (back_at d e)).left ≡ (end_of e).left
 back_left d (fine a s) = refl
@@ -327,7 +346,7 @@ level_wide : {A : Type 0} {d : ℕ} (b : Bool) (n : ℕ) (s : Moment) {e e' : En
 level_wide true n s h = back_wide n h
 level_wide false n s h = both_raised
 
-level_ends : {A : Type 0} {k deep : ℕ} (Q : ℕ → A → Type 0) (b : Bool) {s : Moment} {e : Ends A} → IsMoment k s → SafeEnds k s.left s.nodes deep Q e → SafeEnds k s.left s.nodes s.depth Q (if b then back_at s.depth e else recursion_error s)
+level_ends : {A : Type 0} {k deep : ℕ} (Q : ℕ → A → Type 0) (b : Bool) {s : Moment} {e : Ends A} → IsMoment k s → SafeEnds k s.left s.nodes deep s.profile Q e → SafeEnds k s.left s.nodes s.depth s.profile Q (if b then back_at s.depth e else recursion_error s)
 level_ends Q true {s = s} g h = back_ends Q s.depth h
 level_ends {k = k} Q false {s = s} g h = raiseds k (omega arith) (stay s) (refl, (refl, tt)) g
 
@@ -345,10 +364,10 @@ Answers P (answer a left) = P a left
 Answers P (too_deep left) = Unit {0}
 Answers P (spent left) = Unit {0}
 
-counted_ends : {A : Type 0} (Q : ℕ → A → Type 0) (r : Counted A) (l : ℕ) (s : Moment) → IsMoment l s → left_of r ≤ s.left → Answers (λ a left. Q l a) r → SafeEnds l s.left s.nodes s.depth Q (ended_in s r)
-counted_ends Q (answer a n) l s g h q = let p = g.budget in fines l (omega arith) (h, grown_self s.nodes, refl) q (at_left n (omega (arith, p, h)) g)
-counted_ends Q (too_deep n) l s g h q = let p = g.budget in raiseds l (omega arith) (h, grown_self s.nodes, refl) (refl, (refl, tt)) (at_left n (omega (arith, p, h)) g)
-counted_ends Q (spent n) l s g h q = let p = g.budget in stoppeds l (omega arith) (h, grown_self s.nodes, refl) (at_left n (omega (arith, p, h)) g)
+counted_ends : {A : Type 0} (Q : ℕ → A → Type 0) (r : Counted A) (l : ℕ) (s : Moment) → IsMoment l s → left_of r ≤ s.left → Answers (λ a left. Q l a) r → SafeEnds l s.left s.nodes s.depth s.profile Q (ended_in s r)
+counted_ends Q (answer a n) l s g h q = let p = g.budget in fines l (omega arith) (h, grown_self s.nodes, refl, refl, λ u. u) q (at_left n (omega (arith, p, h)) g)
+counted_ends Q (too_deep n) l s g h q = let p = g.budget in raiseds l (omega arith) (h, grown_self s.nodes, refl, refl, λ u. u) (refl, (refl, tt)) (at_left n (omega (arith, p, h)) g)
+counted_ends Q (spent n) l s g h q = let p = g.budget in stoppeds l (omega arith) (h, grown_self s.nodes, refl, refl, λ u. u) (at_left n (omega (arith, p, h)) g)
 
 ended_left : {A : Type 0} (s : Moment) (r : Counted A) → (end_of (ended_in s r)).left ≡ left_of r
 ended_left s (answer a n) = refl
@@ -376,18 +395,24 @@ counted_s c same h = counted_at Any c same h (λ l s le g. whatever (c s s.left)
 
 -- ---- new nodes and changed ones
 
-pub make_s : {k : ℕ} (n : Node) → IsNode k n → Safe k IsValue (make n)
-make_s {k = k} n h = record {
-  go = λ l le s g. fines (l + 1) (omega arith) (omega arith, grown_append s.nodes (n ∷ []), refl) (omega (arith, g.many)) (record {
-    many = omega (arith, g.many, length-append s.nodes (n ∷ []));
-    nodes = each_append (IsNode (l + 1)) s.nodes (n ∷ []) (each_later (IsNode l) (IsNode (l + 1)) (node_later l (l + 1) (omega arith)) s.nodes g.nodes) (node_later k (l + 1) (omega (arith, le)) n h, tt);
-    names = names_later l (l + 1) (omega arith) g.names;
-    locals = locals_later l (l + 1) (omega arith) s.locals g.locals;
-    handled = optional_later l (l + 1) (omega arith) s.handled g.handled;
-    budget = g.budget;
-  });
-  wide = λ l le s g d pos fits. both_fine;
-}
+-- a new node at a moment, where a function is under the moment's profile
+pub make_ends : (n : Node) (l : ℕ) (s : Moment) → IsNode l n → IsUnder s.profile n → IsMoment l s → SafeEnds l s.left s.nodes s.depth s.profile IsValue (make n s)
+make_ends n l s h under g =
+    fines (l + 1) (omega arith)
+    (omega arith, grown_append s.nodes (n ∷ []), refl, refl, λ u. each_append (IsUnder s.profile) s.nodes (n ∷ []) u (under, tt))
+    (omega (arith, g.many))
+    (record {
+      many = omega (arith, g.many, length-append s.nodes (n ∷ []));
+      nodes = each_append (IsNode (l + 1)) s.nodes (n ∷ []) (each_later (IsNode l) (IsNode (l + 1)) (node_later l (l + 1) (omega arith)) s.nodes g.nodes) (node_later l (l + 1) (omega arith) n h, tt);
+      names = names_later l (l + 1) (omega arith) g.names;
+      locals = locals_later l (l + 1) (omega arith) s.locals g.locals;
+      handled = optional_later l (l + 1) (omega arith) s.handled g.handled;
+      budget = g.budget;
+    })
+
+-- one that is no function
+pub make_s : {k : ℕ} (n : Node) → IsNode k n → ((profile : Profile) → IsUnder profile n) → Safe k IsValue (make n)
+make_s {k = k} n h under = record { go = λ l le s g. make_ends n l s (node_later k l le n h) (under s.profile) g; wide = λ l le s g d pos fits. both_fine }
 
 changed_length : (f : Node → Node) (i : ℕ) (ns : List Node) → length (changed f i ns) ≡ length ns
 changed_length f i [] = refl
@@ -406,7 +431,7 @@ pub record Edits (k : ℕ) (f : Node → Node) : Type 0 where
 
 pub change_s : {k : ℕ} (i : ℕ) (f : Node → Node) → Edits k f → Safe k Any (change i f)
 change_s i f h = record {
-  go = λ l le s g. fines l (omega arith) (omega arith, grown_changed f h.stays i s.nodes, refl) tt (record {
+  go = λ l le s g. fines l (omega arith) (omega arith, grown_changed f h.stays i s.nodes, refl, refl, changed_under s.profile f h.stays i s.nodes) tt (record {
     many = g.many ∙ sym (changed_length f i s.nodes);
     nodes = changed_each l f (h.keeps l le) i s.nodes g.nodes;
     names = g.names;

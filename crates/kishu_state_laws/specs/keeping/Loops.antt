@@ -2,6 +2,7 @@
 use Rattle.std.specs.Prelude.{◌≡◌, ℕ, zero, suc, ◌+◌, ◌-◌, ◌<◌, ◌≤◌, nat_le, Bool, true, false, if◌then◌else◌, List}
 use Rattle.std.proofs.Common.{refl, subst, arith, leb-true}
 use Rattle.std.proofs.lemmas.Bool.{leb-false}
+use Rattle.kishu_language.specs.declared.profile.Profile.{Profile}
 use Rattle.kishu_meaning.specs.values.Values.{Node}
 use Rattle.kishu_meaning.specs.moments.Moment.{Moment, Ends, fine, raised, stopped, M, and_then, ◌>>=◌, ◌>>◌, tick}
 use Rattle.kishu_pairing_laws.specs.World.{end_of}
@@ -10,7 +11,7 @@ use Rattle.kishu_state_laws.specs.keeping.Logic.{SafeEnds, fines, raiseds, stopp
 
 -- from moments with fewer than n steps left
 pub record Under {A : Type 0} (n k : ℕ) (Q : ℕ → A → Type 0) (m : M A) : Type 0 where
-  pub go : (l : ℕ) → k ≤ l → (s : Moment) → IsMoment l s → s.left < n → SafeEnds l s.left s.nodes s.depth Q (m s)
+  pub go : (l : ℕ) → k ≤ l → (s : Moment) → IsMoment l s → s.left < n → SafeEnds l s.left s.nodes s.depth s.profile Q (m s)
 
 -- one for fewer than n steps, and one for fewer than n'
 pub record Both {A : Type 0} (n n' k : ℕ) (Q : ℕ → A → Type 0) (m m' : M A) : Type 0 where
@@ -31,17 +32,17 @@ if_both false h g = g
 
 -- ---- one after the other
 
-under_ends : {A B : Type 0} {n k l most : ℕ} {ns : List Node} {deep : ℕ} (Q : ℕ → A → Type 0) (S : ℕ → B → Type 0) (f : A → M B) {e : Ends A} → k ≤ l → most < n → SafeEnds l most ns deep Q e → ((j : ℕ) → k ≤ j → (a : A) → Q j a → Under n j S (f a)) → SafeEnds l most ns deep S (and_then e f)
+under_ends : {A B : Type 0} {n k l most : ℕ} {ns : List Node} {deep : ℕ} {profile : Profile} (Q : ℕ → A → Type 0) (S : ℕ → B → Type 0) (f : A → M B) {e : Ends A} → k ≤ l → most < n → SafeEnds l most ns deep profile Q e → ((j : ℕ) → k ≤ j → (a : A) → Q j a → Under n j S (f a)) → SafeEnds l most ns deep profile S (and_then e f)
 under_ends {most = most} Q S f kl few (fines j {a = a} {s = s} le after q g) h = let p : s.left ≤ most = after.0 in ends_later s le after ((h j (omega (arith, kl, le)) a q).go j (omega arith) s g (omega (arith, p, few)))
 under_ends Q S f kl few (raiseds j le after q g) h = raiseds j le after q g
 under_ends Q S f kl few (stoppeds j le after g) h = stoppeds j le after g
 
-under_short : {A B : Type 0} {n k l d most : ℕ} {ns : List Node} {deep : ℕ} (Q : ℕ → A → Type 0) (S : ℕ → B → Type 0) (f : A → M B) {e : Ends A} → k ≤ l → most < n → SafeEnds l most ns deep Q e → (end_of e).left < d → ((j : ℕ) → k ≤ j → (a : A) → Q j a → Under n j S (f a)) → (end_of (and_then e f)).left < d
+under_short : {A B : Type 0} {n k l d most : ℕ} {ns : List Node} {deep : ℕ} {profile : Profile} (Q : ℕ → A → Type 0) (S : ℕ → B → Type 0) (f : A → M B) {e : Ends A} → k ≤ l → most < n → SafeEnds l most ns deep profile Q e → (end_of e).left < d → ((j : ℕ) → k ≤ j → (a : A) → Q j a → Under n j S (f a)) → (end_of (and_then e f)).left < d
 under_short {most = most} Q S f kl few (fines j {a = a} {s = s} le after q g) short h = let p : s.left ≤ most = after.0 in let r = falls_in ((h j (omega (arith, kl, le)) a q).go j (omega arith) s g (omega (arith, p, few))) in omega (arith, r, short)
 under_short Q S f kl few (raiseds j le after q g) short h = short
 under_short Q S f kl few (stoppeds j le after g) short h = short
 
-both_wide : {A B : Type 0} {n n' k l d most most' : ℕ} {ns ns' : List Node} {deep deep' : ℕ} (Q : ℕ → A → Type 0) (S : ℕ → B → Type 0) (f f' : A → M B) {e e' : Ends A} → k ≤ l → 0 < d → most + d ≤ widest_budget → most < n → most + d < n' → most' < n' → WiderEnds d e e' → SafeEnds l most ns deep Q e → SafeEnds l most' ns' deep' Q e' → ((j : ℕ) → k ≤ j → (a : A) → Q j a → Both n n' j S (f a) (f' a)) → WiderEnds d (and_then e f) (and_then e' f')
+both_wide : {A B : Type 0} {n n' k l d most most' : ℕ} {ns ns' : List Node} {deep deep' : ℕ} {profile profile' : Profile} (Q : ℕ → A → Type 0) (S : ℕ → B → Type 0) (f f' : A → M B) {e e' : Ends A} → k ≤ l → 0 < d → most + d ≤ widest_budget → most < n → most + d < n' → most' < n' → WiderEnds d e e' → SafeEnds l most ns deep profile Q e → SafeEnds l most' ns' deep' profile' Q e' → ((j : ℕ) → k ≤ j → (a : A) → Q j a → Both n n' j S (f a) (f' a)) → WiderEnds d (and_then e f) (and_then e' f')
 both_wide {d = d} {most = most} Q S f f' kl pos fits few few' others both_fine (fines j {a = a} {s = s} le after q g) two h = let p : s.left ≤ most = after.0 in (h j (omega (arith, kl, le)) a q).wide j (omega arith) s g d pos (omega (arith, p, fits)) (omega (arith, p, few)) (omega (arith, p, few'))
 both_wide Q S f f' kl pos fits few few' others both_raised one two h = both_raised
 both_wide Q S f f' kl pos fits few few' others (one_stopped z short) one two h = one_stopped z (under_short Q S f' kl others two short (λ j le a q. (h j le a q).two))
@@ -55,12 +56,12 @@ bind_both {Q = Q} {S = S} {f = f} {f' = f'} h g = record {
 
 -- ---- behind a step there is one step less
 
-step_ends : {A : Type 0} {n k l : ℕ} (Q : ℕ → A → Type 0) (m : M A) (b : Bool) (s : Moment) → nat_le 1 s.left ≡ b → k ≤ l → IsMoment l s → s.left < suc n → Under n k Q m → SafeEnds l s.left s.nodes s.depth Q (and_then (spend_by b 1 s) (λ _. m))
+step_ends : {A : Type 0} {n k l : ℕ} (Q : ℕ → A → Type 0) (m : M A) (b : Bool) (s : Moment) → nat_le 1 s.left ≡ b → k ≤ l → IsMoment l s → s.left < suc n → Under n k Q m → SafeEnds l s.left s.nodes s.depth s.profile Q (and_then (spend_by b 1 s) (λ _. m))
 step_ends {l = l} Q m true s e le g few h =
     let some : 1 ≤ s.left = leb-true 1 s.left e in
     let budget = g.budget in
-    ends_later (record s { left = s.left - 1 }) (omega arith) (omega arith, grown_self s.nodes, refl) (h.go l le (record s { left = s.left - 1 }) (at_left (s.left - 1) (omega (arith, budget)) g) (omega (arith, some, few)))
-step_ends {l = l} Q m false s e le g few h = stoppeds l (omega arith) (omega arith, grown_self s.nodes, refl) (at_left 0 (omega arith) g)
+    ends_later (record s { left = s.left - 1 }) (omega arith) (omega arith, grown_self s.nodes, refl, refl, λ u. u) (h.go l le (record s { left = s.left - 1 }) (at_left (s.left - 1) (omega (arith, budget)) g) (omega (arith, some, few)))
+step_ends {l = l} Q m false s e le g few h = stoppeds l (omega arith) (omega arith, grown_self s.nodes, refl, refl, λ u. u) (at_left 0 (omega arith) g)
 
 step_wide : {A : Type 0} {n n' k l : ℕ} (Q : ℕ → A → Type 0) (m m' : M A) (d : ℕ) (b c : Bool) (s : Moment) → nat_le 1 s.left ≡ b → nat_le 1 (s.left + d) ≡ c → k ≤ l → IsMoment l s → 0 < d → s.left + d ≤ widest_budget → s.left < suc n → s.left + d < suc n' → Both n n' k Q m m' → WiderEnds d (and_then (spend_by b 1 s) (λ _. m)) (and_then (spend_by c 1 (more d s)) (λ _. m'))
 step_wide {l = l} Q m m' d true true s e f le g pos fits few few' h =
@@ -96,8 +97,8 @@ pub turn_both : {A B : Type 0} {n n' k : ℕ} {Q : ℕ → A → Type 0} {S : �
 turn_both {S = S} {m = m} {f = f} {f' = f'} h g =
     let b = tick_both (bind_both (both_safe h) g) in
     record {
-      one = record { go = λ l le s gs few. subst (λ e. SafeEnds l s.left s.nodes s.depth S e) (in_turn (tick s) m f) (b.one.go l le s gs few) };
-      two = record { go = λ l le s gs few. subst (λ e. SafeEnds l s.left s.nodes s.depth S e) (in_turn (tick s) m f') (b.two.go l le s gs few) };
+      one = record { go = λ l le s gs few. subst (λ e. SafeEnds l s.left s.nodes s.depth s.profile S e) (in_turn (tick s) m f) (b.one.go l le s gs few) };
+      two = record { go = λ l le s gs few. subst (λ e. SafeEnds l s.left s.nodes s.depth s.profile S e) (in_turn (tick s) m f') (b.two.go l le s gs few) };
       wide = λ l le s gs d pos fits few few'. subst (λ e. WiderEnds d e ((tick >> m >>= f') (more d s))) (in_turn (tick s) m f) (subst (λ e. WiderEnds d ((tick >> (m >>= f)) s) e) (in_turn (tick (more d s)) m f') (b.wide l le s gs d pos fits few few'));
     }
 

@@ -111,7 +111,7 @@ module _ {k : ℕ} where
   list_row_s index i vs (x ∷ []) h a = place_number_s x vs
   list_row_s count i vs (x ∷ []) h a = count_number_s x vs
   list_row_s reverse i vs [] h a = then_s (spend_s (length vs)) (list_change i reversed (λ l le xs r. each_reverse (IsValue l) xs r))
-  list_row_s copy i vs [] h a = then_s (spend_s (length vs)) (make_s (list vs) h)
+  list_row_s copy i vs [] h a = then_s (spend_s (length vs)) (make_s (list vs) h (λ p. tt))
   list_row_s sort i vs [] h a = sort_s i vs h
   list_row_s m i vs args h a = bad_arguments_s (method_name m) (method_text m)
 
@@ -154,7 +154,7 @@ module _ {k : ℕ} where
   dict_row_s pop i es (x ∷ (d ∷ [])) h a = pop_key_s i es x h.2 a.0 (value_s d a.1.0)
   dict_row_s clear i es [] h a = dict_change i (λ xs. []) (λ l le xs r. no_entries)
   dict_row_s update i es (d ∷ []) h a = bind_s (entries_of_s d) (λ l le gs q. updated_by i gs q)
-  dict_row_s copy i es [] h a = then_s (spend_s (length es)) (make_s (dict es) h)
+  dict_row_s copy i es [] h a = then_s (spend_s (length es)) (make_s (dict es) h (λ p. tt))
   dict_row_s m i es args h a = bad_arguments_s (method_name m) (method_text m)
 
 -- ---- texts
@@ -200,7 +200,7 @@ module _ {k : ℕ} where
   search_s part cs = so_s (spend_s (length cs * max 1 (length part))) (λ l a q. (let p = as_long (length cs) (length part) in omega (arith, p, q)))
 
   new_texts_s : (parts : List (List ℕ)) → AreTexts parts → Safe k IsValue (new_texts parts)
-  new_texts_s parts h = make_s (list (map text parts)) (texts_values k parts h)
+  new_texts_s parts h = make_s (list (map text parts)) (texts_values k parts h) (λ p. tt)
 
   made_all_s : (parts : List (List ℕ)) → AreTexts parts → Safe k IsValue (made_all parts)
   made_all_s parts h = then_s (spend_s (sum_by length parts)) (new_texts_s parts h)

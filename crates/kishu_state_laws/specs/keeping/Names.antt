@@ -6,6 +6,7 @@ use Rattle.std.specs.declared.cmp.Ordering.TheVariants.{Less, Equal, Greater}
 use Rattle.std.specs.Cmp.Lexicographic.{slice_cmp}
 use Rattle.std.specs.Str.{chars, bytes_eq}
 use Rattle.std.proofs.Common.{refl, sym, subst, arith, Ordering}
+use Rattle.kishu_language.specs.declared.profile.Profile.{Profile}
 use Rattle.kishu_language.specs.tokens.Names.{is_among, place_among}
 use Rattle.kishu_meaning.specs.values.BuiltinNames.{builtin_names, class_names}
 use Rattle.kishu_meaning.specs.values.Sound.{builtins, classes}
@@ -125,11 +126,11 @@ taking_global x b s = if b then fine tt (record s { names = unbind x s.names }) 
 abbrev taking_local : List ℕ → Locals → Bool → M (Unit {0})
 taking_local x here b s = if b then fine tt (record s { locals = Some (record here { values = unbind x here.values }) }) else unbound_local x s
 
-taken_ends : (x : List ℕ) (b : Bool) (l : ℕ) (s : Moment) → IsName x → IsMoment l s → SafeEnds l s.left s.nodes s.depth Any (taking_global x b s)
+taken_ends : (x : List ℕ) (b : Bool) (l : ℕ) (s : Moment) → IsName x → IsMoment l s → SafeEnds l s.left s.nodes s.depth s.profile Any (taking_global x b s)
 taken_ends x true l s n g = fines l (omega arith) (stay s) tt (with_names (unbind x s.names) s.accessed (names_unbound l x s.names g.names) g)
 taken_ends x false l s n g = (name_error_s {k = l} {Q = Any} x n).go l (omega arith) s g
 
-local_ends : (x : List ℕ) (here : Locals) (b : Bool) (l : ℕ) (s : Moment) → IsName x → AreValues l (values_in here.values) → IsMoment l s → SafeEnds l s.left s.nodes s.depth Any (taking_local x here b s)
+local_ends : (x : List ℕ) (here : Locals) (b : Bool) (l : ℕ) (s : Moment) → IsName x → AreValues l (values_in here.values) → IsMoment l s → SafeEnds l s.left s.nodes s.depth s.profile Any (taking_local x here b s)
 local_ends x here true l s n h g = fines l (omega arith) (stay s) tt (with_locals (Some (record here { values = unbind x here.values })) (unbound_values_in l x here.values h) g)
 local_ends x here false l s n h g = (unbound_local_s {k = l} {Q = Any} x n).go l (omega arith) s g
 
@@ -193,7 +194,7 @@ module _ {k : ℕ} where
   pub forget_s : (x : List ℕ) → Safe k Any (forget x)
   forget_s x = asking_s (λ s. forget_in x s.locals) (λ d s. refl) (λ l s le g. forget_in_s x s.locals g.locals)
 
-  left_ends : {A : Type 0} {n : ℕ} {ns : List Node} {deep : ℕ} (Q : ℕ → A → Type 0) (o : Option Locals) {e : Ends A} → AreLocals k o → SafeEnds k n ns deep Q e → SafeEnds k n ns deep Q (left_at o e)
+  left_ends : {A : Type 0} {n : ℕ} {ns : List Node} {deep : ℕ} {profile : Profile} (Q : ℕ → A → Type 0) (o : Option Locals) {e : Ends A} → AreLocals k o → SafeEnds k n ns deep profile Q e → SafeEnds k n ns deep profile Q (left_at o e)
   left_ends Q o h (fines l le after q g) = fines l le after q (with_locals o (locals_later k l le o h) g)
   left_ends Q o h (raiseds l le after q g) = raiseds l le after q (with_locals o (locals_later k l le o h) g)
   left_ends Q o h (stoppeds l le after g) = stoppeds l le after (with_locals o (locals_later k l le o h) g)

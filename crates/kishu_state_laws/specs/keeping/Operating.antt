@@ -69,12 +69,12 @@ module _ {k : ℕ} where
   often_s new h vs z p = then_s (spend_s (length vs * times z)) (h k _ (each_many (IsValue k) (times z) vs p))
 
   sum_nodes_s : (o p : Option Node) {m : M Value} → Maybe (IsNode k) o → Maybe (IsNode k) p → Safe k IsValue m → Safe k IsValue (sum_of_nodes o p m)
-  sum_nodes_s o p h g e = by_both_s (AreValues k) (list_from o) (list_from p) (list_maybe k o h) (list_maybe k p g) (λ x y a b. both_s new_list (λ l vs q. make_s (list vs) q) x y a b)
-      (by_both_s (AreValues k) (tuple_from o) (tuple_from p) (tuple_maybe k o h) (tuple_maybe k p g) (λ x y a b. both_s new_tuple (λ l vs q. make_s (tuple vs) q) x y a b) e)
+  sum_nodes_s o p h g e = by_both_s (AreValues k) (list_from o) (list_from p) (list_maybe k o h) (list_maybe k p g) (λ x y a b. both_s new_list (λ l vs q. make_s (list vs) q (λ p. tt)) x y a b)
+      (by_both_s (AreValues k) (tuple_from o) (tuple_from p) (tuple_maybe k o h) (tuple_maybe k p g) (λ x y a b. both_s new_tuple (λ l vs q. make_s (tuple vs) q (λ p. tt)) x y a b) e)
 
   node_times_s : (o : Option Node) (z : ℤ) {m : M Value} → Maybe (IsNode k) o → Safe k IsValue m → Safe k IsValue (node_times o z m)
-  node_times_s (Some (list vs)) z h e = often_s new_list (λ l vs q. make_s (list vs) q) vs z h
-  node_times_s (Some (tuple vs)) z h e = often_s new_tuple (λ l vs q. make_s (tuple vs) q) vs z h
+  node_times_s (Some (list vs)) z h e = often_s new_list (λ l vs q. make_s (list vs) q (λ p. tt)) vs z h
+  node_times_s (Some (tuple vs)) z h e = often_s new_tuple (λ l vs q. make_s (tuple vs) q (λ p. tt)) vs z h
   node_times_s o z h e = e
 
 module _ {k : ℕ} where
@@ -201,7 +201,7 @@ module _ {k : ℕ} where
   seen_s : (view : View) (e : Key × Value) → IsKey e.0 → IsValue k e.1 → Safe k IsValue (seen view e)
   seen_s keys e m h = value_of_key_s e.0 m
   seen_s values e m h = value_s e.1 h
-  seen_s items e m h = bind_s (value_of_key_s e.0 m) (λ n le v q. make_s (tuple (v ∷ e.1 ∷ [])) (q, (value_later k n le e.1 h, tt)))
+  seen_s items e m h = bind_s (value_of_key_s e.0 m) (λ n le v q. make_s (tuple (v ∷ e.1 ∷ [])) (q, (value_later k n le e.1 h, tt)) (λ p. tt))
 
   opt_s : (o : Option Value) → MaybeValue k o → Safe k MaybeValue (give o)
   opt_s o h = give_s MaybeValue (λ l le. optional_later k l le o h)

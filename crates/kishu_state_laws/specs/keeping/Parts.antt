@@ -15,14 +15,14 @@ use Rattle.kishu_meaning.specs.values.Keys.{Key, is_one}
 use Rattle.kishu_meaning.specs.values.Nodes.{with_entry}
 use Rattle.kishu_meaning.specs.values.Sound.{with_default}
 use Rattle.kishu_meaning.specs.values.Values.{Value, node, dict, function}
-use Rattle.kishu_meaning.specs.moments.Moment.{M, give, make}
+use Rattle.kishu_meaning.specs.moments.Moment.{M, give}
 use Rattle.kishu_meaning.specs.calls.Operators.{list_from}
 use Rattle.kishu_meaning.specs.calls.Callees.{Given}
 use Rattle.kishu_meaning.specs.cells.Ways.{Flow}
 use Rattle.kishu_meaning.specs.cells.Meaning.{Calls, no_place, nodes, with_pairs, new_dict, Place, named, attribute_of, item_of, read_place, store_in, delete_place, add_to, updated, new_function, in_block}
 use Rattle.kishu_objects.specs.State.{IsValue, AreValues, IsName, IsCode, AreApart, keys_in, values_in}
 use Rattle.kishu_state_laws.specs.trees.Sound.{ArgumentsSound, CodeSound}
-use Rattle.kishu_state_laws.specs.keeping.Logic.{Any, Safe, bind_s, with_s, then_s, give_s, any_s, value_s, raise_s, asking_s, node_now_s, tick_s, deeper_s, make_s, value_later, values_later}
+use Rattle.kishu_state_laws.specs.keeping.Logic.{Any, Safe, bind_s, with_s, then_s, give_s, any_s, value_s, raise_s, both_fine, node_now_s, tick_s, deeper_s, make_ends, make_s, value_later, values_later}
 use Rattle.kishu_state_laws.specs.keeping.Lists.{AreEntries, no_entries, entries_with, dict_node}
 use Rattle.kishu_state_laws.specs.keeping.Leaves.{key_s, extended_s}
 use Rattle.kishu_state_laws.specs.keeping.Subscripts.{item_s, attribute_s, store_item_s, store_attribute_s, delete_item_s, delete_attribute_s}
@@ -55,7 +55,7 @@ with_pairs_s {k = k} [] es h e = give_s AreEntries (λ l le. entries_later k l l
 with_pairs_s {k = k} (p ∷ ps) es h e = with_s (key_s p.0 h.0.0) (λ key q. with_pairs_s ps (with_entry is_one key p.1 es) h.1 (entries_with k key p.1 es q h.0.1 e))
 
 pub new_dict_s : {k : ℕ} (ps : List (Value × Value)) → ArePairs k ps → Safe k IsValue (new_dict ps)
-new_dict_s ps h = bind_s (with_pairs_s ps [] h no_entries) (λ l le es q. make_s (dict es) (dict_node l es q))
+new_dict_s ps h = bind_s (with_pairs_s ps [] h no_entries) (λ l le es q. make_s (dict es) (dict_node l es q) (λ p. tt))
 
 -- ---- `p op= e`
 
@@ -74,7 +74,10 @@ updated_s operators.Power v w p q = operate_s operators.Power v w p q
 -- ---- functions
 
 pub new_function_s : {k : ℕ} (code : Text) (ps : List Parameter) (vs : List Value) → CodeSound code ps → length vs ≡ with_default ps → AreValues k vs → Safe k IsValue (new_function code vs)
-new_function_s {k = k} code ps vs c e h = asking_s (λ s. make (function s.profile code vs)) (λ d s. refl) (λ l s le g. make_s (function s.profile code vs) (subst (λ n. IsCode s.profile code n) (sym e) (c s.profile), values_later k l le vs h))
+new_function_s {k = k} code ps vs c e h = record {
+  go = λ l le s g. make_ends (function s.profile code vs) l s (subst (λ n. IsCode s.profile code n) (sym e) (c s.profile), values_later k l le vs h) refl g;
+  wide = λ l le s g d pos fits. both_fine;
+}
 
 -- ---- places
 

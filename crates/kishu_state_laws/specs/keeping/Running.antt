@@ -20,7 +20,7 @@ use Rattle.kishu_meaning.specs.cells.Meaning.{Calls, act, result_of, enter, ente
 use Rattle.kishu_objects.specs.State.{IsValue, AreValues, IsName, IsNode, values_in, AreNames, IsState, Grown}
 use Rattle.kishu_state_laws.specs.trees.Sound.{StatementSound, StatementsSound}
 use Rattle.kishu_state_laws.specs.trees.Read.{tree_sound}
-use Rattle.kishu_state_laws.specs.keeping.Logic.{Maybe, Any, IsMoment, After, SafeEnds, fines, raiseds, stoppeds, Safe, ends_later, bind_s, with_s, then_s, so_s, any_s, value_s, raise_s, tick_s, deeper_s, grown_self}
+use Rattle.kishu_state_laws.specs.keeping.Logic.{Maybe, Any, IsMoment, AreUnder, After, SafeEnds, fines, raiseds, stoppeds, Safe, ends_later, bind_s, with_s, then_s, so_s, any_s, value_s, raise_s, tick_s, deeper_s, grown_self}
 use Rattle.kishu_state_laws.specs.keeping.Texts.{text_title}
 use Rattle.kishu_state_laws.specs.keeping.Counting.{repr_s, show_thrown_s}
 use Rattle.kishu_state_laws.specs.keeping.Leaves.{MaybeValue, bad_arguments_s}
@@ -112,26 +112,28 @@ cell_s k (s ∷ (r ∷ ss)) h = then_s (then_s tick_s (act_s all_calls all_safe 
 
 -- ---- runs
 
--- A state, whose nodes are those from before and new ones behind them.
-pub record Follows (ns : List Node) (s : State) : Type 0 where
+-- A state, whose nodes are those from before and new ones behind them; where those were all under the profile, so are all.
+pub record Follows (profile : Profile) (ns : List Node) (s : State) : Type 0 where
   pub state : IsState s
   pub grown : Grown ns s.nodes
+  pub under : AreUnder profile ns → AreUnder profile s.nodes
 
 abbrev state_at : Moment → State
 state_at s = record { names = s.names; nodes = s.nodes }
 
-follows : {n : ℕ} {ns : List Node} {deep : ℕ} (l : ℕ) (s : Moment) → After n ns deep s → IsMoment l s → Follows ns (state_at s)
+follows : {n : ℕ} {ns : List Node} {deep : ℕ} {profile : Profile} (l : ℕ) (s : Moment) → After n ns deep profile s → IsMoment l s → Follows profile ns (state_at s)
 follows l s after g = record {
   state = record { names = subst (λ k. AreNames k s.names) g.many g.names; nodes = subst (λ k. Each (IsNode k) s.nodes) g.many g.nodes };
   grown = after.1;
+  under = after.4;
 }
 
-uncaught_follows : (x : Thrown) {k n : ℕ} {ns : List Node} {deep : ℕ} {e : Ends (List ℕ)} → SafeEnds k n ns deep Any e → Follows ns (uncaught x e).state
+uncaught_follows : (x : Thrown) {k n : ℕ} {ns : List Node} {deep : ℕ} {profile : Profile} {e : Ends (List ℕ)} → SafeEnds k n ns deep profile Any e → Follows profile ns (uncaught x e).state
 uncaught_follows x (fines l {s = s} le after q g) = follows l s after g
 uncaught_follows x (raiseds l {s = s} le after q g) = follows l s after g
 uncaught_follows x (stoppeds l {s = s} le after g) = follows l s after g
 
-finished_follows : {k n : ℕ} {ns : List Node} {deep : ℕ} {e : Ends (Option (List ℕ))} → SafeEnds k n ns deep Any e → Follows ns (finished e).state
+finished_follows : {k n : ℕ} {ns : List Node} {deep : ℕ} {profile : Profile} {e : Ends (Option (List ℕ))} → SafeEnds k n ns deep profile Any e → Follows profile ns (finished e).state
 finished_follows (fines l {s = s} le after q g) = follows l s after g
 finished_follows (raiseds l {x = x} {s = s} le after q g) = uncaught_follows x (ends_later s le after ((so_s (show_thrown_s {k = l} x q) (λ m cs r. tt)).go l (omega arith) s g))
 finished_follows (stoppeds l {s = s} le after g) = follows l s after g
@@ -139,11 +141,11 @@ finished_follows (stoppeds l {s = s} le after g) = follows l s after g
 begun_is_moment : (profile : Profile) (s : State) → IsState s → IsMoment (length s.nodes) (begun profile s)
 begun_is_moment profile s h = record { many = refl; nodes = h.nodes; names = h.names; locals = tt; handled = tt; budget = omega arith }
 
-tree_follows : (profile : Profile) (o : Result (List Statement) ℕ) (s : State) → ((tree : List Statement) → o ≡ Ok tree → StatementsSound (statements tree)) → IsState s → Follows s.nodes (run_tree profile o s).state
+tree_follows : (profile : Profile) (o : Result (List Statement) ℕ) (s : State) → ((tree : List Statement) → o ≡ Ok tree → StatementsSound (statements tree)) → IsState s → Follows profile s.nodes (run_tree profile o s).state
 tree_follows profile (Ok tree) s sound h = finished_follows ((cell_s (length s.nodes) tree (sound tree refl)).go (length s.nodes) (omega arith) (begun profile s) (begun_is_moment profile s h))
-tree_follows profile (Err line) s sound h = record { state = h; grown = grown_self s.nodes }
+tree_follows profile (Err line) s sound h = record { state = h; grown = grown_self s.nodes; under = λ u. u }
 
-pub run_follows : (profile : Profile) (source : List ℕ) (s : State) → IsUtf8 source → length source ≤ longest_text → IsState s → Follows s.nodes (run profile source s).state
+pub run_follows : (profile : Profile) (source : List ℕ) (s : State) → IsUtf8 source → length source ≤ longest_text → IsState s → Follows profile s.nodes (run profile source s).state
 unfolding run
 run_follows profile source s utf8 small h = tree_follows profile (read_chars profile (chars source)) s (tree_sound profile source utf8 small) h
 

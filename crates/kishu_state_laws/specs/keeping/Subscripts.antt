@@ -55,15 +55,15 @@ module _ {k : ℕ} where
   picked_s vs a b c h = plain_s (slice_places_s (length vs) a b c) (λ zs. then_s (spend_s (length zs)) (give_s AreValues (λ l le. each_picked (IsValue l) zs vs (values_later k l le vs h))))
 
   node_slice_s : (v a b c : Value) (o : Option Node) → Maybe (IsNode k) o → Safe k IsValue (node_slice v a b c o)
-  node_slice_s v a b c (Some (list vs)) h = bind_s (picked_s vs a b c h) (λ n le ws q. make_s (list ws) q)
-  node_slice_s v a b c (Some (tuple vs)) h = bind_s (picked_s vs a b c h) (λ n le ws q. make_s (tuple ws) q)
+  node_slice_s v a b c (Some (list vs)) h = bind_s (picked_s vs a b c h) (λ n le ws q. make_s (list ws) q (λ p. tt))
+  node_slice_s v a b c (Some (tuple vs)) h = bind_s (picked_s vs a b c h) (λ n le ws q. make_s (tuple ws) q (λ p. tt))
   node_slice_s v a b c o h = not_subscriptable_s v
 
   -- ---- attributes
 
   node_attribute_s : (v : Value) (x : List ℕ) (o : Option Node) → IsName x → Maybe (IsNode k) o → Safe k IsValue (node_attribute v x o)
   node_attribute_s v x (Some (object es)) n h = or_else_s IsValue (value_at bytes_eq x es) (no_attribute_s v x n) (λ l le. value_found l bytes_eq x es (values_later k l le (values_in es) h.2))
-  node_attribute_s v x (Some (exception kind vs)) n h = if_s (bytes_eq x (codes "args")) (make_s (tuple vs) h.1) (no_attribute_s v x n)
+  node_attribute_s v x (Some (exception kind vs)) n h = if_s (bytes_eq x (codes "args")) (make_s (tuple vs) h.1 (λ p. tt)) (no_attribute_s v x n)
   node_attribute_s v x o n h = no_attribute_s v x n
 
   -- ---- stores

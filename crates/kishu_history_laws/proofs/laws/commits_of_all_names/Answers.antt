@@ -1,4 +1,5 @@
 use Rattle.kishu_history.specs.Stored.{Stored}
+use Rattle.kishu_history_laws.specs.states.WholeSize.{whole_is_small}
 use Rattle.kishu_history_laws.specs.tables.AllNamesLaws.{whole_table, whole_is_table, whole_live, whole_same}
 use Rattle.kishu_history_laws.proofs.laws.commits_of_all_names.Goals as goal
 
@@ -16,3 +17,6 @@ returns-clause-live c = λ file. whole_live (Stored file)
 
 pub returns-clause-same : goal.returns-clause-same
 returns-clause-same c = λ file. whole_same (Stored file)
+
+pub returns-clause-small : goal.returns-clause-small
+returns-clause-small c = whole_is_small
