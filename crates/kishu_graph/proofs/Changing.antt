@@ -8,9 +8,10 @@ use Rattle.kishu_store.specs.CommitLines.{line_in}
 use Rattle.kishu_store.specs.Graph.{Commit, Graph, Target, newest, moved_with, with_commit}
 use Rattle.kishu_store.specs.Limits.{most_records}
 use Rattle.kishu_store.specs.References.{is_decimal, number_from, resolve}
+use Rattle.kishu_store.specs.Tables.{no_change}
 use Rattle.kishu_graph.specs.declared.fault.GraphFault.{GraphFault}
 use Rattle.kishu_graph.specs.declared.fault.GraphFault.TheVariants.{BadName, NameTaken, StoreFull}
-use Rattle.kishu_graph.specs.Kept.{Kept, Outline, HasShapeOf, StandsFor, outlines, outline_of, parents_of, profiles_of}
+use Rattle.kishu_graph.specs.Kept.{Kept, Outline, HasShapeOf, StandsFor, outlines, outline_of, parents_of, profiles_of, noted_of}
 use Rattle.kishu_graph.specs.Laws.{count-shape}
 use Rattle.kishu_graph.specs.Refusals.{full, unless_there, unless_named, at_commit, at_branch, HasMoved, HasBranched}
 
@@ -66,6 +67,7 @@ resolves-branch g to h = rw h refl
 pub record Moves (old new : Kept) (t : Target) : Type 0 where
   pub room : old.records < most_records
   pub commits : new.commits ≡ old.commits
+  pub noted : new.noted ≡ old.noted
   pub branches : new.branches ≡ old.branches
   pub head : new.head ≡ t
   pub records : new.records ≡ old.records + 1
@@ -84,6 +86,7 @@ moved old new t m g s = record {
     records = omega (arith, m.records, s.records);
   };
   commits = m.commits;
+  noted = m.noted;
 }
 
 -- all but the branches and the records stays
@@ -92,6 +95,7 @@ pub record Branches (old new : Kept) (name : List ℕ) (commit : ℕ) : Type 0 w
   pub free : is_some (commit_of name old.branches) ≡ false
   pub room : old.records < most_records
   pub commits : new.commits ≡ old.commits
+  pub noted : new.noted ≡ old.noted
   pub branches : new.branches ≡ with_branch_at name commit old.branches
   pub head : new.head ≡ old.head
   pub records : new.records ≡ old.records + 1
@@ -110,6 +114,7 @@ branched old new name commit m g s =
         records = omega (arith, m.records, s.records);
       };
       commits = m.commits;
+      noted = m.noted;
     }
 
 -- why a branch isn't made
@@ -134,6 +139,7 @@ pub record Commits (old new : Kept) (k : Outline) : Type 0 where
   pub branches : new.branches ≡ moved_with old.head.branch (length old.commits) old.branches
   pub head : new.head ≡ record { commit = length old.commits; branch = old.head.branch }
   pub records : new.records ≡ old.records + 1
+  pub noted : new.noted ≡ old.noted ++ (noted_of no_change ∷ [])
 
 -- what is alike of all commits, and of one more
 module _ {B : Type 0} (f : Outline → B) (os ps : List Outline) (k : Outline) (ks : List Commit) (j : Commit) where

@@ -7,3 +7,13 @@ pub mod Changing
 pub mod Soundness
 pub mod Targets
 pub mod Answered
+pub mod Counting
+pub mod Counted
+pub mod Rising
+pub mod Puts
+pub mod Gone
+pub mod FoundRows
+pub mod WayBack
+pub mod Stays
+pub mod Apart
+pub mod TablesThatFit

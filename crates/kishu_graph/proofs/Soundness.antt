@@ -12,13 +12,15 @@ use Rattle.std.specs.declared.cmp.Ordering.TheVariants.{Less, Equal, Greater}
 use Rattle.kishu_store.specs.Branches.{Branches, commit_of, with_branch_at}
 use Rattle.kishu_store.specs.Graph.{Target, moved_with}
 use Rattle.kishu_store.specs.Limits.{most_records}
-use Rattle.kishu_graph.specs.Kept.{Kept, Outline, HaveParents, AreBelow, IsSound, root, outline}
+use Rattle.kishu_graph.specs.Kept.{Kept, Outline, Noted, HaveParents, AreBelow, IsSound, root, outline, note, noted_of}
 use Rattle.kishu_graph.proofs.Changing.{Commits}
 use Rattle.std.proofs.lemmas.List.{length-map, map_push}
 use Rattle.std.specs.Rc.{rc_str_bytes}
 use Rattle.kishu_store.specs.declared.target.Target as rust_target
 use Rattle.kishu_store.specs.Targets.{target_of}
+use Rattle.kishu_store.specs.Tables.{no_change}
 use Rattle.kishu_graph.specs.declared.commits.Commit as rust
+use Rattle.kishu_graph.specs.declared.tables.Noted as rust_noted
 
 -- ---- branches
 
@@ -74,13 +76,23 @@ sound-committed old new k s room m =
       branches = subst (AreBelow (length new.commits)) (sym m.branches) below;
       few = omega (arith, more, m.records, s.few);
       records = omega (arith, m.records, room);
+      noted = omega (arith, ap length m.noted, length-append old.noted (noted_of no_change ∷ []), more, s.noted);
     }
+
+pub note-push : (notes roomy noted : List rust_noted.Noted) (bare : rust_noted.Noted) → roomy ≡ notes → noted ≡ roomy ++ (bare ∷ []) → note bare ≡ noted_of no_change → map note noted ≡ map note notes ++ (noted_of no_change ∷ [])
+note-push notes roomy noted bare stay more none =
+    ap (map note) (more ∙ ap (λ (l : List rust_noted.Noted). l ++ (bare ∷ [])) stay)
+    ∙ map_push note notes bare
+    ∙ ap (λ (n : Noted). map note notes ++ (n ∷ [])) none
 
 -- What a new commit makes of the values of the program.
 pub commits-made : (items reserved new : List rust.Commit) (bs newer : Branches) (t : rust_target.Target) (records n : ℕ) (k : rust.Commit) → k.parent ≡ t.commit → reserved ≡ items → new ≡ reserved ++ (k ∷ []) → n ≡ length items
     → newer ≡ moved_with (option_map rc_str_bytes t.branch) n bs
-    → Commits (record { commits = map outline items; branches = bs; head = target_of t; records = records }) (record { commits = map outline new; branches = newer; head = record { commit = n; branch = option_map rc_str_bytes t.branch }; records = records + 1 }) (outline k)
-commits-made items reserved new bs newer t records n k parent same is number moved =
+    → (notes roomy noted : List rust_noted.Noted) (bare : rust_noted.Noted) → roomy ≡ notes → noted ≡ roomy ++ (bare ∷ []) → note bare ≡ noted_of no_change
+    → Commits
+    (record { commits = map outline items; branches = bs; head = target_of t; records = records; noted = map note notes })
+    (record { commits = map outline new; branches = newer; head = record { commit = n; branch = option_map rc_str_bytes t.branch }; records = records + 1; noted = map note noted }) (outline k)
+commits-made items reserved new bs newer t records n k parent same is number moved notes roomy noted bare stay more none =
     let all : n ≡ length (map outline items) = number ∙ sym (length-map items outline) in
     record {
       parent = parent;
@@ -88,4 +100,5 @@ commits-made items reserved new bs newer t records n k parent same is number mov
       branches = moved ∙ ap (λ (m : ℕ). moved_with (option_map rc_str_bytes t.branch) m bs) all;
       head = ap (λ (m : ℕ). record { commit = m; branch = option_map rc_str_bytes t.branch }) all;
       records = refl;
+      noted = note-push notes roomy noted bare stay more none;
     }

@@ -1,18 +1,27 @@
 -- What a graph keeps in memory, and which graph of commits it stands for.
-use Rattle.std.specs.Prelude.{◌≡◌, ◌<◌, ◌≤◌, ℕ, suc, ◌==◌, if◌then◌else◌, List, [], ◌∷◌, ◌++◌, length, map, reverse, get_or}
+use Rattle.std.specs.Prelude.{◌≡◌, ◌<◌, ◌≤◌, ℕ, suc, ◌==◌, if◌then◌else◌, List, [], ◌∷◌, ◌++◌, length, map, reverse, get_or, Option, None, IfSome}
 use Rattle.std.specs.Cmp.Lexicographic.{slice_cmp}
 use Rattle.std.specs.List.Sorted.{IsStrictlySortedBy}
 use Rattle.std.specs.Ordering.{nat_cmp}
 use Rattle.std.specs.Rc.{rc_str_bytes}
 use Rattle.std.specs.declared.alloc.Global.{Global}
 use Rattle.std.specs.declared.rc.RcStr.{RcStr}
+use Rattle.std.specs.declared.vec.Vec.{Vec}
 use Rattle.kishu_language.specs.declared.profile.Profile.{Profile}
 use Rattle.kishu_language.specs.declared.profile.Profile.TheVariants.{One}
 use Rattle.kishu_store.specs.Branches.{Branches}
 use Rattle.kishu_store.specs.CommitLines.{line_of}
 use Rattle.kishu_store.specs.Graph.{Graph, Commit, Target, back_in}
+use Rattle.kishu_store.specs.Groups.{Group, first_name}
+use Rattle.kishu_store.specs.Histories.{History}
 use Rattle.kishu_store.specs.Limits.{most_records}
+use Rattle.kishu_store.specs.declared.target.Target as rust_target
+use Rattle.kishu_store.specs.Targets.{target_of}
+use Rattle.kishu_store.specs.Tables.{Row, Table, Change, no_change, table_at, change_of}
+use Rattle.kishu_store_laws.specs.HistoryLaws.{AreChanges}
 use Rattle.kishu_graph.specs.declared.commits.Commit as rust
+use Rattle.kishu_graph.specs.declared.tables.Noted as rust_noted
+use Rattle.kishu_graph.specs.declared.tables.TableRow as rust_row
 
 -- what is kept of a commit: its parent's number, its profile, how many cells it has, and its line
 pub record Outline : Type 0 where
@@ -21,12 +30,18 @@ pub record Outline : Type 0 where
   pub cells : ℕ
   pub line : List ℕ
 
--- the commits by their numbers, the branches in byte order, where the head stands, and how many records there are
+-- what is kept of a commit's change: the first names of the groups that it drops, and the rows that it stores
+pub record Noted : Type 0 where
+  pub dropped : List (List ℕ)
+  pub stored : Table
+
+-- the commits by their numbers, the branches in byte order, where the head stands, how many records there are, and what is noted of the commits by their numbers
 pub record Kept : Type 0 where
   pub commits : List Outline
   pub branches : Branches
   pub head : Target
   pub records : ℕ
+  pub noted : List Noted
 
 -- ---- the graph that is meant
 
@@ -72,6 +87,27 @@ pub record StandsFor (kept : Kept) (g : Graph) : Type 0 where
   pub shape : HasShapeOf kept g
   pub cells : TellsCellsOf kept g
 
+-- ---- the tables that are meant
+
+abbrev pub noted_of : Change → Noted
+noted_of c = record { dropped = map first_name c.dropped; stored = c.stored }
+
+-- what is noted of the root, which changes nothing, and of these changes by their commits' numbers
+abbrev pub noted_in : List Change → List Noted
+noted_in [] = noted_of no_change ∷ []
+noted_in (c ∷ cs) = noted_in cs ++ (noted_of c ∷ [])
+
+-- What the commits change is kept.
+abbrev pub TellsChanges : Kept → List Change → Type 0
+TellsChanges kept cs = kept.noted ≡ noted_in cs
+
+-- What is kept is the history's: its graph, and its tables. Where its records end isn't kept.
+pub record KeepsHistory (kept : Kept) (h : History) : Type 0 where
+  pub graph : StandsFor kept h.graph
+  pub changes : TellsChanges kept h.changes
+
+-- ---- the graph without cells
+
 -- a commit as it is kept, without cells
 abbrev pub bare_commit : Outline → Commit
 bare_commit o = record { parent = o.parent; profile = o.profile; cells = [] }
@@ -107,6 +143,15 @@ outline k = record { parent = k.parent; profile = k.profile; cells = k.cells; li
 abbrev pub branches_of : List (RcStr Global × ℕ) → Branches
 branches_of = map (λ e. (rc_str_bytes e.0, e.1))
 
+abbrev pub texts_of : Vec (RcStr Global) Global → Group
+texts_of v = map rc_str_bytes v.items
+
+abbrev pub row_of : rust_row.TableRow → Row
+row_of r = record { group = texts_of r.group.names; version = r.version; place = r.place; len = r.len }
+
+abbrev pub note : rust_noted.Noted → Noted
+note n = record { dropped = texts_of n.dropped; stored = map row_of n.stored.items }
+
 -- in byte order, each once
 abbrev pub Rises : List (List ℕ) → Type 0
 Rises = IsStrictlySortedBy (slice_cmp nat_cmp)
@@ -122,7 +167,7 @@ abbrev pub AreBelow : ℕ → Branches → Type 0
 AreBelow most [] = Unit {0}
 AreBelow most (b ∷ bs) = (b.1 < most) × AreBelow most bs
 
--- The root comes first. Parents, head and branches are there, and there are no more commits than records.
+-- The root comes first. Parents, head and branches are there, there are no more commits than records, and of each commit something is noted.
 pub record IsSound (kept : Kept) : Type 0 where
   pub root_is : get_or kept.commits 0 root ≡ root
   pub parents : HaveParents kept.commits
@@ -130,3 +175,23 @@ pub record IsSound (kept : Kept) : Type 0 where
   pub branches : AreBelow (length kept.commits) kept.branches
   pub few : length kept.commits ≤ suc kept.records
   pub records : kept.records ≤ most_records
+  pub noted : length kept.noted ≡ length kept.commits
+
+-- Where the rows of a commit's table are counted, there are so many, in each history whose changes are noted.
+abbrev pub CountsRows : List Outline → List Noted → List (Option ℕ) → Type 0
+CountsRows os ns counts =
+    (g : Graph) (cs : List Change) (place : ℕ) → parents_of os ≡ parents_of (outlines g.commits) → ns ≡ noted_in cs → AreChanges g cs place
+    → (c : ℕ) → c < length ns → IfSome (get_or counts c None) (λ n. n ≡ length (table_at g (change_of cs) c))
+
+-- ---- the fields of the program's graph
+
+abbrev pub count_of : rust_noted.Noted → Option ℕ
+count_of n = n.rows
+
+-- what they keep
+abbrev pub kept_in : List rust.Commit → List (RcStr Global × ℕ) → rust_target.Target → ℕ → List rust_noted.Noted → Kept
+kept_in commits branches head records noted = record { commits = map outline commits; branches = branches_of branches; head = target_of head; records = records; noted = map note noted }
+
+-- what holds of them
+abbrev pub AreKept : List rust.Commit → List (RcStr Global × ℕ) → rust_target.Target → ℕ → List rust_noted.Noted → Type 0
+AreKept commits branches head records noted = IsSound (kept_in commits branches head records noted) × CountsRows (map outline commits) (map note noted) (map count_of noted)

@@ -1,5 +1,9 @@
 pub mod Kept
+pub mod Tables
 pub mod Refusals
 pub mod Facts
 pub mod Laws
 pub mod PathLaws
+pub mod ChangeLaws
+pub mod Walks
+pub mod Fits

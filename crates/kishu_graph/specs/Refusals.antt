@@ -49,7 +49,7 @@ start_of (Some to) g = option_map (λ target. target.commit) (resolve g to)
 
 -- ---- changed graphs
 
--- The head stands at the target, and there is one record more. No commit changes.
+-- The head stands at the target, and there is one record more. No commit changes, and none's table.
 pub record HasMoved (target : Option Target) (g : Graph) (commit : ℕ) (old new : Kept) : Type 0 where
   pub there : Target
   pub target_is : target ≡ Some there
@@ -57,10 +57,12 @@ pub record HasMoved (target : Option Target) (g : Graph) (commit : ℕ) (old new
   pub accepted : unless_there target g ≡ None
   pub shape : HasShapeOf new (with_head there g)
   pub commits : new.commits ≡ old.commits
+  pub noted : new.noted ≡ old.noted
 
--- The branch stands at its start, and there is one record more. No commit changes.
+-- The branch stands at its start, and there is one record more. No commit changes, and none's table.
 pub record HasBranched (name : List ℕ) (start : Option ℕ) (g : Graph) (commit : ℕ) (old new : Kept) : Type 0 where
   pub start_is : start ≡ Some commit
   pub accepted : unless_named name start g ≡ None
   pub shape : HasShapeOf new (with_branch name commit g)
   pub commits : new.commits ≡ old.commits
+  pub noted : new.noted ≡ old.noted

@@ -1,16 +1,19 @@
 // What a record changes in a graph.
-ghost use Rattle.std.specs.Prelude.{◌≡◌, ◌<◌, ◌⊎◌, ◌↔◌, suc, IfOk, IfErr, IfSome, OnOk, OnErr, IsErrOf, length, option_map};
+ghost use Rattle.std.specs.Prelude.{◌≡◌, ◌<◌, ◌⊎◌, ◌↔◌, ◌++◌, ◌∷◌, [], suc, IfOk, IfErr, IfSome, OnOk, OnErr, IsErrOf, length, option_map};
 ghost use Rattle.kishu_store.specs.Graph.{newest};
 ghost use Rattle.kishu_store.specs.Limits.{most_records};
 ghost use Rattle.kishu_store.specs.References.{resolve};
+ghost use Rattle.kishu_store.specs.Tables.{no_change};
 ghost use Rattle.kishu_store.specs.Targets.{target_of};
 ghost use Rattle.kishu_graph.specs.Facts.{Answers, start_from, with_newest, ShapesCommit, StandsForCommit, MovesTo, BeginsAt, RefusesMove, RefusesBranch, OrNoMemory};
+ghost use Rattle.kishu_graph.specs.Kept.{noted_of};
 ghost use Rattle.kishu_graph.specs.Refusals.{at_commit, at_branch, start_at};
 ghost use Rattle.kishu_graph.specs.declared.fault.GraphFault.TheVariants.{StoreFull, NoMemory};
 
-use crate::commits::{Commit, push_in_room};
+use crate::commits::{Commit, make_room, push_in_room};
 use crate::graph::at_number;
 use crate::references::is_branch_name;
+use crate::tables::Noted;
 use crate::{Graph, GraphFault, branches};
 use kishu_language::Profile;
 use kishu_store::{MOST_RECORDS, Target};
@@ -34,6 +37,7 @@ impl Graph {
         ensures added { OnOk result (self.new.commits ≡ with_newest profile cells line self.old) }
         ensures shape { OnOk result (ShapesCommit profile self.old self.new) }
         ensures stands { IfOk result (λ c. StandsForCommit profile cells line self.old self.new) }
+        ensures noted { OnOk result (self.new.noted ≡ self.old.noted ++ (noted_of no_change ∷ [])) }
         ensures room { OnOk result (self.old.records < most_records) }
         ensures full { IsErrOf result StoreFull ↔ (self.old.records ≡ most_records) }
         ensures only_these { IfErr result (λ e. (e ≡ StoreFull) ⊎ (e ≡ NoMemory)) }
@@ -49,13 +53,15 @@ impl Graph {
             profile,
             line,
         };
-        let Ok(()) = self.commits.reserve(1) else {
+        let bare = Noted::bare(self.alloc, self.noted[self.head.commit as usize].rows);
+        let Ok(()) = make_room(&mut self.commits, &mut self.noted) else {
             return Err(GraphFault::NoMemory);
         };
         let Ok(()) = branches::move_along(&mut self.branches, &self.head.branch, number) else {
             return Err(GraphFault::NoMemory);
         };
         push_in_room(&mut self.commits, commit);
+        push_in_room(&mut self.noted, bare);
         self.head.commit = number;
         self.records += 1;
         Ok(number)

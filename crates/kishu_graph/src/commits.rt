@@ -1,9 +1,10 @@
 // What is kept of commits, in the order of their numbers, and the way back by their parents.
-ghost use Rattle.std.specs.Prelude.{◌≡◌, ◌<◌, ◌++◌, ◌∷◌, [], length, map, IfOk};
+ghost use Rattle.std.specs.Prelude.{◌≡◌, ◌<◌, ◌++◌, ◌∷◌, [], length, map, IfOk, OnOk};
 ghost use Rattle.std.specs.Vec.{vec_len, vec_capacity};
 ghost use Rattle.kishu_graph.specs.Facts.{AreBack, ArePath};
 ghost use Rattle.kishu_graph.specs.Kept.{outline, HaveParents};
 
+use crate::tables::Noted;
 use kishu_language::Profile;
 use std::alloc::{AllocError, Global};
 use std::rc::RcStr;
@@ -17,12 +18,23 @@ pub(crate) struct Commit {
     pub(crate) line: RcStr,
 }
 
-/// Adds a commit where there is room for one.
-pub(crate) fn push_in_room(commits: &mut Vec<Commit>, commit: Commit)
-    requires room { vec_len commits.old < vec_capacity commits.old }
-    ensures { commits.new.items ≡ commits.old.items ++ (commit ∷ []) }
+/// Makes room for one commit more, and for what is noted of it.
+pub(crate) fn make_room(commits: &mut Vec<Commit>, noted: &mut Vec<Noted>) -> Result<(), AllocError>
+    ensures commits { commits.new.items ≡ commits.old.items }
+    ensures noted { noted.new.items ≡ noted.old.items }
+    ensures commits_room { OnOk result (vec_len commits.new < vec_capacity commits.new) }
+    ensures noted_room { OnOk result (vec_len noted.new < vec_capacity noted.new) }
 {
-    commits.push(commit).unwrap();
+    commits.reserve(1)?;
+    noted.reserve(1)
+}
+
+/// Adds an item where there is room for one.
+pub(crate) fn push_in_room<T: Drop>(items: &mut Vec<T>, item: T)
+    requires room { vec_len items.old < vec_capacity items.old }
+    ensures { items.new.items ≡ items.old.items ++ (item ∷ []) }
+{
+    items.push(item).unwrap();
 }
 
 /// The numbers of a commit and of those before it, back to the root, which is left out.

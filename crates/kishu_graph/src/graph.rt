@@ -1,5 +1,5 @@
 // A graph, and what is read of it.
-ghost use Rattle.std.specs.Prelude.{◌≡◌, ◌<◌, ◌≤◌, suc, IsTrue, IfOk, IfSome, MatchOption, Some, None, length, get_or, map, option_map};
+ghost use Rattle.std.specs.Prelude.{◌≡◌, ◌<◌, ◌≤◌, suc, [], IsTrue, IfOk, IfSome, MatchOption, Some, None, length, get_or, map, option_map};
 ghost use Rattle.std.specs.List.{list_all};
 ghost use Rattle.std.specs.Rc.{rc_str_bytes};
 ghost use Rattle.kishu_store.specs.Graph.{new_graph, newest};
@@ -8,20 +8,21 @@ ghost use Rattle.kishu_language.specs.tokens.Names.{is_digit};
 ghost use Rattle.kishu_store.specs.References.{resolve, number_from};
 ghost use Rattle.kishu_store.specs.Targets.{target_of};
 ghost use Rattle.kishu_graph.specs.Facts.{Answers, Tells, below, start_from};
-ghost use Rattle.kishu_graph.specs.Kept.{HasShapeOf, StandsFor, IsSound, root, bare_graph, outline_in, path_numbers, branches_of, Rises};
+ghost use Rattle.kishu_graph.specs.Kept.{HasShapeOf, StandsFor, TellsChanges, IsSound, root, bare_graph, outline_in, path_numbers, branches_of, Rises};
 ghost use Rattle.kishu_graph.specs.Refusals.{start_of};
 
 use crate::branches;
 use crate::commits::{Commit, path_to};
 use crate::references::{is_decimal, number_of};
+use crate::tables::Noted;
 use kishu_language::Profile;
 use kishu_store::Target;
 use std::alloc::{AllocError, Global};
-use std::collections::BTreeMap;
+use std::collections::{BTreeMap, BTreeSet};
 use std::marker::Model;
 use std::rc::RcStr;
 
-/// Commits, branches, a head and a number of records.
+/// Commits, branches, a head, a number of records, and the tables of the commits.
 #[derive(Drop)]
 pub struct Graph {
     pub(crate) alloc: Global,
@@ -30,24 +31,27 @@ pub struct Graph {
     pub(crate) branches: BTreeMap<RcStr, u32>,
     pub(crate) head: Target,
     pub(crate) records: u32,
+    /// By the numbers of the commits.
+    pub(crate) noted: Vec<Noted>,
+    /// Each name that a noted row has, once: its text is shared.
+    pub(crate) texts: BTreeSet<RcStr>,
 }
 
 impl Model for Graph {
-    ghost use Rattle.std.specs.Prelude.{map};
-    ghost use Rattle.kishu_store.specs.Targets.{target_of};
-    ghost use Rattle.kishu_graph.specs.Kept.{Kept, IsSound, outline, branches_of};
+    ghost use Rattle.kishu_graph.specs.Kept.{Kept, kept_in, AreKept};
 
     ghost Value = { Kept };
 
-    ghost view = { λ g. record { commits = map outline g.commits.items; branches = branches_of g.branches.entries; head = target_of g.head; records = g.records } };
+    ghost view = { λ g. kept_in g.commits.items g.branches.entries g.head g.records g.noted.items };
 
-    ghost invariant = { λ g. IsSound (record { commits = map outline g.commits.items; branches = branches_of g.branches.entries; head = target_of g.head; records = g.records }) };
+    ghost invariant = { λ g. AreKept g.commits.items g.branches.entries g.head g.records g.noted.items };
 }
 
 impl Graph {
     /// The graph of a new store: the root, the branch `main` there, and the head on it.
     pub fn new(alloc: Global) -> Result<Graph, AllocError>
-        ensures { IfOk result (λ graph. StandsFor graph new_graph) }
+        ensures graph { IfOk result (λ graph. StandsFor graph new_graph) }
+        ensures tables { IfOk result (λ graph. TellsChanges graph []) }
     {
         let mut commits = Vec::new(alloc);
         commits.push(Commit {
@@ -56,6 +60,8 @@ impl Graph {
             profile: Profile::One,
             line: RcStr::from_str(alloc, "")?,
         })?;
+        let mut noted = Vec::new(alloc);
+        noted.push(Noted::bare(alloc, Some(0)))?;
         let main = RcStr::from_str(alloc, "main")?;
         let mut branches = BTreeMap::new(alloc);
         branches::put(&mut branches, main.clone()?, 0)?;
@@ -68,6 +74,8 @@ impl Graph {
                 branch: Some(main),
             },
             records: 0,
+            noted,
+            texts: BTreeSet::new(alloc),
         })
     }
 

@@ -1,5 +1,6 @@
 //! The graph of commits, its branches and its head, as a session keeps it: of each commit its parent,
-//! its profile, the number of its cells and its line. Their texts stay in the store's file.
+//! its profile, the number of its cells, its line, and what it changes of its parent's table. The texts
+//! of cells and the pictures of groups stay in the store's file.
 //!
 //! What the calls promise is said of each graph of the definition whose shape a `Graph` has
 //! (`HasShapeOf`: all but the cells of its commits): they answer what it says, and have the shape of
@@ -10,13 +11,17 @@ mod branches;
 mod changes;
 mod commits;
 mod fault;
+mod fitting;
 mod graph;
 mod lines;
+mod noting;
+mod order;
 mod references;
-#[cfg(test)]
-mod tests;
+mod tables;
+mod walking;
 
 pub use fault::GraphFault;
 pub use graph::Graph;
 pub use kishu_store::Target;
 pub use lines::{line_of, shared_line_of};
+pub use tables::{Group, Table, TableRow};

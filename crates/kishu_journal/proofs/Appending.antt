@@ -1,18 +1,21 @@
 -- A body that may be appended, and the journal after it was.
-use Rattle.std.proofs.Common.{◌≡◌, ◌+◌, ℕ, List, [], ◌∷◌, ◌++◌, length, sym, ◌∙◌, ap, subst, arith}
+use Rattle.std.proofs.Common.{◌≡◌, ◌⊎◌, inl, inr, ⊎_elim, ◌+◌, ℕ, List, [], ◌∷◌, ◌++◌, length, sym, ◌∙◌, ap, subst, arith}
 use Rattle.kishu_host.specs.Host.{State, Elapses}
+use Rattle.kishu_host.specs.Going.{weaker}
 use Rattle.kishu_store.specs.Entries.{Entry, entries_in}
 use Rattle.kishu_store.specs.EntryBytes.{body_of}
-use Rattle.kishu_store.specs.Fitting.{Fits}
-use Rattle.kishu_store.specs.Holds.{Ends, framed, graph_of, graph_by}
+use Rattle.kishu_store.specs.Fitting.{changed}
+use Rattle.kishu_store.specs.Graph.{Graph}
+use Rattle.kishu_store.specs.Histories.{Follows}
+use Rattle.kishu_store.specs.Holds.{Ends, HasRecords, Holds, framed, graph_of, history_by, history_of}
 use Rattle.kishu_store_laws.specs.Laws as laws
-use Rattle.kishu_journal.specs.Going.{WithOrWithout}
+use Rattle.kishu_journal.specs.Going.{WithOrWithout, WithOrWithoutRecord}
 use Rattle.kishu_journal.specs.Stands.{JournalState, Stands, IsNext, IsWhole, with_entry, with_record}
 use Rattle.kishu_journal.proofs.Behind.{end-with}
 
 module _ (journal : JournalState) (file body : List ℕ) (entries : List Entry) (e : Entry) (next : IsNext journal file body entries e) where
-  next-fits : Fits (graph_by next.stands.found) next.next.entry
-  next-fits = subst (λ (x : Entry). Fits (graph_by next.stands.found) x) (sym next.says) (subst (λ (es : List Entry). Fits (graph_of es) e) (sym next.stands.says) next.fits)
+  next-fits : Follows (history_by next.stands.found) next.next.entry
+  next-fits = subst (λ (x : Entry). Follows (history_by next.stands.found) x) (sym next.says) (subst (λ (es : List Entry). Follows (history_of es) e) (sym next.stands.says) next.fits)
 
   -- the bytes that are written, and where
   pub whole-next : (place : ℕ) → place ≡ journal.place → (bytes : List ℕ) → bytes ≡ framed (body_of next.next) ++ (0 ∷ []) → IsWhole file place bytes next.stands.found next.next
@@ -27,6 +30,16 @@ module _ (journal : JournalState) (file body : List ℕ) (entries : List Entry) 
     place = (let size = ap length next.body_is in omega (arith, place, next.stands.place, size, end-with next.stands.found next.next));
   }
 
-  -- what a stop leaves
-  pub stop-next : (a b : State) → Elapses a b (WithOrWithout a (entries_in next.stands.found) next.next.entry) → Elapses a b (WithOrWithout a entries e)
-  stop-next a b time = subst (λ (x : Entry). Elapses a b (WithOrWithout a entries x)) next.says (subst (λ (es : List Entry). Elapses a b (WithOrWithout a es next.next.entry)) next.stands.says time)
+  before-holds : (c : List ℕ) → HasRecords c next.stands.found → Holds c (graph_of entries)
+  before-holds c has = subst (λ (es : List Entry). Holds c (graph_of es)) next.stands.says (laws.has-holds c next.stands.found has)
+
+  after-holds : (c : List ℕ) → HasRecords c (with_record next.stands.found next.next) → Holds c (changed (graph_of entries) e)
+  after-holds c has =
+      let held = subst (λ (g : Graph). Holds c g) (laws.graph-push next.stands.found next.next) (laws.has-holds c (with_record next.stands.found next.next) has) in
+      subst (λ (x : Entry). Holds c (changed (graph_of entries) x)) next.says (subst (λ (es : List Entry). Holds c (changed (graph_of es) next.next.entry)) next.stands.says held)
+
+  -- what a stop leaves holds the graph of its records
+  pub stop-next : (a b : State) → Elapses a b (WithOrWithoutRecord a next.stands.found next.next) → Elapses a b (WithOrWithout a entries e)
+  stop-next a b time =
+      weaker a b (WithOrWithout a entries e) (WithOrWithoutRecord a next.stands.found next.next) time
+      (λ c o left. (left.0, ⊎_elim (λ (has : HasRecords c next.stands.found). inl (before-holds c has)) (λ (has : HasRecords c (with_record next.stands.found next.next)). inr (after-holds c has)) left.1))

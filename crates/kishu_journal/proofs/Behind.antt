@@ -1,9 +1,8 @@
 -- Files with one record more.
 use Rattle.std.proofs.Common.{◌≡◌, ◌≤◌, ◌<◌, ◌+◌, ◌*◌, ◌^◌, ℕ, List, [], ◌∷◌, ◌++◌, length, sym, ◌∙◌, ap, arith, length-append, append_assoc}
-use Rattle.kishu_store.specs.Graph.{Graph, new_graph}
 use Rattle.kishu_store.specs.Entries.{Record}
 use Rattle.kishu_store.specs.EntryBytes.{body_of}
-use Rattle.kishu_store.specs.Fitting.{changed, AreRecords}
+use Rattle.kishu_store.specs.Histories.{History, AreRecords, led, new_history}
 use Rattle.kishu_store.specs.Holds.{header, open_gate, framed, records, front, end_of}
 use Rattle.kishu_store_laws.specs.Laws.{length-header, length-framed}
 use Rattle.kishu_store_laws.specs.GraphLaws.{records-most}
@@ -37,13 +36,13 @@ end-with es e =
 pub end-none : end_of [] ≡ 16
 end-none = omega (arith, length-header, length-append header [])
 
-records-below : (g : Graph) (es : List Record) → AreRecords g es → length (records es) ≤ 1073741833 * length es
-records-below g [] all = omega arith
-records-below g (e ∷ es) all = omega (arith, length-append (framed (body_of e)) (records es), length-framed (body_of e), all.0.small, records-below (changed g e.entry) es all.2)
+records-below : (h : History) (es : List Record) → AreRecords h es → length (records es) ≤ 1073741833 * length es
+records-below h [] all = omega arith
+records-below h (e ∷ es) all = omega (arith, length-append (framed (body_of e)) (records es), length-framed (body_of e), all.0.small, records-below (led h e.entry) es all.2)
 
 -- No store is so long that its places aren't numbers of eight bytes.
-pub end-below : (es : List Record) → AreRecords new_graph es → end_of es < 2 ^ 62
-end-below es all = omega (arith, length-append header (records es), length-header, records-below new_graph es all, records-most es all)
+pub end-below : (es : List Record) → AreRecords new_history es → end_of es < 2 ^ 62
+end-below es all = omega (arith, length-append header (records es), length-header, records-below new_history es all, records-most es all)
 
 pub end-least : (es : List Record) → 16 ≤ end_of es
 end-least es = omega (arith, length-append header (records es), length-header)

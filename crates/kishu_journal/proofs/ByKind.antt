@@ -1,5 +1,5 @@
 -- What a change of a graph says of the entry by which it was changed, kind by kind.
-use Rattle.std.proofs.Common.{◌≡◌, ◌≢◌, ◌<◌, ◌≤◌, ◌⊎◌, inl, inr, ◌↔◌, ℕ, ◌^◌, Bool, true, false, IsTrue, List, [], ◌∷◌, length, map, flat_map, get_or, Option, Some, None, Result, Ok, Err, refl, sym, ap, subst, ◌∙◌, ⊎_elim, arith, length-append}
+use Rattle.std.proofs.Common.{◌≡◌, ◌≢◌, ◌<◌, ◌≤◌, ◌⊎◌, inl, inr, ◌↔◌, ℕ, ◌^◌, Bool, true, false, IsTrue, List, [], ◌∷◌, ◌++◌, length, map, flat_map, get_or, Option, Some, None, Result, Ok, Err, refl, sym, ap, subst, ◌∙◌, ⊎_elim, arith, length-append}
 use Rattle.std.proofs.lemmas.Bool.{false≢true}
 use Rattle.std.proofs.lemmas.Bool.Decides.{leb_tells}
 use Rattle.std.specs.Prelude.{not, is_some, if◌then◌else◌, option_map, IsOk, IsErrOf, IfOk, IfErr, OnOk, OnErr}
@@ -8,7 +8,8 @@ use Rattle.std.specs.declared.alloc.Global.{Global}
 use Rattle.std.specs.declared.rc.RcStr.{RcStr}
 use Rattle.kishu_graph.specs.declared.fault.GraphFault.{GraphFault}
 use Rattle.kishu_graph.specs.declared.fault.GraphFault.TheVariants.{BadName, NameTaken, StoreFull, NoMemory}
-use Rattle.kishu_graph.specs.Kept.{Kept, StandsFor}
+use Rattle.kishu_graph.specs.Facts.{with_newest}
+use Rattle.kishu_graph.specs.Kept.{Kept, KeepsHistory, StandsFor, noted_of}
 use Rattle.kishu_graph.specs.Laws.{moved-stands, branched-stands}
 use Rattle.kishu_graph.specs.Refusals.{full, unless_there, unless_named, at_commit, at_branch, HasMoved, HasBranched}
 use Rattle.kishu_bytes.specs.Numbers.{four}
@@ -20,10 +21,12 @@ use Rattle.kishu_store.specs.EntryBytes.{text_bytes}
 use Rattle.kishu_store.specs.Fitting.{Fits}
 use Rattle.kishu_store.specs.Graph.{Graph, Target, newest, with_commit, with_head, with_branch}
 use Rattle.kishu_store.specs.Groups.{Group}
+use Rattle.kishu_store.specs.Histories.{History}
 use Rattle.kishu_store.specs.Limits.{most_records}
 use Rattle.kishu_store.specs.Rules.{IsEntry}
 use Rattle.kishu_store_laws.specs.EntryLaws.{length-commit}
-use Rattle.kishu_journal.specs.Following.{GoesOn}
+use Rattle.kishu_store.specs.Tables.{no_change}
+use Rattle.kishu_journal.specs.Following.{GoesOn, HasNewest, TakesCommit}
 
 -- ---- answers
 
@@ -59,8 +62,20 @@ not-full old (Err e) not_ok other (inr p) stored g s room = other p
 -- a commit was added
 pub added : (old new : Kept) (r : Result ℕ GraphFault) (profile : Profile) (texts : List (List ℕ)) (cells : ℕ) (line : List ℕ) → IsOk r → OnOk r (old.records < most_records)
     → IfOk r (λ c. (g : Graph) (ts : List (List ℕ)) → StandsFor old g → length ts ≡ cells → line_in ts ≡ line → StandsFor new (with_commit profile ts g))
-    → length texts ≡ cells → line_in texts ≡ line → (g : Graph) → StandsFor old g → (g.records < most_records) × StandsFor new (with_commit profile texts g)
-added old new r profile texts cells line ok room stands count is g s = (let free = ok-fact r ok room in omega (arith, free, s.shape.records), (ok-value r ok stands).1 g texts s count is)
+    → length texts ≡ cells → line_in texts ≡ line → TakesCommit old profile texts new
+added old new r profile texts cells line ok room stands count is = record {
+  room = λ g s. (let free = ok-fact r ok room in omega (arith, free, s.shape.records));
+  stands = λ g s. (ok-value r ok stands).1 g texts s count is;
+}
+
+pub newest-added : (old new : Kept) (r : Result ℕ GraphFault) (profile : Profile) (cells : ℕ) (line : RcStr Global) → IsOk r → OnOk r (new.commits ≡ with_newest profile cells line old)
+    → OnOk r (new.noted ≡ old.noted ++ (noted_of no_change ∷ [])) → HasNewest old new
+newest-added old new r profile cells line ok added noted = record {
+  outline = record { parent = old.head.commit; profile = profile; cells = cells; line = rc_str_bytes line };
+  parent = refl;
+  commits = ok-fact r ok added;
+  noted = ok-fact r ok noted;
+}
 
 -- ---- room
 
@@ -88,12 +103,19 @@ commit-known n g t h =
 
 -- ---- moves
 
-pub moved-commit : (n : ℕ) (g : Graph) (c : ℕ) (old new : Kept) → StandsFor old g → HasMoved (at_commit n g) g c old new → GoesOn g (move (to_commit n)) new
-moved-commit n g c old new s h =
-    let known = commit-known n g h.there h.target_is in
+pub moved-commit : (n : ℕ) (body : ℕ) (h : History) (c : ℕ) (old new : Kept) → KeepsHistory old h → HasMoved (at_commit n h.graph) h.graph c old new → GoesOn body h (move (to_commit n)) new
+moved-commit n body h c old new k m =
+    let g = h.graph in
+    let known = commit-known n g m.there m.target_is in
     record {
-      fits = record { room = full-none g (sym (ap (λ (o : Option Target). unless_there o g) h.target_is) ∙ h.accepted); goes_on = known.0 };
-      stands = subst (λ (t : Target). StandsFor new (with_head t g)) known.1 (moved-stands (at_commit n g) g c old new s h);
+      fits = record {
+        graph = record { room = full-none g (sym (ap (λ (o : Option Target). unless_there o g) m.target_is) ∙ m.accepted); goes_on = known.0 };
+        table = tt;
+      };
+      keeps = record {
+        graph = subst (λ (t : Target). StandsFor new (with_head t g)) known.1 (moved-stands (at_commit n g) g c old new k.graph m);
+        changes = m.noted ∙ k.changes;
+      };
     }
 
 pub refused-commit : (n : ℕ) (g : Graph) (e : GraphFault) → unless_there (at_commit n g) g ≡ Some e → Fits g (move (to_commit n)) → ⊥
@@ -105,14 +127,18 @@ branch-known : (title : List ℕ) (g : Graph) (o : Option ℕ) (t : Target) → 
 branch-known title g None t h = absurd (cc (h))
 branch-known title g (Some c) t h = (c, refl, cc (h))
 
-pub moved-branch : (title : List ℕ) (g : Graph) (c : ℕ) (old new : Kept) → StandsFor old g → HasMoved (at_branch title g) g c old new → GoesOn g (move (to_branch title)) new
-moved-branch title g c old new s h =
-    let known = branch-known title g (commit_of title g.branches) h.there h.target_is in
+pub moved-branch : (title : List ℕ) (body : ℕ) (h : History) (c : ℕ) (old new : Kept) → KeepsHistory old h → HasMoved (at_branch title h.graph) h.graph c old new → GoesOn body h (move (to_branch title)) new
+moved-branch title body h c old new k m =
+    let g = h.graph in
+    let known = branch-known title g (commit_of title g.branches) m.there m.target_is in
     let there : IsTrue (is_some (commit_of title g.branches)) = rw known.1 refl in
-    let stands = subst (λ (t : Target). StandsFor new (with_head t g)) known.2 (moved-stands (at_branch title g) g c old new s h) in
+    let stands = subst (λ (t : Target). StandsFor new (with_head t g)) known.2 (moved-stands (at_branch title g) g c old new k.graph m) in
     record {
-      fits = record { room = full-none g (sym (ap (λ (o : Option Target). unless_there o g) h.target_is) ∙ h.accepted); goes_on = there };
-      stands = rw known.1 stands;
+      fits = record {
+        graph = record { room = full-none g (sym (ap (λ (o : Option Target). unless_there o g) m.target_is) ∙ m.accepted); goes_on = there };
+        table = tt;
+      };
+      keeps = record { graph = rw known.1 stands; changes = m.noted ∙ k.changes };
     }
 
 -- where a head stands on a branch
@@ -150,15 +176,19 @@ number-known n c g h =
     (λ p. let is : option_map (λ (t : Target). t.commit) (at_commit n g) ≡ None = rw p.0 refl in absurd (cc (h, is)))
     (leb_tells n (newest g))
 
-pub made-name : (title : List ℕ) (n : ℕ) (g : Graph) (c : ℕ) (old new : Kept) → StandsFor old g → HasBranched title (option_map (λ t. t.commit) (at_commit n g)) g c old new → GoesOn g (name title n) new
-made-name title n g c old new s h =
+pub made-name : (title : List ℕ) (n : ℕ) (body : ℕ) (h : History) (c : ℕ) (old new : Kept) → KeepsHistory old h → HasBranched title (option_map (λ t. t.commit) (at_commit n h.graph)) h.graph c old new → GoesOn body h (name title n) new
+made-name title n body h c old new k b =
+    let g = h.graph in
     let start = option_map (λ (t : Target). t.commit) (at_commit n g) in
-    let known = number-known n c g h.start_is in
-    let accepted = accepted-name (is_branch_name title) (commit_of title g.branches) (unless_there start g) h.accepted in
-    let room : full g ≡ None = sym (ap (λ (o : Option ℕ). unless_there o g) h.start_is) ∙ accepted.2 in
+    let known = number-known n c g b.start_is in
+    let accepted = accepted-name (is_branch_name title) (commit_of title g.branches) (unless_there start g) b.accepted in
+    let room : full g ≡ None = sym (ap (λ (o : Option ℕ). unless_there o g) b.start_is) ∙ accepted.2 in
     record {
-      fits = record { room = full-none g room; goes_on = (accepted.0, accepted.1, known.0) };
-      stands = subst (λ (x : ℕ). StandsFor new (with_branch title x g)) known.1 (branched-stands title start g c old new s h);
+      fits = record { graph = record { room = full-none g room; goes_on = (accepted.0, accepted.1, known.0) }; table = tt };
+      keeps = record {
+        graph = subst (λ (x : ℕ). StandsFor new (with_branch title x g)) known.1 (branched-stands title start g c old new k.graph b);
+        changes = b.noted ∙ k.changes;
+      };
     }
 
 -- ---- the line of a first cell

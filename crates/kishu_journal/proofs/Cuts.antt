@@ -1,22 +1,27 @@
 -- Heads of records, and the pictures behind them.
-use Rattle.std.proofs.Common.{◌≡◌, ◌<◌, ◌≤◌, ◌^◌, ℕ, ◌+◌, ◌-◌, List, [], ◌∷◌, ◌++◌, length, map, flat_map, take, drop, refl, sym, ◌∙◌, ap, subst, arith, length-append, length-drop, take-append-drop}
+use Rattle.std.proofs.Common.{◌≡◌, ◌<◌, ◌≤◌, ◌^◌, inl, inr, ℕ, ◌+◌, ◌-◌, true, List, [], ◌∷◌, ◌++◌, length, map, flat_map, take, drop, replicate, refl, sym, ◌∙◌, ap, subst, arith, length-append, length-drop, take-append-drop}
 use Rattle.std.proofs.Math.Seq.{take-add}
-use Rattle.std.proofs.lemmas.List.{nil_from_length, take-take, drop-drop, length-take-le}
+use Rattle.std.proofs.lemmas.Bool.{cases_Bool, false≢true}
+use Rattle.std.proofs.lemmas.List.{take-take, drop-drop, length-replicate, length-take-le}
 use Rattle.std.proofs.lemmas.List.Concat.{length-flat_map}
 use Rattle.std.proofs.lemmas.List.Sums.{sum-map}
 use Rattle.std.specs.List.{sum}
 use Rattle.kishu_bytes.specs.Numbers.{four}
 use Rattle.kishu_bytes_laws.specs.NumberLaws.{four-unique, append-unique}
+use Rattle.kishu_host.specs.Host.{State}
+use Rattle.kishu_record.specs.declared.entry.Entry as program
+use Rattle.kishu_record.specs.Entries.{entry_of}
 use Rattle.kishu_record.specs.Readings.{IsHead}
-use Rattle.kishu_store.specs.Entries.{Entry, Record, plain, lengths_in}
+use Rattle.kishu_store.specs.Entries.{Entry, Record, lengths_in}
 use Rattle.kishu_store.specs.EntryBytes.{head_of, body_of}
-use Rattle.kishu_store.specs.Fitting.{Fits}
-use Rattle.kishu_store.specs.Graph.{Graph}
+use Rattle.kishu_store.specs.Histories.{History, Follows, body_length}
 use Rattle.kishu_store.specs.Holds.{open_gate, framed}
 use Rattle.kishu_store.specs.Limits.{longest_body}
 use Rattle.kishu_store.specs.Rules.{IsRecord}
 use Rattle.kishu_store_laws.specs.EntryLaws.{entry-is, length-body}
-use Rattle.kishu_journal.specs.Found.{BeginsBody, BeginsHead, HasNoBody, HasNoRecord, body_at, before_body}
+use Rattle.kishu_store_laws.specs.PlaceLaws.{cut_by, cut-lengths, cut-joined}
+use Rattle.kishu_journal.specs.Facts.{RecordAt}
+use Rattle.kishu_journal.specs.Found.{BeginsBody, BeginsHead, HasNoBody, HasNoRecord, body_at, before_body, with_pictures}
 use Rattle.kishu_journal.proofs.Gates.{one_body, body_there}
 
 -- the head and the pictures of a record stand in its body
@@ -94,38 +99,63 @@ head-is head pictures n long small r rules same =
     let parts = append-unique head (head_of r.entry) pictures joined cut.0 cut.1 in
     record { entry = entry; is = parts.0; sum = sym (joined-length r.pictures ∙ ap sum rules.pictures) ∙ sym (ap length parts.1) ∙ long }
 
--- no entry of that head fits, so no record does
-pub none-fits : (file : List ℕ) (at : ℕ) (g : Graph) (head : List ℕ) (n : ℕ) → BeginsHead (drop at file) head n → ((e : Entry) → IsHead head n e → Fits g e → ⊥) → HasNoRecord file at g
-none-fits file at g head n there none =
+-- no entry of that head fits behind the records before, so no record does
+pub none-fits : (file : List ℕ) (at : ℕ) (h : History) (head : List ℕ) (n : ℕ) → BeginsHead (drop at file) head n → ((e : Entry) → IsHead head n e → Follows h e → ⊥) → HasNoRecord file at h
+none-fits file at h head n there none =
     let body = four (length head) ++ (head ++ there.0) in
     let here = there.2 in
     record {
       rest = framed body ++ here.0;
       split = here.1;
-      none = λ r b. none r.entry (head-is head there.0 n there.1 here.3 r b.3 (one_body (open_gate ∷ (framed body ++ here.0)) body (body_of r) (here.0, refl, here.2, here.3) (body_there (open_gate ∷ (framed body ++ here.0)) g r b))) b.4;
+      none = λ r b. none r.entry (head-is head there.0 n there.1 here.3 r b.3 (one_body (open_gate ∷ (framed body ++ here.0)) body (body_of r) (here.0, refl, here.2, here.3) (body_there (open_gate ∷ (framed body ++ here.0)) h r b))) b.4;
     }
 
 -- where no record stands, none that fits does
-pub no-record : (file : List ℕ) (at : ℕ) (g : Graph) → HasNoBody file at → HasNoRecord file at g
-no-record file at g h = record { rest = h.rest; split = h.split; none = λ r b. h.none r b.3 (body_there (open_gate ∷ h.rest) g r b) }
+pub no-record : (file : List ℕ) (at : ℕ) (h : History) → HasNoBody file at → HasNoRecord file at h
+no-record file at h none = record { rest = none.rest; split = none.split; none = λ r b. none.none r b.3 (body_there (open_gate ∷ none.rest) h r b) }
 
--- ---- an entry without pictures
+-- ---- pictures behind a head
 
-module _ (head : List ℕ) (n : ℕ) (e : Entry) (is : IsHead head n e) (none : lengths_in e ≡ []) where
-  no-pictures : n ≡ 0
-  no-pictures = sym is.sum ∙ ap sum none
+-- a record's body is as long as its entry tells
+pub body-long : (r : Record) → IsRecord r → length (body_of r) ≡ body_length r.entry
+body-long r rules = (let sizes : sum (map length r.pictures) ≡ sum (lengths_in r.entry) = ap sum rules.pictures in omega (arith, length-body r, joined-length r.pictures, sizes))
 
-  plain-body : four (length head) ++ (head ++ []) ≡ body_of (plain e)
-  unfolding body_of
-  plain-body = ap (λ (l : List ℕ). four (length l) ++ (l ++ [])) is.is
+module _ (head : List ℕ) (n : ℕ) (p : program.Entry) (is : IsHead head n (entry_of p)) where
+  abbrev e : Entry
+  e = entry_of p
 
-  pub plain-length : 4 + length head + n ≡ length (body_of (plain e))
-  plain-length = omega (arith, no-pictures, ap length plain-body, length-append (four (length head)) (head ++ []), length-append head [])
+  -- any bytes of that length are pictures of the entry, one behind another
+  module _ (joined : List ℕ) (long : length joined ≡ n) where
+    abbrev cut : Record
+    cut = with_pictures e (cut_by (lengths_in e) joined)
 
-  pub plain-record : 4 + length head + n ≤ longest_body → IsRecord (plain e)
-  plain-record small = record { rules = is.entry.rules; pictures = sym none; small = omega (arith, small, plain-length) }
+    sums : sum (lengths_in e) ≡ length joined
+    sums = is.sum ∙ sym long
 
-  pub plain-there : (bytes : List ℕ) → BeginsHead bytes head n → BeginsBody bytes (body_of (plain e))
-  plain-there bytes there =
-      let empty : there.0 ≡ [] = nil_from_length there.0 (there.1 ∙ no-pictures) in
-      subst (λ (b : List ℕ). BeginsBody bytes b) (ap (λ (l : List ℕ). four (length head) ++ (head ++ l)) empty ∙ plain-body) there.2
+    cut-body : four (length head) ++ (head ++ joined) ≡ body_of cut
+    unfolding body_of
+    cut-body = ap (λ (l : List ℕ). four (length l) ++ (l ++ joined)) is.is ∙ ap (λ (l : List ℕ). four (length (head_of e)) ++ (head_of e ++ l)) (sym (cut-joined (lengths_in e) joined sums))
+
+    cut-rules : 4 + length head + n ≤ longest_body → IsRecord cut
+    cut-rules small = record {
+      rules = is.entry.rules;
+      pictures = cut-lengths (lengths_in e) joined sums;
+      small = omega (arith, small, long, ap length cut-body, length-append (four (length head)) (head ++ joined), length-append head joined);
+    }
+
+  pub head-length : 4 + length head + n ≡ body_length e
+  head-length = (let size = ap length is.is in let all = is.sum in omega (arith, size, all))
+
+  -- The pictures are those of the file, where it is told, and zeros else.
+  pub record-there : (s : State) (at : ℕ) → 4 + length head + n ≤ longest_body → (s.tells ≡ true → BeginsHead (drop at s.file) head n) → RecordAt s at p
+  record-there s at small there = elim (cases_Bool s.tells) [
+    | inl told ↦ (
+        let h = there told in
+        record { pictures = cut_by (lengths_in e) h.0; rules = cut-rules h.0 h.1 small; there = λ t. subst (λ (b : List ℕ). BeginsBody (drop at s.file) b) (cut-body h.0 h.1) h.2 }
+        )
+    | inr untold ↦ (
+        let z = replicate n 0 in
+        let long : length z ≡ n = length-replicate n 0 in
+        record { pictures = cut_by (lengths_in e) z; rules = cut-rules z long small; there = λ t. absurd (false≢true (sym untold ∙ t)) }
+        )
+  ]

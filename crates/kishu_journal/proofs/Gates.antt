@@ -3,9 +3,9 @@ use Rattle.std.proofs.Common.{◌≡◌, ◌<◌, ◌≤◌, ℕ, ◌+◌, ◌-�
 use Rattle.std.specs.Int.{w64, to_be_bytes, from_be_bytes}
 use Rattle.std.proofs.lemmas.List.{take_at, drop_more, drop-drop, get_or-take, get_or-drop, length-take-le}
 use Rattle.std.proofs.lemmas.Nat.{from_be_bytes-to_be_bytes_8}
-use Rattle.kishu_store.specs.Graph.{Graph}
 use Rattle.kishu_store.specs.Entries.{Record}
 use Rattle.kishu_store.specs.EntryBytes.{body_of}
+use Rattle.kishu_store.specs.Histories.{History}
 use Rattle.kishu_store.specs.Limits.{longest_body}
 use Rattle.kishu_store.specs.Holds.{open_gate, framed, BeginsRecord}
 use Rattle.kishu_store_laws.specs.Laws.{length-framed, framed-unique}
@@ -64,8 +64,8 @@ module _ (file : List ℕ) (at : ℕ) where
         )
 
 -- a record is a body
-pub body_there : (bytes : List ℕ) (g : Graph) (r : Record) → BeginsRecord bytes g r → BeginsBody bytes (body_of r)
-body_there bytes g r b = (b.0, b.1, b.2, b.3.small)
+pub body_there : (bytes : List ℕ) (h : History) (r : Record) → BeginsRecord bytes h r → BeginsBody bytes (body_of r)
+body_there bytes h r b = (b.0, b.1, b.2, b.3.small)
 
 -- one body stands there
 pub one_body : (bytes a b : List ℕ) → BeginsBody bytes a → BeginsBody bytes b → a ≡ b

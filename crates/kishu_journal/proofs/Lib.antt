@@ -9,9 +9,12 @@ mod Reached
 mod Openings
 mod Faults
 mod ByKind
+mod MadeRows
+mod Unplaced
+mod Noting
+mod Committing
 mod Follows
 mod Cuts
 mod Appending
-mod OneSum
 mod WindowLemmas
 mod Stored

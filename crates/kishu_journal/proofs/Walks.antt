@@ -3,11 +3,10 @@ use Rattle.std.proofs.Common.{◌≡◌, ◌≢◌, ◌<◌, ◌≤◌, ℕ, ◌
 use Rattle.std.proofs.lemmas.List.{drop_at, append-nil, map_push}
 use Rattle.kishu_record.specs.declared.entry.Entry as program
 use Rattle.kishu_record.specs.Entries.{entry_of}
-use Rattle.kishu_store.specs.Graph.{new_graph}
 use Rattle.kishu_store.specs.Entries.{Entry, Record, entries_in}
 use Rattle.kishu_store.specs.EntryBytes.{body_of}
-use Rattle.kishu_store.specs.Fitting.{AreRecords}
-use Rattle.kishu_store.specs.Holds.{header, fresh_length, open_gate, front, end_of, Ends, graph_by, BeginsRecord, IsBroken}
+use Rattle.kishu_store.specs.Histories.{AreRecords, new_history}
+use Rattle.kishu_store.specs.Holds.{header, fresh_length, open_gate, front, end_of, Ends, history_by, BeginsRecord, IsBroken}
 use Rattle.kishu_journal.specs.Found.{entries_of, before_body, ArePlaced, AreBelow, BeginsBody}
 use Rattle.kishu_journal.specs.Stands.{with_entry, with_record}
 use Rattle.kishu_journal.proofs.Behind.{front-with, end-with}
@@ -26,11 +25,11 @@ module _ (file : List ℕ) (rs : List Record) (at : ℕ) (place : at ≡ end_of 
       let rest : drop there file ≡ b.0 = ap (λ (l : List ℕ). drop there l) whole ∙ drop_at (front (with_record rs r)) b.0 there (sym is) in
       whole ∙ ap (λ (l : List ℕ). front (with_record rs r) ++ l) (sym rest)
 
-  pub walk-ends : AreRecords new_graph rs → (gate : ℕ) (rest : List ℕ) → drop at file ≡ gate ∷ rest → gate ≢ open_gate → Ends file rs
+  pub walk-ends : AreRecords new_history rs → (gate : ℕ) (rest : List ℕ) → drop at file ≡ gate ∷ rest → gate ≢ open_gate → Ends file rs
   walk-ends fit gate rest is shut = record { gate = gate; rest = rest; split = walked ∙ ap (λ (l : List ℕ). front rs ++ l) is; closed = shut; fit = fit }
 
-  pub walk-broken : AreRecords new_graph rs → (rest : List ℕ) → fresh_length < length file → drop at file ≡ open_gate ∷ rest
-      → ((r : Record) → BeginsRecord (open_gate ∷ rest) (graph_by rs) r → ⊥) → IsBroken file at
+  pub walk-broken : AreRecords new_history rs → (rest : List ℕ) → fresh_length < length file → drop at file ≡ open_gate ∷ rest
+      → ((r : Record) → BeginsRecord (open_gate ∷ rest) (history_by rs) r → ⊥) → IsBroken file at
   walk-broken fit rest long is none = record {
     long = long;
     before = rs;

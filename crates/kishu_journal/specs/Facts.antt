@@ -2,16 +2,20 @@
 -- Of a host that tells no content the facts on files say nothing.
 use Rattle.std.specs.Prelude.{◌≡◌, ◌≤◌, ◌<◌, ◌⊎◌, ◌+◌, ◌-◌, ℕ, List, ◌∷◌, length, take, drop, Result, IfErr, IsErrOf}
 use Rattle.kishu_host.specs.Host.{State, Told, Only, Keeps, Elapses, Now, Rises, ReadsMore, overwrite}
-use Rattle.kishu_graph.specs.Kept.{Kept, StandsFor}
+use Rattle.kishu_graph.specs.Kept.{Kept, StandsFor, KeepsHistory, TellsChanges}
 use Rattle.kishu_record.specs.declared.entry.Entry as program
 use Rattle.kishu_record.specs.Entries.{entry_of}
-use Rattle.kishu_store.specs.Entries.{Entry, Record, entries_in, plain}
+use Rattle.kishu_store.specs.Entries.{Entry, Record}
 use Rattle.kishu_store.specs.EntryBytes.{body_of}
-use Rattle.kishu_store.specs.Graph.{Graph}
-use Rattle.kishu_store.specs.Holds.{Ends, Holds, IsBroken, IsForeign, IsGood, fresh_length, graph_of, open_gate}
+use Rattle.kishu_store.specs.Histories.{History}
+use Rattle.kishu_store.specs.Holds.{Ends, Gives, Holds, IsBroken, IsForeign, IsGood, fresh_length, graph_of, open_gate}
+use Rattle.kishu_store.specs.Rules.{IsRecord}
+use Rattle.kishu_store.specs.Tables.{Change}
+use Rattle.kishu_store_laws.specs.HistoryLaws.{IsHistory}
 use Rattle.kishu_journal.specs.Bytes.{fresh, appended}
-use Rattle.kishu_journal.specs.Found.{BeginsBody, BeginsHead, HasNoBody, HasNoRecord, before_head, body_at, entries_of}
-use Rattle.kishu_journal.specs.Going.{LeavesShort, ReadsAtMost, WithOrWithout}
+use Rattle.kishu_journal.specs.Following.{IsKept}
+use Rattle.kishu_journal.specs.Found.{BeginsBody, BeginsHead, HasNoBody, HasNoRecord, before_head, body_at, entries_of, history_at, with_pictures}
+use Rattle.kishu_journal.specs.Going.{LeavesShort, ReadsAtMost, WithOrWithout, WithOrWithoutRecord}
 use Rattle.kishu_journal.specs.Stands.{JournalState, Stands, IsNext, IsWhole, with_entry, with_record}
 use Rattle.kishu_journal.specs.declared.head.Head.{Head}
 use Rattle.kishu_journal.specs.declared.journal.JournalFault.{JournalFault}
@@ -69,17 +73,19 @@ HeadAt s at head = Told s (BeginsHead (drop at s.file) (head_at s.file at head) 
 abbrev pub end_at : ℕ → Head → ℕ
 end_at at head = at + before_head + head.bytes + head.pictures
 
--- an open gate there, and behind it a whole record that says this, without pictures
-abbrev pub RecordAt : State → ℕ → program.Entry → Type 0
-RecordAt s at e = Told s (BeginsBody (drop at s.file) (body_of (plain (entry_of e))))
+-- A record that says this: where the host tells its file, an open gate is there, and behind it the whole record.
+pub record RecordAt (s : State) (at : ℕ) (e : program.Entry) : Type 0 where
+  pub pictures : List (List ℕ)
+  pub rules : IsRecord (with_pictures (entry_of e) pictures)
+  pub there : Told s (BeginsBody (drop at s.file) (body_of (with_pictures (entry_of e) pictures)))
 
 -- the place is that of the gate, which is open, and no whole record stands behind it
 abbrev pub LacksBody : State → ℕ → ℕ → Type 0
 LacksBody s at place = Told s ((place ≡ at) × HasNoBody s.file at)
 
--- damage is told at that gate alone, and where it is open and no whole record that fits the graph stands behind it
+-- damage is told at that gate alone, where the history ends, and where it is open and no whole record that fits stands behind it
 abbrev pub TellsDamage : {A : Type 0} → Kept → State → ℕ → Result A JournalFault → Type 0
-TellsDamage kept s at result = (g : Graph) → StandsFor kept g → (place : ℕ) → IsErrOf result (Damaged place) → Told s ((place ≡ at) × HasNoRecord s.file at g)
+TellsDamage kept s at result = (h : History) → IsKept kept h → h.place ≡ at → (place : ℕ) → IsErrOf result (Damaged place) → Told s ((place ≡ at) × HasNoRecord s.file at h)
 
 -- ---- the whole file
 
@@ -110,6 +116,18 @@ HoldsFound s found = Told s (Holds s.file (graph_of (entries_of found)))
 -- what is kept stands for the graph of what was found
 abbrev pub IsGraphOf : List (ℕ × program.Entry) → Kept → Type 0
 IsGraphOf found kept = StandsFor kept (graph_of (entries_of found))
+
+-- so it does for the tables of its commits, where the pictures lie behind the places that are told of the records
+abbrev pub HasTablesOf : List (ℕ × program.Entry) → Kept → Type 0
+HasTablesOf found kept = TellsChanges kept (history_at found).changes
+
+-- what is kept has the tables that the file gives
+abbrev pub KeepsTables : State → Kept → Type 0
+KeepsTables s kept = Told s ((cs : List Change) → Gives s.file cs → TellsChanges kept cs)
+
+-- what is kept is a history's to which records lead that end at this place
+abbrev pub IsOfHistory : Kept → ℕ → Type 0
+IsOfHistory kept place = ∥ ((h : History) × KeepsHistory kept h × IsHistory h × (h.place ≡ place)) ∥₁
 
 -- the journal stands in the new file behind what was found
 abbrev pub StandsFound : State → State → JournalState → List (ℕ × program.Entry) → Type 0
@@ -165,7 +183,7 @@ GainsRecord old new place bytes = Told old ((rs : List Record) (r : Record) → 
 
 -- of what was settled: a stop meanwhile leaves the records before, with or without that one
 abbrev pub StopsAtRecord : State → State → ℕ → List ℕ → Type 0
-StopsAtRecord old new place bytes = Settled old ((rs : List Record) (r : Record) → IsWhole old.file place bytes rs r → Elapses old new (WithOrWithout old (entries_in rs) r.entry))
+StopsAtRecord old new place bytes = Settled old ((rs : List Record) (r : Record) → IsWhole old.file place bytes rs r → Elapses old new (WithOrWithoutRecord old rs r))
 
 -- the body is that of an entry that fits where the journal stands
 abbrev pub MayAppend : JournalState → State → List ℕ → Type 0
@@ -182,6 +200,14 @@ Adds before now old new body = Told old ((entries : List Entry) (e : Entry) → 
 -- of what was settled: a stop meanwhile leaves the entries before, with or without that of the body
 abbrev pub StopsAtEntry : JournalState → State → State → List ℕ → Type 0
 StopsAtEntry journal old new body = Settled old ((entries : List Entry) (e : Entry) → IsNext journal old.file body entries e → Elapses old new (WithOrWithout old entries e))
+
+-- the new file ends with the records before and that of the body, each with its pictures
+abbrev pub AddsRecord : JournalState → State → State → List ℕ → Type 0
+AddsRecord journal old new body = Told old ((entries : List Entry) (e : Entry) (n : IsNext journal old.file body entries e) → Ends new.file (with_record n.stands.found n.next))
+
+-- of what was settled: a stop meanwhile leaves the records before, with or without that of the body, each with its pictures
+abbrev pub StopsAtNext : JournalState → State → State → List ℕ → Type 0
+StopsAtNext journal old new body = Settled old ((entries : List Entry) (e : Entry) (n : IsNext journal old.file body entries e) → Elapses old new (WithOrWithoutRecord old n.stands.found n.next))
 
 -- ---- bytes read, where they are told
 

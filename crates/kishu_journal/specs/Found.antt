@@ -3,10 +3,9 @@ use Rattle.std.specs.Prelude.{◌≡◌, ◌≢◌, ◌<◌, ◌≤◌, ℕ, ◌
 use Rattle.kishu_bytes.specs.Numbers.{four}
 use Rattle.kishu_record.specs.declared.entry.Entry as program
 use Rattle.kishu_record.specs.Entries.{entry_of}
-use Rattle.kishu_store.specs.Entries.{Entry, Record, commit, move, name}
+use Rattle.kishu_store.specs.Entries.{Entry, Record}
 use Rattle.kishu_store.specs.EntryBytes.{body_of}
-use Rattle.kishu_store.specs.Fitting.{Fits, changed}
-use Rattle.kishu_store.specs.Graph.{Graph}
+use Rattle.kishu_store.specs.Histories.{History, Follows, led, led_at, new_history}
 use Rattle.kishu_store.specs.Holds.{open_gate, framed, end_of, BeginsRecord}
 use Rattle.kishu_store.specs.Limits.{longest_body}
 use Rattle.kishu_store.specs.Rules.{IsRecord}
@@ -15,13 +14,6 @@ use Rattle.kishu_journal.specs.Stands.{with_record}
 -- what was found, without the places
 abbrev pub entries_of : List (ℕ × program.Entry) → List Entry
 entries_of found = map (λ p. entry_of p.1) found
-
--- the cells of the commits that records tell, by the commits' numbers from 1 on
-abbrev pub cells_in : List Entry → List (List (List ℕ))
-cells_in [] = []
-cells_in (commit parent profile cells dropped stored ∷ es) = cells ∷ cells_in es
-cells_in (move to ∷ es) = cells_in es
-cells_in (name title number ∷ es) = cells_in es
 
 -- between a gate and the body of the record behind it: the gate and eight bytes
 abbrev pub before_body : ℕ
@@ -43,10 +35,22 @@ abbrev pub AreBelow : ℕ → List (ℕ × program.Entry) → Type 0
 AreBelow most [] = Unit {0}
 AreBelow most (p ∷ ps) = (p.0 < most) × AreBelow most ps
 
--- each entry fits the graph of those before it
-abbrev pub AllFit : Graph → List Entry → Type 0
-AllFit g [] = Unit {0}
-AllFit g (e ∷ es) = Fits g e × AllFit (changed g e) es
+-- each entry fits behind those before it
+abbrev pub AllFit : History → List Entry → Type 0
+AllFit h [] = Unit {0}
+AllFit h (e ∷ es) = Follows h e × AllFit (led h e) es
+
+-- the history of what was found, each at the place that is told of it
+abbrev pub led_on : History → List (ℕ × program.Entry) → History
+led_on h [] = h
+led_on h (p ∷ ps) = led_on (led_at p.0 h (entry_of p.1)) ps
+
+abbrev pub history_at : List (ℕ × program.Entry) → History
+history_at found = led_on new_history found
+
+-- a record that says this and has these pictures
+abbrev pub with_pictures : Entry → List (List ℕ) → Record
+with_pictures e ps = record { entry = e; pictures = ps }
 
 -- ---- what stands at a gate
 
@@ -75,8 +79,8 @@ pub record HasNoBody (file : List ℕ) (at : ℕ) : Type 0 where
   pub split : drop at file ≡ open_gate ∷ rest
   pub none : (r : Record) → IsRecord r → BeginsBody (open_gate ∷ rest) (body_of r) → ⊥
 
--- the gate there is open, and no whole record that fits this graph stands behind it
-pub record HasNoRecord (file : List ℕ) (at : ℕ) (g : Graph) : Type 0 where
+-- the gate there is open, and no whole record that fits behind those of this history stands behind it
+pub record HasNoRecord (file : List ℕ) (at : ℕ) (h : History) : Type 0 where
   pub rest : List ℕ
   pub split : drop at file ≡ open_gate ∷ rest
-  pub none : (r : Record) → BeginsRecord (open_gate ∷ rest) g r → ⊥
+  pub none : (r : Record) → BeginsRecord (open_gate ∷ rest) h r → ⊥

@@ -2,8 +2,8 @@
 use Rattle.std.specs.Prelude.{◌≡◌, ℕ, Bool, List, ◌++◌, ◌∷◌, []}
 use Rattle.kishu_store.specs.Entries.{Entry, Record, entries_in}
 use Rattle.kishu_store.specs.EntryBytes.{body_of}
-use Rattle.kishu_store.specs.Fitting.{Fits}
-use Rattle.kishu_store.specs.Holds.{Ends, framed, end_of, graph_of, graph_by}
+use Rattle.kishu_store.specs.Histories.{Follows}
+use Rattle.kishu_store.specs.Holds.{Ends, framed, end_of, history_of, history_by}
 use Rattle.kishu_store.specs.Rules.{IsRecord}
 
 -- what a journal keeps: the place of the closed gate behind the records, and whether an append failed
@@ -21,7 +21,7 @@ pub record Stands (journal : JournalState) (file : List ℕ) (entries : List Ent
 -- the body is that of a record that says this entry, which fits behind these
 pub record IsNext (journal : JournalState) (file body : List ℕ) (entries : List Entry) (e : Entry) : Type 0 where
   pub stands : Stands journal file entries
-  pub fits : Fits (graph_of entries) e
+  pub fits : Follows (history_of entries) e
   pub next : Record
   pub says : next.entry ≡ e
   pub rules : IsRecord next
@@ -40,5 +40,5 @@ pub record IsWhole (file : List ℕ) (place : ℕ) (bytes : List ℕ) (rs : List
   pub ends : Ends file rs
   pub place_is : place ≡ end_of rs
   pub rules : IsRecord r
-  pub fits : Fits (graph_by rs) r.entry
+  pub fits : Follows (history_by rs) r.entry
   pub bytes_are : bytes ≡ framed (body_of r) ++ (0 ∷ [])

@@ -2,7 +2,7 @@ ghost use Rattle.std.specs.Prelude.{◌≡◌, ◌≤◌, ◌<◌, ◌⊎◌, �
 ghost use Rattle.kishu_host.specs.Host.{Told, HasCause};
 ghost use Rattle.kishu_store.specs.Limits.{longest_body};
 ghost use Rattle.kishu_store.specs.Holds.{framed};
-ghost use Rattle.kishu_journal.specs.Facts.{DiskRises, IsDurable, HasWritten, GainsRecord, StopsAtRecord, MayAppend, HasAppended, Adds, StopsAtEntry, ReadsNone};
+ghost use Rattle.kishu_journal.specs.Facts.{DiskRises, IsDurable, HasWritten, GainsRecord, StopsAtRecord, MayAppend, HasAppended, Adds, AddsRecord, StopsAtEntry, StopsAtNext, ReadsNone};
 ghost use Rattle.kishu_journal.specs.Found.{before_body};
 ghost use Rattle.kishu_journal.specs.declared.journal.JournalFault.TheVariants.{DiskFault, NoMemory};
 
@@ -53,7 +53,7 @@ fn write_record<H: Host>(host: &mut H, place: u64, bytes: &[u8]) -> Result<(), F
 
 impl Journal {
     /// Appends a record by its body, and answers the body's place in the file, in bytes. The body is
-    /// that of an entry that fits the graph of the store's records, and has at most 2^30 bytes.
+    /// that of a record that fits behind those of the store, and has at most 2^30 bytes.
     ///
     /// After `Ok` the gate at which the records ended is open, behind it stand the body's length, the
     /// body and a closed gate, and a stop leaves just this. It reads no byte.
@@ -73,6 +73,7 @@ impl Journal {
         requires next { MayAppend self.old (H.state host.old) body.now }
 
         ensures stands { OnOk result (Adds self.old self.new (H.state host.old) (H.state host.new) body.now) }
+        ensures records { OnOk result (AddsRecord self.old (H.state host.old) (H.state host.new) body.now) }
 
         // The record's bytes stand from the gate on, and the gate behind it is 0. What stood further behind stays.
         ensures bytes { OnOk result (HasAppended self.old (H.state host.old) (H.state host.new) body.now) }
@@ -81,9 +82,11 @@ impl Journal {
 
         // A stop at any moment leaves the records before, with or without the new one.
         ensures stop { StopsAtEntry self.old (H.state host.old) (H.state host.new) body.now }
+        ensures stop_records { StopsAtNext self.old (H.state host.old) (H.state host.new) body.now }
         ensures tells { (H.state host.new).tells ≡ (H.state host.old).tells }
 
         ensures answer { IfOk result (λ at. at ≡ self.old.place + before_body) }
+        ensures place { OnOk result (self.new.place ≡ self.old.place + before_body + length body.now) }
         ensures closed { IsTrue self.new.closed ↔ IsErrOf result DiskFault }
         ensures only_these { IfErr result (λ e. (e ≡ DiskFault) ⊎ (e ≡ NoMemory)) }
         ensures disk_fault { IsErrOf result DiskFault → DiskRises (H.state host.old) (H.state host.new) }

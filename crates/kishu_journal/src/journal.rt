@@ -50,7 +50,8 @@ impl Journal {
         }
     }
 
-    pub(crate) fn place(&self) -> u64
+    /// Where the records end: the place of the closed gate behind them, in bytes.
+    pub fn place(&self) -> u64
         ensures value { result ≡ self.now.place }
         ensures near { result < 2 ^ 63 }
     {

@@ -3,9 +3,9 @@ ghost use Rattle.std.specs.Prelude.{◌≡◌, ◌≤◌, ◌<◌, ◌⊎◌, �
 ghost use Rattle.kishu_host.specs.Host.{Told};
 ghost use Rattle.kishu_store.specs.Holds.{header, fresh_length};
 ghost use Rattle.kishu_journal.specs.Facts.{DiskRises, FailsBy, FailsOutside, WasForeign, WasBroken, WhereForeign, WhereBroken, WhereGood};
-ghost use Rattle.kishu_journal.specs.Facts.{IsDurable, KeepsLong, StaysShort, BeginsShort, Settles, StopsAtOpening, ReadsFile};
+ghost use Rattle.kishu_journal.specs.Facts.{KeepsTables, IsOfHistory, IsDurable, KeepsLong, StaysShort, BeginsShort, Settles, StopsAtOpening, ReadsFile};
 ghost use Rattle.kishu_journal.specs.Going.{IsQuiet, ReadsAtMost};
-ghost use Rattle.kishu_journal.specs.Stores.{GainsCells, IsRead, Opens};
+ghost use Rattle.kishu_journal.specs.Stores.{IsRead, Opens};
 ghost use Rattle.kishu_journal.specs.declared.journal.JournalFault.TheVariants.{DiskFault, NotAJournal, Damaged};
 
 use crate::opening::{begin, next_record, read_header};
@@ -14,46 +14,32 @@ use crate::window::Window;
 use crate::{Entry, Journal, JournalFault};
 use kishu_graph::Graph;
 use kishu_host::Host;
-use std::alloc::{AllocError, Global};
-use std::rc::RcStr;
+use std::alloc::Global;
 
 /// A store that is open.
 #[derive(Drop)]
 pub struct OpenStore {
     /// Where the records end.
     pub journal: Journal,
-    /// The graph to which they lead.
+    /// The graph to which they lead, with the tables of its commits.
     pub graph: Graph,
-    /// The texts of the cells of each commit, by the commits' numbers from 1 on.
-    pub cells: Vec<Vec<RcStr>>,
 }
 
-/// Puts the cells of the commit that an entry tells, if it tells one, behind these.
-fn keep_cells(cells: &mut Vec<Vec<RcStr>>, entry: Entry) -> Result<(), AllocError>
-    ensures { OnOk result (GainsCells cells.old cells.new entry) }
+/// How long a record's body is. What it says isn't kept.
+fn size_alone(next: (Entry, u64)) -> u64
+    ensures { result ≡ next.1 }
 {
-    match entry {
-        Entry::Commit { cells: texts, .. } => {
-            cells.push(texts)?;
-            Ok(())
-        }
-        Entry::Move { .. } => Ok(()),
-        Entry::Name { .. } => Ok(()),
-    }
+    next.1
 }
 
-/// Reads the records of a file of this length: the graph to which they lead, the cells of its commits, and
-/// the place of the closed gate behind them.
-fn read_graph<H: Host>(
-    alloc: Global,
-    host: &mut H,
-    len: u64,
-) -> Result<(Graph, Vec<Vec<RcStr>>, u64), JournalFault>
+/// Reads the records of a file of this length: the graph to which they lead, and the place of the closed
+/// gate behind them.
+fn read_graph<H: Host>(alloc: Global, host: &mut H, len: u64) -> Result<(Graph, u64), JournalFault>
     requires len { Told (H.state host.old) (len ≡ length (H.state host.old).file) }
     requires long { fresh_length < len }
     requires header { Told (H.state host.old) (take 16 (H.state host.old).file ≡ header) }
     ensures quiet { IsQuiet (H.state host.old) (H.state host.new) }
-    ensures read { IfOk result (λ r. IsRead (H.state host.new) r.2 r.0 r.1) }
+    ensures read { IfOk result (λ r. IsRead (H.state host.new) r.1 r.0) }
     ensures damaged { (at : ℕ) → IsErrOf result (Damaged at) → WasBroken (H.state host.old) at }
     ensures disk_fault { IsErrOf result DiskFault → DiskRises (H.state host.old) (H.state host.new) }
     ensures not_foreign { IsErrOf result NotAJournal → ⊥ }
@@ -63,27 +49,19 @@ fn read_graph<H: Host>(
         return Err(JournalFault::NoMemory);
     };
     let mut window = Window::new(alloc, 16);
-    let mut cells = Vec::new(alloc);
     let mut at = 16;
-    while let Some((entry, size)) = next_record(alloc, host, &mut window, &mut graph, at, len)? {
-        at = at + 9 + size;
-        let Ok(()) = keep_cells(&mut cells, entry) else {
-            return Err(JournalFault::NoMemory);
-        };
+    while let Some(next) = next_record(alloc, host, &mut window, &mut graph, at, len)? {
+        at = at + 9 + size_alone(next);
     }
-    Ok((graph, cells, at))
+    Ok((graph, at))
 }
 
 /// Reads a file of this length, which is too long to be begun anew.
-fn read_store<H: Host>(
-    alloc: Global,
-    host: &mut H,
-    len: u64,
-) -> Result<(Graph, Vec<Vec<RcStr>>, u64), JournalFault>
+fn read_store<H: Host>(alloc: Global, host: &mut H, len: u64) -> Result<(Graph, u64), JournalFault>
     requires len { Told (H.state host.old) (len ≡ length (H.state host.old).file) }
     requires long { fresh_length < len }
     ensures quiet { IsQuiet (H.state host.old) (H.state host.new) }
-    ensures read { IfOk result (λ r. IsRead (H.state host.new) r.2 r.0 r.1) }
+    ensures read { IfOk result (λ r. IsRead (H.state host.new) r.1 r.0) }
     ensures foreign { IsErrOf result NotAJournal → WasForeign (H.state host.old) }
     ensures damaged { (at : ℕ) → IsErrOf result (Damaged at) → WasBroken (H.state host.old) at }
     ensures disk_fault { IsErrOf result DiskFault → DiskRises (H.state host.old) (H.state host.new) }
@@ -95,16 +73,20 @@ fn read_store<H: Host>(
 
 impl Journal {
     /// Opens a store as `attach` does, and makes the graph of its records while it reads them: no record
-    /// is kept but for its commit's cells.
+    /// is kept.
     ///
     /// - `NotAJournal`: the file has more than 17 bytes and another header.
     /// - `Damaged`: at that place stands the first open gate behind which no whole record stands that
-    ///   fits the graph of those before it.
+    ///   fits behind those before it.
     /// - `DiskFault`: a call of the host failed.
-    /// - `NoMemory`: there was no memory for the graph and the cells.
+    /// - `NoMemory`: there was no memory for the graph, or for a record while it was read.
     pub fn open_store<H: Host>(alloc: Global, host: &mut H) -> Result<OpenStore, JournalFault>
-        // It opens only a file that holds a graph, makes that graph, and answers the cells of its commits.
+        // It opens only a file that holds a graph, and makes that graph.
         ensures opens { IfOk result (Opens (H.state host.old) (H.state host.new)) }
+
+        // The tables of its commits are those that the file gives; and whatever the host tells, records lead to it.
+        ensures tables { IfOk result (λ s. KeepsTables (H.state host.old) s.graph) }
+        ensures known { IfOk result (λ s. IsOfHistory s.graph s.journal.place) }
         ensures opened { IfOk result (λ s. s.journal.closed ≡ false) }
         ensures durable { IsErrOf result DiskFault ⊎ IsDurable (H.state host.old) (H.state host.new) }
         ensures out { (H.state host.new).out ≡ (H.state host.old).out }
@@ -147,14 +129,12 @@ impl Journal {
             return Ok(OpenStore {
                 journal: Journal::at(16),
                 graph,
-                cells: Vec::new(alloc),
             });
         }
-        let (graph, cells, place) = read_store(alloc, host, len)?;
+        let (graph, place) = read_store(alloc, host, len)?;
         Ok(OpenStore {
             journal: Journal::at(place),
             graph,
-            cells,
         })
     }
 }

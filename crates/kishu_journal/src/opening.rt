@@ -1,11 +1,9 @@
 ghost use Rattle.std.specs.Prelude.{◌≡◌, ◌≤◌, ◌<◌, ◌⊎◌, ◌+◌, ◌-◌, ◌^◌, ℕ, length, take, true, false, IfOk, IfSome, OnOk, IsErrOf, None, Ok};
 ghost use Rattle.kishu_host.specs.Host.{Told, HasCause};
-ghost use Rattle.kishu_store.specs.Graph.{new_graph};
 ghost use Rattle.std.specs.List.{AllByRecursion};
-ghost use Rattle.kishu_store.specs.Entries.{plain};
-ghost use Rattle.kishu_store.specs.EntryBytes.{body_of};
+ghost use Rattle.kishu_store.specs.Histories.{body_length, new_history};
 ghost use Rattle.kishu_store.specs.Limits.{most_records};
-ghost use Rattle.kishu_store.specs.Rules.{IsEntry, IsRecord};
+ghost use Rattle.kishu_store.specs.Rules.{IsEntry};
 ghost use Rattle.kishu_store.specs.Holds.{header, fresh_length};
 ghost use Rattle.kishu_record.specs.Entries.{entry_of};
 ghost use Rattle.kishu_journal.specs.Facts.{DiskRises, FailsBy, FailsOutside, RecordAt, TellsDamage, WasForeign, WasBroken, WhereForeign, WhereBroken, WhereGood};
@@ -65,13 +63,13 @@ pub(crate) fn next_record<H: Host>(
     requires shows { Shows (H.state host.old) window.old }
     requires end { end_of window.old ≤ len }
     requires from { window.old.from ≤ at }
+    requires near { at + before_body < 2 ^ 63 }
     ensures ahead { IsAhead (H.state host.old) (H.state host.new) window.old window.new len }
     ensures from { window.new.from ≤ at }
     ensures record { IfOk result (λ o. IfSome o (λ r. RecordAt (H.state host.old) at r.0)) }
-    ensures rules { IfOk result (λ o. IfSome o (λ r. IsRecord (plain (entry_of r.0)))) }
-    ensures made { IfOk result (λ o. IfSome o (λ r. GoOn graph.old r.0 graph.new)) }
+    ensures made { IfOk result (λ o. IfSome o (λ r. GoOn graph.old (at + before_body) r.0 graph.new)) }
     ensures stays { result ≡ Ok None → graph.new ≡ graph.old }
-    ensures size { IfOk result (λ o. IfSome o (λ r. r.1 ≡ length (body_of (plain (entry_of r.0))))) }
+    ensures size { IfOk result (λ o. IfSome o (λ r. r.1 ≡ body_length (entry_of r.0))) }
     ensures within { IfOk result (λ o. IfSome o (λ r. at + before_body + r.1 < len)) }
     ensures closed { result ≡ Ok None → Told (H.state host.old) (IsShut (H.state host.old).file at) }
     ensures damaged { TellsDamage graph.old (H.state host.old) at result }
@@ -82,7 +80,7 @@ pub(crate) fn next_record<H: Host>(
         return Ok(None);
     };
     let bytes = window.part(at + 13, head.bytes);
-    match take_record(alloc, graph, bytes, head.pictures) {
+    match take_record(alloc, graph, at + 9, bytes, head.pictures) {
         Ok(Some(entry)) => Ok(Some((entry, 4 + head.bytes as u64 + head.pictures))),
         Ok(None) => Err(JournalFault::Damaged { at }),
         Err(_) => Err(JournalFault::NoMemory),
@@ -180,7 +178,7 @@ impl Journal {
     ///
     /// - `NotAJournal`: the file has more than 17 bytes and another header.
     /// - `Damaged`: at that place stands the first open gate behind which no whole record stands that
-    ///   fits the graph of those before it.
+    ///   fits behind those before it.
     /// - `DiskFault`: a call of the host failed.
     /// - `NoMemory`: there was no memory for the records.
     pub fn attach<H: Host>(
@@ -193,7 +191,7 @@ impl Journal {
         ensures found { IfOk result (λ r. IsFound (H.state host.new) r.0 r.1.items) }
 
         // They keep the rules and fit, whatever the host tells.
-        ensures fit { IfOk result (λ r. AllFit new_graph (entries_of r.1.items)) }
+        ensures fit { IfOk result (λ r. AllFit new_history (entries_of r.1.items)) }
         ensures rules { IfOk result (λ r. AllByRecursion IsEntry (entries_of r.1.items)) }
         ensures most { IfOk result (λ r. length r.1.items ≤ most_records) }
         ensures near { IfOk result (λ r. AreBelow (2 ^ 63) r.1.items) }

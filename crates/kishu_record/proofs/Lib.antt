@@ -1,3 +1,4 @@
 pub mod Lists
 pub mod Rising
 pub mod Heads
+pub mod Sums

@@ -8,6 +8,7 @@ ghost use Rattle.kishu_record.specs.Readings.{Begins};
 ghost use Rattle.kishu_record.specs.Took.{Took};
 
 use kishu_language::LONGEST_TEXT;
+use simdutf8::basic::from_utf8;
 use std::alloc::{AllocError, Global};
 use std::rc::RcStr;
 
@@ -88,7 +89,7 @@ impl<'a> Cursor<'a> {
         let Some(bytes) = self.bytes(length) else {
             return Ok(None);
         };
-        let Ok(text) = str::from_utf8(bytes) else {
+        let Ok(text) = from_utf8(bytes) else {
             return Ok(None);
         };
         Ok(Some(RcStr::from_str(alloc, text)?))

@@ -1,21 +1,22 @@
 //! The bytes of a store's records.
 //!
 //! A record's body is its head behind the head's length, and then the pictures of the groups that it
-//! stores. `encode` gives the body of an entry and its pictures. `decode` gives the entry that a head
-//! spells, or tells that no entry within the rules has that head and pictures of that length.
+//! stores. `encode` gives the body of an entry and its pictures, and `head_len` how long its head is.
+//! `decode` gives the entry that a head spells, or tells that no entry within the rules has that head
+//! and pictures of that length.
 #![tactic(auto)]
 
 mod cursor;
 mod entry;
 mod groups;
+mod lengths;
 mod order;
 mod parts;
 mod reader;
-#[cfg(test)]
-mod tests;
 mod writer;
 
 pub use entry::{Entry, EntryFault, MoveTo};
+pub use lengths::head_len;
 pub use reader::decode;
 pub use writer::encode;
 

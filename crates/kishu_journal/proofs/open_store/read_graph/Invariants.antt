@@ -4,8 +4,8 @@ use Rattle.kishu_journal.specs.Windows.{Shows, end_of}
 use Rattle.kishu_journal.proofs.Stored.{ReachedStore}
 use Rattle.kishu_journal.proofs.open_store.read_graph.Given as goal
 
-abbrev pub invariant-loop-cells : goal.invariant-loop-cells
-invariant-loop-cells g l =
+abbrev pub invariant-loop-window : goal.invariant-loop-window
+invariant-loop-window g l =
     let st = g.H.Host.state in
     record {
       inside : l.at < l.len;
@@ -15,8 +15,8 @@ invariant-loop-cells g l =
       most : end_of l.window ≤ l.len;
       least : 16 ≤ end_of l.window;
       reads : ReadsAtMost (st l.fn.host).reads (st l.host).reads (end_of l.window - 16);
-      reached : ReachedStore (st l.fn.host) l.cells l.at l.graph;
+      reached : ReachedStore (st l.fn.host) l.at l.graph;
     }
 
-abbrev pub decreases-loop-cells : goal.decreases-loop-cells
-decreases-loop-cells g l = l.len - l.at
+abbrev pub decreases-loop-window : goal.decreases-loop-window
+decreases-loop-window g l = l.len - l.at

@@ -1,14 +1,14 @@
-use Rattle.std.proofs.Common.{◌≤◌, ◌+◌, ℕ, List, IsErrOf, sym, subst, drop, arith, rules}
+use Rattle.std.proofs.Common.{◌≡◌, ◌≤◌, ◌+◌, ℕ, true, List, IsErrOf, sym, subst, drop, arith, rules}
 use Rattle.kishu_record.specs.Entries.{entry_of}
 use Rattle.kishu_record.specs.Readings.{IsHead}
 use Rattle.kishu_store.specs.Entries.{Entry}
-use Rattle.kishu_store.specs.Fitting.{Fits}
+use Rattle.kishu_store.specs.Histories.{Follows, FollowsAt}
 use Rattle.kishu_store.specs.Limits.{longest_body}
 use Rattle.kishu_journal.specs.declared.journal.JournalFault.TheVariants.{Damaged}
 use Rattle.kishu_journal.specs.Facts.{head_at}
-use Rattle.kishu_journal.specs.Found.{BeginsHead, before_head}
+use Rattle.kishu_journal.specs.Found.{BeginsHead, before_body, before_head}
 use Rattle.kishu_journal.specs.Windows.{end_of}
-use Rattle.kishu_journal.proofs.Cuts.{none-fits, no-record, plain-there, plain-record, plain-length}
+use Rattle.kishu_journal.proofs.Cuts.{none-fits, no-record, record-there, head-length}
 use Rattle.kishu_journal.proofs.WindowLemmas.{still}
 use Rattle.kishu_journal.proofs.opening.next_record.Goals as goal
 
@@ -18,48 +18,35 @@ part-bytes-requires-clause-inside g c =
     omega (arith, shown)
 
 pub returns-in_err-head-clause-damaged : goal.returns-in_err-head-clause-damaged
-returns-in_err-head-clause-damaged g c gr stands place err told =
+returns-in_err-head-clause-damaged g c h kept ends place err told =
     let was : IsErrOf c.read_head.result (Damaged place) = search rules in
     let d = c.read_head.ensures.damaged place was told in
-    (d.0, no-record (g.H.Host.state c.args.host.now).file c.args.at gr d.1)
+    (d.0, no-record (g.H.Host.state c.args.host.now).file c.args.at h d.1)
 
 pub returns-in-Ok-Some-clause-record : goal.returns-in-Ok-Some-clause-record
-returns-in-Ok-Some-clause-record g c told =
+returns-in-Ok-Some-clause-record g c =
     let st = g.H.Host.state in
     let s = st c.args.host.now in
     let at = c.args.at in
     let head = c.in-Some.head in
     let bytes = c.part-bytes.result.now in
-    let e = entry_of c.in-Ok-Some.entry in
-    let there : BeginsHead (drop at s.file) (head_at s.file at head) head.pictures = rw c.in-Some.is at c.in_ok-head.ensures.head told in
-    let same = c.part-bytes.ensures.value s.file (still s (st c.read_head.new.host) c.args.window.now c.read_head.new.window c.args.len c.read_head.ensures.ahead told) in
-    let here = subst (λ (l : List ℕ). BeginsHead (drop at s.file) l head.pictures) (sym same) there in
-    let says : IsHead bytes head.pictures e = rw c.in-Ok-Some.field-0-is at c.in-Ok-Some.ensures.head in
-    let none = rw c.in-Ok-Some.field-0-is at c.in-Ok-Some.ensures.plain in
-    plain-there bytes head.pictures e says none (drop at s.file) here
-
-pub returns-in-Ok-Some-clause-rules : goal.returns-in-Ok-Some-clause-rules
-returns-in-Ok-Some-clause-rules g c =
-    let head = c.in-Some.head in
-    let bytes = c.part-bytes.result.now in
-    let e = entry_of c.in-Ok-Some.entry in
+    let there : s.tells ≡ true → BeginsHead (drop at s.file) (head_at s.file at head) head.pictures = rw c.in-Some.is at c.in_ok-head.ensures.head in
+    let same = λ (told : s.tells ≡ true). c.part-bytes.ensures.value s.file (still s (st c.read_head.new.host) c.args.window.now c.read_head.new.window c.args.len c.read_head.ensures.ahead told) in
+    let here = λ (told : s.tells ≡ true). subst (λ (l : List ℕ). BeginsHead (drop at s.file) l head.pictures) (sym (same told)) (there told) in
+    let says : IsHead bytes head.pictures (entry_of c.in-Ok-Some.entry) = rw c.in-Ok-Some.field-0-is at c.in-Ok-Some.ensures.head in
     let small : 4 + head.bytes + head.pictures ≤ longest_body = rw c.in-Some.is at c.in_ok-head.ensures.small in
-    let says : IsHead bytes head.pictures e = rw c.in-Ok-Some.field-0-is at c.in-Ok-Some.ensures.head in
-    let none = rw c.in-Ok-Some.field-0-is at c.in-Ok-Some.ensures.plain in
-    plain-record bytes head.pictures e says none (omega (arith, small, c.part-bytes.ensures.len))
+    record-there bytes head.pictures c.in-Ok-Some.entry says s at (omega (arith, small, c.part-bytes.ensures.len)) here
 
 pub returns-in-Ok-Some-clause-size : goal.returns-in-Ok-Some-clause-size
 returns-in-Ok-Some-clause-size g c =
     let head = c.in-Some.head in
     let bytes = c.part-bytes.result.now in
-    let e = entry_of c.in-Ok-Some.entry in
-    let says : IsHead bytes head.pictures e = rw c.in-Ok-Some.field-0-is at c.in-Ok-Some.ensures.head in
-    let none = rw c.in-Ok-Some.field-0-is at c.in-Ok-Some.ensures.plain in
-    let is = plain-length bytes head.pictures e says none in
+    let says : IsHead bytes head.pictures (entry_of c.in-Ok-Some.entry) = rw c.in-Ok-Some.field-0-is at c.in-Ok-Some.ensures.head in
+    let is = head-length bytes head.pictures c.in-Ok-Some.entry says in
     omega (arith, is, c.part-bytes.ensures.len)
 
 pub returns-in-Ok-None-clause-damaged : goal.returns-in-Ok-None-clause-damaged
-returns-in-Ok-None-clause-damaged g c gr stands place err told =
+returns-in-Ok-None-clause-damaged g c h kept ends place err told =
     let st = g.H.Host.state in
     let s = st c.args.host.now in
     let at = c.args.at in
@@ -68,6 +55,6 @@ returns-in-Ok-None-clause-damaged g c gr stands place err told =
     let there : BeginsHead (drop at s.file) (head_at s.file at head) head.pictures = rw c.in-Some.is at c.in_ok-head.ensures.head told in
     let same = c.part-bytes.ensures.value s.file (still s (st c.read_head.new.host) c.args.window.now c.read_head.new.window c.args.len c.read_head.ensures.ahead told) in
     let here = subst (λ (l : List ℕ). BeginsHead (drop at s.file) l head.pictures) (sym same) there in
-    let none : (e : Entry) → IsHead bytes head.pictures e → Fits gr e → ⊥ =
-    λ e says fits. c.take_record.ensures.none (cc (c.in-Ok-None.is, c.in-Ok-None.field-0-is)) gr e stands says fits in
-    (cc err, none-fits s.file at gr bytes head.pictures here none)
+    let none : (e : Entry) → IsHead bytes head.pictures e → Follows h e → ⊥ =
+    λ e says fits. c.take_record.ensures.none (cc (c.in-Ok-None.is, c.in-Ok-None.field-0-is)) h e kept says (subst (λ (n : ℕ). FollowsAt (n + before_body) h e) ends fits) in
+    (cc err, none-fits s.file at h bytes head.pictures here none)

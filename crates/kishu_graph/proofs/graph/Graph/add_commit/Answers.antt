@@ -1,21 +1,32 @@
 use Rattle.std.proofs.Common.{◌≡◌, List, [], ◌∷◌, ◌++◌, length, map, refl, sym, ap, subst, ◌∙◌, arith}
 use Rattle.std.proofs.lemmas.List.{length-map, map_push}
 use Rattle.std.specs.Rc.{rc_str_bytes}
+use Rattle.kishu_store.specs.Tables.{no_change}
 use Rattle.kishu_graph.specs.declared.commits.Commit as rust
-use Rattle.kishu_graph.specs.Kept.{Kept, HasShapeOf, StandsFor, outline, branches_of}
+use Rattle.kishu_graph.specs.Kept.{Kept, HasShapeOf, StandsFor, outline, branches_of, noted_of}
 use Rattle.kishu_graph.specs.Laws.{count-shape}
 use Rattle.kishu_graph.proofs.Changing.{committed, committed-shape}
-use Rattle.kishu_graph.proofs.Soundness.{sound-committed, commits-made}
+use Rattle.kishu_graph.proofs.Counted.{still, same-counts, counts-made}
+use Rattle.kishu_graph.proofs.Soundness.{sound-committed, commits-made, note-push}
 use Rattle.kishu_graph.proofs.graph.Graph.add_commit.Goals as goal
+
+pub invariant_of-self : goal.invariant_of-self
+invariant_of-self c = still _ _ _ _ _ _ _ _ c.self.invariant c.make_room.ensures.commits refl c.make_room.ensures.noted
+
+pub invariant_of-self-in_default-move_along : goal.invariant_of-self-in_default-move_along
+invariant_of-self-in_default-move_along c = still _ _ _ _ _ _ _ _ c.self.invariant c.make_room.ensures.commits c.in_default-move_along.ensures.err c.make_room.ensures.noted
 
 pub invariant_of-self-2 : goal.invariant_of-self-2
 invariant_of-self-2 c =
     let items = c.self.inside.commits.items in
     let k : rust.Commit = record { parent = c.self.inside.head.commit; cells = c.args.cells; profile = c.args.profile; line = c.args.line } in
     let number : c.len-number.result ≡ length items = omega (arith, c.len-number.ensures, c.self.inside.commits.ok.0) in
-    let made = commits-made items c.reserve.new.self.items c.push_in_room.new.commits.items (branches_of c.self.inside.branches.entries) (branches_of c.move_along.new.branches.entries) c.self.inside.head c.self.inside.records c.len-number.result k
-    refl c.reserve.ensures.items c.push_in_room.ensures number c.in-Ok-move_along.ensures.ok in
-    sound-committed _ _ (outline k) c.self.invariant (omega (arith, c.if-self-ge-MOST_RECORDS.false)) made
+    let made = commits-made items c.make_room.new.commits.items c.push_in_room.new.items.items (branches_of c.self.inside.branches.entries) (branches_of c.move_along.new.branches.entries) c.self.inside.head c.self.inside.records c.len-number.result k
+    refl c.make_room.ensures.commits c.push_in_room.ensures number c.in-Ok-move_along.ensures.ok
+    c.self.inside.noted.items c.make_room.new.noted.items c.push_in_room-2.new.items.items c.bare-bare.result c.make_room.ensures.noted c.push_in_room-2.ensures c.bare-bare.ensures.note in
+    let counts = counts-made items c.self.inside.branches.entries c.self.inside.head c.self.inside.records c.self.inside.noted.items c.make_room.new.noted.items c.push_in_room-2.new.items.items c.bare-bare.result c.index.result.now (outline k)
+    c.self.invariant refl c.make_room.ensures.noted c.push_in_room-2.ensures c.index.ensures c.bare-bare.ensures.rows in
+    (sound-committed _ _ (outline k) c.self.invariant.0 (omega (arith, c.if-self-ge-MOST_RECORDS.false)) made, same-counts _ _ _ _ _ counts made.commits made.noted)
 
 pub returns-clause-number : goal.returns-clause-number
 returns-clause-number c g s =
@@ -27,8 +38,9 @@ returns-clause-shape c g texts s =
     let items = c.self.inside.commits.items in
     let k : rust.Commit = record { parent = c.self.inside.head.commit; cells = c.args.cells; profile = c.args.profile; line = c.args.line } in
     let number : c.len-number.result ≡ length items = omega (arith, c.len-number.ensures, c.self.inside.commits.ok.0) in
-    let made = commits-made items c.reserve.new.self.items c.push_in_room.new.commits.items (branches_of c.self.inside.branches.entries) (branches_of c.move_along.new.branches.entries) c.self.inside.head c.self.inside.records c.len-number.result k
-    refl c.reserve.ensures.items c.push_in_room.ensures number c.in-Ok-move_along.ensures.ok in
+    let made = commits-made items c.make_room.new.commits.items c.push_in_room.new.items.items (branches_of c.self.inside.branches.entries) (branches_of c.move_along.new.branches.entries) c.self.inside.head c.self.inside.records c.len-number.result k
+    refl c.make_room.ensures.commits c.push_in_room.ensures number c.in-Ok-move_along.ensures.ok
+    c.self.inside.noted.items c.make_room.new.noted.items c.push_in_room-2.new.items.items c.bare-bare.result c.make_room.ensures.noted c.push_in_room-2.ensures c.bare-bare.ensures.note in
     committed-shape _ _ (outline k) made g texts (subst (λ (k : Kept). HasShapeOf k g) (sym c.self.view_is) s)
 
 pub returns-clause-stands : goal.returns-clause-stands
@@ -36,14 +48,20 @@ returns-clause-stands c g texts s cells line =
     let items = c.self.inside.commits.items in
     let k : rust.Commit = record { parent = c.self.inside.head.commit; cells = c.args.cells; profile = c.args.profile; line = c.args.line } in
     let number : c.len-number.result ≡ length items = omega (arith, c.len-number.ensures, c.self.inside.commits.ok.0) in
-    let made = commits-made items c.reserve.new.self.items c.push_in_room.new.commits.items (branches_of c.self.inside.branches.entries) (branches_of c.move_along.new.branches.entries) c.self.inside.head c.self.inside.records c.len-number.result k
-    refl c.reserve.ensures.items c.push_in_room.ensures number c.in-Ok-move_along.ensures.ok in
+    let made = commits-made items c.make_room.new.commits.items c.push_in_room.new.items.items (branches_of c.self.inside.branches.entries) (branches_of c.move_along.new.branches.entries) c.self.inside.head c.self.inside.records c.len-number.result k
+    refl c.make_room.ensures.commits c.push_in_room.ensures number c.in-Ok-move_along.ensures.ok
+    c.self.inside.noted.items c.make_room.new.noted.items c.push_in_room-2.new.items.items c.bare-bare.result c.make_room.ensures.noted c.push_in_room-2.ensures c.bare-bare.ensures.note in
     committed _ _ (outline k) made g texts (subst (λ (k : Kept). StandsFor k g) (sym c.self.view_is) s) cells line
 
 pub returns-clause-added : goal.returns-clause-added
 returns-clause-added c =
     let items = c.self.inside.commits.items in
     let k : rust.Commit = record { parent = c.self.inside.head.commit; cells = c.args.cells; profile = c.args.profile; line = c.args.line } in
-    ap (map outline) (c.push_in_room.ensures ∙ ap (λ (l : List rust.Commit). l ++ (k ∷ [])) c.reserve.ensures.items)
+    ap (map outline) (c.push_in_room.ensures ∙ ap (λ (l : List rust.Commit). l ++ (k ∷ [])) c.make_room.ensures.commits)
     ∙ map_push outline items k
     ∙ ap (λ (old : Kept). old.commits ++ (record { parent = old.head.commit; profile = c.args.profile; cells = c.args.cells; line = rc_str_bytes c.args.line } ∷ [])) c.self.view_is
+
+pub returns-clause-noted : goal.returns-clause-noted
+returns-clause-noted c =
+    note-push c.self.inside.noted.items c.make_room.new.noted.items c.push_in_room-2.new.items.items c.bare-bare.result c.make_room.ensures.noted c.push_in_room-2.ensures c.bare-bare.ensures.note
+    ∙ ap (λ (old : Kept). old.noted ++ (noted_of no_change ∷ [])) c.self.view_is

@@ -1,0 +1,191 @@
+// Which groups a commit may drop and store.
+ghost use Rattle.std.specs.Prelude.{◌≡◌, ◌≤◌, ◌<◌, ◌+◌, ◌++◌, true, false, Ok, drop, length, map, IfOk, MatchOption};
+ghost use Rattle.std.specs.List.{sum};
+ghost use Rattle.std.specs.Rc.{rc_str_bytes};
+ghost use Rattle.kishu_store.specs.Groups.{AreGroups, AreStored, is_group};
+ghost use Rattle.kishu_store.specs.Limits.{most_pictured};
+ghost use Rattle.kishu_store.specs.Tables.{are_apart, names_in};
+ghost use Rattle.kishu_graph.specs.Fits.{AddsNames, StaysOf, TellsFit, bytes_of, is_next, lengths_in, names_of, rows_of};
+ghost use Rattle.kishu_graph.specs.Kept.{texts_of};
+ghost use Rattle.kishu_graph.specs.Tables.{stored_of, table_of_rows, FitsHead, FailsHead};
+
+use crate::Graph;
+use crate::tables::{Table, TableRow};
+use std::alloc::{AllocError, Global};
+use std::collections::BTreeSet;
+use std::rc::RcStr;
+
+/// The most bytes that the pictures of a commit's table take.
+const MOST_PICTURED: u64 = 268_435_456;
+
+impl Graph {
+    /// Whether a commit of the head may drop these groups and store these, each with the length of its
+    /// picture in bytes: the head's table has all groups that are dropped, and in the table after it no
+    /// name stands in two groups, and the pictures take at most 268,435,456 bytes.
+    ///
+    /// Its condition is that both lists are ones that a record may tell. An error says that no memory is
+    /// left.
+    pub fn fits(
+        &self,
+        dropped: &[Vec<RcStr>],
+        stored: &[(Vec<RcStr>, u64)],
+    ) -> Result<bool, AllocError>
+        requires dropped { AreGroups (map texts_of dropped.now) }
+        requires stored { AreStored (map stored_of stored.now) }
+        ensures fits { result ≡ Ok true → FitsHead self.now dropped.now stored.now }
+        ensures small { result ≡ Ok true → sum (map (λ s. s.1) stored.now) ≤ most_pictured }
+        ensures fails { result ≡ Ok false → FailsHead self.now dropped.now stored.now }
+    {
+        let table = self.table(self.head.commit)?;
+        fits_table(self.alloc, table, dropped, stored)
+    }
+}
+
+/// Whether a commit behind this table may drop these groups and store these.
+fn fits_table(
+    alloc: Global,
+    table: Table,
+    dropped: &[Vec<RcStr>],
+    stored: &[(Vec<RcStr>, u64)],
+) -> Result<bool, AllocError>
+    requires { AreGroups (map texts_of dropped.now) }
+    ensures fits { IfOk result (λ fits. TellsFit (table_of_rows table) dropped.now stored.now fits) }
+    ensures small { IfOk result (λ fits. fits ≡ true → lengths_in stored.now ≤ most_pictured) }
+{
+    let Some(left) = rows_left(alloc, table, dropped)? else {
+        return Ok(false);
+    };
+    if !take_few_bytes(&left, stored) {
+        return Ok(false);
+    }
+    stand_apart(alloc, &left, stored)
+}
+
+/// The rows that stay of a table where groups are dropped, both in the order of first names. There are
+/// none where the table hasn't all of these groups.
+fn rows_left(
+    alloc: Global,
+    table: Table,
+    dropped: &[Vec<RcStr>],
+) -> Result<Option<Vec<TableRow>>, AllocError>
+    ensures { IfOk result (λ left. StaysOf (table_of_rows table) (map texts_of dropped.now) left) }
+{
+    let mut left = Vec::with_capacity(alloc, table.rows.len())?;
+    let mut met = 0;
+    for row in table.rows {
+        if is_next(dropped, met, &row.group.names) {
+            met += 1;
+        } else {
+            left.push(row)?;
+        }
+    }
+    if met < dropped.len() {
+        return Ok(None);
+    }
+    Ok(Some(left))
+}
+
+/// Whether the group of a number has just these names.
+fn is_next(groups: &[Vec<RcStr>], at: usize, names: &[RcStr]) -> bool
+    ensures next { result ≡ is_next (map rc_str_bytes names.now) (drop at (map texts_of groups.now)) }
+    ensures inside { result ≡ true → at < length groups.now }
+{
+    at < groups.len() && are_same(names, &groups[at])
+}
+
+/// Whether two groups have the same names.
+fn are_same(a: &[RcStr], b: &[RcStr]) -> bool
+    ensures { result ≡ is_group (map rc_str_bytes a.now) (map rc_str_bytes b.now) }
+{
+    a == b
+}
+
+/// Whether the pictures of these rows and groups take at most 268,435,456 bytes together.
+fn take_few_bytes(left: &[TableRow], stored: &[(Vec<RcStr>, u64)]) -> bool
+    ensures yes { result ≡ true → bytes_of left.now + lengths_in stored.now ≤ most_pictured }
+    ensures no { result ≡ false → most_pictured < bytes_of left.now + lengths_in stored.now }
+{
+    match room_behind_rows(MOST_PICTURED, left) {
+        Some(room) => room_behind_groups(room, stored).is_some(),
+        None => false,
+    }
+}
+
+/// How many of these bytes are left behind the pictures of rows, where there is room for them.
+fn room_behind_rows(most: u64, rows: &[TableRow]) -> Option<u64>
+    ensures { MatchOption result (most < bytes_of rows.now) (λ n. n + bytes_of rows.now ≡ most) }
+{
+    let mut room = most;
+    for row in rows {
+        let Some(left) = room.checked_sub(row.len) else {
+            return None;
+        };
+        room = left;
+    }
+    Some(room)
+}
+
+/// The same of the pictures of groups.
+fn room_behind_groups(most: u64, stored: &[(Vec<RcStr>, u64)]) -> Option<u64>
+    ensures { MatchOption result (most < lengths_in stored.now) (λ n. n + lengths_in stored.now ≡ most) }
+{
+    let mut room = most;
+    for (_, len) in stored {
+        let Some(left) = room.checked_sub(*len) else {
+            return None;
+        };
+        room = left;
+    }
+    Some(room)
+}
+
+/// Whether no name stands twice among these rows and groups.
+fn stand_apart(
+    alloc: Global,
+    left: &[TableRow],
+    stored: &[(Vec<RcStr>, u64)],
+) -> Result<bool, AllocError>
+    ensures { IfOk result (λ apart. apart ≡ are_apart (names_of stored.now ++ names_in (rows_of left.now))) }
+{
+    let mut names = BTreeSet::new(alloc);
+    if !add_groups(&mut names, stored)? {
+        return Ok(false);
+    }
+    add_rows(&mut names, left)
+}
+
+/// Puts the names of groups among others, and tells whether none of these stands there twice.
+fn add_groups(names: &mut BTreeSet<RcStr>, stored: &[(Vec<RcStr>, u64)]) -> Result<bool, AllocError>
+    ensures { IfOk result (λ b. AddsNames (names_of stored.now) names.old.keys names.new.keys b) }
+{
+    for (group, _) in stored {
+        if !add_names(names, group)? {
+            return Ok(false);
+        }
+    }
+    Ok(true)
+}
+
+/// The same of rows.
+fn add_rows(names: &mut BTreeSet<RcStr>, rows: &[TableRow]) -> Result<bool, AllocError>
+    ensures { IfOk result (λ b. AddsNames (names_in (rows_of rows.now)) names.old.keys names.new.keys b) }
+{
+    for row in rows {
+        if !add_names(names, &row.group.names)? {
+            return Ok(false);
+        }
+    }
+    Ok(true)
+}
+
+/// The same of one group.
+fn add_names(names: &mut BTreeSet<RcStr>, group: &[RcStr]) -> Result<bool, AllocError>
+    ensures { IfOk result (λ b. AddsNames (map rc_str_bytes group.now) names.old.keys names.new.keys b) }
+{
+    for name in group {
+        if !names.insert(name.clone()?)? {
+            return Ok(false);
+        }
+    }
+    Ok(true)
+}

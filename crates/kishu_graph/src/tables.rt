@@ -1,0 +1,53 @@
+// Tables of commits, and what is kept of them.
+ghost use Rattle.std.specs.Prelude.{◌≡◌};
+ghost use Rattle.kishu_store.specs.Tables.{no_change};
+ghost use Rattle.kishu_graph.specs.Kept.{noted_of, note};
+
+use std::alloc::Global;
+use std::rc::RcStr;
+
+/// Names that stand together, in byte order.
+#[derive(Debug, Drop)]
+pub struct Group {
+    pub names: Vec<RcStr>,
+}
+
+/// A group of a table: the commit that stored it, and where its picture lies in the store's file, in
+/// bytes.
+#[derive(Debug, Drop)]
+pub struct TableRow {
+    pub group: Group,
+    pub version: u32,
+    pub place: u64,
+    pub len: u64,
+}
+
+/// The groups of a commit, in the order of their first names.
+#[derive(Debug, Drop)]
+pub struct Table {
+    pub rows: Vec<TableRow>,
+}
+
+/// What is kept of what a commit changes of its parent's table.
+#[derive(Drop)]
+pub(crate) struct Noted {
+    /// The first names of the groups that it drops.
+    pub(crate) dropped: Vec<RcStr>,
+    pub(crate) stored: Vec<TableRow>,
+    /// How many rows its table has, where 32 bits count them.
+    pub(crate) rows: Option<u32>,
+}
+
+impl Noted {
+    /// Of a commit that changes nothing, whose table has so many rows.
+    pub(crate) fn bare(alloc: Global, rows: Option<u32>) -> Noted
+        ensures note { note result ≡ noted_of no_change }
+        ensures rows { result.rows ≡ rows }
+    {
+        Noted {
+            dropped: Vec::new(alloc),
+            stored: Vec::new(alloc),
+            rows,
+        }
+    }
+}
