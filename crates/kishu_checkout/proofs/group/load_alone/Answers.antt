@@ -1,0 +1,17 @@
+use Rattle.std.proofs.Common.{subst}
+use Rattle.kishu_loading.specs.Loaded.{held, IsLoaded}
+use Rattle.kishu_checkout.proofs.Stored.{alone, no_picture, are_bytes}
+use Rattle.kishu_checkout.proofs.group.load_alone.Goals as goal
+
+pub returns-in-Ok : goal.returns-in-Ok
+returns-in-Ok c =
+    let bytes = c.args.bytes.now in
+    let heap = c.args.heap.now in
+    let after = held c.load.new.heap c.load.new.names in
+    let loaded = subst (λ n. IsLoaded bytes (held heap n) after) c.new-own.ensures c.in-Ok.ensures.loaded in
+    record { loaded = alone bytes heap after (are_bytes bytes c.type_inv.bytes) loaded }
+
+pub returns-in-Err-Picture : goal.returns-in-Err-Picture
+returns-in-Err-Picture c =
+    let fault = rw c.in-Err-Picture.field-0-is at c.in-Err-Picture.ensures.fault in
+    record { loaded = no_picture c.args.bytes.now c.in-Err-Picture.field-0-0 fault }

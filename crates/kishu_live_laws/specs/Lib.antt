@@ -1,0 +1,12 @@
+pub mod OnStates
+pub mod Refusals
+pub mod Replays
+pub mod Outcomes
+pub mod Small
+pub mod CellsAlike
+pub mod RequestsAlike
+pub mod RefusalLaws
+pub mod GraphsAlike
+pub mod AtHead
+pub mod Loads
+pub mod Fewer
