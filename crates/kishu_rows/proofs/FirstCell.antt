@@ -18,7 +18,7 @@ use Rattle.kishu_model.specs.Step.{step}
 use Rattle.kishu_model.specs.Task.{task, one_cell}
 use Rattle.kishu_store.specs.Entries.{commit, plain}
 use Rattle.kishu_store.specs.EntryBytes.{head_of, body_of}
-use Rattle.kishu_store.specs.Fitting.{Fits}
+use Rattle.kishu_store.specs.Histories.{new_history, Follows}
 use Rattle.kishu_store.specs.Rules.{IsCell, IsRecord}
 use Rattle.kishu_store.specs.Holds.{header, framed, front, Holds, IsForeign}
 
@@ -110,8 +110,8 @@ no_cell : IsCell (255 ∷ []) → ⊥
 unfolding is_utf8 chars encode_utf8
 no_cell c = false≢true (is_utf8-from_IsUtf8 (255 ∷ []) c.utf8)
 
-first_fits : Fits new_graph (commit 0 One (codes "print(1 + 2)" ∷ []) [] [])
-first_fits = record { room = omega arith; goes_on = (refl, refl, refl) }
+first_fits : Follows new_history (commit 0 One (codes "print(1 + 2)" ∷ []) [] [])
+first_fits = record { graph = record { room = omega arith; goes_on = refl }; table = (record { dropped = refl; apart = refl; small = omega arith }, tt) }
 
 first_record : IsRecord (plain (commit 0 One (codes "print(1 + 2)" ∷ []) [] []))
 unfolding head_of body_of IsStrictlySortedBy

@@ -7,6 +7,7 @@ use Rattle.std.specs.declared.rc.RcStr.{RcStr}
 use Rattle.serde_json.specs.Data.{Data}
 use Rattle.kishu_host.specs.Host.{State, Elapses, DuringPut}
 use Rattle.kishu_store.specs.Graph.{Graph}
+use Rattle.kishu_replay.specs.Replay.{replay}
 use Rattle.kishu_model.specs.Request.{Request, cell, cells}
 use Rattle.kishu_model.specs.requests.Cells.{texts_size}
 use Rattle.kishu_model.specs.Serve.{after, Item, silent, closing, charges}
@@ -20,7 +21,7 @@ use Rattle.kishu_session.specs.declared.session.Session.{Session}
 use Rattle.kishu_serve.specs.Coming.{Comes, ComesTo}
 use Rattle.kishu_serve.specs.Filling.{FillsByAny}
 use Rattle.kishu_serve.specs.Headline.{IsPart, IsWhole}
-use Rattle.kishu_serve.specs.Recorded.{IsRecordedBy, AreRecorded}
+use Rattle.kishu_serve.specs.Recorded.{IsRecordedBy, AreRecorded, Records}
 use Rattle.kishu_serve.proofs.Chain.{more-stop, first-fills, comes-more, comes-whole, comes-least}
 use Rattle.kishu_serve.proofs.Parts.{told-stop}
 
@@ -35,6 +36,10 @@ recorded-by (suc n) old mid new (next, first, rest) turn = let r = recorded-by n
 pub recorded-more : (many : Bool) (old mid new : List ℕ) → many ≡ true → AreRecorded many old mid → (new ≡ mid) ⊎ IsRecorded mid new → AreRecorded many old new
 recorded-more true old mid new e (n, before) turn = recorded-by n old mid new before turn
 recorded-more false old mid new e before turn = absurd (cc e)
+
+-- They are where the host tells its file.
+pub file-kept : (many : Bool) (s0 s1 s2 : State) → s2.file ≡ s1.file → Records many s0 s1 → Records many s0 s2
+file-kept many s0 s1 s2 same before told = subst (λ (f : List ℕ). AreRecorded many s0.file f) (sym same) (before told)
 
 -- ---- a run that has done nothing yet
 
@@ -57,7 +62,7 @@ module _ (s0 s1 s2 : State) (g now : Graph) (all rest : List Item) (q : Request)
   pub silent-stop : Elapses s1 s2 (IsPart s1 now (silent q ∷ [])) → Elapses s0 s2 (IsPart s0 g all)
   silent-stop stop = more-stop s0 s1 s2 g now all rest (silent q) steps0 steps1 comes stop
 
-  pub silent-fills : FillsBy now q → FillsByAny g all
+  pub silent-fills : FillsBy (replay now now.head.commit) q → FillsByAny g all
   silent-fills full = first-fills s0 s1 s2 g now all rest (silent q) steps0 steps1 comes full
 
 -- ---- cells one by one
@@ -74,7 +79,7 @@ abbrev pub left_from : ℕ → List (List ℕ) → Data → Graph → List Item
 left_from at texts d now = items_from now at (each_cell now (drop at texts)) d
 
 module _ {s0 s : State} {session : Session} {g : Graph} {all : List Item} {steps0 steps : ℕ} (at : ℕ) (texts : List (List ℕ)) (d : Data)
-    (so : ComesTo s0 s session true g all (left_from at texts d) steps0 steps) (text : List ℕ) (here : drop at texts ≡ text ∷ drop (at + 1) texts) where
+    (so : ComesTo s0 s session g all (left_from at texts d) steps0 steps) (text : List ℕ) (here : drop at texts ≡ text ∷ drop (at + 1) texts) where
   -- what is left behind this cell
   abbrev pub behind : List Item
   behind =
@@ -88,16 +93,16 @@ module _ {s0 s : State} {session : Session} {g : Graph} {all : List Item} {steps
   pub cell-stop : (s2 : State) → Elapses s s2 (IsPart s so.now (silent (cell text) ∷ [])) → Elapses s0 s2 (IsPart s0 g all)
   cell-stop s2 stop = silent-stop s0 s s2 g so.now all behind (cell text) steps0 steps steps first stop
 
-  pub cell-fills : (s2 : State) → FillsBy so.now (cell text) → FillsByAny g all
+  pub cell-fills : (s2 : State) → FillsBy (replay so.now so.now.head.commit) (cell text) → FillsByAny g all
   cell-fills s2 full = silent-fills s0 s s2 g so.now all behind (cell text) steps0 steps steps first full
 
   module _ (s2 : State) (next : Session) (set : Data) (steps2 : ℕ) (attached : IsAttached next s2 (after so.now (cell text))) (same : s2.out ≡ s.out)
-      (bytes : (s2.file ≡ s.file) ⊎ IsRecorded s.file s2.file) (least : steps + charge_of so.now (cell text) ≤ steps2)
+      (least : steps + charge_of so.now (cell text) ≤ steps2)
       (stop : Elapses s s2 (IsPart s so.now (silent (cell text) ∷ []))) (is_set : set ≡ with_answer at (step so.now (cell text)).answer d) where
     then-behind : Comes s0 s2 g (after so.now (cell text)) all behind steps0 steps2
     then-behind = silent-more s0 s s2 g so.now all behind (cell text) steps0 steps steps2 first same least stop
 
-    pub goes-further : goes_on (step so.now (cell text)).answer ≡ true → (further : ℕ) → further ≡ at + 1 → ComesTo s0 s2 next true g all (left_from further texts set) steps0 steps2
+    pub goes-further : goes_on (step so.now (cell text)).answer ≡ true → (further : ℕ) → further ≡ at + 1 → ComesTo s0 s2 next g all (left_from further texts set) steps0 steps2
     goes-further goes further is =
         let a = after so.now (cell text) in
         let e : behind ≡ items_from a further (each_cell a (drop further texts)) set =
@@ -108,11 +113,10 @@ module _ {s0 s : State} {session : Session} {g : Graph} {all : List Item} {steps
         record {
           now = a;
           attached = attached;
-          recorded = recorded-more true s0.file s.file s2.file refl so.recorded bytes;
           comes = subst (λ (is : List Item). Comes s0 s2 g a all is steps0 steps2) e then-behind;
         }
 
-    pub ends-here : goes_on (step so.now (cell text)).answer ≡ false → ComesTo s0 s2 next true g all (λ _. closing (written set) ∷ []) steps0 steps2
+    pub ends-here : goes_on (step so.now (cell text)).answer ≡ false → ComesTo s0 s2 next g all (λ _. closing (written set) ∷ []) steps0 steps2
     ends-here goes =
         let a = after so.now (cell text) in
         let e : behind ≡ closing (written set) ∷ [] =
@@ -121,24 +125,22 @@ module _ {s0 s : State} {session : Session} {g : Graph} {all : List Item} {steps
         record {
           now = a;
           attached = attached;
-          recorded = recorded-more true s0.file s.file s2.file refl so.recorded bytes;
           comes = subst (λ (is : List Item). Comes s0 s2 g a all is steps0 steps2) e then-behind;
         }
 
 -- all cells are run
 pub at-last : {s0 s : State} {session : Session} {g : Graph} {all : List Item} {steps0 steps : ℕ} (at : ℕ) (texts : List (List ℕ)) (d : Data)
-    → drop at texts ≡ [] → ComesTo s0 s session true g all (left_from at texts d) steps0 steps → ComesTo s0 s session true g all (λ _. closing (written d) ∷ []) steps0 steps
+    → drop at texts ≡ [] → ComesTo s0 s session g all (left_from at texts d) steps0 steps → ComesTo s0 s session g all (λ _. closing (written d) ∷ []) steps0 steps
 at-last {s0 = s0} {s = s} {g = g} {all = all} {steps0 = steps0} {steps = steps} at texts d none so = record {
   now = so.now;
   attached = so.attached;
-  recorded = so.recorded;
   comes = subst (λ (ts : List (List ℕ)). Comes s0 s g so.now all (items_from so.now at (each_cell so.now ts) d) steps0 steps) none so.comes;
 }
 
 -- before the first cell
 pub at-first : (s : State) (session : Session) (g : Graph) (texts : List (List ℕ)) (d : Data) (steps : ℕ) → IsAttached session s g
-    → ComesTo s s session true g (items_from g 0 (each_cell g texts) d) (left_from 0 texts d) steps steps
-at-first s session g texts d steps a = record { now = g; attached = a; recorded = (zero, refl); comes = comes-start s session g (items_from g 0 (each_cell g texts) d) steps a }
+    → ComesTo s s session g (items_from g 0 (each_cell g texts) d) (left_from 0 texts d) steps steps
+at-first s session g texts d steps a = record { now = g; attached = a; comes = comes-start s session g (items_from g 0 (each_cell g texts) d) steps a }
 
 -- ---- all cells in one request
 
@@ -160,30 +162,29 @@ module _ (s : State) (session : Session) (g : Graph) (texts : List (List ℕ)) (
   pub together-stop : (s2 : State) → Elapses s s2 (IsPart s g (silent (cells texts) ∷ [])) → Elapses s s2 (IsPart s g all-of)
   together-stop s2 stop = silent-stop s s s2 g g all-of after-it (cells texts) steps steps steps only stop
 
-  pub together-fills : (s2 : State) → FillsBy g (cells texts) → FillsByAny g all-of
+  pub together-fills : (s2 : State) → FillsBy (replay g g.head.commit) (cells texts) → FillsByAny g all-of
   together-fills s2 full = silent-fills s s s2 g g all-of after-it (cells texts) steps steps steps only full
 
   pub together-comes : (s2 : State) (next : Session) (set : Data) (steps2 : ℕ) → IsAttached next s2 (after g (cells texts)) → s2.out ≡ s.out
-      → (s2.file ≡ s.file) ⊎ IsRecorded s.file s2.file → steps + charge_of g (cells texts) ≤ steps2
+      → steps + charge_of g (cells texts) ≤ steps2
       → Elapses s s2 (IsPart s g (silent (cells texts) ∷ [])) → set ≡ with_answer 0 (step g (cells texts)).answer d
-      → ComesTo s s2 next false g all-of (λ _. closing (written set) ∷ []) steps steps2
-  together-comes s2 next set steps2 attached same bytes least stop is_set = record {
+      → ComesTo s s2 next g all-of (λ _. closing (written set) ∷ []) steps steps2
+  together-comes s2 next set steps2 attached same least stop is_set = record {
     now = after g (cells texts);
     attached = attached;
-    recorded = bytes;
     comes =
         subst (λ (x : Data). Comes s s2 g (after g (cells texts)) all-of (closing (written x) ∷ []) steps steps2) (sym is_set)
         (silent-more s s s2 g g all-of after-it (cells texts) steps steps steps2 only same least stop);
   }
 
 pub together-none : (s : State) (session : Session) (g : Graph) (d : Data) (steps : ℕ) → IsAttached session s g
-    → ComesTo s s session false g (items_from g 0 (all_cells []) d) (λ _. closing (written d) ∷ []) steps steps
-together-none s session g d steps a = record { now = g; attached = a; recorded = inl refl; comes = comes-start s session g (items_from g 0 (all_cells []) d) steps a }
+    → ComesTo s s session g (items_from g 0 (all_cells []) d) (λ _. closing (written d) ∷ []) steps steps
+together-none s session g d steps a = record { now = g; attached = a; comes = comes-start s session g (items_from g 0 (all_cells []) d) steps a }
 
 -- ---- the notebook goes out
 
-module _ {s0 s1 : State} {session : Session} {many : Bool} {g : Graph} {all : List Item} {steps0 steps : ℕ} (bytes : List ℕ)
-    (so : ComesTo s0 s1 session many g all (λ _. closing bytes ∷ []) steps0 steps) (s2 : State) where
+module _ {s0 s1 : State} {session : Session} {g : Graph} {all : List Item} {steps0 steps : ℕ} (bytes : List ℕ)
+    (so : ComesTo s0 s1 session g all (λ _. closing bytes ∷ []) steps0 steps) (s2 : State) where
   -- a stop while it does
   going-out : Elapses s1 s2 (DuringPut s1 bytes) → Elapses s1 s2 (IsPart s1 so.now (closing bytes ∷ []))
   going-out put = told-stop session s1 s2 so.now (closing bytes) bytes so.attached refl refl put
@@ -200,9 +201,6 @@ module _ {s0 s1 : State} {session : Session} {many : Bool} {g : Graph} {all : Li
 
     pub last-least : steps0 + charges g all ≤ steps
     last-least = comes-least s0 s2 g so.now all steps0 steps last-comes
-
-  pub last-bytes : s2.file ≡ s1.file → AreRecorded many s0.file s2.file
-  last-bytes file = subst (λ (f : List ℕ). AreRecorded many s0.file f) (sym file) so.recorded
 
 -- ---- how many texts a record has room for
 

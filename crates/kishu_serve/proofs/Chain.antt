@@ -6,13 +6,13 @@ use Rattle.kishu_host.specs.Going.{goes_on}
 use Rattle.kishu_host.specs.Host.{State, Told, Elapses}
 use Rattle.kishu_host.specs.Source.{SourceState}
 use Rattle.kishu_store.specs.Graph.{Graph}
-use Rattle.kishu_store.specs.Holds.{Holds}
+use Rattle.kishu_replay.specs.Replay.{replay}
+use Rattle.kishu_history.specs.Good.{IsWholeFileOf}
 use Rattle.kishu_model.specs.Request.{Request}
 use Rattle.kishu_model.specs.Serve.{after, answer_of, Item, answered, after_item, bytes_of, charge_by, answers, charges, Reached}
 use Rattle.kishu_model.specs.Step.{charge_of}
 use Rattle.kishu_session.specs.Attached.{IsAttached}
 use Rattle.kishu_session.specs.Filling.{FillsBy}
-use Rattle.kishu_session.specs.Small.{small-after-all}
 use Rattle.kishu_session.specs.Written.{IsRecorded}
 use Rattle.kishu_session.specs.declared.session.Session.{Session}
 use Rattle.kishu_input.specs.declared.whole.InputStop.{InputStop}
@@ -22,12 +22,13 @@ use Rattle.kishu_serve.specs.Coming.{Comes}
 use Rattle.kishu_serve.specs.Filling.{FillsByItem, FillsByAny}
 use Rattle.kishu_serve.specs.Headline.{IsPart, IsWhole}
 use Rattle.kishu_serve.specs.Recorded.{IsRecordedBy, AreRecorded}
+use Rattle.kishu_serve.specs.Serving.{IsOpen}
 use Rattle.kishu_serve.specs.Stops.{stop_by}
 use Rattle.kishu_serve.specs.declared.serving.Stop.{Stop}
 use Rattle.kishu_serve.specs.declared.serving.Stop.TheVariants.{TooLong}
 use Rattle.kishu_serve.specs.declared.asking.Requests.{Requests}
 use Rattle.kishu_serve.specs.declared.asking.Requests.TheVariants.{Done, One, Lines}
-use Rattle.kishu_serve.proofs.Parts.{attached-holds}
+use Rattle.kishu_serve.proofs.Parts.{attached-good}
 use Rattle.kishu_serve.proofs.Runs.{reached-none}
 
 -- ---- an input that isn't read on
@@ -50,13 +51,13 @@ MayRecord Done old new = new ≡ old
 MayRecord (One q) old new = (new ≡ old) ⊎ IsRecorded old new
 MayRecord (Lines reader) old new = (n : ℕ) × IsRecordedBy n old new
 
-none-recorded : (k : Requests) (file : List ℕ) → MayRecord k file file
+pub none-recorded : (k : Requests) (file : List ℕ) → MayRecord k file file
 none-recorded Done file = refl
 none-recorded (One q) file = inl refl
 none-recorded (Lines reader) file = (0, refl)
 
 -- a request, and those behind it
-more-recorded : (k rest : Requests) (old next new : List ℕ) → reads_lines rest ≡ reads_lines k → turns_left rest < turns_left k → (next ≡ old) ⊎ IsRecorded old next
+pub more-recorded : (k rest : Requests) (old next new : List ℕ) → reads_lines rest ≡ reads_lines k → turns_left rest < turns_left k → (next ≡ old) ⊎ IsRecorded old next
     → MayRecord rest next new → MayRecord k old new
 more-recorded Done rest old next new lines fewer turn w = absurd (omega (arith, fewer))
 more-recorded (One q) Done old next new lines fewer (inl same) w = inl (w ∙ same)
@@ -91,7 +92,7 @@ reached-first g i is now out (inr (inr whole)) =
 module _ (s0 s1 s2 : State) (g now : Graph) (all rest : List Item) (i : Item) (steps0 steps1 : ℕ) (comes : Comes s0 s1 g now all (i ∷ rest) steps0 steps1) where
   first-part : (f o : List ℕ) → IsPart s1 now (i ∷ []) f o → IsPart s0 g all f o
   first-part f o p =
-      comes.parts f o (record { now = p.now; printed = p.printed; holds = p.holds; out_is = p.out_is; reached = reached-first now i rest p.now p.printed p.reached; small = p.small })
+      comes.parts f o (record { now = p.now; printed = p.printed; good = p.good; out_is = p.out_is; reached = reached-first now i rest p.now p.printed p.reached })
 
   pub more-stop : Elapses s1 s2 (IsPart s1 now (i ∷ [])) → Elapses s0 s2 (IsPart s0 g all)
   more-stop time = goes_on s0 s1 s2 (IsPart s0 g all) (IsPart s1 now (i ∷ [])) comes.stop time first-part
@@ -106,10 +107,9 @@ module _ (s0 s1 s2 : State) (g now : Graph) (all rest : List Item) (i : Item) (s
         (record {
           now = p.now;
           printed = bytes_of now i ++ p.printed;
-          holds = p.holds;
+          good = p.good;
           out_is = p.out_is ∙ ap (λ (l : List ℕ). l ++ p.printed) said ∙ append_assoc s1.out (bytes_of now i) p.printed;
           reached = inr (inr (p.printed, refl, p.reached));
-          small = λ all. p.small (small-after-all now (i ∷ []) all);
         })
 
     pub comes-more : (steps2 : ℕ) → steps1 + charge_by now i ≤ steps2 → Elapses s1 s2 (IsPart s1 now (i ∷ [])) → Comes s0 s2 g (after_item now i) all rest steps0 steps2
@@ -126,10 +126,9 @@ module _ (s0 s1 s2 : State) (g now : Graph) (all rest : List Item) (i : Item) (s
 module _ (s0 s : State) (g now : Graph) (all : List Item) (steps0 steps : ℕ) (comes : Comes s0 s g now all [] steps0 steps) where
   pub comes-whole : (session : Session) → IsAttached session s now → IsWhole s0 s g all
   comes-whole session a = record {
-    holds = subst (λ (x : Graph). Holds s.file x) comes.ends (attached-holds session s now a);
+    good = subst (λ (x : Graph). IsWholeFileOf s.file x) comes.ends (attached-good session s now a);
     out_is = sym (append-nil s.out) ∙ comes.said;
     durable = a.durable;
-    small = small-after-all g all;
   }
 
   pub comes-least : steps0 + charges g all ≤ steps
@@ -141,7 +140,6 @@ module _ (s0 s : State) (g now : Graph) (all : List Item) (steps0 steps : ℕ) (
 pub record Served (s0 s : State) (i0 i : SourceState) (all rest : Requests) (session : Session) (g : Graph) (steps0 steps : ℕ) : Type 0 where
   pub now : Graph
   pub attached : IsAttached session s now
-  pub recorded : (final : List ℕ) → MayRecord rest s.file final → AreRecorded (reads_lines all) s0.file final
   pub comes : Knows all i0 → Comes s0 s g now (to_come all i0.left) (to_come rest i.left) steps0 steps
 
 module _ {s0 s : State} {i0 i : SourceState} {all rest : Requests} {session : Session} {g : Graph} {steps0 steps : ℕ} (served : Served s0 s i0 i all rest session g steps0 steps) where
@@ -153,18 +151,16 @@ module _ {s0 s : State} {i0 i : SourceState} {all rest : Requests} {session : Se
     pub turn-stop : Elapses s s2 (IsPart s served.now (answered q ∷ [])) → Elapses s0 s2 (IsPart s0 g (to_come all i0.left))
     turn-stop time = more-stop s0 s s2 g served.now (to_come all i0.left) is (answered q) steps0 steps (come-with (answered q ∷ is) same known) time
 
-    pub turn-full : FillsBy served.now q → FillsByAny g (to_come all i0.left)
+    pub turn-full : FillsBy (replay served.now served.now.head.commit) q → FillsByAny g (to_come all i0.left)
     turn-full full = first-fills s0 s s2 g served.now (to_come all i0.left) is (answered q) steps0 steps (come-with (answered q ∷ is) same known) full
 
   -- once it is
   pub served-more : (s2 : State) (i2 : SourceState) (later : Requests) (next : Session) (q : Request) (steps2 : ℕ)
-      → reads_lines later ≡ reads_lines rest → turns_left later < turns_left rest → (Knows all i0 → to_come rest i.left ≡ answered q ∷ to_come later i2.left)
-      → IsAttached next s2 (after served.now q) → s2.out ≡ s.out ++ answer_of served.now q → (s2.file ≡ s.file) ⊎ IsRecorded s.file s2.file
+      → (Knows all i0 → to_come rest i.left ≡ answered q ∷ to_come later i2.left) → IsAttached next s2 (after served.now q) → s2.out ≡ s.out ++ answer_of served.now q
       → steps + charge_of served.now q ≤ steps2 → Elapses s s2 (IsPart s served.now (answered q ∷ [])) → Served s0 s2 i0 i2 all later next g steps0 steps2
-  served-more s2 i2 later next q steps2 lines fewer same attached said bytes least time = record {
+  served-more s2 i2 later next q steps2 same attached said least time = record {
     now = after served.now q;
     attached = attached;
-    recorded = λ final w. served.recorded final (more-recorded rest later s.file s2.file final lines fewer bytes w);
     comes = λ known.
         let is = to_come later i2.left in
         comes-more s0 s s2 g served.now (to_come all i0.left) is (answered q) steps0 steps (come-with (answered q ∷ is) (same known) known) said steps2 least time;
@@ -178,12 +174,11 @@ module _ {s0 s : State} {i0 i : SourceState} {all rest : Requests} {session : Se
     pub served-least : steps0 + charges g (to_come all i0.left) ≤ steps
     served-least = comes-least s0 s g served.now (to_come all i0.left) steps0 steps (come-with [] none known)
 
-  pub served-bytes : AreRecorded (reads_lines all) s0.file s.file
-  served-bytes = served.recorded s.file (none-recorded rest s.file)
-
 -- What holds before each turn: the run has come from s0, i0 and all its requests to s, i and the rest of them.
 pub record Along (s0 s : State) (i0 i : SourceState) (all rest : Requests) (old session : Session) (steps0 steps : ℕ) : Type 0 where
   pub going : session.halted ≡ false
+  pub stands : IsOpen session s
+  pub recorded : Told s0 ((final : List ℕ) → MayRecord rest s.file final → AreRecorded (reads_lines all) s0.file final)
   pub served : Told s0 ((g : Graph) → IsAttached old s0 g → Served s0 s i0 i all rest session g steps0 steps)
   pub limited : Knows all i0 → (IsLimited all i0 → IsLimited rest i) × (IsLimited rest i → IsLimited all i0)
   pub lines : reads_lines rest ≡ reads_lines all

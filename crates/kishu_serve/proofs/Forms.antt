@@ -1,5 +1,5 @@
 -- What is promised of a run, from what holds of the work that its form asks for.
-use Rattle.std.proofs.Common.{◌≡◌, ◌⊎◌, ◌≤◌, ◌<◌, inl, inr, ℕ, Bool, true, false, List, [], ◌∷◌, length, Option, Some, None, if◌then◌else◌, refl, sym, ◌∙◌, subst, arith}
+use Rattle.std.proofs.Common.{◌≡◌, ◌≤◌, ◌<◌, inl, inr, ℕ, Bool, true, false, List, [], ◌∷◌, length, Option, Some, None, if◌then◌else◌, refl, sym, ◌∙◌, subst, arith}
 use Rattle.std.specs.Prelude.{IsSome}
 use Rattle.std.specs.Str.{is_utf8}
 use Rattle.kishu_host.specs.Source.{SourceState}
@@ -10,9 +10,9 @@ use Rattle.kishu_model.specs.Serve.{Item, answered}
 use Rattle.kishu_model.specs.Task.{Form, one_cell, session, notebook, one_request, cell_request, limit_place, session_limits}
 use Rattle.kishu_model.specs.notebooks.Notebook.{Fault}
 use Rattle.kishu_input.specs.Sources.{TakesMoreThan, TakesAtMost}
-use Rattle.kishu_session.specs.Filling.{FillsOnPath, FillsBy}
+use Rattle.kishu_session.specs.Filling.{FillsBy}
 use Rattle.kishu_serve.specs.Asking as asking
-use Rattle.kishu_serve.specs.Filling.{Fills, FillsInForm}
+use Rattle.kishu_serve.specs.Filling.{FillsByAny, FillsInForm}
 use Rattle.kishu_serve.specs.Headline.{ReadsWhole, longest_input, most_taken, IsTooLong, HasFault}
 use Rattle.kishu_serve.specs.Promise.{PassesLimit, StaysWithin}
 use Rattle.kishu_serve.specs.Work.{to_do, is_session, still_reads, Knows, AsksFor, IsOneCell}
@@ -107,21 +107,18 @@ alone-knows (Answers rs) s alone = alone-asks rs s alone
 alone-knows (Runs book) s alone = tt
 
 module _ (g : Graph) (input : List ℕ) where
-  -- by its own cell, or by one that leads to the head, on the way back to it
-  by-cell : (b : Bool) → FillsBy g (if b then cell input else unreadable) → FillsOnPath g ⊎ IsFull (replay g g.head.commit)
-  by-cell true (inl full) = inr full
-  by-cell true (inr back) = inl back.1
+  by-cell : (b : Bool) → FillsBy (replay g g.head.commit) (if b then cell input else unreadable) → IsFull (replay g g.head.commit)
+  by-cell true full = full
   by-cell false full = absurd full
 
-  full-cell : Fills g (answered (cell_request input) ∷ []) → FillsOnPath g ⊎ IsFull (replay g g.head.commit)
-  full-cell (inl path) = inl path
-  full-cell (inr (inl full)) = by-cell (is_utf8 input) full
-  full-cell (inr (inr none)) = absurd none
+  full-cell : FillsByAny g (answered (cell_request input) ∷ []) → IsFull (replay g g.head.commit)
+  full-cell (inl full) = by-cell (is_utf8 input) full
+  full-cell (inr none) = absurd none
 
 pub fills-form : (f : Form) (work : Work) (old mid : SourceState) (g : Graph) → AsksFor f old work mid → (f ≡ one_cell → IsOneCell work) → still_reads work ≡ is_session f
-    → mid.tells ≡ old.tells → (Knows work mid → Fills g (to_do work g mid.left)) → FillsInForm (Some f) old g
+    → mid.tells ≡ old.tells → (Knows work mid → FillsByAny g (to_do work g mid.left)) → FillsInForm (Some f) old g
 fills-form one_cell work old mid g asks one lines tells full =
-    full-cell g (one refl).0 (subst (λ (is : List Item). Fills g is) ((one refl).1 g mid.left) (full (alone-knows work mid lines)))
-fills-form session work old mid g asks one lines tells full = λ told. subst (λ (is : List Item). Fills g is) (asks told g) (full (knows-told work mid (tells ∙ told)))
-fills-form (notebook together) work old mid g asks one lines tells full = λ told. subst (λ (is : List Item). Fills g is) (asks told g) (full (knows-told work mid (tells ∙ told)))
-fills-form (one_request q) work old mid g asks one lines tells full = subst (λ (is : List Item). Fills g is) (asks tt g) (full (alone-knows work mid lines))
+    full-cell g (one refl).0 (subst (λ (is : List Item). FillsByAny g is) ((one refl).1 g mid.left) (full (alone-knows work mid lines)))
+fills-form session work old mid g asks one lines tells full = λ told. subst (λ (is : List Item). FillsByAny g is) (asks told g) (full (knows-told work mid (tells ∙ told)))
+fills-form (notebook together) work old mid g asks one lines tells full = λ told. subst (λ (is : List Item). FillsByAny g is) (asks told g) (full (knows-told work mid (tells ∙ told)))
+fills-form (one_request q) work old mid g asks one lines tells full = subst (λ (is : List Item). FillsByAny g is) (asks tt g) (full (alone-knows work mid lines))

@@ -3,6 +3,7 @@ mod Askings
 mod Forms
 mod Parts
 mod Runs
+mod Damages
 mod Chain
 mod CellRuns
 mod Rows

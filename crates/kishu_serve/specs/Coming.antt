@@ -1,5 +1,5 @@
 -- How far a run has come: from one state of the host and one graph to others, with a part of its items left.
-use Rattle.std.specs.Prelude.{◌≡◌, ◌≤◌, ◌+◌, ℕ, Bool, List, [], ◌∷◌, ◌++◌}
+use Rattle.std.specs.Prelude.{◌≡◌, ◌≤◌, ◌+◌, ℕ, List, [], ◌∷◌, ◌++◌}
 use Rattle.kishu_host.specs.Host.{State, Elapses}
 use Rattle.kishu_store.specs.Graph.{Graph}
 use Rattle.kishu_model.specs.Serve.{Item, after_all, answers, charges}
@@ -9,7 +9,6 @@ use Rattle.kishu_session.specs.declared.session.Session.{Session}
 use Rattle.kishu_serve.specs.Filling.{FillsByAny}
 use Rattle.kishu_serve.specs.Headline.{IsPart}
 use Rattle.kishu_serve.specs.Notebooks.{last_item}
-use Rattle.kishu_serve.specs.Recorded.{AreRecorded}
 
 -- What is done and what is left together come to all: the graph, the output, what a stop leaves, the heap and the steps.
 pub record Comes (s0 s : State) (g now : Graph) (all rest : List Item) (steps0 steps : ℕ) : Type 0 where
@@ -21,12 +20,11 @@ pub record Comes (s0 s : State) (g now : Graph) (all rest : List Item) (steps0 s
   pub stop : Elapses s0 s (IsPart s0 g all)
 
 -- So it has come, with its session attached to the store; the items that are left follow from the graph.
-pub record ComesTo (s0 s : State) (session : Session) (many : Bool) (g : Graph) (all : List Item) (rest : Graph → List Item) (steps0 steps : ℕ) : Type 0 where
+pub record ComesTo (s0 s : State) (session : Session) (g : Graph) (all : List Item) (rest : Graph → List Item) (steps0 steps : ℕ) : Type 0 where
   pub now : Graph
   pub attached : IsAttached session s now
-  pub recorded : AreRecorded many s0.file s.file
   pub comes : Comes s0 s g now all (rest now) steps0 steps
 
 -- All cells that are run were run, and the notebook is left to be written.
-abbrev pub CellsAreRun : State → State → Session → Bool → Graph → List Item → Notebook → ℕ → ℕ → Type 0
-CellsAreRun s0 s session many g all notebook steps0 steps = ComesTo s0 s session many g all (λ _. last_item notebook ∷ []) steps0 steps
+abbrev pub CellsAreRun : State → State → Session → Graph → List Item → Notebook → ℕ → ℕ → Type 0
+CellsAreRun s0 s session g all notebook steps0 steps = ComesTo s0 s session g all (λ _. last_item notebook ∷ []) steps0 steps

@@ -4,8 +4,7 @@ use Rattle.kishu_language.specs.Limits.{longest_text}
 use Rattle.kishu_host.specs.Host.{State, Only}
 use Rattle.kishu_host.specs.Source.{SourceState}
 use Rattle.kishu_store.specs.Graph.{Graph}
-use Rattle.kishu_store.specs.Holds.{Holds}
-use Rattle.kishu_history.specs.Sizes.{StaysSmall}
+use Rattle.kishu_history.specs.Good.{IsWholeFileOf}
 use Rattle.kishu_model.specs.Serve.{Item, Reached, after_all, answers}
 use Rattle.kishu_model.specs.Task.{Form, one_cell, session, notebook, one_request, limit_place, session_limits, notebook_limit}
 use Rattle.kishu_model.specs.notebooks.Notebook.{Fault, opening}
@@ -13,27 +12,25 @@ use Rattle.kishu_notebook.specs.declared.refusal.NotebookRefusal.{NotebookRefusa
 use Rattle.kishu_serve.specs.declared.status.Status.{Status}
 use Rattle.kishu_serve.specs.declared.status.Status.TheVariants.{Usage, NotebookRefused, InputFault, InputTooLong}
 
--- The file holds the graph after the first k items, for some k; the output has grown by what is written for the first k - 1 and a prefix of that for the k-th. No replay is too large where none was before.
+-- The file is good and holds the graph after the first k items, for some k; the output has grown by what is written for the first k - 1 and a prefix of that for the k-th.
 pub record IsPart (s : State) (g : Graph) (items : List Item) (file out : List ℕ) : Type 0 where
   pub now : Graph
   pub printed : List ℕ
-  pub holds : Holds file now
+  pub good : IsWholeFileOf file now
   pub out_is : out ≡ s.out ++ printed
   pub reached : Reached g items now printed
-  pub small : StaysSmall g → StaysSmall now
 
--- All items are done, and each stop leaves so. No replay is too large where none was before.
+-- All items are done, the file is good, and each stop leaves so.
 pub record IsWhole (old new : State) (g : Graph) (items : List Item) : Type 0 where
-  pub holds : Holds new.file (after_all g items)
+  pub good : IsWholeFileOf new.file (after_all g items)
   pub out_is : new.out ≡ old.out ++ answers g items
   pub durable : Only new.file new.may_leave
-  pub small : StaysSmall g → StaysSmall (after_all g items)
 
--- The host and the source tell their content, and the file holds this graph.
+-- The host and the source tell their content, and the file is good and holds this graph.
 pub record IsGiven (host : State) (source : SourceState) (g : Graph) : Type 0 where
   pub host_tells : host.tells ≡ true
   pub source_tells : source.tells ≡ true
-  pub holds : Holds host.file g
+  pub good : IsWholeFileOf host.file g
 
 -- ---- the input, by the form
 

@@ -5,12 +5,16 @@ use Rattle.std.specs.declared.alloc.Global.{Global}
 use Rattle.kishu_host.specs.Host.{State, Told, Now, Elapses}
 use Rattle.kishu_host.specs.Source.{SourceState}
 use Rattle.kishu_store.specs.Graph.{Graph}
-use Rattle.kishu_store.specs.Holds.{Holds}
+use Rattle.kishu_store.specs.Holds.{Holds, Gives, IsBroken}
+use Rattle.kishu_store.specs.Tables.{Row, Change, change_of, table_at}
+use Rattle.kishu_objects.specs.Lists.{In}
+use Rattle.kishu_history.specs.Good.{IsWholeFile, IsWholeFileOf}
 use Rattle.kishu_model.specs.Serve.{Item}
 use Rattle.kishu_model.specs.Task.{Form, session, task}
 use Rattle.kishu_model.specs.notebooks.Notebook.{Fault}
 use Rattle.kishu_notebook.specs.Values.{fault_of}
 use Rattle.kishu_notebook.specs.declared.refusal.NotebookRefusal.{NotebookRefusal}
+use Rattle.kishu_checkout.specs.Pictures.{HasNone}
 use Rattle.kishu_serve.specs.Filling.{FillsInForm}
 use Rattle.kishu_serve.specs.Headline.{IsPart, IsGiven, IsTooLong, ReadsWhole}
 use Rattle.kishu_words.specs.Words.{texts, form_of}
@@ -19,7 +23,7 @@ use Rattle.kishu_serve.specs.declared.status.Status.{Status}
 use Rattle.kishu_serve.specs.declared.status.Status.TheVariants.{NotebookRefused}
 use Rattle.kishu_serve.specs.declared.work.Work.{Work}
 
--- Over a store that holds a graph, where host and source tell their content, this holds of the graph.
+-- Over a good store, where host and source tell their content, this holds of the graph that it holds.
 abbrev pub OverGood : State → SourceState → (Graph → Type 0) → Type 0
 OverGood host source P = (g : Graph) → IsGiven host source g → P g
 
@@ -55,6 +59,22 @@ SettlesInPart old new g items = (file : List ℕ) → new.may_leave file → IsP
 abbrev pub HoldsSome : State → Type 0
 HoldsSome host = Told host ((g : Graph) × Holds host.file g)
 
+-- The file holds a graph, and at this place, which is that of a group in the table of one of its commits, there is no picture of the group's names.
+pub record LacksPicture (file : List ℕ) (at : ℕ) : Type 0 where
+  pub graph : Graph
+  pub changes : List Change
+  pub holds : Holds file graph
+  pub gives : Gives file changes
+  pub commit : ℕ
+  pub row : Row
+  pub there : In row (table_at graph (change_of changes) commit)
+  pub place : at ≡ row.place
+  pub none : HasNone file row
+
+-- Where the host tells its file: at this place stands the first open gate behind which no whole record stands that fits; or the store isn't good, and as the run leaves it it lacks a picture there.
+abbrev pub IsDamaged : State → State → (at : ℕ) → Type 0
+IsDamaged old new at = Told old (IsBroken old.file at ⊎ ((IsWholeFile old.file → ⊥) × LacksPicture new.file at))
+
 -- ---- the input
 
 -- The input passes the limit of its form, or keeps to it, where it is told.
@@ -71,13 +91,13 @@ RefusesNotebook status = (why : NotebookRefusal) × (status ≡ NotebookRefused 
 abbrev pub RefusesFor : Fault → Status → Type 0
 RefusesFor fault status = (why : NotebookRefusal) × (fault_of why ≡ fault) × (status ≡ NotebookRefused why)
 
--- The store holds a graph, and with it the run would fill the heap.
+-- Where the store is good, the run would fill the heap with the graph that it holds.
 abbrev pub FillsHeap : Option Form → State → SourceState → Type 0
-FillsHeap form host source = Told host ((g : Graph) × Holds host.file g × FillsInForm form source g)
+FillsHeap form host source = Told host ((g : Graph) → IsWholeFileOf host.file g → FillsInForm form source g)
 
 -- ---- what is made of the words and the input
 
--- Over a store that holds a graph, where it is known what is to do, this holds of the graph and the items.
+-- Over a good store, where it is known what is to do, this holds of the graph and the items.
 abbrev pub OverKnown : Work → SourceState → State → (Graph → List Item → Type 0) → Type 0
 OverKnown work source host P =
-    Told host (Knows work source → (g : Graph) → Holds host.file g → P g (to_do work g source.left))
+    Told host (Knows work source → (g : Graph) → IsWholeFileOf host.file g → P g (to_do work g source.left))

@@ -8,10 +8,11 @@ use Rattle.kishu_model.specs.Request.{Request}
 use Rattle.kishu_model.specs.Serve.{Item, answer_of}
 use Rattle.kishu_model.specs.Values.{answer_of as said_by}
 use Rattle.kishu_model.specs.declared.answer.Answer.{Answer}
-use Rattle.kishu_session.specs.Attached.{IsAttached}
+use Rattle.kishu_session.specs.Attached.{IsAttached, StandsAtEnd}
 use Rattle.kishu_session.specs.Written.{IsRecorded}
 use Rattle.kishu_session.specs.declared.session.Session.{Session}
 use Rattle.kishu_serve.specs.Headline.{IsPart}
+use Rattle.kishu_serve.specs.Promise.{LacksPicture}
 use Rattle.kishu_serve.specs.Work.{to_do, Knows}
 use Rattle.kishu_serve.specs.declared.work.Work.{Work}
 
@@ -42,9 +43,13 @@ AnswerGoesOut answer old new = (a : Said) → said_by answer ≡ Some a → GoOu
 abbrev pub WhereAttached : Session → State → (Graph → Type 0) → Type 0
 WhereAttached session host P = Told host ((g : Graph) → IsAttached session host g → P g)
 
--- The session is attached to some graph.
+-- The session stands at the end of the host's file, whether or not that is good.
 abbrev pub IsOpen : Session → State → Type 0
-IsOpen session host = Told host ((g : Graph) × IsAttached session host g)
+IsOpen session host = Told host (StandsAtEnd session host)
+
+-- The file lacks a picture at this place, and the session wasn't attached.
+abbrev pub EndsDamaged : Session → (old new : State) → (at : ℕ) → Type 0
+EndsDamaged session old new at = Told old (LacksPicture new.file at) × WhereAttached session old (λ g. ⊥)
 
 -- The output has grown by the answer.
 abbrev pub IsAnswered : State → State → Graph → Request → Type 0
@@ -52,7 +57,7 @@ IsAnswered old new g q = new.out ≡ old.out ++ answer_of g q
 
 -- At most one record was written.
 abbrev pub WritesOne : State → State → Type 0
-WritesOne old new = (new.file ≡ old.file) ⊎ IsRecorded old.file new.file
+WritesOne old new = Told old ((new.file ≡ old.file) ⊎ IsRecorded old.file new.file)
 
 -- Each stop leaves a part of these.
 abbrev pub StopsInPart : State → State → Graph → List Item → Type 0

@@ -1,6 +1,7 @@
 // The run of a notebook's code cells, and the writing of the notebook.
 ghost use Rattle.std.specs.Prelude.{◌≡◌, ◌≤◌, ◌<◌, ◌+◌, ◌∷◌, ◌^◌, [], ℕ, List, false, true, not, IfOk, OnOk, IsErrOf, length, map};
 ghost use Rattle.std.specs.Rc.{rc_str_bytes};
+ghost use Rattle.kishu_replay.specs.Replay.{replay};
 ghost use Rattle.kishu_model.specs.Request.{cells};
 ghost use Rattle.kishu_model.specs.requests.Cells.{HasRoom};
 ghost use Rattle.kishu_model.specs.Serve.{after, silent, charges};
@@ -15,10 +16,10 @@ ghost use Rattle.kishu_session.specs.Faults.{DiskFailed};
 ghost use Rattle.kishu_serve.specs.Filling.{FillsByAny};
 ghost use Rattle.kishu_serve.specs.Headline.{IsWhole};
 ghost use Rattle.kishu_serve.specs.Notebooks.{IsSet, run_of, items_of};
-ghost use Rattle.kishu_serve.specs.Recorded.{AreRecorded};
+ghost use Rattle.kishu_serve.specs.Recorded.{Records};
 ghost use Rattle.kishu_serve.specs.Coming.{CellsAreRun};
-ghost use Rattle.kishu_serve.specs.Serving.{OutputFailed, WhereAttached, IsOpen, WritesOne, StopsInPart, AreOut, GoOut};
-ghost use Rattle.kishu_serve.specs.declared.serving.Stop.TheVariants.{HeapFull, DiskFault, InputFault, OutputFault, TooLong};
+ghost use Rattle.kishu_serve.specs.Serving.{OutputFailed, WhereAttached, IsOpen, EndsDamaged, WritesOne, StopsInPart, AreOut, GoOut};
+ghost use Rattle.kishu_serve.specs.declared.serving.Stop.TheVariants.{HeapFull, DiskFault, InputFault, OutputFault, TooLong, Damaged};
 
 use crate::book::Book;
 use crate::serving::Stop;
@@ -53,12 +54,14 @@ fn run_request<H: Host, L: Ledger>(
         IsSet notebook.old notebook.new at g (request_of request.now))) }
     ensures goes_on { IfOk result (λ further. WhereAttached session.old (H.state host.old) (λ g.
         further ≡ goes_on (step g (request_of request.now)).answer)) }
-    ensures bytes { OnOk result (WhereAttached session.old (H.state host.old) (λ g.
-        WritesOne (H.state host.old) (H.state host.new))) }
+    ensures stands { OnOk result (IsOpen session.new (H.state host.new)) }
+    ensures bytes { OnOk result (WritesOne (H.state host.old) (H.state host.new)) }
     ensures least { OnOk result (WhereAttached session.old (H.state host.old) (λ g.
         steps.old + charge_of g (request_of request.now) ≤ steps.new)) }
     ensures full { IsErrOf result HeapFull → WhereAttached session.old (H.state host.old) (λ g.
-        FillsBy g (request_of request.now)) }
+        FillsBy (replay g g.head.commit) (request_of request.now)) }
+    ensures damaged { (at : ℕ) → IsErrOf result (Damaged at)
+        → EndsDamaged session.old (H.state host.old) (H.state host.new) at }
     ensures stop { WhereAttached session.old (H.state host.old) (λ g.
         StopsInPart (H.state host.old) (H.state host.new) g (silent (request_of request.now) ∷ [])) }
     ensures tells { (H.state host.new).tells ≡ (H.state host.old).tells }
@@ -73,7 +76,8 @@ fn run_request<H: Host, L: Ledger>(
         Err(Halt::HeapFull) => return Err(Stop::HeapFull),
         Err(Halt::DiskFault) => return Err(Stop::DiskFault),
         Err(Halt::NoMemory) => return Err(Stop::NoMemory),
-        Err(Halt::NotAJournal | Halt::Damaged { .. } | Halt::Closed) => unreachable!(),
+        Err(Halt::Damaged { at }) => return Err(Stop::Damaged { at }),
+        Err(Halt::NotAJournal | Halt::Closed) => unreachable!(),
     };
     let Ok(()) = notebook.set_answer(at, &answer) else {
         return Err(Stop::NoMemory);
@@ -94,14 +98,17 @@ fn run_each<H: Host, L: Ledger>(
     requires few { length texts.now < 2 ^ 32 }
 
     ensures comes { OnOk result (WhereAttached session.old (H.state host.old) (λ g.
-        CellsAreRun (H.state host.old) (H.state host.new) session.new true g
+        CellsAreRun (H.state host.old) (H.state host.new) session.new g
         (run_of false g (map rc_str_bytes texts.now) (data_of notebook.old))
         notebook.new steps.old steps.new)) }
+    ensures bytes { OnOk result (Records true (H.state host.old) (H.state host.new)) }
     ensures stop { WhereAttached session.old (H.state host.old) (λ g.
         StopsInPart (H.state host.old) (H.state host.new) g
         (run_of false g (map rc_str_bytes texts.now) (data_of notebook.old))) }
     ensures full { IsErrOf result HeapFull → WhereAttached session.old (H.state host.old) (λ g.
         FillsByAny g (run_of false g (map rc_str_bytes texts.now) (data_of notebook.old))) }
+    ensures damaged { (at : ℕ) → IsErrOf result (Damaged at)
+        → EndsDamaged session.old (H.state host.old) (H.state host.new) at }
     ensures tells { (H.state host.new).tells ≡ (H.state host.old).tells }
     ensures no_input { (IsErrOf result InputFault → ⊥) × (IsErrOf result TooLong → ⊥) }
     ensures no_output { IsErrOf result OutputFault → ⊥ }
@@ -136,14 +143,17 @@ fn run_together<H: Host, L: Ledger>(
     requires room { HasRoom (cells (map rc_str_bytes texts.items)) }
 
     ensures comes { OnOk result (WhereAttached session.old (H.state host.old) (λ g.
-        CellsAreRun (H.state host.old) (H.state host.new) session.new false g
+        CellsAreRun (H.state host.old) (H.state host.new) session.new g
         (run_of true g (map rc_str_bytes texts.items) (data_of notebook.old))
         notebook.new steps.old steps.new)) }
+    ensures bytes { OnOk result (Records false (H.state host.old) (H.state host.new)) }
     ensures stop { WhereAttached session.old (H.state host.old) (λ g.
         StopsInPart (H.state host.old) (H.state host.new) g
         (run_of true g (map rc_str_bytes texts.items) (data_of notebook.old))) }
     ensures full { IsErrOf result HeapFull → WhereAttached session.old (H.state host.old) (λ g.
         FillsByAny g (run_of true g (map rc_str_bytes texts.items) (data_of notebook.old))) }
+    ensures damaged { (at : ℕ) → IsErrOf result (Damaged at)
+        → EndsDamaged session.old (H.state host.old) (H.state host.new) at }
     ensures tells { (H.state host.new).tells ≡ (H.state host.old).tells }
     ensures no_input { (IsErrOf result InputFault → ⊥) × (IsErrOf result TooLong → ⊥) }
     ensures no_output { IsErrOf result OutputFault → ⊥ }
@@ -173,14 +183,17 @@ fn run_cells<H: Host, L: Ledger>(
     requires room { HasRoom (cells (map rc_str_bytes texts.items)) }
 
     ensures comes { OnOk result (WhereAttached session.old (H.state host.old) (λ g.
-        CellsAreRun (H.state host.old) (H.state host.new) session.new (not together) g
+        CellsAreRun (H.state host.old) (H.state host.new) session.new g
         (run_of together g (map rc_str_bytes texts.items) (data_of notebook.old))
         notebook.new steps.old steps.new)) }
+    ensures bytes { OnOk result (Records (not together) (H.state host.old) (H.state host.new)) }
     ensures stop { WhereAttached session.old (H.state host.old) (λ g.
         StopsInPart (H.state host.old) (H.state host.new) g
         (run_of together g (map rc_str_bytes texts.items) (data_of notebook.old))) }
     ensures full { IsErrOf result HeapFull → WhereAttached session.old (H.state host.old) (λ g.
         FillsByAny g (run_of together g (map rc_str_bytes texts.items) (data_of notebook.old))) }
+    ensures damaged { (at : ℕ) → IsErrOf result (Damaged at)
+        → EndsDamaged session.old (H.state host.old) (H.state host.new) at }
     ensures tells { (H.state host.new).tells ≡ (H.state host.old).tells }
     ensures no_input { (IsErrOf result InputFault → ⊥) × (IsErrOf result TooLong → ⊥) }
     ensures no_output { IsErrOf result OutputFault → ⊥ }
@@ -204,6 +217,7 @@ fn put_notebook<H: Host>(host: &mut H, notebook: &Notebook) -> Result<(), Stop>
     ensures stop { GoOut (written (data_of notebook.now)) (H.state host.old) (H.state host.new) }
     ensures tells { (H.state host.new).tells ≡ (H.state host.old).tells }
     ensures no_disk { (IsErrOf result DiskFault → ⊥) × (IsErrOf result HeapFull → ⊥) }
+    ensures not_damaged { (at : ℕ) → IsErrOf result (Damaged at) → ⊥ }
     ensures no_input { (IsErrOf result InputFault → ⊥) × (IsErrOf result TooLong → ⊥) }
     ensures output_fault { IsErrOf result OutputFault → OutputFailed (H.state host.old) (H.state host.new) }
     ensures disk { (H.state host.old).disk_faults ≤ (H.state host.new).disk_faults }
@@ -233,12 +247,13 @@ pub(crate) fn run_notebook<H: Host, L: Ledger>(
         IsWhole (H.state host.old) (H.state host.new) g (items_of book g))) }
     ensures stop { WhereAttached session.old (H.state host.old) (λ g.
         StopsInPart (H.state host.old) (H.state host.new) g (items_of book g)) }
-    ensures bytes { OnOk result (WhereAttached session.old (H.state host.old) (λ g.
-        AreRecorded (not book.together) (H.state host.old).file (H.state host.new).file)) }
+    ensures bytes { OnOk result (Records (not book.together) (H.state host.old) (H.state host.new)) }
     ensures least { OnOk result (WhereAttached session.old (H.state host.old) (λ g.
         steps.old + charges g (items_of book g) ≤ steps.new)) }
     ensures full { IsErrOf result HeapFull → WhereAttached session.old (H.state host.old) (λ g.
         FillsByAny g (items_of book g)) }
+    ensures damaged { (at : ℕ) → IsErrOf result (Damaged at)
+        → EndsDamaged session.old (H.state host.old) (H.state host.new) at }
 
     ensures tells { (H.state host.new).tells ≡ (H.state host.old).tells }
     ensures no_input { (IsErrOf result InputFault → ⊥) × (IsErrOf result TooLong → ⊥) }

@@ -1,15 +1,15 @@
 // The requests of a run, one after another, over an open session.
-ghost use Rattle.std.specs.Prelude.{◌≡◌, ◌≤◌, ◌⊎◌, ◌+◌, true, false, OnOk, IsOk, IsErrOf};
+ghost use Rattle.std.specs.Prelude.{ℕ, ◌≡◌, ◌≤◌, ◌⊎◌, ◌+◌, true, false, OnOk, IsOk, IsErrOf};
 ghost use Rattle.kishu_model.specs.Serve.{charges};
 ghost use Rattle.kishu_input.specs.Sources.{InputFailed};
 ghost use Rattle.kishu_session.specs.Faults.{DiskFailed};
 ghost use Rattle.kishu_serve.specs.Asking.{reads_lines, HaveRoom, Knows, IsLimited, IsRead, KeepsTaken};
 ghost use Rattle.kishu_serve.specs.Filling.{FillsByAny};
 ghost use Rattle.kishu_serve.specs.Headline.{IsWhole};
-ghost use Rattle.kishu_serve.specs.Recorded.{AreRecorded};
-ghost use Rattle.kishu_serve.specs.Serving.{OutputFailed, IsOpen, WhereAttached, WhereKnown, StopsInPart};
+ghost use Rattle.kishu_serve.specs.Recorded.{Records};
+ghost use Rattle.kishu_serve.specs.Serving.{OutputFailed, IsOpen, EndsDamaged, WhereKnown, StopsInPart};
 ghost use Rattle.kishu_serve.specs.declared.work.Work.TheVariants.{Answers};
-ghost use Rattle.kishu_serve.specs.declared.serving.Stop.TheVariants.{HeapFull, DiskFault, InputFault, OutputFault, TooLong};
+ghost use Rattle.kishu_serve.specs.declared.serving.Stop.TheVariants.{HeapFull, DiskFault, InputFault, OutputFault, TooLong, Damaged};
 
 use crate::asking::Requests;
 use crate::serving::{Stop, serve};
@@ -54,14 +54,16 @@ pub(crate) fn serve_all<H: Host, S: Source, L: Ledger>(
         IsWhole (H.state host.old) (H.state host.new) g items) }
     ensures stop { WhereKnown (Answers requests.old) (S.source source.old) session.old (H.state host.old) (λ g items.
         StopsInPart (H.state host.old) (H.state host.new) g items) }
-    ensures bytes { OnOk result (WhereAttached session.old (H.state host.old) (λ g.
-        AreRecorded (reads_lines requests.old) (H.state host.old).file (H.state host.new).file)) }
+    ensures bytes { OnOk result (Records (reads_lines requests.old) (H.state host.old) (H.state host.new)) }
     ensures least { OnOk result (
         WhereKnown (Answers requests.old) (S.source source.old) session.old (H.state host.old) (λ g items.
         steps.old + charges g items ≤ steps.new)) }
     ensures full { IsErrOf result HeapFull
         → WhereKnown (Answers requests.old) (S.source source.old) session.old (H.state host.old) (λ g items.
         FillsByAny g items) }
+
+    ensures damaged { (at : ℕ) → IsErrOf result (Damaged at)
+        → EndsDamaged session.old (H.state host.old) (H.state host.new) at }
 
     ensures read { OnOk result (Knows requests.old (S.source source.old)
         → IsRead requests.old (S.source source.new) × (IsLimited requests.old (S.source source.old) → ⊥)) }

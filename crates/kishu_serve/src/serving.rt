@@ -1,5 +1,6 @@
 // One request of a run: it is applied, and its answer goes out.
 ghost use Rattle.std.specs.Prelude.{◌≡◌, ◌≤◌, ◌+◌, ◌∷◌, [], ℕ, List, false, IsSome, OnOk, IsErrOf};
+ghost use Rattle.kishu_replay.specs.Replay.{replay};
 ghost use Rattle.kishu_model.specs.requests.Cells.{HasRoom};
 ghost use Rattle.kishu_model.specs.Serve.{after, answered};
 ghost use Rattle.kishu_model.specs.Step.{charge_of};
@@ -8,8 +9,8 @@ ghost use Rattle.kishu_session.specs.Attached.{IsAttached};
 ghost use Rattle.kishu_session.specs.Filling.{FillsBy};
 ghost use Rattle.kishu_session.specs.Faults.{DiskFailed};
 ghost use Rattle.kishu_serve.specs.Asking.{asked_of};
-ghost use Rattle.kishu_serve.specs.Serving.{OutputFailed, IsAnswerOut, AnswerGoesOut, WhereAttached, IsOpen, IsAnswered, WritesOne, StopsInPart};
-ghost use Rattle.kishu_serve.specs.declared.serving.Stop.TheVariants.{HeapFull, DiskFault, InputFault, OutputFault, TooLong};
+ghost use Rattle.kishu_serve.specs.Serving.{OutputFailed, IsAnswerOut, AnswerGoesOut, WhereAttached, IsOpen, EndsDamaged, IsAnswered, WritesOne, StopsInPart};
+ghost use Rattle.kishu_serve.specs.declared.serving.Stop.TheVariants.{HeapFull, DiskFault, InputFault, OutputFault, TooLong, Damaged};
 
 use crate::asking::Asked;
 use kishu_host::Host;
@@ -27,6 +28,8 @@ pub(crate) enum Stop {
     InputFault,
     OutputFault,
     TooLong,
+    /// There is no picture at this place of the store, where one should be.
+    Damaged { at: u64 },
     NoMemory,
 }
 
@@ -40,6 +43,7 @@ fn tell<H: Host>(alloc: Global, host: &mut H, answer: &Answer) -> Result<(), Sto
     ensures tells { (H.state host.new).tells ≡ (H.state host.old).tells }
     ensures no_disk { IsErrOf result DiskFault → ⊥ }
     ensures not_full { IsErrOf result HeapFull → ⊥ }
+    ensures not_damaged { (at : ℕ) → IsErrOf result (Damaged at) → ⊥ }
     ensures no_input { (IsErrOf result InputFault → ⊥) × (IsErrOf result TooLong → ⊥) }
     ensures output_fault { IsErrOf result OutputFault → OutputFailed (H.state host.old) (H.state host.new) }
     ensures disk { (H.state host.old).disk_faults ≤ (H.state host.new).disk_faults }
@@ -72,12 +76,14 @@ pub(crate) fn serve<H: Host, L: Ledger>(
     ensures going { OnOk result (session.new.halted ≡ false) }
     ensures answered { OnOk result (WhereAttached session.old (H.state host.old) (λ g.
         IsAnswered (H.state host.old) (H.state host.new) g (asked_of asked.now))) }
-    ensures bytes { OnOk result (WhereAttached session.old (H.state host.old) (λ g.
-        WritesOne (H.state host.old) (H.state host.new))) }
+    ensures stands { OnOk result (IsOpen session.new (H.state host.new)) }
+    ensures bytes { OnOk result (WritesOne (H.state host.old) (H.state host.new)) }
     ensures least { OnOk result (WhereAttached session.old (H.state host.old) (λ g.
         steps.old + charge_of g (asked_of asked.now) ≤ steps.new)) }
     ensures full { IsErrOf result HeapFull → WhereAttached session.old (H.state host.old) (λ g.
-        FillsBy g (asked_of asked.now)) }
+        FillsBy (replay g g.head.commit) (asked_of asked.now)) }
+    ensures damaged { (at : ℕ) → IsErrOf result (Damaged at)
+        → EndsDamaged session.old (H.state host.old) (H.state host.new) at }
     ensures stop { WhereAttached session.old (H.state host.old) (λ g.
         StopsInPart (H.state host.old) (H.state host.new) g (answered (asked_of asked.now) ∷ [])) }
     ensures tells { (H.state host.new).tells ≡ (H.state host.old).tells }
@@ -95,6 +101,7 @@ pub(crate) fn serve<H: Host, L: Ledger>(
         Err(Halt::HeapFull) => Err(Stop::HeapFull),
         Err(Halt::DiskFault) => Err(Stop::DiskFault),
         Err(Halt::NoMemory) => Err(Stop::NoMemory),
-        Err(Halt::NotAJournal | Halt::Damaged { .. } | Halt::Closed) => unreachable!(),
+        Err(Halt::Damaged { at }) => Err(Stop::Damaged { at }),
+        Err(Halt::NotAJournal | Halt::Closed) => unreachable!(),
     }
 }

@@ -15,7 +15,8 @@ pub enum Status {
     Usage,
     /// The store file has more than 17 bytes and another header.
     NotAJournal,
-    /// The gate at this byte of the store file is open, and no record that fits follows it.
+    /// The gate at this byte of the store file is open, and no record that fits follows it; or there is
+    /// no picture at this byte, where a group's has to be that is loaded.
     Damaged { at: u64 },
     /// The input of `run` is no notebook.
     NotebookRefused(NotebookRefusal),

@@ -3,8 +3,8 @@ ghost use Rattle.std.specs.Prelude.{◌≡◌, ◌≤◌, ◌<◌, ◌⊎◌, �
 ghost use Rattle.kishu_host.specs.Host.{Told, Keeps};
 ghost use Rattle.kishu_input.specs.Sources.{InputFailed, TakesMoreThan, TakesAtMost};
 ghost use Rattle.kishu_store.specs.Graph.{Graph};
-ghost use Rattle.kishu_store.specs.Holds.{Holds, IsForeign, IsBroken};
-ghost use Rattle.kishu_replay.specs.Replay.{replay_charge};
+ghost use Rattle.kishu_store.specs.Holds.{IsForeign};
+ghost use Rattle.kishu_history.specs.Good.{IsWholeFileOf};
 ghost use Rattle.kishu_model.specs.Serve.{charges};
 ghost use Rattle.kishu_model.specs.Task.{session as lines};
 ghost use Rattle.kishu_model.specs.notebooks.Notebook.{Fault};
@@ -13,13 +13,13 @@ ghost use Rattle.kishu_notebook.specs.declared.refusal.NotebookRefusal.{Notebook
 ghost use Rattle.kishu_session.specs.Faults.{DiskFailed};
 ghost use Rattle.kishu_session.specs.Written.{HoldsNone, Stays};
 ghost use Rattle.kishu_session.specs.declared.halt.Halt.TheVariants.{NotAJournal as Foreign, Damaged as Broken, DiskFault as NoDisk, HeapFull as Full};
-ghost use Rattle.kishu_serve.specs.Filling.{Fills, FillsByAny};
+ghost use Rattle.kishu_serve.specs.Filling.{FillsByAny};
 ghost use Rattle.kishu_serve.specs.Headline.{IsWhole, IsRead, IsUnopened, ReadsWhole, longest_input, most_taken, writes_many, HasFault};
-ghost use Rattle.kishu_serve.specs.Promise.{OverGood, form_named, asked_by, ReadsInput, EndsInPart, StopsAsPromised, SettlesInPart, HoldsSome, PassesLimit, StaysWithin, RefusesNotebook, RefusesFor, FillsHeap, OverKnown};
-ghost use Rattle.kishu_serve.specs.Recorded.{AreRecorded, IsWritten};
-ghost use Rattle.kishu_serve.specs.Serving.{OutputFailed, IsOpen, WhereAttached, WhereKnown, StopsInPart};
-ghost use Rattle.kishu_serve.specs.Work.{to_do, HaveRoom, still_reads, records_many, taken_by, Knows, IsLimited, IsRead as IsReadFor};
-ghost use Rattle.kishu_serve.specs.declared.serving.Stop.TheVariants.{HeapFull as StopFull, DiskFault as StopDisk, InputFault as StopInput, OutputFault as StopOutput, TooLong as StopLong};
+ghost use Rattle.kishu_serve.specs.Promise.{OverGood, form_named, asked_by, ReadsInput, EndsInPart, StopsAsPromised, SettlesInPart, HoldsSome, PassesLimit, StaysWithin, RefusesNotebook, RefusesFor, FillsHeap, IsDamaged, OverKnown};
+ghost use Rattle.kishu_serve.specs.Recorded.{Records, IsWritten};
+ghost use Rattle.kishu_serve.specs.Serving.{OutputFailed, IsOpen, EndsDamaged, WhereKnown, StopsInPart};
+ghost use Rattle.kishu_serve.specs.Work.{HaveRoom, still_reads, records_many, taken_by, Knows, IsLimited, IsRead as IsReadFor};
+ghost use Rattle.kishu_serve.specs.declared.serving.Stop.TheVariants.{HeapFull as StopFull, DiskFault as StopDisk, InputFault as StopInput, OutputFault as StopOutput, TooLong as StopLong, Damaged as StopDamaged};
 ghost use Rattle.kishu_serve.specs.declared.status.Status.TheVariants.{Done, Usage, NotAJournal, Damaged, NotebookRefused, DiskFault, InputFault, OutputFault, NoMemory, InputTooLong, HeapFull};
 ghost use Rattle.kishu_serve.specs.declared.work.Unread.TheVariants.{Fault as SourceFault, TooLong as PastLimit, Refused as Unfit};
 
@@ -44,8 +44,10 @@ fn served(outcome: Result<(), Stop>) -> Status
     ensures output_fault { result ≡ OutputFault → outcome ≡ Err StopOutput }
     ensures too_long { result ≡ InputTooLong → outcome ≡ Err StopLong }
     ensures full { result ≡ HeapFull → outcome ≡ Err StopFull }
+    ensures damaged { (at : ℕ) → result ≡ Damaged at → outcome ≡ Err (StopDamaged at) }
     ensures these { (result ≡ Done) ⊎ (result ≡ NoMemory) ⊎ (result ≡ InputTooLong) ⊎ (result ≡ HeapFull)
-        ⊎ (result ≡ DiskFault) ⊎ (result ≡ InputFault) ⊎ (result ≡ OutputFault) }
+        ⊎ (result ≡ DiskFault) ⊎ (result ≡ InputFault) ⊎ (result ≡ OutputFault)
+        ⊎ ((at : ℕ) × (result ≡ Damaged at)) }
 {
     match outcome {
         Ok(()) => Status::Done,
@@ -54,6 +56,7 @@ fn served(outcome: Result<(), Stop>) -> Status
         Err(Stop::InputFault) => Status::InputFault,
         Err(Stop::OutputFault) => Status::OutputFault,
         Err(Stop::TooLong) => Status::InputTooLong,
+        Err(Stop::Damaged { at }) => Status::Damaged { at },
         Err(Stop::NoMemory) => Status::NoMemory,
     }
 }
@@ -112,14 +115,15 @@ fn carry_out<H: Host, S: Source, L: Ledger>(
         IsWhole (H.state host.old) (H.state host.new) g items) }
     ensures stop { WhereKnown work (S.source source.old) session.old (H.state host.old) (λ g items.
         StopsInPart (H.state host.old) (H.state host.new) g items) }
-    ensures bytes { OnOk result (WhereAttached session.old (H.state host.old) (λ g.
-        AreRecorded (records_many work) (H.state host.old).file (H.state host.new).file)) }
+    ensures bytes { OnOk result (Records (records_many work) (H.state host.old) (H.state host.new)) }
     ensures least { OnOk result (
         WhereKnown work (S.source source.old) session.old (H.state host.old) (λ g items.
         steps.old + charges g items ≤ steps.new)) }
     ensures full { IsErrOf result StopFull
         → WhereKnown work (S.source source.old) session.old (H.state host.old) (λ g items.
         FillsByAny g items) }
+    ensures damaged { (at : ℕ) → IsErrOf result (StopDamaged at)
+        → EndsDamaged session.old (H.state host.old) (H.state host.new) at }
 
     ensures read { OnOk result (Knows work (S.source source.old)
         → IsReadFor work (S.source source.new) × (IsLimited work (S.source source.old) → ⊥)) }
@@ -176,19 +180,18 @@ fn run_work<H: Host, S: Source, L: Ledger>(
     ensures not_refused { (why : NotebookRefusal) → result ≡ NotebookRefused why → ⊥ }
     ensures foreign { result ≡ NotAJournal → Told (H.state host.old) (IsForeign (H.state host.old).file) }
     ensures damaged { (at : ℕ) → result ≡ Damaged at
-        → Told (H.state host.old) (IsBroken (H.state host.old).file at) }
+        → IsDamaged (H.state host.old) (H.state host.new) at }
     ensures disk_fault { result ≡ DiskFault → DiskFailed (H.state host.old) (H.state host.new) }
     ensures output_fault { result ≡ OutputFault → OutputFailed (H.state host.old) (H.state host.new) }
     ensures input_fault { result ≡ InputFault
         → (still_reads work ≡ true) × InputFailed (S.source source.old) (S.source source.new) }
-    ensures complete { Told (H.state host.old) ((g : Graph) → Holds (H.state host.old).file g
+    ensures complete { Told (H.state host.old) ((g : Graph) → IsWholeFileOf (H.state host.old).file g
         → (result ≡ Done) ⊎ (result ≡ NoMemory) ⊎ (result ≡ InputTooLong) ⊎ (result ≡ HeapFull)
         ⊎ (result ≡ DiskFault) ⊎ (result ≡ InputFault) ⊎ (result ≡ OutputFault)) }
-    ensures full { result ≡ HeapFull
-        → Told (H.state host.old) ((g : Graph) × Holds (H.state host.old).file g
-        × (Knows work (S.source source.old) → Fills g (to_do work g (S.source source.old).left))) }
+    ensures full { result ≡ HeapFull → OverKnown work (S.source source.old) (H.state host.old) (λ g items.
+        FillsByAny g items) }
     ensures counted { result ≡ Done → OverKnown work (S.source source.old) (H.state host.old) (λ g items.
-        steps.old + replay_charge g g.head.commit + charges g items ≤ steps.new) }
+        steps.old + charges g items ≤ steps.new) }
 
     ensures read { result ≡ Done → Knows work (S.source source.old)
         → IsReadFor work (S.source source.new) × (IsLimited work (S.source source.old) → ⊥) }
@@ -234,8 +237,8 @@ pub fn kishu<H: Host, S: Source, L: Ledger>(
     host: &mut H,
     steps: &mut Steps<L>,
 ) -> Status
-    // At each exit the store holds the graph after the first requests, and their answers are out, the last
-    // in part.
+    // Over a good store: at each exit the store is good and holds the graph after the first requests, and
+    // their answers are out, the last in part.
     ensures run { OverGood (H.state host.old) (S.source source.old) (λ g.
         EndsInPart (H.state host.old) (H.state host.new) g (asked_by words.now (S.source source.old) g)) }
 
@@ -272,7 +275,7 @@ pub fn kishu<H: Host, S: Source, L: Ledger>(
     ensures untouched { IsUnopened (form_named words.now) result → host.new ≡ host.old }
     ensures foreign { result ≡ NotAJournal → Told (H.state host.old) (IsForeign (H.state host.old).file) }
     ensures damaged { (at : ℕ) → result ≡ Damaged at
-        → Told (H.state host.old) (IsBroken (H.state host.old).file at) }
+        → IsDamaged (H.state host.old) (H.state host.new) at }
     ensures disk_fault { result ≡ DiskFault → DiskFailed (H.state host.old) (H.state host.new) }
     ensures input_fault { result ≡ InputFault → InputFailed (S.source source.old) (S.source source.new) }
     ensures output_fault { result ≡ OutputFault → OutputFailed (H.state host.old) (H.state host.new) }
@@ -303,8 +306,8 @@ pub fn kishu<H: Host, S: Source, L: Ledger>(
         → HasFault (form_named words.now) (S.source source.old) fault
         → RefusesFor fault result ⊎ (result ≡ InputTooLong) ⊎ (result ≡ InputFault) ⊎ (result ≡ NoMemory) }
 
-    // The heap is full only where a cell that leads to the head, or one that a request runs, would begin with
-    // more than 2^31 nodes.
+    // Over a good store the heap is full only where a cell that a request runs would begin with more than
+    // 2^31 nodes as the machine makes them that replays each commit from empty.
     ensures heap_full { result ≡ HeapFull
         → FillsHeap (form_named words.now) (H.state host.old) (S.source source.old) }
 
@@ -325,8 +328,7 @@ pub fn kishu<H: Host, S: Source, L: Ledger>(
     // Done: each step of the cells that were run is counted. Where the words or an input that is read whole
     // end the run, none is.
     ensures counted { result ≡ Done → OverGood (H.state host.old) (S.source source.old) (λ g.
-        steps.old + replay_charge g g.head.commit + charges g (asked_by words.now (S.source source.old) g)
-        ≤ steps.new) }
+        steps.old + charges g (asked_by words.now (S.source source.old) g) ≤ steps.new) }
     ensures idle { IsUnopened (form_named words.now) result → steps.new ≡ steps.old }
 {
     let command = match read_words(alloc, words) {

@@ -1,121 +1,217 @@
--- A request that was answered.
-use Rattle.std.proofs.Common.{◌≡◌, Bool, true, false, if◌then◌else◌, [], ◌∷◌, refl, sym, ◌∙◌, ap, subst}
-use Rattle.std.specs.List.{list_any}
-use Rattle.std.specs.Prelude.{nat_le, nat_lt, length, Option, Some, None, ⊤, option_map, IsSome}
+-- A request that was answered: what the session has then, from what was prepared and what was recorded.
+use Rattle.std.proofs.Common.{◌≡◌, ◌<◌, ◌≤◌, ◌⊎◌, inl, inr, ⊎_elim, ℕ, suc, List, [], ◌∷◌, length, refl, sym, ◌∙◌, ap, subst, arith}
 use Rattle.std.specs.Coded.{Coded-set, coded_bool}
+use Rattle.std.specs.Prelude.{Bool, true, false, if◌then◌else◌, Option, Some, None, IsSome}
 use Rattle.std.proofs.Math.Logic.{∥∥₁_elim}
-use Rattle.std.proofs.Props.{props}
-use Rattle.kishu_language.specs.declared.profile.Profile.{Profile}
-use Rattle.kishu_meaning.specs.values.Keys.{KeyPart, Key}
+use Rattle.kishu_host.specs.Host as host
+use Rattle.kishu_host.specs.Host.{Elapses, Now, Only}
+use Rattle.kishu_host.specs.Going.{goes_on, weaker}
 use Rattle.kishu_meaning.specs.values.Values as values
-use Rattle.kishu_language.specs.Limits.{longest_text}
-use Rattle.kishu_store.specs.Graph.{Graph}
-use Rattle.kishu_store.specs.Limits.{most_records}
-use Rattle.kishu_graph.specs.Kept.{Kept, StandsFor}
 use Rattle.kishu_objects.specs.Same.{Same}
-use Rattle.kishu_objects_laws.specs.SameLaws.{same_self}
-use Rattle.kishu_replay.specs.Replay.{replay}
-use Rattle.kishu_model.specs.Answers.{Answer, Refusal, cell_too_long, store_full}
-use Rattle.kishu_model.specs.Request.{Request, Stepped, cell, cells, checkout, branch, log, status, inspect, unreadable, refused_with}
-use Rattle.kishu_model.specs.requests.Cell.{committed, ran_on}
-use Rattle.kishu_model.specs.requests.Cells.{is_too_long, cells_committed, left_on}
-use Rattle.kishu_model.specs.requests.TooLarge.{is_too_large, too_large}
+use Rattle.kishu_objects.specs.States.{IsSoundState}
+use Rattle.kishu_replay.specs.Replay.{after_cells, replay}
+use Rattle.kishu_store.specs.Entries.{Entry, Record, entries_in}
+use Rattle.kishu_store.specs.Graph.{Commit, Graph, newest, with_commit}
+use Rattle.kishu_store.specs.Histories.{History, head_table, table_to}
+use Rattle.kishu_store.specs.Holds.{HasRecords, Holds, Gives, graph_of, history_by, changes_by}
+use Rattle.kishu_store.specs.Limits.{newest_profile}
+use Rattle.kishu_store.specs.Tables.{Table, Change, change_of}
+use Rattle.kishu_store_laws.specs.HistoryLaws.{records-history, place-end}
+use Rattle.kishu_store_laws.specs.Laws.{history-graph, ends-gives, ends-holds, ends-records, has-holds, has-gives, one_changes}
+use Rattle.kishu_graph.specs.Kept.{Kept, StandsFor, TellsChanges, KeepsHistory}
+use Rattle.kishu_history.specs.Good.{IsWholeAttached, IsWholeFileOf}
+use Rattle.kishu_history.specs.Sizes.{StaySmall}
+use Rattle.kishu_history.specs.Stored.{Held, Stored}
+use Rattle.kishu_session_laws.specs.CellLaws.{replay_is_state}
+use Rattle.kishu_live_laws.specs.AtHead.{answer_here, after_here, charge_here, replay_stays_small}
+use Rattle.kishu_live_laws.specs.OnStates.{after_on, ran_by, left_of}
+use Rattle.kishu_live_laws.specs.Outcomes.{when_more}
+use Rattle.kishu_live_laws.specs.RequestsAlike.{ran_by_alike, left_of_alike}
+use Rattle.kishu_model.specs.Request.{Request}
 use Rattle.kishu_model.specs.Serve.{after}
-use Rattle.kishu_model.specs.Step.{step}
-use Rattle.kishu_record.specs.Entries.{entry_of}
-use Rattle.kishu_session.specs.Committing.{unless_refused, after_on}
-use Rattle.kishu_session.specs.Head.{IsAt, IsAtSome}
-use Rattle.kishu_session.specs.Known.{IsKnown}
+use Rattle.kishu_journal.specs.Going.{IsQuiet}
+use Rattle.kishu_checkout.specs.Pictures.{told_file}
+use Rattle.kishu_session.specs.Attached.{IsAtEnd, IsAttached, LivesIn}
+use Rattle.kishu_session.specs.Head.{CountsPath, IsKnown, LivesAt, Lives}
+use Rattle.kishu_session.specs.Journals.{BeforeOrAfter, GoodBeforeOrAfter}
+use Rattle.kishu_session.specs.Known.{IsHistoryOf}
 use Rattle.kishu_session.specs.Lives.{state_of}
-use Rattle.kishu_session.specs.Prepared.{Prepares, AnswersAt, IsBack}
-use Rattle.kishu_session.specs.Refusing.{refusal_in, RefusesAs}
+use Rattle.kishu_session.specs.Prepared.{LeadsTo, LeadsOn, led_with, record_in}
+use Rattle.kishu_session.specs.Recording.{IsJournalAt, MayGoOn, GoesOn, WithOrWithout, LeavesOne, with_new}
+use Rattle.kishu_session.specs.Written.{IsRecorded}
 use Rattle.kishu_session.specs.declared.head.Head.{Head}
 use Rattle.kishu_session.specs.declared.prepared.Prepared.{Prepared}
-use Rattle.kishu_session.proofs.Recordings.{leads-good}
+use Rattle.kishu_session.specs.declared.session.Session.{Session}
+use Rattle.kishu_session.proofs.AttachFacts.{told-attached}
+use Rattle.kishu_session.proofs.Grown.{led-is, lives-led, lives-grown, good-grown, few-grown, RunsAlike}
+use Rattle.kishu_session.proofs.RecordKinds.{Kind, IsCommitted, kind-of, led-graph, led-kept}
+use Rattle.kishu_session.proofs.OneTable.{one-head-table}
 
--- The live state is the same as one to which it is equal.
-pub at-same : (head : Head) (g : Graph) → IsAt head g → Same (state_of head.live) (replay g g.head.commit)
-at-same head g a = subst (λ (t : values.State). Same (state_of head.live) t) a.live (same_self (λ x. ⊤) (state_of head.live))
+-- ---- what a session stands behind
 
--- ---- back at the head
+-- Behind these records, whose history is kept, and has this graph.
+pub record IsBehind (session : Session) (file : List ℕ) (g : Graph) : Type 0 where
+  pub found : List Record
+  pub at : IsJournalAt session.journal file found
+  pub kept : IsHistoryOf session.head.graph (history_by found)
+  pub place : (history_by found).place ≡ session.journal.place
+  pub graph : (history_by found).graph ≡ g
 
--- Of what is in a state there is one proof at most that it is the same.
-part_set : IsSet KeyPart
-part_set = hlevel props
+pub at-end-behind : (session : Session) (s : host.State) (g : Graph) → IsAtEnd session s g → IsBehind session s.file g
+at-end-behind session s g e =
+    let stands = e.journal.stands in
+    let found = stands.found in
+    let same : (history_by found).graph ≡ g = history-graph found ∙ ap (λ (es : List Entry). graph_of es) stands.says ∙ sym e.journal.graph in
+    record {
+      found = found;
+      at = record { ends = stands.ends; place = stands.place };
+      kept = record {
+        keeps = record {
+          graph = subst (λ (x : Graph). StandsFor session.head.graph x) (sym same) e.graph;
+          changes = e.tables (changes_by found) (ends-gives s.file found stands.ends);
+        };
+        good = records-history found stands.ends.fit;
+      };
+      place = place-end found stands.ends.fit ∙ sym stands.place;
+      graph = same;
+    }
 
-key_set : IsSet Key
-key_set = hlevel (part_set, props)
+-- A session that stands behind records whose history is kept is at the end of their file.
+pub behind-at-end : (session : Session) (s : host.State) (rs : List Record) (g : Graph) → IsJournalAt session.journal s.file rs → KeepsHistory session.head.graph (history_by rs) → (history_by rs).graph ≡ g → IsAtEnd session s g
+behind-at-end session s rs g at keeps same = record {
+  journal = record {
+    entries = entries_in rs;
+    stands = record { found = rs; says = refl; ends = at.ends; place = at.place };
+    graph = sym same ∙ history-graph rs;
+  };
+  graph = subst (λ (x : Graph). StandsFor session.head.graph x) same keeps.graph;
+  tables = λ cs gives. subst (λ (x : List Change). TellsChanges session.head.graph x) (one_changes s.file (changes_by rs) cs (ends-gives s.file rs at.ends) gives) keeps.changes;
+}
 
-value_set : IsSet values.Value
-value_set = hlevel props
+-- ---- on a state that is the same as the head's replay
 
-profile_set : IsSet Profile
-profile_set = hlevel props
+-- The cells of a commit are those of the request, and leave of the replay what they leave of the state.
+module _ (s : values.State) (g : Graph) (here : IsSoundState s) (same : Same s (replay g g.head.commit)) (q : Request) (cells : List (List ℕ)) (is : after_on s g q ≡ with_commit newest_profile cells g) where
+  abbrev there : values.State
+  there = replay g g.head.commit
 
-node_set : IsSet values.Node
-node_set = hlevel (key_set, value_set, profile_set, props)
+  abbrev first_cells : List Commit → List (List ℕ)
+  first_cells [] = []
+  first_cells (k ∷ ks) = k.cells
 
-state_set : IsSet values.State
-state_set = hlevel (node_set, value_set, props)
+  more : newest g < newest (after_on s g q)
+  more = (let e : newest (after_on s g q) ≡ suc (newest g) = ap newest is in omega (arith, e))
 
--- The live state is as it was.
-pub back-same : (old new : Head) → IsAtSome old → IsBack old new → state_of new.live ≡ state_of old.live
-back-same old new at b = ∥∥₁_elim at (state_set _ _) (λ a. (b.at a.0 a.1.keeps).live ∙ sym a.1.live)
+  cells-are : ran_by q s ≡ cells
+  cells-are = ap (λ (x : Graph). first_cells x.commits) (sym (when_more s g q more).graph ∙ is)
 
--- It is at the head of some graph afterwards, too.
-pub at-after : (old new : Head) (q : Request) (p : Prepared) → IsAtSome old → AnswersAt old new q p → IsAtSome new
-at-after old new q p at answers = ∥∥₁_elim at squash₁ (λ a. ∣ (after a.0 q, (answers a.0 a.1).at) ∣₁)
+  pub ran-alike : RunsAlike s there cells
+  ran-alike =
+      let state = replay_is_state g g.head.commit in
+      let now : newest g < newest (after g q) = subst (λ (x : Graph). newest g < newest x) (after_here s g here same q) more in
+      record {
+        same =
+            subst (λ (cs : List (List ℕ)). Same (after_cells newest_profile cs s) (after_cells newest_profile cs there)) cells-are
+            (subst (λ (cs : List (List ℕ)). Same (left_of q s) (after_cells newest_profile cs there)) (sym (ran_by_alike s there here state same g q)) (left_of_alike s there here state same g q));
+        small = subst (λ (cs : List (List ℕ)). StaySmall newest_profile cs there) cells-are (replay_stays_small s g here same q now);
+      }
 
--- It stands for some graph afterwards, too.
-pub known-after : (old new : Head) (q : Request) (p : Prepared) → IsKnown old.graph → Prepares old new q p → IsKnown new.graph
-known-after old new q p known prepares =
-    ∥∥₁_elim known squash₁
-    (λ k.
-    let now = after_on (state_of old.live) k.0 q in
-    let one = prepares k.0 k.1 in
-    ∣ (now, record { stands = one.stands; good = leads-good k.0 now (option_map entry_of p.entry) one.leads k.1.good }) ∣₁)
+-- ---- the host is only read
 
--- ---- on the replay of the head
+pub durable-read : (s s1 : host.State) → IsQuiet s s1 → Only s.file s.may_leave → Only s1.file s1.may_leave
+durable-read s s1 quiet only c left = only c (quiet.keeps.crash c left) ∙ sym quiet.keeps.file
 
--- whether a text is too long, whether the store is full, and whether the state that is left is too large
-module _ (g kept : Graph) (a : Answer) (left : values.State) where
-  abbrev by-tests : (long full large : Bool) → Stepped
-  by-tests long full large =
-      if long then refused_with cell_too_long g
-      else if full then refused_with store_full g
-      else if large then refused_with (too_large left) g
-      else record { graph = kept; answer = a }
+-- The file has one record more than the one that was read, or it is that one.
+pub recorded-most : (old : Session) (s s1 : host.State) → IsQuiet s s1 → (g : Graph) → IsAtEnd old s g → (t : host.State)
+    → ((rs : List Record) → IsJournalAt old.journal s1.file rs → (t.file ≡ s1.file) ⊎ IsRecorded s1.file t.file) → (t.file ≡ s.file) ⊎ IsRecorded s.file t.file
+recorded-most old s s1 quiet g e t bytes =
+    let b = at-end-behind old s g e in
+    subst (λ (f : List ℕ). (t.file ≡ f) ⊎ IsRecorded f t.file) quiet.keeps.file (bytes b.found (subst (λ (f : List ℕ). IsJournalAt old.journal f b.found) (sym quiet.keeps.file) b.at))
 
-  by-all : refusal_in a ≡ None → (long full large : Bool) → unless_refused (refusal_in (by-tests long full large).answer) (if large then g else kept) g ≡ (by-tests long full large).graph
-  by-all none true full large = refl
-  by-all none false true large = refl
-  by-all none false false true = refl
-  by-all none false false false = ap (λ (o : Option Refusal). unless_refused o kept g) none
+-- ---- what was prepared
 
-on-replay : (g : Graph) (q : Request) → after_on (replay g g.head.commit) g q ≡ after g q
-on-replay g unreadable = refl
-on-replay g (cell text) =
-    let left = (ran_on text g).state in
-    let c = committed text g in
-    by-all g c.graph c.answer left refl (nat_lt longest_text (length text)) (nat_le most_records g.records) (is_too_large left)
-on-replay g (cells []) = refl
-on-replay g (cells (text ∷ texts)) =
-    let left = left_on (text ∷ texts) g in
-    let c = cells_committed (text ∷ texts) g in
-    by-all g c.graph c.answer left refl (list_any is_too_long (text ∷ texts)) (nat_le most_records g.records) (is_too_large left)
-on-replay g (checkout to) = refl
-on-replay g (branch name at) = refl
-on-replay g log = refl
-on-replay g status = refl
-on-replay g inspect = refl
+module _ (old : Session) (new : Head) (s s1 : host.State) (q : Request) (p : Prepared) (leads : LeadsOn (told_file s) old.journal.place old.head new q p) (quiet : IsQuiet s s1) where
+  abbrev r : Option Record
+  r = record_in p.recorded
 
-pub at-head : (head : Head) (g : Graph) (q : Request) → IsAt head g → after_on (state_of head.live) g q ≡ after g q
-at-head head g q a = ap (λ (s : values.State). after_on s g q) a.live ∙ on-replay g q
+  abbrev live : values.State
+  live = state_of old.head.live
 
--- What refuses as an answer does is one.
-alike-some : (a : Option Answer) (b : Answer) → RefusesAs a b → IsSome a
-alike-some None b e = absurd (cc (e))
-alike-some (Some a) b e = refl
+  abbrev After : Graph → Graph
+  After g = after_on live g q
 
-pub known-some : (kept : Kept) (q : Request) (a : Option Answer) → IsKnown kept → ((g : Graph) → StandsFor kept g → RefusesAs a (step g q).answer) → IsSome a
-known-some kept q a known alike = ∥∥₁_elim known (Coded-set coded_bool _ _) (λ k. alike-some a (step k.0 q).answer (alike k.0 k.1.stands))
+  module _ (h : History) (kept : IsHistoryOf old.head.graph h) (place : h.place ≡ old.journal.place) where
+    pub leads-to : LeadsTo h r (After h.graph)
+    leads-to = (leads.prepares h kept place).leads
+
+    pub kept-now : IsHistoryOf new.graph (led_with h r)
+    kept-now = led-kept new.graph h (After h.graph) r leads-to (leads.prepares h kept place).keeps kept.good
+
+    pub kind-now : Kind (told_file s) old.head new h r (led_with h r)
+    kind-now = kind-of (told_file s) old.head new h (After h.graph) kept r leads-to leads.tells
+
+    pub graph-now : (led_with h r).graph ≡ After h.graph
+    graph-now = led-graph h (After h.graph) r leads-to
+
+  -- There is a history that is kept then.
+  pub known-after : (place : ℕ) → IsKnown old.head old.journal.place → ((h : History) → h.place ≡ old.journal.place → (led_with h r).place ≡ place) → IsKnown new place
+  known-after place known moves =
+      ∥∥₁_elim known squash₁
+      (λ k.
+      let h = k.0 in
+      let is = k.1 in
+      ∣ (
+        led_with h r,
+        record {
+          kept = kept-now h is.kept is.place_is;
+          place_is = moves h is.place_is;
+          count = subst (λ (g : Graph). CountsPath new g) (sym (graph-now h is.kept is.place_is)) (leads.answers h is.kept is.count).count;
+          lives = lives-led (told_file s) old.head new h is.kept.good is.lives r (kept-now h is.kept is.place_is) (kind-now h is.kept is.place_is);
+        },
+      ) ∣₁)
+
+  -- The record may be appended.
+  pub may-go-on : s.tells ≡ true → (g : Graph) → IsAtEnd old s g → MayGoOn old.journal s1 r
+  may-go-on told g e told1 =
+      let b = at-end-behind old s g e in
+      (b.found, After (history_by b.found).graph, subst (λ (f : List ℕ). IsJournalAt old.journal f b.found) (sym quiet.keeps.file) b.at, leads-to (history_by b.found) b.kept b.place)
+
+  -- ---- what a stop leaves
+
+  module _ (t : host.State) (leaves : LeavesOne old.journal s1 t r) (told : s.tells ≡ true) (only : Only s.file s.may_leave) where
+    pub left-one : (rs : List Record) (now : Graph) → IsJournalAt old.journal s.file rs → LeadsTo (history_by rs) r now → Elapses s t (WithOrWithout s rs r)
+    left-one rs now at to =
+        let P = WithOrWithout s rs r in
+        let here : HasRecords s.file rs = ends-records s.file rs at.ends in
+        let before = weaker s s1 P (Now s) quiet.time (λ f o l. (l.1, inl (subst (λ (x : List ℕ). HasRecords x rs) (sym (only f l.0)) here))) in
+        let later = leaves (quiet.time.tells ∙ told) (durable-read s s1 quiet only) rs now (subst (λ (f : List ℕ). IsJournalAt old.journal f rs) (sym quiet.keeps.file) at) to in
+        goes_on s s1 t P (WithOrWithout s1 rs r) before later (λ f o w. (w.0 ∙ quiet.keeps.out, w.1))
+
+    pub stop-here : (g : Graph) → IsAtEnd old s g → Elapses s t (BeforeOrAfter s g (After g))
+    stop-here g e =
+        let b = at-end-behind old s g e in
+        let rs = b.found in
+        let h = history_by rs in
+        let now : (history_by (with_new rs r)).graph ≡ After g = ap (λ (x : History). x.graph) (sym (led-is rs r)) ∙ graph-now h b.kept b.place ∙ ap After b.graph in
+        weaker s t (BeforeOrAfter s g (After g)) (WithOrWithout s rs r) (left-one rs (After h.graph) b.at (leads-to h b.kept b.place))
+        (λ f o w. (
+          w.0,
+          ⊎_elim (λ (k : HasRecords f rs). inl (subst (λ (x : Graph). Holds f x) (sym (history-graph rs) ∙ b.graph) (has-holds f rs k)))
+              (λ (k : HasRecords f (with_new rs r)). inr (subst (λ (x : Graph). Holds f x) (sym (history-graph (with_new rs r)) ∙ now) (has-holds f (with_new rs r) k))) w.1,
+        ))
+
+-- ---- where nothing was prepared, the host was only read
+
+module _ (old : Session) (s s1 : host.State) (quiet : IsQuiet s s1) (only : Only s.file s.may_leave) (g : Graph) where
+  at-end-holds : IsAtEnd old s g → Holds s.file g
+  at-end-holds e =
+      let b = at-end-behind old s g e in
+      subst (λ (x : Graph). Holds s.file x) (sym (history-graph b.found) ∙ b.graph) (ends-holds s.file b.found b.at.ends)
+
+  pub quiet-here : (now : Graph) → IsAtEnd old s g → Elapses s s1 (BeforeOrAfter s g now)
+  quiet-here now e = weaker s s1 (BeforeOrAfter s g now) (Now s) quiet.time (λ f o l. (l.1, inl (subst (λ (x : List ℕ). Holds x g) (sym (only f l.0)) (at-end-holds e))))
+
+  pub quiet-good : (now : Graph) → IsAttached old s g → Elapses s s1 (GoodBeforeOrAfter s g now)
+  quiet-good now a =
+      let good : IsWholeFileOf s.file g = record { changes = a.changes; holds = at-end-holds a.at_end; gives = a.gives; store = a.states.good } in
+      weaker s s1 (GoodBeforeOrAfter s g now) (Now s) quiet.time (λ f o l. (l.1, inl (subst (λ (x : List ℕ). IsWholeFileOf x g) (sym (only f l.0)) good)))

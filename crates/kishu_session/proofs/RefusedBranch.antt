@@ -5,6 +5,7 @@ use Rattle.std.proofs.lemmas.Bool.{false≢true}
 use Rattle.std.proofs.lemmas.Bool.Decides.{nat_tests}
 use Rattle.kishu_store.specs.Branches.{commit_of, is_branch_name}
 use Rattle.kishu_store.specs.Entries.{name}
+use Rattle.kishu_store.specs.Fitting.{Fits}
 use Rattle.kishu_store.specs.Graph.{Graph, Target, newest, with_branch}
 use Rattle.kishu_store.specs.Limits.{most_records}
 use Rattle.kishu_store.specs.References.{is_decimal, number_from}
@@ -18,9 +19,8 @@ use Rattle.kishu_model.specs.Request.{Stepped, branch, refused_with}
 use Rattle.kishu_model.specs.requests.Branch.{branch_at, step_branch}
 use Rattle.kishu_model.specs.requests.Branch as model
 use Rattle.kishu_model.specs.Step.{step}
-use Rattle.kishu_session.specs.Prepared.{Leads}
 use Rattle.kishu_session.specs.Refusing.{refusal_by}
-use Rattle.kishu_session.proofs.Refused.{by-refusal, full-refused, room-is, room-there}
+use Rattle.kishu_session.proofs.Causes.{by-refusal, full-refused, room-is, room-there}
 
 -- where a branch begins
 start-same : (g : Graph) (at : Option (List ℕ)) → start_of at g ≡ model.start_of at g
@@ -108,10 +108,7 @@ module _ (g : Graph) (good : IsGraph g) where
   none-taken None e = refl
   none-taken (Some c) e = absurd (false≢true (sym e))
 
-  pub branch-leads : (title : List ℕ) (at : Option (List ℕ)) (c : ℕ) → start_of at g ≡ Some c → unless_named title (start_of at g) g ≡ None → Leads g (name title c) (with_branch title c g)
-  branch-leads title at c is free =
+  pub branch-fits : (title : List ℕ) (at : Option (List ℕ)) (c : ℕ) → start_of at g ≡ Some c → unless_named title (start_of at g) g ≡ None → Fits g (name title c)
+  branch-fits title at c is free =
       let a = branch-accepted g title at c is free in
-      record {
-        fits = record { room = a.room; goes_on = (a.form_is, none-taken (commit_of title g.branches) a.taken_is, start-there at c is) };
-        changed_is = refl;
-      }
+      record { room = a.room; goes_on = (a.form_is, none-taken (commit_of title g.branches) a.taken_is, start-there at c is) }

@@ -1,92 +1,70 @@
--- What is refused has no record.
-use Rattle.std.proofs.Common.{◌≡◌, ℕ, Bool, true, false, if◌then◌else◌, List, [], ◌∷◌, Option, Some, None, refl, sym, ◌∙◌, ap, subst, arith}
-use Rattle.std.specs.Prelude.{nat_le, not, is_some, option_map}
+-- What is refused for a cause that the graph gives has no record; and each answer is one.
+use Rattle.std.proofs.Common.{◌≡◌, ℕ, Option, Some, None, refl, sym, ◌∙◌, ap, subst, arith}
+use Rattle.std.specs.Coded.{Coded-set, coded_bool}
+use Rattle.std.specs.Prelude.{option_map, IsSome}
 use Rattle.std.proofs.Math.Logic.{∥∥₁_elim}
-use Rattle.kishu_store.specs.Branches.{commit_of, is_branch_name}
-use Rattle.kishu_store.specs.Entries.{Entry}
-use Rattle.kishu_meaning.specs.values.Values.{State}
-use Rattle.kishu_store.specs.Graph.{Graph, Target, with_branch, with_commit}
-use Rattle.kishu_store.specs.Limits.{most_records, newest_profile}
-use Rattle.kishu_store.specs.References.{resolve}
+use Rattle.kishu_store.specs.Entries.{Record}
+use Rattle.kishu_store.specs.Graph.{Graph}
+use Rattle.kishu_store.specs.Histories.{History}
 use Rattle.kishu_store_laws.specs.GraphLaws.{changed-counted}
-use Rattle.kishu_model.specs.Answers.{Answer, Refusal, branched, store_full, bad_name, name_taken}
-use Rattle.kishu_model.specs.Request.{Request, Stepped, cell, cells, checkout, branch, log, status, inspect, unreadable, refused_with}
-use Rattle.kishu_model.specs.requests.Cells.{cells_run}
-use Rattle.kishu_model.specs.requests.Checkout.{checkout_to, went_to}
-use Rattle.kishu_model.specs.requests.Branch.{branch_at, start_of}
+use Rattle.kishu_graph.specs.Kept.{Kept}
+use Rattle.kishu_commit.specs.declared.committing.Record as rust
+use Rattle.kishu_live_laws.specs.OnStates.{after_on}
+use Rattle.kishu_live_laws.specs.RefusalLaws.{refuses_as_step, graph_refusal_stays}
+use Rattle.kishu_live_laws.specs.Refusals.{refusal_in}
+use Rattle.kishu_model.specs.declared.answer.Answer as rust_answer
+use Rattle.kishu_model.specs.Answers.{Answer, Refusal}
+use Rattle.kishu_model.specs.Request.{Request}
 use Rattle.kishu_model.specs.Step.{step}
 use Rattle.kishu_model.specs.Values.{answer_of}
-use Rattle.kishu_record.specs.Entries.{entry_of}
-use Rattle.kishu_record.specs.declared.entry.Entry as program
-use Rattle.kishu_session.specs.Committing.{left_by, left_by_cells, unless_refused, kept_with, after_on}
-use Rattle.kishu_session.specs.Known.{IsGraphOf, IsKnown}
+use Rattle.kishu_session.specs.Committing.{record_of}
+use Rattle.kishu_session.specs.Head.{IsHeadOf, IsKnown}
 use Rattle.kishu_session.specs.Lives.{state_of}
-use Rattle.kishu_session.specs.Prepared.{LeadsTo, Leads, Prepares, RefusesFor}
-use Rattle.kishu_session.specs.Refusing.{refusal_in, RefusesAs, IsRefusal}
+use Rattle.kishu_session.specs.Prepared.{Leads, LeadsTo, Prepares, RefusesFor, record_in}
+use Rattle.kishu_session.specs.Refusing.{IsRefusal, RefusesAs, RefusesSize}
 use Rattle.kishu_session.specs.declared.head.Head.{Head}
 use Rattle.kishu_session.specs.declared.prepared.Prepared.{Prepared}
 
--- A step that refuses changes nothing.
-module _ (g : Graph) (r : Refusal) where
-  abbrev Stays : Stepped → Type 0
-  Stays s = refusal_in s.answer ≡ Some r → s.graph ≡ g
-
-  choice : (b : Bool) (s t : Stepped) → Stays s → Stays t → Stays (if b then s else t)
-  choice true s t p q = p
-  choice false s t p q = q
-
-  here : (x : Refusal) → Stays (refused_with x g)
-  here x e = refl
-
-  accepted : (s : Stepped) → refusal_in s.answer ≡ None → Stays s
-  accepted s none e = absurd (apart (sym none ∙ e))
-    where
-      apart : {x : Refusal} → None ≡ Some x → ⊥
-      apart e = cc (e)
-
-  abbrev made : List ℕ → ℕ → Stepped
-  made title c = record { graph = with_branch title c g; answer = branched c title }
-
-  to-stays : (o : Option Target) → Stays (checkout_to o g)
-  to-stays None e = refl
-  to-stays (Some t) e = choice (nat_le most_records g.records) (refused_with store_full g) (went_to t g) (here store_full) (accepted (went_to t g) refl) e
-
-  at-stays : (title : List ℕ) (o : Option ℕ) → Stays (branch_at title o g)
-  at-stays title None e = refl
-  at-stays title (Some c) e = choice (nat_le most_records g.records) (refused_with store_full g) (made title c) (here store_full) (accepted (made title c) refl) e
-
-  on-stays : (now : State) (q : Request) → refusal_in (step g q).answer ≡ Some r → after_on now g q ≡ g
-  on-stays now unreadable e = refl
-  on-stays now (cell text) e = ap (λ (o : Option Refusal). unless_refused o (kept_with (left_by text now) (with_commit newest_profile (text ∷ []) g) g) g) e
-  on-stays now (cells texts) e = ap (λ (o : Option Refusal). unless_refused o (kept_with (left_by_cells texts now) (with_commit newest_profile (cells_run newest_profile texts now) g) g) g) e
-  on-stays now (checkout to) e = to-stays (resolve g to) e
-  on-stays now (branch title at) e =
-      choice (not (is_branch_name title)) (refused_with bad_name g) (if is_some (commit_of title g.branches) then refused_with name_taken g else branch_at title (start_of at g) g) (here bad_name)
-      (choice (is_some (commit_of title g.branches)) (refused_with name_taken g) (branch_at title (start_of at g) g) (here name_taken) (at-stays title (start_of at g))) e
-  on-stays now log e = refl
-  on-stays now status e = refl
-  on-stays now inspect e = refl
+-- ---- no record
 
 -- A record changes a graph.
-never-same : (g : Graph) (e : Entry) → Leads g e g → ⊥
-never-same g e l = omega (arith, changed-counted g e l.fits, ap (λ (x : Graph). x.records) l.changed_is)
+never-same : (h : History) (r : Record) (now : Graph) → Leads h r now → now ≡ h.graph → ⊥
+never-same h r now l same = omega (arith, changed-counted h.graph r.entry l.fits.graph, ap (λ (x : Graph). x.records) l.changed_is, ap (λ (x : Graph). x.records) same)
 
 refused-in : (a : Option Answer) (b : Answer) (r : Refusal) → RefusesAs a b → option_map refusal_in a ≡ Some (Some r) → refusal_in b ≡ Some r
 refused-in a b r alike is = (let both : Some (refusal_in b) ≡ Some (Some r) = sym alike ∙ is in cc (both))
 
-module _ (old new : Head) (q : Request) (p : Prepared) (r : Refusal) (is : option_map refusal_in (answer_of p.answer) ≡ Some (Some r)) (prepares : Prepares old new q p) (alike : RefusesFor old.graph q p.answer) where
-  no-record : (g : Graph) → IsGraphOf old.graph g → (e : program.Entry) → p.entry ≡ Some e → ⊥
-  no-record g k e some =
-      let leads = subst (λ (o : Option program.Entry). LeadsTo g (option_map entry_of o) (after_on (state_of old.live) g q)) some (prepares g k).leads in
-      never-same g (entry_of e)
-      (subst (λ (x : Graph). Leads g (entry_of e) x) (on-stays g r (state_of old.live) q (refused-in (answer_of p.answer) (step g q).answer r (alike g k.stands) is)) leads)
+⊥-prop : IsProp ⊥
+⊥-prop a b = absurd a
 
-  none-by : IsKnown old.graph → (o : Option program.Entry) → p.entry ≡ o → p.entry ≡ None
+module _ (place : ℕ) (old new : Head) (q : Request) (p : Prepared) (r : Refusal) (is : option_map refusal_in (answer_of p.answer) ≡ Some (Some r)) (prepares : Prepares place old new q p) (alike : RefusesFor old.graph q p.answer) where
+  -- the graph stays
+  stays : (h : History) → IsHeadOf old place h → after_on (state_of old.live) h.graph q ≡ h.graph
+  stays h k =
+      let s = state_of old.live in
+      graph_refusal_stays h.graph s q r (refuses_as_step h.graph s q ∙ refused-in (answer_of p.answer) (step h.graph q).answer r (alike h.graph k.kept.keeps.graph) is)
+
+  no-record : (x : rust.Record) → p.recorded ≡ Some x → (h : History) → IsHeadOf old place h → ⊥
+  no-record x some h k =
+      let now = after_on (state_of old.live) h.graph q in
+      never-same h (record_of x) now (subst (λ (o : Option rust.Record). LeadsTo h (record_in o) now) some (prepares h k.kept k.place_is).leads) (stays h k)
+
+  none-by : IsKnown old place → (o : Option rust.Record) → p.recorded ≡ o → p.recorded ≡ None
   none-by known None e = e
-  none-by known (Some x) e = absurd (∥∥₁_elim known ⊥-prop (λ k. no-record k.0 k.1 x e))
-    where
-      ⊥-prop : IsProp ⊥
-      ⊥-prop a b = absurd a
+  none-by known (Some x) e = absurd (∥∥₁_elim known ⊥-prop (λ k. no-record x e k.0 k.1))
 
-pub refused-silent : (old new : Head) (q : Request) (p : Prepared) → IsKnown old.graph → Prepares old new q p → RefusesFor old.graph q p.answer → IsRefusal (answer_of p.answer) → p.entry ≡ None
-refused-silent old new q p known prepares alike refusal = none-by old new q p refusal.0 refusal.1 prepares alike known p.entry refl
+pub refused-silent : (place : ℕ) (old new : Head) (q : Request) (p : Prepared) → IsKnown old place → Prepares place old new q p → RefusesFor old.graph q p.answer → IsRefusal (answer_of p.answer) → p.recorded ≡ None
+refused-silent place old new q p known prepares alike refusal = none-by place old new q p refusal.0 refusal.1 prepares alike known p.recorded refl
+
+-- No size is told then.
+pub refused-no-size : (a : Option Answer) → IsRefusal a → (bytes : ℕ) → RefusesSize a bytes → ⊥
+refused-no-size a refusal bytes size = (let both : Some None ≡ Some (Some refusal.0) = sym (ap (option_map refusal_in) size) ∙ refusal.1 in absurd (cc (both)))
+
+-- ---- an answer
+
+alike-some : (a : Option Answer) (b : Answer) → RefusesAs a b → IsSome a
+alike-some None b e = absurd (cc (e))
+alike-some (Some a) b e = refl
+
+pub known-some : (place : ℕ) (head : Head) (q : Request) (a : rust_answer.Answer) → IsKnown head place → RefusesFor head.graph q a → IsSome (answer_of a)
+known-some place head q a known alike = ∥∥₁_elim known (Coded-set coded_bool _ _) (λ k. alike-some (answer_of a) (step k.0.graph q).answer (alike k.0.graph k.1.kept.keeps.graph))

@@ -1,23 +1,20 @@
 -- What opening gives, from what the file holds: `s` is the host before, `t` the host after.
-use Rattle.std.specs.Prelude.{◌≡◌, ◌≤◌, ◌⊎◌, ℕ, ◌+◌, List}
-use Rattle.kishu_host.specs.Host.{State, Told, Now, Keeps, Elapses}
+use Rattle.std.specs.Prelude.{◌≡◌, ◌⊎◌, ℕ, List}
+use Rattle.kishu_host.specs.Host.{State, Told, Now, Only, Keeps, Elapses}
 use Rattle.kishu_store.specs.Graph.{Graph}
-use Rattle.kishu_store.specs.Holds.{Holds, IsForeign, IsBroken}
+use Rattle.kishu_store.specs.Holds.{Holds, Gives, IsForeign, IsBroken}
+use Rattle.kishu_store.specs.Tables.{Change, change_of, table_at}
+use Rattle.kishu_history.specs.Good.{IsWholeFile, IsWholeFileOf}
+use Rattle.kishu_checkout.specs.Pictures.{LacksAt}
 use Rattle.kishu_session.specs.Attached.{IsAttached}
-use Rattle.kishu_session.specs.Filling.{FillsOnPath}
-use Rattle.kishu_session.specs.Head.{head_charge}
 use Rattle.kishu_session.specs.Written.{begun, HoldsNone, Stays}
 use Rattle.kishu_session.specs.declared.session.Session.{Session}
 
 -- ---- a session
 
--- It is attached to the graph that the file holds.
+-- It is attached to the graph that a good file holds.
 abbrev pub Attaches : Session → (s t : State) → Type 0
-Attaches session s t = Told s ((g : Graph) → Holds s.file g → IsAttached session t g)
-
--- The counter rose by at least the steps of the cells that lead to the head.
-abbrev pub CountsCells : State → (before now : ℕ) → Type 0
-CountsCells s before now = Told s ((g : Graph) → Holds s.file g → before + head_charge g ≤ now)
+Attaches session s t = Told s ((g : Graph) → IsWholeFileOf s.file g → IsAttached session t g)
 
 -- ---- what becomes of the file
 
@@ -28,6 +25,10 @@ IsBegun s t = Told s (t.file ≡ begun s.file)
 -- The file holds the graph that it held.
 abbrev pub KeepsGraphs : (s t : State) → Type 0
 KeepsGraphs s t = Told s ((g : Graph) → Holds s.file g → Holds t.file g)
+
+-- A good file stays one, with that graph.
+abbrev pub KeepsGood : (s t : State) → Type 0
+KeepsGood s t = Told s ((g : Graph) → IsWholeFileOf s.file g → IsWholeFileOf t.file g)
 
 -- A file that holds no graph stays.
 abbrev pub KeepsBad : (s t : State) → Type 0
@@ -41,16 +42,36 @@ SettlesUnless Failed s t = Told s ((g : Graph) → Holds s.file g → (Failed ×
 abbrev pub LeavesGraph : (s t : State) → Type 0
 LeavesGraph s t = Told s ((g : Graph) → Holds s.file g → Elapses s t (λ c o. Now s c o ⊎ (Holds c g × (o ≡ s.out))))
 
+-- The same of a good file: what a stop leaves is good.
+abbrev pub SettlesGood : (Failed : Type 0) → (s t : State) → Type 0
+SettlesGood Failed s t = Told s ((g : Graph) → IsWholeFileOf s.file g → (Failed × Keeps s t) ⊎ ((c : List ℕ) → t.may_leave c → IsWholeFileOf c g))
+
+abbrev pub LeavesGood : (s t : State) → Type 0
+LeavesGood s t = Told s ((g : Graph) → IsWholeFileOf s.file g → Elapses s t (λ c o. Now s c o ⊎ (IsWholeFileOf c g × (o ≡ s.out))))
+
 -- ---- why there is no session
 
 -- The file has another header.
 abbrev pub FindsForeign : State → Type 0
 FindsForeign s = Told s (IsForeign s.file)
 
--- At this place stands the first open gate behind which no whole record stands that fits.
-abbrev pub FindsBroken : State → (at : ℕ) → Type 0
-FindsBroken s at = Told s (IsBroken s.file at)
+-- At this place stands the first open gate behind which no whole record stands that fits; or the file holds a graph, this is the place of a row of the head's table, and there is no picture of the row's names. On a good file there is no such place.
+pub record LacksPicture (s : State) (at : ℕ) : Type 0 where
+  pub graph : Graph
+  pub changes : List Change
+  pub holds : Holds s.file graph
+  pub gives : Gives s.file changes
+  pub lacks : LacksAt s (table_at graph (change_of changes) graph.head.commit) at
+  pub bad : IsWholeFile s.file → ⊥
 
--- The file holds a graph, and one of the cells that lead to its head would begin with too many nodes.
-abbrev pub FindsFull : State → Type 0
-FindsFull s = Told s ((g : Graph) × Holds s.file g × FillsOnPath g)
+abbrev pub FindsDamage : State → (at : ℕ) → Type 0
+FindsDamage s at = Told s (IsBroken s.file at ⊎ LacksPicture s at)
+
+-- Such a file is as it was, and a stop now leaves it and nothing else. A stop meanwhile left what it might have left before.
+pub record StaysDamaged (s t : State) : Type 0 where
+  pub file : t.file ≡ s.file
+  pub only : Only s.file t.may_leave
+  pub time : Elapses s t (Now s)
+
+abbrev pub KeepsDamaged : (s t : State) → Type 0
+KeepsDamaged s t = Told s (StaysDamaged s t)

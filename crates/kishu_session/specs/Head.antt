@@ -1,91 +1,78 @@
--- What a session keeps of its store's graph, and the state at its head.
-use Rattle.std.specs.Prelude.{◌≡◌, ◌≤◌, ℕ, suc, ◌+◌, List, map}
-use Rattle.std.specs.declared.alloc.Global.{Global}
-use Rattle.std.specs.declared.rc.RcStr.{RcStr}
-use Rattle.std.specs.declared.vec.Vec.{Vec}
-use Rattle.kishu_language.specs.declared.profile.Profile.TheVariants.{One}
-use Rattle.kishu_store.specs.Graph.{Graph, newest, with_commit, count_of}
-use Rattle.kishu_graph.specs.Kept.{Kept, HasShapeOf, StandsFor}
-use Rattle.kishu_journal.specs.Stores.{cells_of as lists_of}
-use Rattle.kishu_replay.specs.Replay.{replay, replay_charge}
-use Rattle.kishu_session.specs.Cells.{cells_of}
-use Rattle.kishu_session.specs.Filling.{FillsOnPath}
-use Rattle.kishu_session.specs.Known.{IsGraphOf}
+-- What a session keeps of its store, and the state at its head.
+use Rattle.std.specs.Prelude.{◌≡◌, ◌≤◌, ◌*◌, ◌^◌, ℕ, List, Option, Some, None}
+use Rattle.kishu_host.specs.Host.{State}
+use Rattle.kishu_store.specs.Graph.{Graph, newest, count_of}
+use Rattle.kishu_store.specs.Histories.{History, head_table}
+use Rattle.kishu_store.specs.Tables.{Table}
+use Rattle.kishu_graph.specs.Kept.{Kept}
+use Rattle.kishu_history.specs.Live.{IsLive}
+use Rattle.kishu_history.specs.Stored.{Stored}
+use Rattle.kishu_checkout.specs.Loads.{IsLoadedFrom}
+use Rattle.kishu_checkout.specs.Pictures.{LacksAt, LacksSome}
+use Rattle.kishu_session.specs.Known.{IsHistoryOf}
 use Rattle.kishu_session.specs.Lives.{state_of}
-use Rattle.kishu_session.specs.Texts.{cells_by_number, AreNewest}
-use Rattle.kishu_session.specs.declared.commit_cells.CommitCells.{CommitCells}
 use Rattle.kishu_session.specs.declared.head.Head.{Head}
 
--- What is kept stands for the graph, and the cells are those of all its commits, which run under the newest profile.
-pub record KeepsGraph (kept : Kept) (stored : List CommitCells) (g : Graph) : Type 0 where
-  pub graph : IsGraphOf kept g
-  pub cells : map cells_of stored ≡ cells_by_number g.commits
-  pub profiles : AreNewest g.commits
+-- ---- the cells on the path
 
-abbrev pub Keeps : Head → Graph → Type 0
-Keeps head g = KeepsGraph head.graph head.stored.items g
+-- It counts the cells on the path to the graph's head. A commit has fewer than 2^32.
+pub record CountsPath (head : Head) (g : Graph) : Type 0 where
+  pub is : head.cells ≡ count_of g g.head.commit
+  pub few : head.cells ≤ newest g * 2 ^ 32
 
--- It is at the graph's head, too: the live state is that of the head's replay.
-pub record IsAt (head : Head) (g : Graph) : Type 0 where
-  pub keeps : Keeps head g
-  pub count : head.cells ≡ count_of g g.head.commit
-  pub live : state_of head.live ≡ replay g g.head.commit
+-- The same in each history that is kept.
+abbrev pub Counts : Head → Type 0
+Counts head = (h : History) → IsHistoryOf head.graph h → CountsPath head h.graph
 
--- ---- what was read of a store
+-- So many cells are on the path to that commit, fewer than 2^32 a commit.
+pub record CountsTo (kept : Kept) (c n : ℕ) : Type 0 where
+  pub is : (h : History) → IsHistoryOf kept h → n ≡ count_of h.graph c
+  pub few : n ≤ c * 2 ^ 32
 
--- What is kept stands for the graph, and these are the cells of all its commits, which run under the newest profile.
-pub record IsReadOf (kept : Kept) (lists : Vec (Vec (RcStr Global) Global) Global) (g : Graph) : Type 0 where
-  pub graph : IsGraphOf kept g
-  pub cells : lists_of lists ≡ cells_by_number g.commits
-  pub profiles : AreNewest g.commits
+-- ---- the live state
 
--- The head stands where the graph that was read does.
-abbrev pub StandsBy : Kept → Vec (Vec (RcStr Global) Global) Global → Head → Type 0
-StandsBy kept lists head = (g : Graph) → IsReadOf kept lists g → IsAt head g
+-- Where a host tells this of its file: the names of the live state are just those of the rows of the table of the history's head, no two of these share a node, and each has the picture that is stored for it.
+abbrev pub LivesAt : Option (List ℕ) → Head → History → Type 0
+LivesAt file head h = IsLive (Stored file) (head_table h) (state_of head.live)
 
--- ---- the cells that lead to the head
+-- The same of each history that is kept. (They have one table.)
+abbrev pub Lives : Option (List ℕ) → Head → Type 0
+Lives file head = (h : History) → IsHistoryOf head.graph h → LivesAt file head h
 
--- the steps that they take
-abbrev pub head_charge : Graph → ℕ
-head_charge g = replay_charge g g.head.commit
+-- Where the file is told, the live state is what its pictures leave of the empty one that are stored for the rows of the head's table.
+abbrev pub IsGiven : Option (List ℕ) → Head → History → Type 0
+IsGiven None head h = Unit {0}
+IsGiven (Some file) head h = IsLoadedFrom file (head_table h) (state_of head.live)
 
--- The counter rose by at least these steps.
-abbrev pub CountsPath : Head → (before now : ℕ) → Type 0
-CountsPath head before now = (g : Graph) → Keeps head g → before + head_charge g ≤ now
+-- It was loaded for that table.
+pub record IsLoadedAt (file : Option (List ℕ)) (head : Head) (h : History) : Type 0 where
+  pub lives : LivesAt file head h
+  pub given : IsGiven file head h
 
--- One of these cells would begin with too many nodes.
-abbrev pub FillsPath : Head → Type 0
-FillsPath head = (g : Graph) → Keeps head g → FillsOnPath g
+-- So it is for the head's table in each history that is kept.
+abbrev pub IsLoaded : Option (List ℕ) → Head → Type 0
+IsLoaded file head = (h : History) → IsHistoryOf head.graph h → IsLoadedAt file head h
 
--- The same of a graph that was read.
-abbrev pub CountsRead : Kept → Vec (Vec (RcStr Global) Global) Global → (before now : ℕ) → Type 0
-CountsRead kept lists before now = (g : Graph) → IsReadOf kept lists g → before + head_charge g ≤ now
+-- ---- pictures that aren't there
 
-abbrev pub FillsRead : Kept → Vec (Vec (RcStr Global) Global) Global → Type 0
-FillsRead kept lists = (g : Graph) → IsReadOf kept lists g → FillsOnPath g
+-- At this place a row of the table has no picture; and so not each row has one.
+pub record Lacks (s : State) (t : Table) (at : ℕ) : Type 0 where
+  pub lacks : LacksAt s t at
+  pub some : LacksSome s t
 
--- The head stands at what it kept before.
-abbrev pub Reaches : (old new : Head) → Type 0
-Reaches old new = (g : Graph) → Keeps old g → IsAt new g
+-- So it is with the head's table.
+abbrev pub LacksAtHead : Kept → State → ℕ → Type 0
+LacksAtHead kept s at = (h : History) → IsHistoryOf kept h → Lacks s (head_table h) at
 
--- ---- a commit more, of these cells
+-- ---- whatever the host tells
 
--- the number that it has
-abbrev pub IsNextNumber : Kept → ℕ → Type 0
-IsNextNumber kept n = (g : Graph) → HasShapeOf kept g → n ≡ suc (newest g)
+-- The history is kept, its records end at that place, the cells on the path to its head are counted, and the live state has the names of the head's table, and pictures of the lengths that this tells.
+pub record IsHeadOf (head : Head) (place : ℕ) (h : History) : Type 0 where
+  pub kept : IsHistoryOf head.graph h
+  pub place_is : h.place ≡ place
+  pub count : CountsPath head h.graph
+  pub lives : LivesAt None head h
 
--- It is kept: of the graph, of its cells, and in the count of the cells on the head's path.
-abbrev pub StandsWith : (old new : Kept) → List (List ℕ) → Type 0
-StandsWith old new cells = (g : Graph) → StandsFor old g → StandsFor new (with_commit One cells g)
-
-abbrev pub KeepsWith : (old new : Head) → List (List ℕ) → Type 0
-KeepsWith old new cells = (g : Graph) → Keeps old g → Keeps new (with_commit One cells g)
-
-abbrev pub CountsMore : (old new : Head) → ℕ → Type 0
-CountsMore old new more = (g : Graph) → Keeps old g → old.cells ≡ count_of g g.head.commit → new.cells ≡ count_of g g.head.commit + more
-
--- ---- whichever graph it is
-
--- There is a graph at whose head it is.
-abbrev pub IsAtSome : Head → Type 0
-IsAtSome head = ∥ ((g : Graph) × IsAt head g) ∥₁
+-- There is such a history.
+abbrev pub IsKnown : Head → ℕ → Type 0
+IsKnown head place = ∥ ((h : History) × IsHeadOf head place h) ∥₁

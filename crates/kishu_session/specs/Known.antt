@@ -1,13 +1,14 @@
--- The graph of a session, whatever its host tells.
-use Rattle.kishu_store.specs.Graph.{Graph}
-use Rattle.kishu_store_laws.specs.GraphLaws.{IsGraph}
-use Rattle.kishu_graph.specs.Kept.{Kept, StandsFor}
+-- The history of a session, whatever its host tells.
+use Rattle.std.specs.Prelude.{◌≡◌, ℕ}
+use Rattle.kishu_store.specs.Histories.{History}
+use Rattle.kishu_store_laws.specs.HistoryLaws.{IsHistory}
+use Rattle.kishu_graph.specs.Kept.{Kept, KeepsHistory}
 
--- What is kept stands for this graph, to which records that fit can lead.
-pub record IsGraphOf (kept : Kept) (g : Graph) : Type 0 where
-  pub stands : StandsFor kept g
-  pub good : IsGraph g
+-- What is kept is this history's, to which records that fit can lead: its graph, and the tables of its commits.
+pub record IsHistoryOf (kept : Kept) (h : History) : Type 0 where
+  pub keeps : KeepsHistory kept h
+  pub good : IsHistory h
 
--- There is such a graph.
-abbrev pub IsKnown : Kept → Type 0
-IsKnown kept = ∥ ((g : Graph) × IsGraphOf kept g) ∥₁
+-- There is such a history.
+abbrev pub HasHistory : Kept → Type 0
+HasHistory kept = ∥ ((h : History) × IsHistoryOf kept h) ∥₁

@@ -1,95 +1,141 @@
 -- What a request leads to before it is recorded: an answer, and the record that makes it last.
-use Rattle.std.specs.Prelude.{◌≡◌, ◌≤◌, ℕ, ◌+◌, Option, Some, None, option_map, IfSome}
+use Rattle.std.specs.Prelude.{◌≡◌, ◌≤◌, ◌⊎◌, ℕ, ◌+◌, List, Option, Some, None, option_map, IfSome}
+use Rattle.kishu_host.specs.Host.{State}
 use Rattle.kishu_store.specs.Graph.{Graph}
-use Rattle.kishu_store.specs.Entries.{Entry, plain}
-use Rattle.kishu_store.specs.Fitting.{Fits, changed}
+use Rattle.kishu_store.specs.Entries.{Entry, Record, commit, move, name}
+use Rattle.kishu_store.specs.Fitting.{changed}
+use Rattle.kishu_store.specs.Histories.{History, Follows, head_table, led, table_to}
+use Rattle.kishu_store.specs.Limits.{newest_profile}
 use Rattle.kishu_store.specs.Rules.{IsRecord}
-use Rattle.kishu_model.specs.Answers.{Refusal, refused}
+use Rattle.kishu_objects.specs.States.{IsSoundState}
+use Rattle.kishu_replay.specs.Replay.{after_cells}
 use Rattle.kishu_model.specs.declared.answer.Answer as rust_answer
 use Rattle.kishu_model.specs.Request.{Request}
-use Rattle.kishu_model.specs.Serve.{after}
-use Rattle.kishu_model.specs.Step.{step, charge_of}
+use Rattle.kishu_model.specs.Step.{step}
 use Rattle.kishu_model.specs.Values.{answer_of}
-use Rattle.kishu_graph.specs.Kept.{Kept, StandsFor}
-use Rattle.kishu_record.specs.Entries.{entry_of}
-use Rattle.kishu_session.specs.Committing.{after_on, LeavesTooLarge}
-use Rattle.kishu_session.specs.Filling.{FillsBy}
-use Rattle.kishu_session.specs.Head.{IsAt, Reaches}
-use Rattle.kishu_session.specs.Known.{IsGraphOf}
+use Rattle.kishu_graph.specs.Kept.{Kept, StandsFor, KeepsHistory}
+use Rattle.kishu_commit.specs.Whole.{whole_record, CanBeStored}
+use Rattle.kishu_commit.specs.declared.committing.Record as rust_record
+use Rattle.kishu_live_laws.specs.OnStates.{answer_on, after_on, charge_on}
+use Rattle.kishu_live_laws.specs.Refusals.{LeavesTooLarge}
+use Rattle.kishu_session.specs.Committing.{record_of}
+use Rattle.kishu_session.specs.Head.{CountsPath, IsLoaded, Lacks}
+use Rattle.kishu_session.specs.Known.{IsHistoryOf}
 use Rattle.kishu_session.specs.Lives.{state_of}
+use Rattle.kishu_session.specs.Reading.{reads_at}
 use Rattle.kishu_session.specs.Refusing.{RefusesAs, RefusesSize}
 use Rattle.kishu_session.specs.declared.head.Head.{Head}
 use Rattle.kishu_session.specs.declared.prepared.Prepared.{Prepared}
 
--- a record that leads from one graph to another
-pub record Leads (g : Graph) (e : Entry) (now : Graph) : Type 0 where
-  pub fits : Fits g e
-  pub changed_is : changed g e ≡ now
+-- the record of a request, where it has one
+abbrev pub record_in : Option rust_record.Record → Option Record
+record_in o = option_map record_of o
+
+-- ---- records
+
+-- A record may be written, whatever the store is.
+abbrev pub MayBeRecorded : Option Record → Type 0
+MayBeRecorded o = IfSome o IsRecord
+
+-- a record that leads from a history to a graph
+pub record Leads (h : History) (r : Record) (now : Graph) : Type 0 where
+  pub rules : IsRecord r
+  pub fits : Follows h r.entry
+  pub changed_is : changed h.graph r.entry ≡ now
 
 -- Without a record the graph stays.
-abbrev pub LeadsTo : Graph → Option Entry → Graph → Type 0
-LeadsTo g None now = now ≡ g
-LeadsTo g (Some e) now = Leads g e now
+abbrev pub LeadsTo : History → Option Record → Graph → Type 0
+LeadsTo h None now = now ≡ h.graph
+LeadsTo h (Some r) now = Leads h r now
 
--- The record leads from one graph to another, which is kept.
-pub record IsPrepared (g now : Graph) (prepared : Prepared) (kept : Kept) : Type 0 where
-  pub leads : LeadsTo g (option_map entry_of prepared.entry) now
-  pub stands : StandsFor kept now
+-- the history with a record more, or without one
+abbrev pub led_with : History → Option Record → History
+led_with h None = h
+led_with h (Some r) = led h r.entry
 
--- The answer is the request's, and the session stands at the head that it leads to.
-pub record IsAnswered (g : Graph) (q : Request) (prepared : Prepared) (head : Head) : Type 0 where
-  pub answer : answer_of prepared.answer ≡ Some (step g q).answer
-  pub at : IsAt head (after g q)
+-- The record leads from a history to a graph, and the history after it is kept.
+pub record IsPrepared (h : History) (now : Graph) (prepared : Prepared) (kept : Kept) : Type 0 where
+  pub leads : LeadsTo h (record_in prepared.recorded) now
+  pub keeps : KeepsHistory kept (led_with h (record_in prepared.recorded))
 
--- ---- what holds of each request, whichever graph is meant
+-- ---- what holds of each request, whichever history is meant: of those that are kept, whose records end at the journal's place
 
--- Whatever the live state is: the record leads from the graph that was kept to the one after the request, which is kept then.
-abbrev pub Prepares : (old new : Head) → Request → Prepared → Type 0
-Prepares old new q prepared = (g : Graph) → IsGraphOf old.graph g → IsPrepared g (after_on (state_of old.live) g q) prepared new.graph
+-- The record leads from the graph that was kept to the one after the request, where its cells run on the live state; and that is kept then.
+abbrev pub Prepares : (place : ℕ) → (old new : Head) → Request → Prepared → Type 0
+Prepares place old new q prepared =
+    (h : History) → IsHistoryOf old.graph h → h.place ≡ place → IsPrepared h (after_on (state_of old.live) h.graph q) prepared new.graph
 
 -- The request is refused just for the cause for which one step refuses it.
 abbrev pub RefusesFor : Kept → Request → rust_answer.Answer → Type 0
 RefusesFor kept q a = (g : Graph) → StandsFor kept g → RefusesAs (answer_of a) (step g q).answer
 
--- From the head of a graph the answer is the request's, and the session comes to the head after it.
-abbrev pub AnswersAt : (old new : Head) → Request → Prepared → Type 0
-AnswersAt old new q prepared = (g : Graph) → IsAt old g → IsAnswered g q prepared new
+-- The answer is the request's, where its cells run on the live state, and the cells on the path to the new head are counted.
+pub record IsAnswered (g : Graph) (q : Request) (old new : Head) (prepared : Prepared) : Type 0 where
+  pub answer : answer_of prepared.answer ≡ Some (answer_on (state_of old.live) g q)
+  pub count : CountsPath new (after_on (state_of old.live) g q)
 
--- What is to be recorded may be.
-abbrev pub MayBeRecorded : Prepared → Type 0
-MayBeRecorded prepared = IfSome prepared.entry (λ e. IsRecord (plain (entry_of e)))
+abbrev pub Answers : (old new : Head) → Request → Prepared → Type 0
+Answers old new q prepared = (h : History) → IsHistoryOf old.graph h → CountsPath old h.graph → IsAnswered h.graph q old new prepared
 
 -- The counter rose by at least the steps of the request's own cells.
-abbrev pub CountsAt : Head → Request → (before now : ℕ) → Type 0
-CountsAt head q before now = (g : Graph) → IsAt head g → before + charge_of g q ≤ now
+abbrev pub CountsOn : Head → Request → (before now : ℕ) → Type 0
+CountsOn head q before now = (g : Graph) → StandsFor head.graph g → before + charge_on (state_of head.live) g q ≤ now
 
--- A cell of the request would begin with too many nodes.
-abbrev pub FillsAt : Head → Request → Type 0
-FillsAt head q = (g : Graph) → IsAt head g → FillsBy g q
+-- ---- how the table of the new head tells the live state
+
+-- The head's state was loaded: what is kept of the graph is as it was.
+pub record IsBack (file : Option (List ℕ)) (old new : Head) : Type 0 where
+  pub graph : new.graph ≡ old.graph
+  pub loaded : IsLoaded file new
+
+-- The commit is that of all names of the new state, which these cells left of the old one. It is a state, and bytes can tell its pictures.
+pub record IsCommitOf (old new : Head) (r : Record) (parent : ℕ) (cells : List (List ℕ)) : Type 0 where
+  pub is : (h : History) → IsHistoryOf old.graph h → r ≡ whole_record parent cells (head_table h) (state_of new.live)
+  pub ran : state_of new.live ≡ after_cells newest_profile cells (state_of old.live)
+  pub sound : IsSoundState (state_of new.live)
+  pub fits : CanBeStored (state_of new.live)
+
+-- To a move belongs a state that was loaded. A branch leaves it.
+abbrev pub TellsBy : Option (List ℕ) → (old new : Head) → Record → Entry → Type 0
+TellsBy file old new r (commit parent profile cells dropped stored) = IsCommitOf old new r parent cells
+TellsBy file old new r (move to) = IsLoaded file new
+TellsBy file old new r (name title number) = new.live ≡ old.live
+
+-- Where there is no record, nothing changes, or the head's state was loaded.
+abbrev pub Tells : Option (List ℕ) → (old new : Head) → Option Record → Type 0
+Tells file old new None = (new ≡ old) ⊎ IsBack file old new
+Tells file old new (Some r) = TellsBy file old new r r.entry
 
 -- ---- states that are too large
-
--- The head's commit was replayed: what is kept of the graph is as it was, and the session is at its head.
-pub record IsBack (old new : Head) : Type 0 where
-  pub graph : new.graph ≡ old.graph
-  pub stored : new.stored ≡ old.stored
-  pub at : Reaches old new
-
--- The request is refused, without a record, and the head's commit was replayed.
-pub record IsRefusedBack (old new : Head) (r : Refusal) (prepared : Prepared) : Type 0 where
-  pub answer : answer_of prepared.answer ≡ Some (refused r)
-  pub entry : prepared.entry ≡ None
-  pub back : IsBack old new
 
 -- The answer refuses no state for its size.
 abbrev pub RefusesNoSize : rust_answer.Answer → Type 0
 RefusesNoSize a = (bytes : ℕ) → RefusesSize (answer_of a) bytes → ⊥
 
--- A state is refused for its size only where the request's cells left it. It has no record, and the session goes back to its head.
-abbrev pub RefusesLarge : (old new : Head) → Request → Prepared → Type 0
-RefusesLarge old new q prepared =
-    (bytes : ℕ) → RefusesSize (answer_of prepared.answer) bytes → LeavesTooLarge (state_of old.live) q bytes × (prepared.entry ≡ None) × IsBack old new
+-- A state is refused for its size only where the request's cells left it. It has no record, and the head's state was loaded.
+abbrev pub RefusesLarge : Option (List ℕ) → (old new : Head) → Request → Prepared → Type 0
+RefusesLarge file old new q prepared =
+    (bytes : ℕ) → RefusesSize (answer_of prepared.answer) bytes → LeavesTooLarge (state_of old.live) q bytes × (prepared.recorded ≡ None) × IsBack file old new
 
--- Whatever else has no record changes nothing.
-abbrev pub StaysWithout : (old new : Head) → Prepared → Type 0
-StaysWithout old new prepared = prepared.entry ≡ None → RefusesNoSize prepared.answer → new ≡ old
+-- ---- together
+
+-- What a request leads to, where the host tells this of its file and the records end at that place: its record and its answer, and how the new head's table tells the live state.
+pub record LeadsOn (file : Option (List ℕ)) (place : ℕ) (old new : Head) (q : Request) (prepared : Prepared) : Type 0 where
+  pub prepares : Prepares place old new q prepared
+  pub rules : MayBeRecorded (record_in prepared.recorded)
+  pub refuses : RefusesFor old.graph q prepared.answer
+  pub answers : Answers old new q prepared
+  pub tells : Tells file old new (record_in prepared.recorded)
+  pub large : RefusesLarge file old new q prepared
+
+-- So it does, whatever the host tells.
+abbrev pub LeadsAlone : (old new : Head) → Request → Prepared → Type 0
+LeadsAlone old new q prepared = (file : Option (List ℕ)) (place : ℕ) → LeadsOn file place old new q prepared
+
+-- Whatever has no record and refuses no state for its size changes nothing, and calls no host.
+abbrev pub StaysWithout : {H : Type 0} → (old new : Head) → (host now : H) → Prepared → Type 0
+StaysWithout old new host now prepared = prepared.recorded ≡ None → RefusesNoSize prepared.answer → (new ≡ old) × (now ≡ host)
+
+-- A row of the table that the request reads has no picture at this place.
+abbrev pub LacksFor : Kept → State → Request → ℕ → Type 0
+LacksFor kept s q at = (h : History) → IsHistoryOf kept h → Lacks s (table_to h (reads_at h.graph q)) at

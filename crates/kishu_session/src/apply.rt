@@ -3,16 +3,17 @@ ghost use Rattle.std.specs.Prelude.{ℕ, ◌≡◌, ◌≤◌, ◌⊎◌, ◌↔
 ghost use Rattle.kishu_replay.specs.Replay.{IsFull};
 ghost use Rattle.kishu_model.specs.Values.{request_of, answer_of};
 ghost use Rattle.kishu_model.specs.requests.Cells.{HasRoom};
-ghost use Rattle.kishu_session.specs.Applying.{IsAnswer, StaysAttached, Fills, Counts, StaysAtEnd, RecordsOne, LeavesBeforeOrAfter, LeavesHere, KeepsSmall};
+ghost use Rattle.kishu_journal.specs.Going.{IsQuiet};
+ghost use Rattle.kishu_live_laws.specs.Refusals.{LeavesTooLarge};
+ghost use Rattle.kishu_session.specs.Applying.{IsAnswer, StaysAttached, Counts, StaysAtEnd, StaysLive, IsBackAt, LacksHere, FillsReplay, RecordsOne, LeavesBeforeOrAfter, LeavesHere, KeepsSmall};
 ghost use Rattle.kishu_session.specs.Attached.{IsReady};
-ghost use Rattle.kishu_session.specs.Committing.{LeavesTooLarge};
 ghost use Rattle.kishu_session.specs.Faults.{DiskFailed};
+ghost use Rattle.kishu_session.specs.Filling.{FillsBy};
 ghost use Rattle.kishu_session.specs.Lives.{state_of};
 ghost use Rattle.kishu_session.specs.Prepared.{RefusesFor};
 ghost use Rattle.kishu_session.specs.Refusing.{IsRefusal, RefusesSize};
-ghost use Rattle.kishu_session.specs.declared.halt.Halt.TheVariants.{DiskFault, NoMemory, HeapFull, Closed};
+ghost use Rattle.kishu_session.specs.declared.halt.Halt.TheVariants.{DiskFault, Damaged, NoMemory, HeapFull, Closed};
 
-use crate::live::Unrun;
 use crate::recording::record;
 use crate::{Halt, Session};
 use kishu_host::Host;
@@ -28,8 +29,10 @@ impl Session {
     /// After an error the session is closed.
     ///
     /// - `Closed`: an earlier call ended the session. The host isn't called.
+    /// - `Damaged`: at that place there is no picture of a group of the commit to which a checkout goes, or
+    ///   of the head's, to which cells came back that left a state that is too large.
     /// - `DiskFault`: a call of the host failed. The store holds the graph before or after the request.
-    /// - `HeapFull`: a cell would have begun with more than 2^31 nodes, of the request or on the way back.
+    /// - `HeapFull`: a cell of the request would have begun with more than 2^31 nodes.
     /// - `NoMemory`: there was no memory.
     pub fn apply<H: Host, L: Ledger>(
         &mut self,
@@ -53,6 +56,9 @@ impl Session {
             (StaysAtEnd self.old self.new (H.state host.old) (H.state host.new) request.now) }
         ensures bytes { OnOk result (RecordsOne self.old (H.state host.old) (H.state host.new)) }
 
+        // On every store the live state stays the one that the head's table tells.
+        ensures live { OnOk result (StaysLive self.old self.new (H.state host.old) (H.state host.new)) }
+
         // On every host the answer is one, a request is refused just for the causes that the session's graph
         // gives, or for a state's size, and a refusal for such a cause leaves host, graph, nodes and names as
         // they were.
@@ -62,18 +68,19 @@ impl Session {
             → (host.new ≡ host.old) × (self.new.head ≡ self.old.head)) }
 
         // A state is refused for its size only where the request's cells left it, above 2^28 bytes, which are
-        // told. Host and graph, nodes and names are then as they were.
+        // told. The host is only read then, and the graph is as it was. The head's state is loaded: it is the
+        // same as the one before, where this was the one that the file tells.
         ensures too_large { IfOk result (λ a. (bytes : ℕ) → RefusesSize (answer_of a) bytes
             → LeavesTooLarge (state_of self.old.head.live) (request_of request.now) bytes
-            × (host.new ≡ host.old) × (self.new.head.graph ≡ self.old.head.graph)) }
+            × IsQuiet (H.state host.old) (H.state host.new) × (self.new.head.graph ≡ self.old.head.graph)) }
         ensures back { IfOk result (λ a. (bytes : ℕ) → RefusesSize (answer_of a) bytes
-            → state_of self.new.head.live ≡ state_of self.old.head.live) }
+            → IsBackAt self.old self.new (H.state host.old)) }
 
         // A graph without a replay that is too large becomes one of that kind.
         ensures small { KeepsSmall request.now }
 
         // A stop at any moment leaves the graph before or after the request, and no output: from an attached
-        // session, and from one that stands at the file's end.
+        // session, where the file that it leaves is good, and from one that stands at the file's end.
         ensures stop { LeavesBeforeOrAfter self.old (H.state host.old) (H.state host.new) request.now }
         ensures stop_here { LeavesHere self.old (H.state host.old) (H.state host.new) request.now }
         ensures out { (H.state host.new).out ≡ (H.state host.old).out }
@@ -83,11 +90,17 @@ impl Session {
         ensures closed { IsErrOf result Closed ↔ (self.old.halted ≡ true) }
         ensures untouched { IsErrOf result Closed → host.new ≡ host.old }
         ensures halted { (self.new.halted ≡ true) ↔ IsErr result }
+        ensures damaged { (at : ℕ) → IsErrOf result (Damaged at)
+            → LacksHere self.old (H.state host.old) request.now at }
+        ensures damaged_stays { (at : ℕ) → IsErrOf result (Damaged at)
+            → (H.state host.new).file ≡ (H.state host.old).file }
         ensures disk_fault { IsErrOf result DiskFault → DiskFailed (H.state host.old) (H.state host.new) }
-        ensures heap_full { IsErrOf result HeapFull → Fills self.old (H.state host.old) request.now }
+        ensures heap_full { IsErrOf result HeapFull
+            → FillsBy (state_of self.old.head.live) (request_of request.now) }
+        ensures full { IsErrOf result HeapFull → FillsReplay self.old (H.state host.old) request.now }
         ensures beyond { IsErrOf result HeapFull → IsFull (state_of self.new.head.live) }
-        ensures only_these { IfErr result (λ e.
-            (e ≡ DiskFault) ⊎ (e ≡ NoMemory) ⊎ (e ≡ HeapFull) ⊎ (e ≡ Closed)) }
+        ensures only_these { IfErr result (λ e. ((at : ℕ) × (e ≡ Damaged at))
+            ⊎ (e ≡ DiskFault) ⊎ (e ≡ NoMemory) ⊎ (e ≡ HeapFull) ⊎ (e ≡ Closed)) }
         ensures disk { (H.state host.old).disk_faults ≤ (H.state host.new).disk_faults }
         ensures outs { (H.state host.old).out_faults ≤ (H.state host.new).out_faults }
 
@@ -98,15 +111,8 @@ impl Session {
             return Err(Halt::Closed);
         }
         self.halted = true;
-        let prepared = match self.head.prepare(request, steps) {
-            Ok(prepared) => prepared,
-            Err(Unrun::HeapFull) => return Err(Halt::HeapFull),
-            Err(Unrun::NoMemory) => return Err(Halt::NoMemory),
-        };
-        match record(self.alloc, &mut self.journal, host, &prepared.entry) {
-            Ok(()) => {}
-            Err(halt) => return Err(halt),
-        }
+        let prepared = self.head.prepare(host, &self.journal, request, steps)?;
+        record(self.alloc, &mut self.journal, host, &prepared.recorded)?;
         self.halted = false;
         Ok(prepared.answer)
     }

@@ -1,79 +1,101 @@
 // The opening of a session.
-ghost use Rattle.std.specs.Prelude.{◌≡◌, ◌≤◌, ℕ, false, IfOk, OnOk, IsErrOf};
+ghost use Rattle.std.specs.Prelude.{◌≡◌, ◌≤◌, ℕ, false, IfOk, IfErr, OnOk, IsErrOf};
 ghost use Rattle.kishu_host.specs.Host.{Told};
-ghost use Rattle.kishu_session.specs.Attached.{StandsAtEnd};
-ghost use Rattle.kishu_session.specs.Attaching.{Attaches, CountsCells, IsBegun, KeepsGraphs, KeepsBad, SettlesUnless, LeavesGraph, FindsForeign, FindsBroken, FindsFull};
+ghost use Rattle.kishu_journal.specs.Facts.{KeepsTables, IsOfHistory, BeginsShort, IsDurable, WasBroken};
+ghost use Rattle.kishu_journal.specs.Stores.{Opens};
+ghost use Rattle.kishu_session.specs.Attached.{StandsAtEnd, LivesIn};
+ghost use Rattle.kishu_session.specs.Attaching.{Attaches, IsBegun, KeepsGraphs, KeepsGood, KeepsBad, KeepsDamaged, SettlesUnless, SettlesGood, LeavesGraph, LeavesGood, FindsForeign, FindsDamage};
 ghost use Rattle.kishu_session.specs.Faults.{DiskFailed};
+ghost use Rattle.kishu_session.specs.Opening.{IsOpening, IsUnopened};
 ghost use Rattle.kishu_session.specs.Written.{HoldsSome};
 ghost use Rattle.kishu_session.specs.declared.halt.Halt.TheVariants.{NotAJournal, Damaged, DiskFault, HeapFull, Closed};
 
 use crate::head::Head;
-use crate::live::Unrun;
 use crate::{Halt, Session};
 use kishu_host::Host;
-use kishu_journal::{Journal, JournalFault};
+use kishu_journal::{Journal, JournalFault, OpenStore};
 use kishu_model::Steps;
 use std::alloc::Global;
 use std::sync::ledger::Ledger;
 
+/// Opens the store of a host. A file of at most 17 bytes, whatever they are, is begun anew.
+fn opened<H: Host>(alloc: Global, host: &mut H) -> Result<OpenStore, Halt>
+    ensures opens { IfOk result (Opens (H.state host.old) (H.state host.new)) }
+    ensures tables { IfOk result (λ s. KeepsTables (H.state host.old) s.graph) }
+    ensures known { IfOk result (λ s. IsOfHistory s.graph s.journal.place) }
+    ensures going { IfOk result (λ s. s.journal.closed ≡ false) }
+    ensures begun { OnOk result (BeginsShort (H.state host.old) (H.state host.new)) }
+    ensures durable { OnOk result (IsDurable (H.state host.old) (H.state host.new)) }
+    ensures opening { IsOpening (IsErrOf result DiskFault) (H.state host.old) (H.state host.new) }
+    ensures foreign { IsErrOf result NotAJournal → FindsForeign (H.state host.old) }
+    ensures damaged { (at : ℕ) → IsErrOf result (Damaged at) → WasBroken (H.state host.old) at }
+    ensures disk_fault { IsErrOf result DiskFault → DiskFailed (H.state host.old) (H.state host.new) }
+    ensures only_these { IfErr result IsUnopened }
+{
+    match Journal::open_store(alloc, host) {
+        Ok(store) => Ok(store),
+        Err(JournalFault::NotAJournal) => Err(Halt::NotAJournal),
+        Err(JournalFault::Damaged { at }) => Err(Halt::Damaged { at }),
+        Err(JournalFault::DiskFault) => Err(Halt::DiskFault),
+        Err(JournalFault::NoMemory) => Err(Halt::NoMemory),
+    }
+}
+
 impl Session {
-    /// Opens a store, and runs the cells that lead to its head. A file of at most 17 bytes, whatever
+    /// Opens a store, and loads the state of its head. No cell is run. A file of at most 17 bytes, whatever
     /// they are, is begun anew.
     ///
     /// - `NotAJournal`: the file has more than 17 bytes and another header.
     /// - `Damaged`: at that place stands the first open gate behind which no whole record stands that
-    ///   fits the graph of those before it.
+    ///   fits those before it; or there is no picture there of a group of the head's commit.
     /// - `DiskFault`: a call of the host failed.
-    /// - `HeapFull`: one of the cells would have begun with more than 2^31 nodes.
     /// - `NoMemory`: there was no memory.
     pub fn attach<H: Host, L: Ledger>(
         alloc: Global,
         host: &mut H,
         steps: &mut Steps<L>,
     ) -> Result<Session, Halt>
-        // Over a file that holds a graph the session is attached to it. It opens no other file, and has what
-        // `apply` asks for.
+        // Over a good file the session is attached to the graph that it holds. It opens no file that holds
+        // none, and has what `apply` asks for.
         ensures attached { IfOk result (λ s. Attaches s (H.state host.old) (H.state host.new)) }
         ensures good { OnOk result (Told (H.state host.old) (HoldsSome (H.state host.old).file)) }
         ensures at_end { IfOk result (λ s. Told (H.state host.old) (StandsAtEnd s (H.state host.new))) }
         ensures going { IfOk result (λ s. s.halted ≡ false) }
         ensures begun { OnOk result (IsBegun (H.state host.old) (H.state host.new)) }
 
+        // On every store the live state is the one that the head's table tells.
+        ensures live { IfOk result (λ s. LivesIn s (H.state host.new)) }
+
         // What a file holds stays, and nothing is put out.
         ensures held { KeepsGraphs (H.state host.old) (H.state host.new) }
+        ensures held_good { KeepsGood (H.state host.old) (H.state host.new) }
         ensures bad { KeepsBad (H.state host.old) (H.state host.new) }
         ensures out { (H.state host.new).out ≡ (H.state host.old).out }
         ensures settled { SettlesUnless (IsErrOf result DiskFault) (H.state host.old) (H.state host.new) }
+        ensures settled_good { SettlesGood (IsErrOf result DiskFault) (H.state host.old) (H.state host.new) }
         ensures stop { LeavesGraph (H.state host.old) (H.state host.new) }
+        ensures stop_good { LeavesGood (H.state host.old) (H.state host.new) }
         ensures tells { (H.state host.new).tells ≡ (H.state host.old).tells }
 
         // Each halt has its cause.
         ensures foreign { IsErrOf result NotAJournal → FindsForeign (H.state host.old) }
-        ensures damaged { (at : ℕ) → IsErrOf result (Damaged at) → FindsBroken (H.state host.old) at }
+        ensures damaged { (at : ℕ) → IsErrOf result (Damaged at) → FindsDamage (H.state host.old) at }
+        ensures damaged_stays { (at : ℕ) → IsErrOf result (Damaged at)
+            → KeepsDamaged (H.state host.old) (H.state host.new) }
         ensures disk_fault { IsErrOf result DiskFault → DiskFailed (H.state host.old) (H.state host.new) }
-        ensures heap_full { IsErrOf result HeapFull → FindsFull (H.state host.old) }
+        ensures not_full { IsErrOf result HeapFull → ⊥ }
         ensures not_closed { IsErrOf result Closed → ⊥ }
         ensures disk { (H.state host.old).disk_faults ≤ (H.state host.new).disk_faults }
         ensures outs { (H.state host.old).out_faults ≤ (H.state host.new).out_faults }
 
-        // Each step of the cells is counted.
-        ensures least { OnOk result (CountsCells (H.state host.old) steps.old steps.new) }
+        // No step is counted.
+        ensures counted { steps.new ≡ steps.old }
     {
-        let store = match Journal::open_store(alloc, host) {
-            Ok(store) => store,
-            Err(JournalFault::NotAJournal) => return Err(Halt::NotAJournal),
-            Err(JournalFault::Damaged { at }) => return Err(Halt::Damaged { at }),
-            Err(JournalFault::DiskFault) => return Err(Halt::DiskFault),
-            Err(JournalFault::NoMemory) => return Err(Halt::NoMemory),
-        };
-        let head = match Head::of_store(alloc, store.graph, store.cells, steps) {
-            Ok(head) => head,
-            Err(Unrun::HeapFull) => return Err(Halt::HeapFull),
-            Err(Unrun::NoMemory) => return Err(Halt::NoMemory),
-        };
+        let OpenStore { journal, graph } = opened(alloc, host)?;
+        let head = Head::of_store(alloc, host, &journal, graph)?;
         Ok(Session {
             alloc,
-            journal: store.journal,
+            journal,
             head,
             halted: false,
         })

@@ -1,66 +1,79 @@
-// The commit of cells that were run: its entry, and what a session keeps of it.
-ghost use Rattle.std.specs.Prelude.{◌≡◌, ◌≤◌, ◌<◌, ◌^◌, [], length, IfOk, OnOk, IsErrOf};
-ghost use Rattle.kishu_language.specs.declared.profile.Profile.TheVariants.{One};
-ghost use Rattle.kishu_store.specs.Entries.{commit, plain};
+// The commit of cells that were run: its record, and what a session keeps of it.
+ghost use Rattle.std.specs.Prelude.{◌≡◌, ◌≤◌, ◌<◌, IfOk};
+ghost use Rattle.kishu_commit.specs.Whole.{MayBeCommitted};
+ghost use Rattle.kishu_objects.specs.Sizes.{size, most_bytes};
 ghost use Rattle.kishu_store.specs.Limits.{most_records};
-ghost use Rattle.kishu_store.specs.Rules.{IsRecord};
-ghost use Rattle.kishu_model.specs.requests.Cells.{texts_size, largest_texts};
-ghost use Rattle.kishu_record.specs.Entries.{entry_of};
-ghost use Rattle.kishu_session.specs.Head.{IsNextNumber, StandsWith, KeepsWith, CountsMore};
-ghost use Rattle.kishu_session.specs.TextLists.{texts_of, AreShort};
-ghost use Rattle.kishu_session.specs.declared.live.Unrun.TheVariants.{HeapFull};
+ghost use Rattle.kishu_session.specs.Committing.{HasShortHead, Commits};
+ghost use Rattle.kishu_session.specs.Lives.{state_of};
+ghost use Rattle.kishu_session.specs.TextLists.{texts_of};
 
-use crate::cells::{push_all, store_cells};
 use crate::head::Head;
-use crate::live::Unrun;
-use kishu_graph::line_of;
-use kishu_model::Profile;
-use kishu_record::Entry;
-use std::alloc::{AllocError, Global};
+use kishu_commit::{Record, commit};
+use kishu_journal::{Journal, follow};
+use kishu_model::Steps;
+use std::alloc::AllocError;
 use std::rc::RcStr;
+use std::sync::ledger::Ledger;
 
-/// The entry of a commit of these cells, which drops and stores no groups.
-pub(crate) fn commit_entry(alloc: Global, parent: u32, cells: &[RcStr]) -> Result<Entry, AllocError>
-    requires some { 0 < length cells.now }
-    requires short { AreShort cells.now }
-    requires size { texts_size (texts_of cells.now) ≤ largest_texts }
-    ensures entry { IfOk result (λ e. entry_of e ≡ commit parent One (texts_of cells.now) [] []) }
-    ensures record { IfOk result (λ e. IsRecord (plain (entry_of e))) }
-{
-    let mut texts = Vec::new(alloc);
-    push_all(&mut texts, cells)?;
-    Ok(Entry::Commit {
-        parent,
-        profile: Profile::One,
-        cells: texts,
-        dropped: Vec::new(alloc),
-        stored: Vec::new(alloc),
-    })
+/// A commit: its number, and its record.
+#[derive(Drop)]
+pub(crate) struct Committed {
+    pub(crate) number: u32,
+    pub(crate) recorded: Record,
 }
 
+/// From a record's gate to its body: the gate, and the body's length.
+const BEFORE_BODY: u64 = 9;
+
+// No store comes so far: past it there is said to be no memory.
+const FAR: u64 = 1 << 62;
+
 impl Head {
-    /// Adds the commit of these cells, which were run, and answers its number.
-    pub(crate) fn add_commit(&mut self, cells: &[RcStr]) -> Result<u32, Unrun>
-        requires some { 0 < length cells.now }
-        requires short { AreShort cells.now }
-        requires few { length cells.now < 2 ^ 32 }
+    /// Adds the commit of these cells, which were run on the head's state and left the live one. It drops
+    /// the groups of its parent, and stores the picture of all names.
+    pub(crate) fn commit<L: Ledger>(
+        &mut self,
+        journal: &Journal,
+        cells: &[RcStr],
+        steps: &mut Steps<L>,
+    ) -> Result<Committed, AllocError>
+        requires cells { MayBeCommitted (texts_of cells.now) }
+        requires known { HasShortHead self.old.graph }
+        requires small { size (state_of self.old.live) ≤ most_bytes }
         requires room { self.old.graph.records < most_records }
-        ensures number { IfOk result (IsNextNumber self.old.graph) }
-        ensures stands { OnOk result (StandsWith self.old.graph self.new.graph (texts_of cells.now)) }
-        ensures keeps { OnOk result (KeepsWith self.old self.new (texts_of cells.now)) }
-        ensures count { OnOk result (CountsMore self.old self.new (length cells.now)) }
+        ensures commits { IfOk result (Commits journal.now.place self.old self.new (texts_of cells.now)) }
         ensures live { self.new.live ≡ self.old.live }
-        ensures not_full { IsErrOf result HeapFull → ⊥ }
+        ensures counted { steps.old ≤ steps.new }
     {
-        let line = line_of(self.alloc, cells[0].as_str())?;
-        store_cells(self.alloc, &mut self.stored, cells)?;
-        self.cells = self.cells.saturating_add(cells.len() as u64);
-        match self
-            .graph
-            .add_commit(Profile::One, cells.len() as u32, line)
-        {
-            Ok(number) => Ok(number),
-            Err(_) => Err(Unrun::NoMemory),
+        let place = journal.place();
+        if place >= FAR {
+            return Err(AllocError);
         }
+        let parent = self.graph.head().commit;
+        let table = self.graph.table(parent)?;
+        let live = &self.live;
+        let made = commit(
+            self.alloc,
+            parent,
+            cells,
+            &table,
+            &live.heap,
+            &live.names,
+            steps,
+        )?;
+        let number = self.graph.commits();
+        if !follow(
+            self.alloc,
+            &mut self.graph,
+            &made.entry,
+            place + BEFORE_BODY,
+        )? {
+            unreachable!();
+        }
+        self.cells = self.cells.saturating_add(cells.len() as u64);
+        Ok(Committed {
+            number,
+            recorded: made,
+        })
     }
 }

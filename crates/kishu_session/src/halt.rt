@@ -1,3 +1,4 @@
+use crate::unprepared::Unprepared;
 use thiserror::Error;
 
 /// Why a session ends. It answers nothing from then on.
@@ -6,7 +7,8 @@ pub enum Halt {
     /// The file has more than 17 bytes and another header.
     #[error("not a journal")]
     NotAJournal,
-    /// The gate at byte `at` of the file is open, and no whole record that fits stands behind it.
+    /// The gate at byte `at` of the file is open, and no whole record that fits stands behind it; or
+    /// there is no picture at that place, where a group's has to be that is loaded.
     #[error("damaged at {at}")]
     Damaged { at: u64 },
     /// A call of the host failed.
@@ -21,4 +23,20 @@ pub enum Halt {
     /// An earlier call of the session ended it.
     #[error("closed")]
     Closed,
+}
+
+impl From<Unprepared> for Halt {
+    ghost use Rattle.std.specs.Prelude.{◌≡◌};
+    ghost use Rattle.kishu_session.specs.Halting.{halt_by};
+
+    ghost from_gives = { λ unprepared halt. halt ≡ halt_by unprepared };
+
+    fn from(unprepared: Unprepared) -> Halt {
+        match unprepared {
+            Unprepared::HeapFull => Halt::HeapFull,
+            Unprepared::Damaged { at } => Halt::Damaged { at },
+            Unprepared::DiskFault => Halt::DiskFault,
+            Unprepared::NoMemory => Halt::NoMemory,
+        }
+    }
 }

@@ -1,64 +1,113 @@
 // What a session keeps of its store's graph, and the state at its head.
-ghost use Rattle.std.specs.Prelude.{◌≡◌, ◌≤◌, IfOk, OnOk, IsErrOf};
-ghost use Rattle.kishu_replay.specs.Replay.{IsFull};
-ghost use Rattle.kishu_session.specs.Head.{Reaches, CountsPath, FillsPath};
-ghost use Rattle.kishu_model.specs.Values.{refusal_of};
-ghost use Rattle.kishu_session.specs.Lives.{state_of};
-ghost use Rattle.kishu_session.specs.Prepared.{IsRefusedBack};
-ghost use Rattle.kishu_session.specs.declared.live.Unrun.TheVariants.{HeapFull};
+ghost use Rattle.std.specs.Prelude.{◌≡◌, ℕ, Some, None, IfOk, OnOk, IsErrOf};
+ghost use Rattle.kishu_checkout.specs.Pictures.{told_file};
+ghost use Rattle.kishu_journal.specs.Going.{IsQuiet};
+ghost use Rattle.kishu_model.specs.Answers.{refused};
+ghost use Rattle.kishu_model.specs.Values.{answer_of, refusal_of};
+ghost use Rattle.kishu_session.specs.Faults.{DiskFailed};
+ghost use Rattle.kishu_session.specs.Head.{Counts, IsLoaded, LacksAtHead};
+ghost use Rattle.kishu_session.specs.Known.{HasHistory};
+ghost use Rattle.kishu_session.specs.Prepared.{IsBack};
+ghost use Rattle.kishu_session.specs.declared.unprepared.Unprepared.TheVariants.{HeapFull, Damaged, DiskFault};
 
-use crate::cells::texts_along;
-use crate::commit_cells::CommitCells;
-use crate::live::{Live, Unrun};
+use crate::counting::count_to;
+use crate::live::Live;
 use crate::prepared::Prepared;
-use crate::replaying::run_all;
+use crate::unprepared::Unprepared;
+use kishu_checkout::{CheckoutFault, restore};
 use kishu_graph::Graph;
-use kishu_model::{Refusal, Steps};
+use kishu_host::Host;
+use kishu_journal::Journal;
+use kishu_model::Refusal;
 use std::alloc::Global;
-use std::sync::ledger::Ledger;
 
-/// A store's graph, the cells of all its commits by their numbers, how many cells are on the path to the
-/// head, and the state at the head.
+/// A store's graph, how many cells are on the path to its head, and the state there.
 #[derive(Drop)]
 pub(crate) struct Head {
     pub(crate) alloc: Global,
     pub(crate) graph: Graph,
-    pub(crate) stored: Vec<CommitCells>,
     pub(crate) cells: u64,
     pub(crate) live: Live,
 }
 
 impl Head {
-    /// Replays the head's commit: runs the cells on its path from empty.
-    pub(crate) fn replay<L: Ledger>(&mut self, steps: &mut Steps<L>) -> Result<(), Unrun>
-        ensures at { OnOk result (Reaches self.old self.new) }
-        ensures least { OnOk result (CountsPath self.old steps.old steps.new) }
-        ensures counted { OnOk result (steps.old ≤ steps.new) }
-        ensures full { IsErrOf result HeapFull → FillsPath self.old }
-        ensures beyond { IsErrOf result HeapFull → IsFull (state_of self.new.live) }
-        ensures graph { self.new.graph ≡ self.old.graph }
-        ensures stored { self.new.stored ≡ self.old.stored }
+    /// The head of a store's graph, whose state is loaded.
+    pub(crate) fn of_store<H: Host>(
+        alloc: Global,
+        host: &mut H,
+        journal: &Journal,
+        graph: Graph,
+    ) -> Result<Head, Unprepared>
+        requires known { HasHistory graph }
+        ensures loaded { IfOk result (λ head. IsLoaded (told_file (H.state host.old)) head) }
+        ensures count { IfOk result (λ head. Counts head) }
+        ensures graph { IfOk result (λ head. head.graph ≡ graph) }
+        ensures quiet { IsQuiet (H.state host.old) (H.state host.new) }
+        ensures damaged { (at : ℕ) → IsErrOf result (Damaged at) → LacksAtHead graph (H.state host.old) at }
+        ensures disk_fault { IsErrOf result DiskFault → DiskFailed (H.state host.old) (H.state host.new) }
+        ensures not_full { IsErrOf result HeapFull → ⊥ }
     {
-        let numbers = self.graph.path(self.graph.head().commit)?;
-        let texts = texts_along(self.alloc, &self.stored, &numbers)?;
-        self.live = Live::new(self.alloc);
-        run_all(self.alloc, &texts, &mut self.live, steps)?;
-        self.cells = texts.len() as u64;
-        Ok(())
+        let mut head = Head {
+            alloc,
+            graph,
+            cells: 0,
+            live: Live::new(alloc),
+        };
+        head.load(host, journal)?;
+        Ok(head)
     }
 
-    /// Goes back to the head's commit, since cells left a state that is too large, and refuses them.
-    pub(crate) fn back<L: Ledger>(
+    /// Loads the state of the head's commit into an empty heap and empty names, and counts the cells on the
+    /// path to it.
+    pub(crate) fn load<H: Host>(
         &mut self,
-        refusal: Refusal,
-        steps: &mut Steps<L>,
-    ) -> Result<Prepared, Unrun>
-        ensures refused { IfOk result (IsRefusedBack self.old self.new (refusal_of refusal)) }
-        ensures counted { OnOk result (steps.old ≤ steps.new) }
-        ensures full { IsErrOf result HeapFull → FillsPath self.old }
-        ensures beyond { IsErrOf result HeapFull → IsFull (state_of self.new.live) }
+        host: &mut H,
+        journal: &Journal,
+    ) -> Result<(), Unprepared>
+        requires known { HasHistory self.old.graph }
+        ensures loaded { OnOk result (IsLoaded (told_file (H.state host.old)) self.new) }
+        ensures count { OnOk result (Counts self.new) }
+        ensures graph { self.new.graph ≡ self.old.graph }
+        ensures quiet { IsQuiet (H.state host.old) (H.state host.new) }
+        ensures damaged { (at : ℕ) → IsErrOf result (Damaged at)
+            → LacksAtHead self.old.graph (H.state host.old) at }
+        ensures disk_fault { IsErrOf result DiskFault → DiskFailed (H.state host.old) (H.state host.new) }
+        ensures not_full { IsErrOf result HeapFull → ⊥ }
     {
-        self.replay(steps)?;
+        let commit = self.graph.head().commit;
+        let table = self.graph.table(commit)?;
+        self.live = Live::new(self.alloc);
+        match restore(self.alloc, journal, host, &table) {
+            Ok(restored) => {
+                self.live = Live::of(restored);
+                self.cells = count_to(&self.graph, commit);
+                Ok(())
+            }
+            Err(CheckoutFault::Damaged { at }) => Err(Unprepared::Damaged { at }),
+            Err(CheckoutFault::DiskFault) => Err(Unprepared::DiskFault),
+            Err(CheckoutFault::NoMemory) => Err(Unprepared::NoMemory),
+        }
+    }
+
+    /// Goes back to the head's state, since cells left one that is too large, and refuses them.
+    pub(crate) fn back<H: Host>(
+        &mut self,
+        host: &mut H,
+        journal: &Journal,
+        refusal: Refusal,
+    ) -> Result<Prepared, Unprepared>
+        requires known { HasHistory self.old.graph }
+        ensures answer { IfOk result (λ p. answer_of p.answer ≡ Some (refused (refusal_of refusal))) }
+        ensures record { IfOk result (λ p. p.recorded ≡ None) }
+        ensures back { OnOk result (IsBack (told_file (H.state host.old)) self.old self.new) }
+        ensures count { OnOk result (Counts self.new) }
+        ensures quiet { IsQuiet (H.state host.old) (H.state host.new) }
+        ensures damaged { (at : ℕ) → IsErrOf result (Damaged at)
+            → LacksAtHead self.old.graph (H.state host.old) at }
+        ensures disk_fault { IsErrOf result DiskFault → DiskFailed (H.state host.old) (H.state host.new) }
+        ensures not_full { IsErrOf result HeapFull → ⊥ }
+    {
+        self.load(host, journal)?;
         Ok(Prepared::refused(refusal))
     }
 }

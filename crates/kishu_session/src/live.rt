@@ -1,16 +1,19 @@
 // What cells have left, and the running of one more.
-ghost use Rattle.std.specs.Prelude.{◌≡◌, ◌≤◌, ◌+◌, [], Some, IsTrue, IfOk, OnOk, IsErrOf, length, option_map};
+ghost use Rattle.std.specs.Prelude.{◌≡◌, ◌≤◌, ◌⊎◌, ◌+◌, [], Some, IsTrue, IfOk, IfErr, OnOk, IsErrOf, length, option_map};
 ghost use Rattle.kishu_meaning.specs.moments.Accesses.{with_accesses};
 ghost use Rattle.kishu_language.specs.Limits.{longest_text};
 ghost use Rattle.kishu_replay.specs.Replay.{IsFull};
+ghost use Rattle.kishu_checkout.specs.Loads.{state_restored};
 ghost use Rattle.kishu_meaning.specs.values.Sound.{are_sound_names};
 ghost use Rattle.kishu_meaning.specs.values.Values.{empty, report_of};
 ghost use Rattle.kishu_inspect.specs.Sized.{size_refused};
 ghost use Rattle.kishu_model.specs.Values.{answer_of, refusal_of};
 ghost use Rattle.kishu_model.specs.requests.Inspect.{told_at};
 ghost use Rattle.kishu_objects.specs.Picture.{whole};
-ghost use Rattle.kishu_session.specs.declared.live.Unrun.TheVariants.{HeapFull};
+ghost use Rattle.kishu_session.specs.declared.unprepared.Unprepared.TheVariants.{HeapFull, NoMemory};
 
+use crate::unprepared::Unprepared;
+use kishu_checkout::Restored;
 use kishu_heap::Heap;
 use kishu_interp::run_cell;
 use kishu_model::{Answer, CellResult, Profile, Refusal, Steps};
@@ -21,25 +24,7 @@ use std::sync::ledger::Ledger;
 /// The most nodes with which a cell begins.
 const MOST_NODES: u32 = 1 << 31;
 
-/// Why a cell isn't run to its end.
-#[derive(Clone, Copy, Debug, PartialEq, Eq)]
-pub(crate) enum Unrun {
-    HeapFull,
-    NoMemory,
-}
-
-impl From<AllocError> for Unrun {
-    ghost use Rattle.std.specs.Prelude.{◌≡◌};
-    ghost use Rattle.kishu_session.specs.declared.live.Unrun.TheVariants.{NoMemory};
-
-    ghost from_gives = { λ _ unrun. unrun ≡ NoMemory };
-
-    fn from(_error: AllocError) -> Unrun {
-        Unrun::NoMemory
-    }
-}
-
-/// The nodes and the names that cells have left.
+/// The nodes and the names that cells have left, or that were loaded.
 #[derive(Drop)]
 pub(crate) struct Live {
     pub(crate) heap: Heap,
@@ -60,6 +45,15 @@ impl Live {
         }
     }
 
+    /// What was loaded. Its names lead to nodes that are there.
+    pub(crate) fn of(restored: Restored) -> Live
+        requires { IsTrue (are_sound_names (length restored.heap) restored.names.bound) }
+        ensures { state_of result ≡ state_restored restored }
+    {
+        let Restored { heap, names } = restored;
+        Live { heap, names }
+    }
+
     /// Forgets which names were accessed.
     pub(crate) fn clear_record(&mut self)
         ensures state { state_of self.new ≡ state_of self.old }
@@ -74,7 +68,7 @@ impl Live {
         alloc: Global,
         text: &str,
         steps: &mut Steps<L>,
-    ) -> Result<CellResult, Unrun>
+    ) -> Result<CellResult, Unprepared>
         requires { length text.now ≤ longest_text }
         ensures report { IfOk result (λ r. report_of r ≡ (run_on self.old text.now).report) }
         ensures state { OnOk result (state_of self.new ≡ (run_on self.old text.now).state) }
@@ -83,9 +77,10 @@ impl Live {
         ensures least { OnOk result (steps.old + (run_on self.old text.now).charge ≤ steps.new) }
         ensures full { IsErrOf result HeapFull → IsFull (state_of self.old) }
         ensures beyond { IsErrOf result HeapFull → IsFull (state_of self.new) }
+        ensures only_these { IfErr result (λ e. (e ≡ HeapFull) ⊎ (e ≡ NoMemory)) }
     {
         if self.heap.len() > MOST_NODES {
-            return Err(Unrun::HeapFull);
+            return Err(Unprepared::HeapFull);
         }
         let result = run_cell(
             alloc,

@@ -1,36 +1,38 @@
 // The record of what a request leads to, behind those of a store.
-ghost use Rattle.std.specs.Prelude.{◌≡◌, ◌≤◌, ◌⊎◌, false, Some, None, OnOk, IfSome, IfErr, IsErrOf};
+ghost use Rattle.std.specs.Prelude.{◌≡◌, ◌≤◌, ◌⊎◌, false, Some, None, OnOk, IfErr, IsErrOf};
 ghost use Rattle.kishu_host.specs.Host.{Told};
-ghost use Rattle.kishu_store.specs.Entries.{plain};
 ghost use Rattle.kishu_store.specs.Rules.{IsRecord};
-ghost use Rattle.kishu_record.specs.Entries.{entry_of};
+ghost use Rattle.kishu_session.specs.Committing.{record_of};
 ghost use Rattle.kishu_session.specs.Faults.{DiskFailed};
-ghost use Rattle.kishu_session.specs.Recording.{entry_in, MayGoOn, GoesOn, Records, RecordsAtMost, IsDurable, StaysDurable, LeavesOne};
+ghost use Rattle.kishu_session.specs.Prepared.{record_in, MayBeRecorded};
+ghost use Rattle.kishu_session.specs.Recording.{MayGoOn, GoesOn, MovesOn, Records, RecordsAtMost, IsDurable, StaysDurable, LeavesOne};
 ghost use Rattle.kishu_session.specs.declared.halt.Halt.TheVariants.{DiskFault, NoMemory};
 
 use crate::Halt;
+use kishu_commit::Record;
 use kishu_host::Host;
 use kishu_journal::{Journal, JournalFault};
-use kishu_record::{Entry, encode};
+use kishu_record::encode;
 use std::alloc::Global;
 
-/// Appends the record of an entry, which has no pictures.
-fn append_entry<H: Host>(
+/// Appends a record with its pictures.
+fn append<H: Host>(
     alloc: Global,
     journal: &mut Journal,
     host: &mut H,
-    entry: &Entry,
+    made: &Record,
 ) -> Result<(), Halt>
     requires open { journal.old.closed ≡ false }
-    requires record { IsRecord (plain (entry_of entry.now)) }
-    requires next { MayGoOn journal.old (H.state host.old) (Some (entry_of entry.now)) }
+    requires rules { IsRecord (record_of made.now) }
+    requires next { MayGoOn journal.old (H.state host.old) (Some (record_of made.now)) }
 
     ensures stands { OnOk result
-        (GoesOn journal.old journal.new (H.state host.old) (H.state host.new) (Some (entry_of entry.now))) }
+        (GoesOn journal.old journal.new (H.state host.old) (H.state host.new) (Some (record_of made.now))) }
+    ensures place { OnOk result (MovesOn journal.old journal.new (Some (record_of made.now))) }
     ensures open { OnOk result (journal.new.closed ≡ false) }
     ensures bytes { OnOk result (Records journal.old (H.state host.old) (H.state host.new)) }
     ensures durable { OnOk result (Told (H.state host.old) (IsDurable (H.state host.new))) }
-    ensures stop { LeavesOne journal.old (H.state host.old) (H.state host.new) (Some (entry_of entry.now)) }
+    ensures stop { LeavesOne journal.old (H.state host.old) (H.state host.new) (Some (record_of made.now)) }
     ensures out { (H.state host.new).out ≡ (H.state host.old).out }
     ensures tells { (H.state host.new).tells ≡ (H.state host.old).tells }
     ensures only_these { IfErr result (λ e. (e ≡ DiskFault) ⊎ (e ≡ NoMemory)) }
@@ -38,7 +40,7 @@ fn append_entry<H: Host>(
     ensures disk { (H.state host.old).disk_faults ≤ (H.state host.new).disk_faults }
     ensures outs { (H.state host.old).out_faults ≤ (H.state host.new).out_faults }
 {
-    let Ok(body) = encode(alloc, entry, &[]) else {
+    let Ok(body) = encode(alloc, &made.entry, &made.pictures) else {
         return Err(Halt::NoMemory);
     };
     match journal.append(alloc, host, &body) {
@@ -54,19 +56,20 @@ pub(crate) fn record<H: Host>(
     alloc: Global,
     journal: &mut Journal,
     host: &mut H,
-    entry: &Option<Entry>,
+    prepared: &Option<Record>,
 ) -> Result<(), Halt>
     requires open { journal.old.closed ≡ false }
-    requires record { IfSome entry.now (λ e. IsRecord (plain (entry_of e))) }
-    requires next { MayGoOn journal.old (H.state host.old) (entry_in entry.now) }
+    requires rules { MayBeRecorded (record_in prepared.now) }
+    requires next { MayGoOn journal.old (H.state host.old) (record_in prepared.now) }
 
     ensures stands { OnOk result
-        (GoesOn journal.old journal.new (H.state host.old) (H.state host.new) (entry_in entry.now)) }
+        (GoesOn journal.old journal.new (H.state host.old) (H.state host.new) (record_in prepared.now)) }
+    ensures place { OnOk result (MovesOn journal.old journal.new (record_in prepared.now)) }
     ensures open { OnOk result (journal.new.closed ≡ false) }
     ensures bytes { OnOk result (RecordsAtMost journal.old (H.state host.old) (H.state host.new)) }
     ensures durable { OnOk result (StaysDurable (H.state host.old) (H.state host.new)) }
-    ensures quiet { OnOk result (entry.now ≡ None → host.new ≡ host.old) }
-    ensures stop { LeavesOne journal.old (H.state host.old) (H.state host.new) (entry_in entry.now) }
+    ensures quiet { OnOk result (prepared.now ≡ None → host.new ≡ host.old) }
+    ensures stop { LeavesOne journal.old (H.state host.old) (H.state host.new) (record_in prepared.now) }
     ensures out { (H.state host.new).out ≡ (H.state host.old).out }
     ensures tells { (H.state host.new).tells ≡ (H.state host.old).tells }
     ensures only_these { IfErr result (λ e. (e ≡ DiskFault) ⊎ (e ≡ NoMemory)) }
@@ -74,8 +77,8 @@ pub(crate) fn record<H: Host>(
     ensures disk { (H.state host.old).disk_faults ≤ (H.state host.new).disk_faults }
     ensures outs { (H.state host.old).out_faults ≤ (H.state host.new).out_faults }
 {
-    match entry {
-        Some(entry) => append_entry(alloc, journal, host, entry),
+    match prepared {
+        Some(made) => append(alloc, journal, host, made),
         None => Ok(()),
     }
 }

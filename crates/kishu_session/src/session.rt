@@ -1,7 +1,6 @@
 // A session.
 ghost use Rattle.std.specs.Prelude.{◌≡◌, false};
-ghost use Rattle.kishu_session.specs.Head.{IsAtSome};
-ghost use Rattle.kishu_session.specs.Known.{IsKnown};
+ghost use Rattle.kishu_session.specs.Head.{IsKnown};
 
 use crate::head::Head;
 use kishu_graph::Graph;
@@ -18,8 +17,7 @@ pub struct Session {
     pub(crate) head: Head,
     pub(crate) halted: bool,
     ghost going: { halted ≡ false → journal.closed ≡ false },
-    ghost known: { halted ≡ false → IsKnown head.graph },
-    ghost at: { halted ≡ false → IsAtSome head },
+    ghost known: { halted ≡ false → IsKnown head journal.place },
 }
 
 impl Session {

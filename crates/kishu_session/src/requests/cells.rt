@@ -1,23 +1,30 @@
 // Several cells: they run on the live state, one after another up to the first that doesn't end well, and
 // those that were run are one commit. None is kept where one leaves a state that is too large.
-ghost use Rattle.std.specs.Prelude.{◌≡◌, ◌≤◌, ◌<◌, ◌+◌, ◌^◌, ◌++◌, ◌∷◌, [], length, map, take, suc, false, None, IfOk, OnOk, IsErrOf, IsSome};
+ghost use Rattle.std.specs.Prelude.{◌≡◌, ◌≤◌, ◌<◌, ◌+◌, ◌^◌, ◌++◌, ◌∷◌, [], ◌⊎◌, ℕ, length, map, suc, false, IfOk, IfErr, OnOk, IsErrOf};
 ghost use Rattle.std.specs.List.{list_any};
 ghost use Rattle.kishu_meaning.specs.values.Values.{report_of};
 ghost use Rattle.kishu_store.specs.Limits.{most_records};
 ghost use Rattle.kishu_replay.specs.Replay.{IsFull};
+ghost use Rattle.kishu_checkout.specs.Pictures.{told_file};
+ghost use Rattle.kishu_journal.specs.Going.{IsQuiet};
 ghost use Rattle.kishu_model.specs.Values.{counted_of};
 ghost use Rattle.kishu_model.specs.requests.Cells.{is_ok, is_too_long, texts_size, largest_texts};
 ghost use Rattle.kishu_session.specs.Asked.{cells_for};
+ghost use Rattle.kishu_session.specs.Faults.{DiskFailed};
+ghost use Rattle.kishu_session.specs.Filling.{FillsBy};
+ghost use Rattle.kishu_session.specs.Head.{IsKnown};
 ghost use Rattle.kishu_session.specs.Lives.{state_of, state_after_ran, charge_of_ran, FillsRan};
-ghost use Rattle.kishu_session.specs.Prepared.{Prepares, RefusesFor, AnswersAt, MayBeRecorded, CountsAt, FillsAt, RefusesLarge, StaysWithout};
+ghost use Rattle.kishu_session.specs.Prepared.{LeadsOn, CountsOn, StaysWithout, LacksFor};
 ghost use Rattle.kishu_session.specs.Running.{IsGivenBy};
 ghost use Rattle.kishu_session.specs.TextLists.{texts_of, AreShort};
-ghost use Rattle.kishu_session.specs.declared.live.Unrun.TheVariants.{HeapFull};
+ghost use Rattle.kishu_session.specs.declared.unprepared.Unprepared.TheVariants.{HeapFull, Damaged, DiskFault, NoMemory};
 
-use crate::committing::commit_entry;
 use crate::head::Head;
-use crate::live::{Live, Unrun};
+use crate::live::Live;
 use crate::prepared::Prepared;
+use crate::unprepared::Unprepared;
+use kishu_host::Host;
+use kishu_journal::Journal;
 use kishu_language::LONGEST_TEXT;
 use kishu_meaning::Outcome;
 use kishu_model::{Answer, CellResult, Counted, Refusal, Steps};
@@ -76,7 +83,7 @@ fn run_cells<L: Ledger>(
     before: u64,
     live: &mut Live,
     steps: &mut Steps<L>,
-) -> Result<Several, Unrun>
+) -> Result<Several, Unprepared>
     requires short { AreShort texts.now }
     requires some { 0 < length texts.now }
     ensures gives { IfOk result (IsGivenBy before live.old texts.now) }
@@ -84,6 +91,7 @@ fn run_cells<L: Ledger>(
     ensures least { OnOk result (steps.old + charge_of_ran live.old texts.now ≤ steps.new) }
     ensures full { IsErrOf result HeapFull → FillsRan live.old texts.now }
     ensures beyond { IsErrOf result HeapFull → IsFull (state_of live.new) }
+    ensures only_these { IfErr result (λ e. (e ≡ HeapFull) ⊎ (e ≡ NoMemory)) }
 {
     let mut results = Vec::new(alloc);
     for text in texts {
@@ -105,58 +113,68 @@ fn run_cells<L: Ledger>(
 impl Head {
     /// Runs cells for which the store has room, and prepares the commit of those that were run. They are
     /// refused where one leaves a state that is too large.
-    fn commit_cells<L: Ledger>(
+    fn commit_cells<H: Host, L: Ledger>(
         &mut self,
+        host: &mut H,
+        journal: &Journal,
         texts: &[RcStr],
         steps: &mut Steps<L>,
-    ) -> Result<Prepared, Unrun>
+    ) -> Result<Prepared, Unprepared>
+        requires known { IsKnown self.old journal.now.place }
         requires some { 0 < length texts.now }
         requires short { list_any is_too_long (texts_of texts.now) ≡ false }
         requires size { texts_size (texts_of texts.now) ≤ largest_texts }
         requires room { self.old.graph.records < most_records }
-        ensures prepared { IfOk result (Prepares self.old self.new (cells_for texts.now)) }
-        ensures refuses { IfOk result (λ p. RefusesFor self.old.graph (cells_for texts.now) p.answer) }
-        ensures answered { IfOk result (AnswersAt self.old self.new (cells_for texts.now)) }
-        ensures record { IfOk result MayBeRecorded }
-        ensures stays { IfOk result (StaysWithout self.old self.new) }
-        ensures large { IfOk result (RefusesLarge self.old self.new (cells_for texts.now)) }
-        ensures least { OnOk result (CountsAt self.old (cells_for texts.now) steps.old steps.new) }
-        ensures full { IsErrOf result HeapFull → FillsAt self.old (cells_for texts.now) }
+        ensures leads { IfOk result (LeadsOn (told_file (H.state host.old)) journal.now.place
+            self.old self.new (cells_for texts.now)) }
+        ensures stays { IfOk result (StaysWithout self.old self.new host.old host.new) }
+        ensures quiet { IsQuiet (H.state host.old) (H.state host.new) }
+        ensures least { OnOk result (CountsOn self.old (cells_for texts.now) steps.old steps.new) }
+        ensures full { IsErrOf result HeapFull → FillsBy (state_of self.old.live) (cells_for texts.now) }
         ensures beyond { IsErrOf result HeapFull → IsFull (state_of self.new.live) }
+        ensures damaged { (at : ℕ) → IsErrOf result (Damaged at)
+            → LacksFor self.old.graph (H.state host.old) (cells_for texts.now) at }
+        ensures disk_fault { IsErrOf result DiskFault → DiskFailed (H.state host.old) (H.state host.new) }
     {
         self.live.clear_record();
         let several = run_cells(self.alloc, texts, self.cells, &mut self.live, steps)?;
         let results = match several {
             Several::Shown(results) => results,
-            Several::TooLarge(refusal) => return self.back(refusal, steps),
+            Several::TooLarge(refusal) => return self.back(host, journal, refusal),
         };
         let (ran, _) = texts.split_at(results.len());
-        let entry = commit_entry(self.alloc, self.graph.head().commit, ran)?;
-        let commit = self.add_commit(ran)?;
+        let made = self.commit(journal, ran, steps)?;
         Ok(Prepared {
-            answer: Answer::Cells { commit, results },
-            entry: Some(entry),
+            answer: Answer::Cells {
+                commit: made.number,
+                results,
+            },
+            recorded: Some(made.recorded),
         })
     }
 
     /// Runs cells on the live state, one after another up to the first that doesn't end well, and prepares
     /// the commit of those that were run. Cells of which one is too long are refused, and so are cells for a
     /// store that is full, and cells of which one leaves a state that is too large.
-    pub(crate) fn cells<L: Ledger>(
+    pub(crate) fn cells<H: Host, L: Ledger>(
         &mut self,
+        host: &mut H,
+        journal: &Journal,
         texts: &[RcStr],
         steps: &mut Steps<L>,
-    ) -> Result<Prepared, Unrun>
-        requires { texts_size (texts_of texts.now) ≤ largest_texts }
-        ensures prepared { IfOk result (Prepares self.old self.new (cells_for texts.now)) }
-        ensures refuses { IfOk result (λ p. RefusesFor self.old.graph (cells_for texts.now) p.answer) }
-        ensures answered { IfOk result (AnswersAt self.old self.new (cells_for texts.now)) }
-        ensures record { IfOk result MayBeRecorded }
-        ensures stays { IfOk result (StaysWithout self.old self.new) }
-        ensures large { IfOk result (RefusesLarge self.old self.new (cells_for texts.now)) }
-        ensures least { OnOk result (CountsAt self.old (cells_for texts.now) steps.old steps.new) }
-        ensures full { IsErrOf result HeapFull → FillsAt self.old (cells_for texts.now) }
+    ) -> Result<Prepared, Unprepared>
+        requires known { IsKnown self.old journal.now.place }
+        requires size { texts_size (texts_of texts.now) ≤ largest_texts }
+        ensures leads { IfOk result (LeadsOn (told_file (H.state host.old)) journal.now.place
+            self.old self.new (cells_for texts.now)) }
+        ensures stays { IfOk result (StaysWithout self.old self.new host.old host.new) }
+        ensures quiet { IsQuiet (H.state host.old) (H.state host.new) }
+        ensures least { OnOk result (CountsOn self.old (cells_for texts.now) steps.old steps.new) }
+        ensures full { IsErrOf result HeapFull → FillsBy (state_of self.old.live) (cells_for texts.now) }
         ensures beyond { IsErrOf result HeapFull → IsFull (state_of self.new.live) }
+        ensures damaged { (at : ℕ) → IsErrOf result (Damaged at)
+            → LacksFor self.old.graph (H.state host.old) (cells_for texts.now) at }
+        ensures disk_fault { IsErrOf result DiskFault → DiskFailed (H.state host.old) (H.state host.new) }
     {
         if texts.is_empty() {
             return Ok(Prepared::refused(Refusal::BadRequest));
@@ -167,6 +185,6 @@ impl Head {
         if self.graph.records() >= MOST_RECORDS {
             return Ok(Prepared::refused(Refusal::StoreFull));
         }
-        self.commit_cells(texts, steps)
+        self.commit_cells(host, journal, texts, steps)
     }
 }

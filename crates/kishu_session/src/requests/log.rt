@@ -1,12 +1,10 @@
 // The log: the branches, and the commits from the head's back to the first.
-ghost use Rattle.std.specs.Prelude.{◌≡◌, ◌<◌, None, IfOk, IsErrOf, length};
+ghost use Rattle.std.specs.Prelude.{◌≡◌, ◌<◌, None, IfOk, length};
 ghost use Rattle.kishu_model.specs.Request.{log};
 ghost use Rattle.kishu_session.specs.LogRows.{IsRowOf, AreRowsBack};
-ghost use Rattle.kishu_session.specs.Prepared.{Prepares, RefusesFor, RefusesLarge, AnswersAt};
-ghost use Rattle.kishu_session.specs.declared.live.Unrun.TheVariants.{HeapFull};
+ghost use Rattle.kishu_session.specs.Prepared.{LeadsAlone};
 
 use crate::head::Head;
-use crate::live::Unrun;
 use crate::prepared::Prepared;
 use kishu_graph::Graph;
 use kishu_model::{Answer, PathRow};
@@ -43,20 +41,13 @@ fn rows(alloc: Global, graph: &Graph) -> Result<Vec<PathRow>, AllocError>
 
 impl Head {
     /// Tells the branches and the path to the head.
-    pub(crate) fn log(&self) -> Result<Prepared, Unrun>
-        ensures prepared { IfOk result (Prepares self.now self.now log) }
-        ensures refuses { IfOk result (λ p. RefusesFor self.now.graph log p.answer) }
-        ensures large { IfOk result (RefusesLarge self.now self.now log) }
-        ensures answered { IfOk result (AnswersAt self.now self.now log) }
-        ensures entry { IfOk result (λ p. p.entry ≡ None) }
-        ensures not_full { IsErrOf result HeapFull → ⊥ }
+    pub(crate) fn log(&self) -> Result<Prepared, AllocError>
+        ensures leads { IfOk result (LeadsAlone self.now self.now log) }
+        ensures record { IfOk result (λ p. p.recorded ≡ None) }
     {
-        Ok(Prepared {
-            answer: Answer::Log {
-                branches: self.graph.branches()?,
-                path: rows(self.alloc, &self.graph)?,
-            },
-            entry: None,
-        })
+        Ok(Prepared::told(Answer::Log {
+            branches: self.graph.branches()?,
+            path: rows(self.alloc, &self.graph)?,
+        }))
     }
 }

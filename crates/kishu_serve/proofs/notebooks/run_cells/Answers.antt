@@ -1,4 +1,4 @@
-use Rattle.std.proofs.Common.{not, List, length, Bool, true, false, map, sym, ap, subst, arith, OnOk}
+use Rattle.std.proofs.Common.{not, List, length, Bool, false, map, sym, ap, subst, arith, OnOk}
 use Rattle.std.proofs.lemmas.List.{length-map}
 use Rattle.std.specs.Rc.{rc_str_bytes}
 use Rattle.std.specs.declared.alloc.Global.{Global}
@@ -6,6 +6,7 @@ use Rattle.std.specs.declared.rc.RcStr.{RcStr}
 use Rattle.kishu_notebook.specs.Views.{data_of}
 use Rattle.kishu_serve.specs.Coming.{CellsAreRun}
 use Rattle.kishu_serve.specs.Notebooks.{run_of}
+use Rattle.kishu_serve.specs.Recorded.{Records}
 use Rattle.kishu_serve.specs.Serving.{WhereAttached}
 use Rattle.kishu_serve.proofs.CellRuns.{fewer-texts}
 use Rattle.kishu_serve.proofs.notebooks.run_cells.Goals as goal
@@ -19,7 +20,7 @@ returns-then-together-clause-comes g c =
     let s0 = st c.args.host.now in
     subst
     (λ (b : Bool). OnOk c.run_together.result (WhereAttached c.args.session.now s0 (λ g'.
-    CellsAreRun s0 (st c.run_together.new.host) c.run_together.new.session (not b) g' (run_of b g' (map rc_str_bytes c.args.texts.items) (data_of c.args.notebook.now)) c.run_together.new.notebook c.args.steps.now c.run_together.new.steps)))
+    CellsAreRun s0 (st c.run_together.new.host) c.run_together.new.session g' (run_of b g' (map rc_str_bytes c.args.texts.items) (data_of c.args.notebook.now)) c.run_together.new.notebook c.args.steps.now c.run_together.new.steps)))
     (sym c.if-together.true) c.run_together.ensures.comes
 
 pub returns-else-together-clause-comes : goal.returns-else-together-clause-comes
@@ -29,9 +30,19 @@ returns-else-together-clause-comes g c =
     let ran =
     subst
     (λ (ts : List (RcStr Global)). OnOk c.run_each.result (WhereAttached c.args.session.now s0 (λ g'.
-    CellsAreRun s0 (st c.run_each.new.host) c.run_each.new.session true g' (run_of false g' (map rc_str_bytes ts) (data_of c.args.notebook.now)) c.run_each.new.notebook c.args.steps.now c.run_each.new.steps)))
+    CellsAreRun s0 (st c.run_each.new.host) c.run_each.new.session g' (run_of false g' (map rc_str_bytes ts) (data_of c.args.notebook.now)) c.run_each.new.notebook c.args.steps.now c.run_each.new.steps)))
     c.deref.ensures.value c.run_each.ensures.comes in
     subst
     (λ (b : Bool). OnOk c.run_each.result (WhereAttached c.args.session.now s0 (λ g'.
-    CellsAreRun s0 (st c.run_each.new.host) c.run_each.new.session (not b) g' (run_of b g' (map rc_str_bytes c.args.texts.items) (data_of c.args.notebook.now)) c.run_each.new.notebook c.args.steps.now c.run_each.new.steps)))
+    CellsAreRun s0 (st c.run_each.new.host) c.run_each.new.session g' (run_of b g' (map rc_str_bytes c.args.texts.items) (data_of c.args.notebook.now)) c.run_each.new.notebook c.args.steps.now c.run_each.new.steps)))
     (sym c.if-together.false) ran
+
+pub returns-then-together-clause-bytes : goal.returns-then-together-clause-bytes
+returns-then-together-clause-bytes g c =
+    let st = g.H.Host.state in
+    subst (λ (b : Bool). OnOk c.run_together.result (Records (not b) (st c.args.host.now) (st c.run_together.new.host))) (sym c.if-together.true) c.run_together.ensures.bytes
+
+pub returns-else-together-clause-bytes : goal.returns-else-together-clause-bytes
+returns-else-together-clause-bytes g c =
+    let st = g.H.Host.state in
+    subst (λ (b : Bool). OnOk c.run_each.result (Records (not b) (st c.args.host.now) (st c.run_each.new.host))) (sym c.if-together.false) c.run_each.ensures.bytes

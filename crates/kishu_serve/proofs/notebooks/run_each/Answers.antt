@@ -1,20 +1,15 @@
-use Rattle.std.proofs.Common.{◌≡◌, ◌+◌, ◌∷◌, ℕ, List, map, drop, refl, sym, ◌∙◌, ap, subst, arith}
+use Rattle.std.proofs.Common.{◌≡◌, ◌+◌, ◌∷◌, ℕ, true, List, map, drop, refl, sym, ◌∙◌, ap, subst, arith}
 use Rattle.std.proofs.lemmas.Result.{err_from_is_err_and}
 use Rattle.std.specs.Rc.{rc_str_bytes}
 use Rattle.kishu_model.specs.Request.{cell}
 use Rattle.kishu_model.specs.Step.{step}
 use Rattle.kishu_model.specs.notebooks.Run.{with_answer}
 use Rattle.kishu_notebook.specs.Views.{data_of}
-use Rattle.kishu_serve.proofs.CellRuns.{drop-texts, cell-stop, cell-fills, goes-further, ends-here}
+use Rattle.kishu_serve.proofs.CellRuns.{recorded-more, drop-texts, cell-stop, cell-fills, goes-further, ends-here}
 use Rattle.kishu_serve.proofs.notebooks.run_each.Goals as goal
 
 pub run_request-requires-clause-stands : goal.run_request-requires-clause-stands
-run_request-requires-clause-stands g c told =
-    let before = c.loop-text.invariant in
-    let first_told = sym before.tells ∙ told in
-    let stands = c.requires.stands first_told in
-    let so = before.comes first_told stands.0 stands.1 in
-    (so.now, so.attached)
+run_request-requires-clause-stands g c = c.loop-text.invariant.stands
 
 pub returns-in_err-run_request-clause-stop : goal.returns-in_err-run_request-clause-stop
 returns-in_err-run_request-clause-stop g c told g' a =
@@ -60,8 +55,22 @@ returns-then-not-branch-clause-comes g c told g' a =
     let set = data_of c.run_request.new.notebook in
     let is_set = subst (λ (n : ℕ). set ≡ with_answer n (step so.now (cell text)).answer (data_of c.loop-text.notebook)) before.place (ran.set now_told so.now so.attached) in
     ends-here i texts (data_of c.loop-text.notebook) so text here (g.H.Host.state c.run_request.new.host) c.run_request.new.session set c.run_request.new.steps
-    (ran.attached now_told so.now so.attached) c.run_request.ensures.out (ran.bytes now_told so.now so.attached) (ran.least now_told so.now so.attached)
+    (ran.attached now_told so.now so.attached) c.run_request.ensures.out (ran.least now_told so.now so.attached)
     (c.run_request.ensures.stop now_told so.now so.attached) is_set (cc (ran.goes_on now_told so.now so.attached, c.if-not-branch.true))
+
+pub returns-then-not-branch-clause-bytes : goal.returns-then-not-branch-clause-bytes
+returns-then-not-branch-clause-bytes g c told =
+    let before = c.loop-text.invariant in
+    recorded-more true (g.H.Host.state c.args.host.now).file (g.H.Host.state c.loop-text.host).file (g.H.Host.state c.run_request.new.host).file refl (before.recorded told) (c.in_ok-run_request.ensures.bytes (before.tells ∙ told))
+
+pub returns-in_err-run_request-clause-damaged : goal.returns-in_err-run_request-clause-damaged
+returns-in_err-run_request-clause-damaged g c at is =
+    let before = c.loop-text.invariant in
+    let p = err_from_is_err_and c.from_residual.result c.from_residual.ensures.1 in
+    let d = c.in_err-run_request.ensures.damaged at (cc (is, p.1, p.2)) in (
+      λ told. d.0 (before.tells ∙ told),
+      λ told g' a. let so = before.comes told g' a in d.1 (before.tells ∙ told) so.now so.attached,
+    )
 
 pub loop-text-preserved : goal.loop-text-preserved
 loop-text-preserved g c =
@@ -69,6 +78,8 @@ loop-text-preserved g c =
     let ran = c.in_ok-run_request.ensures in
     record {
       going = ran.going;
+      stands = ran.stands;
+      recorded = λ told. recorded-more true (g.H.Host.state c.args.host.now).file (g.H.Host.state c.loop-text.host).file (g.H.Host.state c.run_request.new.host).file refl (before.recorded told) (ran.bytes (before.tells ∙ told));
       place = ap (λ (n : ℕ). n + 1) before.place;
       comes = λ told g' a.
           let so = before.comes told g' a in
@@ -80,7 +91,7 @@ loop-text-preserved g c =
           let set = data_of c.run_request.new.notebook in
           let is_set = subst (λ (n : ℕ). set ≡ with_answer n (step so.now (cell text)).answer (data_of c.loop-text.notebook)) before.place (ran.set now_told so.now so.attached) in
           goes-further i texts (data_of c.loop-text.notebook) so text here (g.H.Host.state c.run_request.new.host) c.run_request.new.session set c.run_request.new.steps
-          (ran.attached now_told so.now so.attached) c.run_request.ensures.out (ran.bytes now_told so.now so.attached) (ran.least now_told so.now so.attached)
+          (ran.attached now_told so.now so.attached) c.run_request.ensures.out (ran.least now_told so.now so.attached)
           (c.run_request.ensures.stop now_told so.now so.attached) is_set (cc (ran.goes_on now_told so.now so.attached, c.if-not-branch.false)) (i + 1) refl;
       tells = c.run_request.ensures.tells ∙ before.tells;
       disk = omega (arith, before.disk, c.run_request.ensures.disk);

@@ -20,6 +20,11 @@ returns-in_err-run_request-clause-full g c is_full told g' a =
     together-fills (st c.args.host.now) c.args.session.now g' (map rc_str_bytes c.args.texts.items) (data_of c.args.notebook.now) c.args.steps.now a (some-cells c.args.texts.items some)
     (st c.run_request.new.host) (c.in_err-run_request.ensures.full (cc (is_full, p.1, p.2)) told g' a)
 
+pub returns-in_err-run_request-clause-damaged : goal.returns-in_err-run_request-clause-damaged
+returns-in_err-run_request-clause-damaged g c at is =
+    let p = err_from_is_err_and c.from_residual.result c.from_residual.ensures.1 in
+    c.in_err-run_request.ensures.damaged at (cc (is, p.1, p.2))
+
 pub returns-clause-stop : goal.returns-clause-stop
 returns-clause-stop g c told g' a =
     let st = g.H.Host.state in
@@ -34,4 +39,4 @@ returns-clause-comes g c told g' a =
     let ran = c.in_ok-run_request.ensures in
     together-comes (st c.args.host.now) c.args.session.now g' (map rc_str_bytes c.args.texts.items) (data_of c.args.notebook.now) c.args.steps.now a (some-cells c.args.texts.items some)
     (st c.run_request.new.host) c.run_request.new.session (data_of c.run_request.new.notebook) c.run_request.new.steps
-    (ran.attached told g' a) c.run_request.ensures.out (ran.bytes told g' a) (ran.least told g' a) (c.run_request.ensures.stop told g' a) (ran.set told g' a)
+    (ran.attached told g' a) c.run_request.ensures.out (ran.least told g' a) (c.run_request.ensures.stop told g' a) (ran.set told g' a)

@@ -1,7 +1,7 @@
-use Rattle.std.proofs.Common.{◌≡◌, false, Ok, Err, sym, ◌∙◌, ap, arith}
+use Rattle.std.proofs.Common.{◌≡◌, false, Ok, Err, ◌∙◌, ap, arith}
 use Rattle.std.proofs.lemmas.Result.{err_from_is_err_and}
 use Rattle.kishu_serve.specs.Asking.{to_come, asked_of, reads_lines}
-use Rattle.kishu_serve.proofs.Chain.{Along, known-along, stopped-long, turn-stop, turn-full, served-more, served-whole, served-least, served-bytes}
+use Rattle.kishu_serve.proofs.Chain.{Along, known-along, stopped-long, none-recorded, more-recorded, turn-stop, turn-full, served-more, served-whole, served-least}
 use Rattle.kishu_serve.proofs.running.serve_all.Given.{Over}
 use Rattle.kishu_serve.proofs.running.serve_all.Goals.{In_ok-serve}
 use Rattle.kishu_serve.proofs.running.serve_all.Goals as goal
@@ -17,15 +17,18 @@ turn g c =
     let fewer = rw c.in-Some.is at c.in_ok-asked.ensures.one_more in
     record {
       going = c.in_ok-serve.ensures.going;
+      stands = c.in_ok-serve.ensures.stands;
+      recorded = λ told final w.
+          before.recorded told final
+          (more-recorded c.loop-asked.requests c.next.new.self (g.H.Host.state c.loop-asked.host).file (g.H.Host.state c.serve.new.host).file final c.next.ensures.lines fewer (c.in_ok-serve.ensures.bytes (before.host_tells ∙ told)) w);
       served = λ told graph a.
           let now_told = before.host_tells ∙ told in
           let served = before.served told graph a in
           let answered = c.in_ok-serve.ensures in
           served-more served (g.H.Host.state c.serve.new.host) (g.S.Source.source c.next.new.source) c.next.new.self c.serve.new.session (asked_of c.in-Some.asked) c.serve.new.steps
-          c.next.ensures.lines fewer (λ known. (next (known-along before known)).0)
+          (λ known. (next (known-along before known)).0)
           (answered.attached now_told served.now served.attached)
           (answered.answered now_told served.now served.attached)
-          (answered.bytes now_told served.now served.attached)
           (answered.least now_told served.now served.attached)
           (c.serve.ensures.stop now_told served.now served.attached);
       limited = λ known.
@@ -67,12 +70,7 @@ pub loop-asked-preserved : goal.loop-asked-preserved
 loop-asked-preserved g c = let c = (goal.at.loop-asked-preserved g c).In_ok-serve in record { along = turn g c; alone = unread g c }
 
 pub serve-requires-clause-stands : goal.serve-requires-clause-stands
-serve-requires-clause-stands g c told =
-    let before = c.loop-asked.invariant.along in
-    let first_told = sym before.host_tells ∙ told in
-    let stands = c.requires.stands first_told in
-    let served = before.served first_told stands.0 stands.1 in
-    (served.now, served.attached)
+serve-requires-clause-stands g c = c.loop-asked.invariant.along.stands
 
 pub serve-requires-clause-room : goal.serve-requires-clause-room
 serve-requires-clause-room g c = rw c.in-Some.is at c.in_ok-asked.ensures.asked_room
@@ -95,6 +93,15 @@ returns-in_err-serve-clause-full g c is_full told known graph a =
     let p = err_from_is_err_and c.from_residual-in_err-serve.result c.from_residual-in_err-serve.ensures.1 in
     turn-full served (g.H.Host.state c.serve.new.host) (asked_of c.in-Some.asked) (to_come c.next.new.self (g.S.Source.source c.next.new.source).left) (next (known-along before known)).0 known
     (c.in_err-serve.ensures.full (cc (is_full, p.1, p.2)) (before.host_tells ∙ told) served.now served.attached)
+
+pub returns-in_err-serve-clause-damaged : goal.returns-in_err-serve-clause-damaged
+returns-in_err-serve-clause-damaged g c at is =
+    let before = c.loop-asked.invariant.along in
+    let p = err_from_is_err_and c.from_residual-in_err-serve.result c.from_residual-in_err-serve.ensures.1 in
+    let d = c.in_err-serve.ensures.damaged at (cc (is, p.1, p.2)) in (
+      λ told. d.0 (before.host_tells ∙ told),
+      λ told graph a. let served = before.served told graph a in d.1 (before.host_tells ∙ told) served.now served.attached,
+    )
 
 -- ---- no request is to come
 
@@ -119,7 +126,8 @@ pub returns-clause-stop : goal.returns-clause-stop
 returns-clause-stop g c told known graph a = ((c.loop-asked.invariant.along.served told graph a).comes known).stop
 
 pub returns-clause-bytes : goal.returns-clause-bytes
-returns-clause-bytes g c told graph a = served-bytes (c.loop-asked.invariant.along.served told graph a)
+returns-clause-bytes g c told =
+    let before = c.loop-asked.invariant.along in before.recorded told (g.H.Host.state c.loop-asked.host).file (none-recorded c.loop-asked.requests (g.H.Host.state c.loop-asked.host).file)
 
 pub returns-clause-least : goal.returns-clause-least
 returns-clause-least g c told known graph a =

@@ -1,4 +1,4 @@
-use Rattle.std.proofs.Common.{◌≡◌, ◌≤◌, ◌+◌, ◌++◌, refl, sym, ◌∙◌, ap, subst, ℕ, List, [], ◌∷◌}
+use Rattle.std.proofs.Common.{◌≡◌, ◌≤◌, ◌+◌, ◌++◌, refl, sym, ◌∙◌, ap, subst, ℕ, List, [], ◌∷◌, IsErrOf}
 use Rattle.kishu_host.specs.Host.{Elapses}
 use Rattle.kishu_model.specs.Answers.{bad_request, refused}
 use Rattle.kishu_model.specs.Request.{Request, unreadable}
@@ -6,9 +6,11 @@ use Rattle.kishu_model.specs.Serve.{after, answer_of, answered}
 use Rattle.kishu_model.specs.Step.{step, charge_of}
 use Rattle.kishu_model.specs.Values.{request_of}
 use Rattle.kishu_session.specs.Attached.{IsAttached}
+use Rattle.kishu_session.specs.declared.halt.Halt.TheVariants.{Damaged}
 use Rattle.kishu_serve.specs.Asking.{asked_of}
 use Rattle.kishu_serve.specs.Headline.{IsPart}
-use Rattle.kishu_serve.proofs.Parts.{attached-kept, held, and_then, recorded-kept, told-stop, applied-stop, served-stop}
+use Rattle.kishu_serve.proofs.Damages.{ends-damaged}
+use Rattle.kishu_serve.proofs.Parts.{attached-kept, at-end-kept, held, and_then, recorded-kept, told-stop, applied-stop, served-stop}
 use Rattle.kishu_serve.proofs.serving.serve.Goals as goal
 
 pub returns-in_default-clause-stop : goal.returns-in_default-clause-stop
@@ -23,7 +25,44 @@ pub returns-in-Ok-clause-bytes : goal.returns-in-Ok-clause-bytes
 returns-in-Ok-clause-bytes g c =
     let st = g.H.Host.state in
     held c.tell-in-Ok.result
-    (λ told g' a. recorded-kept (st c.args.host.now).file (st c.apply.new.host).file (st c.tell-in-Ok.new.host).file c.tell-in-Ok.ensures.file (c.in-Ok.ensures.bytes told g' a.at_end))
+    (λ told.
+    let stands = c.requires.stands told in
+    recorded-kept (st c.args.host.now).file (st c.apply.new.host).file (st c.tell-in-Ok.new.host).file c.tell-in-Ok.ensures.file (c.in-Ok.ensures.bytes told stands.0 stands.1))
+
+pub returns-in-Ok-clause-stands : goal.returns-in-Ok-clause-stands
+returns-in-Ok-clause-stands g c =
+    let st = g.H.Host.state in
+    held c.tell-in-Ok.result
+    (λ told.
+    let before = sym (c.tell-in-Ok.ensures.tells ∙ c.apply.ensures.tells) ∙ told in
+    let stands = c.requires.stands before in
+    (_, at-end-kept c.apply.new.self (st c.apply.new.host) (st c.tell-in-Ok.new.host) _ c.tell-in-Ok.ensures.file (c.in-Ok.ensures.at_end before stands.0 stands.1)))
+
+pub returns-in_default-clause-stands : goal.returns-in_default-clause-stands
+returns-in_default-clause-stands g c =
+    let st = g.H.Host.state in
+    held c.tell.result
+    (λ told.
+    let stands = c.requires.stands (sym c.tell.ensures.tells ∙ told) in
+    (stands.0, at-end-kept c.args.session.now (st c.args.host.now) (st c.tell.new.host) stands.0 c.tell.ensures.file stands.1))
+
+pub returns-in_default-clause-attached : goal.returns-in_default-clause-attached
+returns-in_default-clause-attached g c =
+    let st = g.H.Host.state in
+    let s0 = st c.args.host.now in
+    let s1 = st c.tell.new.host in
+    held c.tell.result
+    (λ told g' a.
+    subst (λ (q : Request). IsAttached c.args.session.now s1 (after g' q)) (sym (ap asked_of c.in_default.is))
+    (attached-kept c.args.session.now s0 s1 g' c.tell.ensures.file c.tell.ensures.crash a))
+
+pub returns-in-Err-Damaged-clause-stop : goal.returns-in-Err-Damaged-clause-stop
+returns-in-Err-Damaged-clause-stop g c told g' a =
+    let st = g.H.Host.state in
+    let s0 = st c.args.host.now in
+    let s1 = st c.apply.new.host in
+    subst (λ (r : Request). Elapses s0 s1 (IsPart s0 g' (answered r ∷ []))) (sym (ap asked_of c.in-Request.is))
+    (applied-stop s0 s1 g' (answered (request_of c.in-Request.request)) (c.apply.ensures.stop told g' a))
 
 pub returns-in-Ok-clause-stop : goal.returns-in-Ok-clause-stop
 returns-in-Ok-clause-stop g c told g' a =
@@ -88,3 +127,9 @@ returns-in-Ok-clause-least g c =
     held c.tell-in-Ok.result
     (λ told g' a.
     subst (λ (r : Request). c.args.steps.now + charge_of g' r ≤ c.apply.new.steps) (sym (ap asked_of c.in-Request.is)) (c.in-Ok.ensures.least told g' a))
+
+pub returns-in-Err-Damaged-clause-damaged : goal.returns-in-Err-Damaged-clause-damaged
+returns-in-Err-Damaged-clause-damaged g c at is =
+    let st = g.H.Host.state in
+    let halt : IsErrOf c.apply.result (Damaged at) = cc (is, c.in-Err-Damaged.is) in
+    ends-damaged c.args.session.now (st c.args.host.now) (st c.apply.new.host) c.in-Request.request at c.requires.stands (c.apply.ensures.damaged_stays at halt) (c.apply.ensures.damaged at halt)

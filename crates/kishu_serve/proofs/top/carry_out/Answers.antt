@@ -1,7 +1,7 @@
 use Rattle.std.proofs.Common.{◌⊎◌, sym, subst, OnOk, IsOk, IsErrOf}
 use Rattle.kishu_serve.specs.Headline.{IsWhole}
-use Rattle.kishu_serve.specs.Recorded.{AreRecorded}
-use Rattle.kishu_serve.specs.Serving.{WhereAttached, WhereKnown, StopsInPart}
+use Rattle.kishu_serve.specs.Recorded.{Records}
+use Rattle.kishu_serve.specs.Serving.{WhereKnown, StopsInPart}
 use Rattle.kishu_serve.specs.Work.{records_many}
 use Rattle.kishu_serve.specs.declared.serving.Stop.TheVariants.{TooLong}
 use Rattle.kishu_serve.specs.declared.work.Work.{Work}
@@ -45,8 +45,11 @@ returns-in-Answers-clause-bytes g c =
     let i1 = src c.serve_all.new.source in
     let r = c.serve_all.result in
     subst
-    (λ (w : Work). OnOk r (WhereAttached c.args.session.now s0 (λ g'. AreRecorded (records_many w) s0.file s1.file)))
+    (λ (w : Work). OnOk r (Records (records_many w) s0 s1))
     (sym c.in-Answers.is) c.serve_all.ensures.bytes
+
+pub returns-in-Answers-clause-damaged : goal.returns-in-Answers-clause-damaged
+returns-in-Answers-clause-damaged g c = c.serve_all.ensures.damaged
 
 -- ---- a notebook is run
 
@@ -59,6 +62,9 @@ returns-in-Runs-clause-bytes g c =
     let r = c.run_notebook.result in
     let ran = c.run_notebook.ensures in
     subst
-    (λ (w : Work). OnOk r (WhereAttached c.args.session.now s0 (λ g'. AreRecorded (records_many w) s0.file s1.file)))
+    (λ (w : Work). OnOk r (Records (records_many w) s0 s1))
     (sym c.in-Runs.is)
     ran.bytes
+
+pub returns-in-Runs-clause-damaged : goal.returns-in-Runs-clause-damaged
+returns-in-Runs-clause-damaged g c = c.run_notebook.ensures.damaged

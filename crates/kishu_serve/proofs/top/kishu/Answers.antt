@@ -1,6 +1,5 @@
 use Rattle.std.proofs.Common.{◌≡◌, ◌⊎◌, ◌<◌, ◌≤◌, ◌+◌, inl, inr, ⊎_elim, refl, sym, ◌∙◌, ap, subst, arith, ℕ, List, [], length, Option, Some}
 use Rattle.kishu_host.specs.Host.{Now, Elapses}
-use Rattle.kishu_replay.specs.Replay.{replay_charge}
 use Rattle.kishu_model.specs.Serve.{Item, charges}
 use Rattle.kishu_model.specs.Task.{Form, session}
 use Rattle.kishu_input.specs.Sources.{TakesMoreThan, TakesAtMost}
@@ -15,10 +14,10 @@ use Rattle.kishu_serve.proofs.Runs.{none-done, risen}
 use Rattle.kishu_serve.proofs.top.kishu.Goals as goal
 
 pub returns-in-Err-clause-run : goal.returns-in-Err-clause-run
-returns-in-Err-clause-run g c g' given = none-done (g.H.Host.state c.args.host.now) g' _ _ _ given.holds refl
+returns-in-Err-clause-run g c g' given = none-done (g.H.Host.state c.args.host.now) g' _ _ _ given.good refl
 
 pub returns-in-Err-of_command-clause-run : goal.returns-in-Err-of_command-clause-run
-returns-in-Err-of_command-clause-run g c g' given = none-done (g.H.Host.state c.args.host.now) g' _ _ _ given.holds refl
+returns-in-Err-of_command-clause-run g c g' given = none-done (g.H.Host.state c.args.host.now) g' _ _ _ given.good refl
 
 pub returns-in-Ok-clause-run : goal.returns-in-Ok-clause-run
 returns-in-Ok-clause-run g c g' given =
@@ -29,7 +28,7 @@ returns-in-Ok-clause-run g c g' given =
     let asked = asked-form (form_named c.args.words.now) f g' (src c.args.source.now).left _ is (c.in-Ok.ensures.asked (form-told f (src c.args.source.now) given.source_tells) g') in
     let knows = knows-told c.in-Ok.work (src c.of_command.new.source) (c.of_command.ensures.tells ∙ given.source_tells) in
     let s2 = st c.run_work.new.host in
-    subst (λ (qs : List Item). IsPart (st c.args.host.now) g' qs s2.file s2.out) asked (c.run_work.ensures.run given.host_tells knows g' given.holds)
+    subst (λ (qs : List Item). IsPart (st c.args.host.now) g' qs s2.file s2.out) asked (c.run_work.ensures.run given.host_tells knows g' given.good)
 
 pub returns-in-Ok-clause-done : goal.returns-in-Ok-clause-done
 returns-in-Ok-clause-done g c done g' given =
@@ -40,7 +39,7 @@ returns-in-Ok-clause-done g c done g' given =
     let is : Some f ≡ form_named c.args.words.now = sym (ap (λ o. form_found o) c.in-Ok-Some.field-0-is) ∙ c.in-Ok-Some.ensures.form in
     let asked = asked-form (form_named c.args.words.now) f g' (src c.args.source.now).left _ is (c.in-Ok.ensures.asked (form-told f (src c.args.source.now) given.source_tells) g') in
     let knows = knows-told rs (src c.of_command.new.source) (c.of_command.ensures.tells ∙ given.source_tells) in
-    let whole = c.run_work.ensures.whole (inl done) given.host_tells knows g' given.holds in
+    let whole = c.run_work.ensures.whole (inl done) given.host_tells knows g' given.good in
     let whole_read : ReadsWhole (Some f) → (src c.run_work.new.source).left ≡ [] =
     λ e. ap (λ s. (src s).left) (c.run_work.ensures.alone (whole-alone f _ c.in-Ok.ensures.lines e)) ∙ (c.in-Ok.ensures.whole e given.source_tells).0 in
     let at_end = read-form f rs (src c.run_work.new.source) c.in-Ok.ensures.lines (c.run_work.ensures.read done knows).0 whole_read in
@@ -55,7 +54,7 @@ returns-in-Ok-clause-stop g c g' given =
     let is : Some f ≡ form_named c.args.words.now = sym (ap (λ o. form_found o) c.in-Ok-Some.field-0-is) ∙ c.in-Ok-Some.ensures.form in
     let asked = asked-form (form_named c.args.words.now) f g' (src c.args.source.now).left _ is (c.in-Ok.ensures.asked (form-told f (src c.args.source.now) given.source_tells) g') in
     let knows = knows-told c.in-Ok.work (src c.of_command.new.source) (c.of_command.ensures.tells ∙ given.source_tells) in
-    subst (λ (qs : List Item). Elapses s0 (st c.run_work.new.host) (λ (x o : List ℕ). Now s0 x o ⊎ IsPart s0 g' qs x o)) asked (c.run_work.ensures.stop given.host_tells knows g' given.holds)
+    subst (λ (qs : List Item). Elapses s0 (st c.run_work.new.host) (λ (x o : List ℕ). Now s0 x o ⊎ IsPart s0 g' qs x o)) asked (c.run_work.ensures.stop given.host_tells knows g' given.good)
 
 pub returns-in-Ok-clause-settled : goal.returns-in-Ok-clause-settled
 returns-in-Ok-clause-settled g c g' given =
@@ -66,7 +65,7 @@ returns-in-Ok-clause-settled g c g' given =
     let is : Some f ≡ form_named c.args.words.now = sym (ap (λ o. form_found o) c.in-Ok-Some.field-0-is) ∙ c.in-Ok-Some.ensures.form in
     let asked = asked-form (form_named c.args.words.now) f g' (src c.args.source.now).left _ is (c.in-Ok.ensures.asked (form-told f (src c.args.source.now) given.source_tells) g') in
     let knows = knows-told c.in-Ok.work (src c.of_command.new.source) (c.of_command.ensures.tells ∙ given.source_tells) in
-    inr (elim (c.run_work.ensures.settled given.host_tells knows g' given.holds) [
+    inr (elim (c.run_work.ensures.settled given.host_tells knows g' given.good) [
       | inl fault ↦ inl fault
       | inr each ↦ inr (λ x now. subst (λ (qs : List Item). IsPart s0 g' qs x (st c.run_work.new.host).out) asked (each x now))
     ])
@@ -79,7 +78,7 @@ returns-in-Ok-clause-all_before g c form long g' given =
     let is : Some f ≡ form_named c.args.words.now = sym (ap (λ o. form_found o) c.in-Ok-Some.field-0-is) ∙ c.in-Ok-Some.ensures.form in
     let asked = asked-form (form_named c.args.words.now) f g' (src c.args.source.now).left _ is (c.in-Ok.ensures.asked (form-told f (src c.args.source.now) given.source_tells) g') in
     let knows = knows-told c.in-Ok.work (src c.of_command.new.source) (c.of_command.ensures.tells ∙ given.source_tells) in
-    subst (λ (qs : List Item). IsWhole (st c.args.host.now) (st c.run_work.new.host) g' qs) asked (c.run_work.ensures.whole (inr long) given.host_tells knows g' given.holds)
+    subst (λ (qs : List Item). IsWhole (st c.args.host.now) (st c.run_work.new.host) g' qs) asked (c.run_work.ensures.whole (inr long) given.host_tells knows g' given.good)
 
 pub returns-in-Ok-clause-counted : goal.returns-in-Ok-clause-counted
 returns-in-Ok-clause-counted g c done g' given =
@@ -88,11 +87,11 @@ returns-in-Ok-clause-counted g c done g' given =
     let is : Some f ≡ form_named c.args.words.now = sym (ap (λ o. form_found o) c.in-Ok-Some.field-0-is) ∙ c.in-Ok-Some.ensures.form in
     let asked = asked-form (form_named c.args.words.now) f g' (src c.args.source.now).left _ is (c.in-Ok.ensures.asked (form-told f (src c.args.source.now) given.source_tells) g') in
     let knows = knows-told c.in-Ok.work (src c.of_command.new.source) (c.of_command.ensures.tells ∙ given.source_tells) in
-    subst (λ (is : List Item). c.args.steps.now + replay_charge g' g'.head.commit + charges g' is ≤ c.run_work.new.steps) asked (c.run_work.ensures.counted done given.host_tells knows g' given.holds)
+    subst (λ (is : List Item). c.args.steps.now + charges g' is ≤ c.run_work.new.steps) asked (c.run_work.ensures.counted done given.host_tells knows g' given.good)
 
 pub returns-in-Ok-clause-complete : goal.returns-in-Ok-clause-complete
 returns-in-Ok-clause-complete g c g' given form no_disk no_out no_in =
-    elim (c.run_work.ensures.complete given.host_tells g' given.holds) [
+    elim (c.run_work.ensures.complete given.host_tells g' given.good) [
       | inl done ↦ inl done
       | inr rest ↦ elim rest [
         | inl none ↦ inr (inl none)
@@ -322,17 +321,14 @@ returns-in-Ok-clause-idle g c unopened =
     ]
 
 pub returns-in-Ok-clause-heap_full : goal.returns-in-Ok-clause-heap_full
-returns-in-Ok-clause-heap_full g c full told =
+returns-in-Ok-clause-heap_full g c full told g' good =
     let st = g.H.Host.state in
     let src = g.S.Source.source in
     let f = form_by c.in-Ok-Some.command in
     let is : Some f ≡ form_named c.args.words.now = sym (ap (λ o. form_found o) c.in-Ok-Some.field-0-is) ∙ c.in-Ok-Some.ensures.form in
-    let found = c.run_work.ensures.full full told in (
-      found.0,
-      found.1,
-      subst (λ (o : Option Form). FillsInForm o (src c.args.source.now) found.0) is
-          (fills-form f c.in-Ok.work (src c.args.source.now) (src c.of_command.new.source) found.0 c.in-Ok.ensures.asked c.in-Ok.ensures.cell c.in-Ok.ensures.lines c.of_command.ensures.tells found.2),
-    )
+    subst (λ (o : Option Form). FillsInForm o (src c.args.source.now) g') is
+    (fills-form f c.in-Ok.work (src c.args.source.now) (src c.of_command.new.source) g' c.in-Ok.ensures.asked c.in-Ok.ensures.cell c.in-Ok.ensures.lines c.of_command.ensures.tells
+    (λ knows. c.run_work.ensures.full full told knows g' good))
 
 pub returns-in-Ok-clause-opened : goal.returns-in-Ok-clause-opened
 returns-in-Ok-clause-opened g c form either =

@@ -1,29 +1,39 @@
-use Rattle.std.proofs.Common.{◌≡◌, ◌<◌, ◌≤◌, inr, ℕ, suc, List, sym, ◌∙◌, ap, subst, arith}
+use Rattle.std.proofs.Common.{◌≡◌, ◌<◌, ℕ, suc, List, [], ◌∷◌, Some, refl, sym, ◌∙◌, ap, subst, arith}
+use Rattle.std.proofs.lemmas.Result.{err_from_is_err_and}
 use Rattle.std.specs.Rc.{rc_str_bytes}
 use Rattle.kishu_language.specs.declared.profile.Profile.TheVariants.{One}
 use Rattle.kishu_meaning.specs.cells.Meaning.{run}
 use Rattle.kishu_meaning.specs.values.Values.{State, report_of}
-use Rattle.kishu_store.specs.Graph.{Target, with_commit, count_of}
+use Rattle.kishu_replay.specs.Replay.{IsFull, after_cells}
+use Rattle.kishu_store.specs.Graph.{Graph, count_of, with_commit}
 use Rattle.kishu_store.specs.Limits.{most_records}
-use Rattle.kishu_model.specs.Request.{cell}
-use Rattle.kishu_model.specs.Values.{refusal_of}
-use Rattle.kishu_model.specs.requests.TooLarge.{is_too_large, too_large}
-use Rattle.kishu_session.specs.Committing.{left_by}
-use Rattle.kishu_session.specs.Head.{Keeps}
-use Rattle.kishu_session.specs.Lives.{state_of}
 use Rattle.kishu_graph.specs.Kept.{StandsFor}
-use Rattle.kishu_session.specs.Prepared.{CountsAt, Prepares, RefusesFor, AnswersAt, MayBeRecorded, RefusesLarge, StaysWithout}
+use Rattle.kishu_model.specs.Request.{Stepped, cell}
+use Rattle.kishu_model.specs.Values.{refusal_of}
+use Rattle.kishu_model.specs.declared.answer.Answer.TheVariants.{Cell}
+use Rattle.kishu_model.specs.requests.TooLarge.{is_too_large, too_large}
+use Rattle.kishu_checkout.specs.Pictures.{told_file}
+use Rattle.kishu_live_laws.specs.OnStates.{left_by}
+use Rattle.kishu_session.specs.Lives.{state_of}
+use Rattle.kishu_session.specs.Prepared.{LeadsOn, StaysWithout, CountsOn}
 use Rattle.kishu_session.specs.TextLists.{texts_of}
 use Rattle.kishu_session.specs.declared.prepared.Prepared.{Prepared}
-use Rattle.kishu_session.proofs.CellSteps.{unrefused, on-large, step-large, prepared-cell, answer-cell, at-cell, charged-cell}
-use Rattle.kishu_session.proofs.Outcomes.{on-ok}
-use Rattle.kishu_session.proofs.Large.{large-found, small-found, by-back, back-record, back-stays, back-large, back-refuses, back-prepared, back-answered, back-full}
+use Rattle.kishu_session.proofs.CellSteps.{step-large, step-small, charge-run, unrefused, cell-told}
+use Rattle.kishu_session.proofs.Commits.{known-history, known-short}
+use Rattle.kishu_session.proofs.Committed.{committed-leads, committed-stays, cell-counted}
+use Rattle.kishu_session.proofs.Large.{went-back, back-leads, back-stays}
+use Rattle.kishu_session.proofs.LongTexts.{may-commit-one}
+use Rattle.kishu_session.proofs.Outcomes.{always}
+use Rattle.kishu_session.proofs.Sizes.{large-found, small-found, small-size}
 use Rattle.kishu_session.proofs.head.Head.commit_cell.Goals as goal
+
+pub back-requires : goal.back-requires
+back-requires g c = record { known = known-history c.args.self.now c.args.journal.now.place c.requires.known }
 
 -- ---- a state that is too large
 
-pub returns-in-Some-clause-prepared : goal.returns-in-Some-clause-prepared
-returns-in-Some-clause-prepared g c =
+pub returns-in-Some-clause-leads : goal.returns-in-Some-clause-leads
+returns-in-Some-clause-leads g c =
     let self = c.args.self.now in
     let text = rc_str_bytes c.args.text.now in
     let left = left_by text (state_of self.live) in
@@ -33,50 +43,12 @@ returns-in-Some-clause-prepared g c =
     ∙ ap (λ (s : State). (run One text s).state) c.clear_record.ensures.state in
     let found = large-found (state_of c.run.new.self) c.in_ok-found.found c.in-Some.refusal c.in-Some.is c.in_ok-found.ensures.refusal in
     let large = ap is_too_large (sym is) ∙ found.0 in
-    by-back c.back.result self c.back.new.self c.run.new.self (refusal_of c.in-Some.refusal) left (Prepares self c.back.new.self (cell text)) (found.1 ∙ ap too_large is) c.back.ensures.refused
-    (λ p b. back-prepared self c.back.new.self (cell text) left p b (λ g' k. on-large g' text c.requires.short (subst (λ (n : ℕ). n < most_records) k.stands.shape.records c.requires.room) (state_of self.live) large))
-
-pub returns-in-Some-clause-refuses : goal.returns-in-Some-clause-refuses
-returns-in-Some-clause-refuses g c =
-    let self = c.args.self.now in
-    let text = rc_str_bytes c.args.text.now in
-    let left = left_by text (state_of self.live) in
-    let is : state_of c.run.new.self ≡ left =
-    c.in_ok-result.ensures.state
-    ∙ ap (λ (t : List ℕ). (run One t (state_of c.clear_record.new.self)).state) c.as_str.ensures.value
-    ∙ ap (λ (s : State). (run One text s).state) c.clear_record.ensures.state in
-    let found = large-found (state_of c.run.new.self) c.in_ok-found.found c.in-Some.refusal c.in-Some.is c.in_ok-found.ensures.refusal in
-    let large = ap is_too_large (sym is) ∙ found.0 in
-    by-back c.back.result self c.back.new.self c.run.new.self (refusal_of c.in-Some.refusal) left (λ (p : Prepared). RefusesFor self.graph (cell text) p.answer) (found.1 ∙ ap too_large is) c.back.ensures.refused
-    (λ p b. back-refuses self c.back.new.self (cell text) left p b (λ g' s. unrefused g' text c.requires.short (subst (λ (n : ℕ). n < most_records) s.shape.records c.requires.room)))
-
-pub returns-in-Some-clause-answered : goal.returns-in-Some-clause-answered
-returns-in-Some-clause-answered g c =
-    let self = c.args.self.now in
-    let text = rc_str_bytes c.args.text.now in
-    let left = left_by text (state_of self.live) in
-    let is : state_of c.run.new.self ≡ left =
-    c.in_ok-result.ensures.state
-    ∙ ap (λ (t : List ℕ). (run One t (state_of c.clear_record.new.self)).state) c.as_str.ensures.value
-    ∙ ap (λ (s : State). (run One text s).state) c.clear_record.ensures.state in
-    let found = large-found (state_of c.run.new.self) c.in_ok-found.found c.in-Some.refusal c.in-Some.is c.in_ok-found.ensures.refusal in
-    let large = ap is_too_large (sym is) ∙ found.0 in
-    by-back c.back.result self c.back.new.self c.run.new.self (refusal_of c.in-Some.refusal) left (AnswersAt self c.back.new.self (cell text)) (found.1 ∙ ap too_large is) c.back.ensures.refused
-    (λ p b. back-answered self c.back.new.self (cell text) left p b (λ g' a. step-large g' text c.requires.short (subst (λ (n : ℕ). n < most_records) a.keeps.graph.stands.shape.records c.requires.room) self a large))
-
-pub returns-in-Some-clause-record : goal.returns-in-Some-clause-record
-returns-in-Some-clause-record g c =
-    let self = c.args.self.now in
-    let text = rc_str_bytes c.args.text.now in
-    let left = left_by text (state_of self.live) in
-    let is : state_of c.run.new.self ≡ left =
-    c.in_ok-result.ensures.state
-    ∙ ap (λ (t : List ℕ). (run One t (state_of c.clear_record.new.self)).state) c.as_str.ensures.value
-    ∙ ap (λ (s : State). (run One text s).state) c.clear_record.ensures.state in
-    let found = large-found (state_of c.run.new.self) c.in_ok-found.found c.in-Some.refusal c.in-Some.is c.in_ok-found.ensures.refusal in
-    let large = ap is_too_large (sym is) ∙ found.0 in
-    by-back c.back.result self c.back.new.self c.run.new.self (refusal_of c.in-Some.refusal) left (MayBeRecorded) (found.1 ∙ ap too_large is) c.back.ensures.refused
-    (λ p b. back-record self c.back.new.self (cell text) left p b)
+    let file = told_file (g.H.Host.state c.args.host.now) in
+    let room = λ (g' : Graph) (st : StandsFor self.graph g'). subst (λ (n : ℕ). n < most_records) st.shape.records c.requires.room in
+    went-back file c.back.result self c.back.new.self c.run.new.self left (refusal_of c.in-Some.refusal) (LeadsOn file c.args.journal.now.place self c.back.new.self (cell text))
+    (found.1 ∙ ap too_large is) c.back.ensures.answer c.back.ensures.record c.back.ensures.back c.back.ensures.count
+    (λ p b. back-leads file c.args.journal.now.place self c.back.new.self (cell text) left p b large (λ bytes t. t)
+    (λ g' st. step-large (state_of self.live) g' text c.requires.short (room g' st) large))
 
 pub returns-in-Some-clause-stays : goal.returns-in-Some-clause-stays
 returns-in-Some-clause-stays g c =
@@ -89,72 +61,59 @@ returns-in-Some-clause-stays g c =
     ∙ ap (λ (s : State). (run One text s).state) c.clear_record.ensures.state in
     let found = large-found (state_of c.run.new.self) c.in_ok-found.found c.in-Some.refusal c.in-Some.is c.in_ok-found.ensures.refusal in
     let large = ap is_too_large (sym is) ∙ found.0 in
-    by-back c.back.result self c.back.new.self c.run.new.self (refusal_of c.in-Some.refusal) left (StaysWithout self c.back.new.self) (found.1 ∙ ap too_large is) c.back.ensures.refused
-    (λ p b. back-stays self c.back.new.self (cell text) left p b)
-
-pub returns-in-Some-clause-large : goal.returns-in-Some-clause-large
-returns-in-Some-clause-large g c =
-    let self = c.args.self.now in
-    let text = rc_str_bytes c.args.text.now in
-    let left = left_by text (state_of self.live) in
-    let is : state_of c.run.new.self ≡ left =
-    c.in_ok-result.ensures.state
-    ∙ ap (λ (t : List ℕ). (run One t (state_of c.clear_record.new.self)).state) c.as_str.ensures.value
-    ∙ ap (λ (s : State). (run One text s).state) c.clear_record.ensures.state in
-    let found = large-found (state_of c.run.new.self) c.in_ok-found.found c.in-Some.refusal c.in-Some.is c.in_ok-found.ensures.refusal in
-    let large = ap is_too_large (sym is) ∙ found.0 in
-    by-back c.back.result self c.back.new.self c.run.new.self (refusal_of c.in-Some.refusal) left (RefusesLarge self c.back.new.self (cell text)) (found.1 ∙ ap too_large is) c.back.ensures.refused
-    (λ p b. back-large self c.back.new.self (cell text) left p b large (λ bytes t. t))
+    let file = told_file (g.H.Host.state c.args.host.now) in
+    went-back file c.back.result self c.back.new.self c.run.new.self left (refusal_of c.in-Some.refusal) (StaysWithout self c.back.new.self c.args.host.now c.back.new.host)
+    (found.1 ∙ ap too_large is) c.back.ensures.answer c.back.ensures.record c.back.ensures.back c.back.ensures.count
+    (λ p b. back-stays file c.args.journal.now.place self c.back.new.self (cell text) left p b c.args.host.now c.back.new.host)
 
 pub returns-in-Some-clause-least : goal.returns-in-Some-clause-least
 returns-in-Some-clause-least g c =
     let self = c.args.self.now in
     let text = rc_str_bytes c.args.text.now in
-    let cleared = state_of c.clear_record.new.self in
-    on-ok c.back.result (c.too_large.new.steps ≤ c.back.new.steps) (CountsAt self (cell text) c.args.steps.now c.back.new.steps) c.back.ensures.counted
-    (λ more g' a. charged-cell g' text c.requires.short (subst (λ (n : ℕ). n < most_records) a.keeps.graph.stands.shape.records c.requires.room) self a c.args.steps.now c.back.new.steps
-    (omega (
+    always c.back.result (CountsOn self (cell text) c.args.steps.now c.too_large.new.steps)
+    (λ g' st.
+    let room = subst (λ (n : ℕ). n < most_records) st.shape.records c.requires.room in
+    omega (
       arith,
-      more,
       c.in_ok-result.ensures.least,
       c.too_large.ensures.counted,
-      ap (λ (t : List ℕ). (run One t cleared).charge) c.as_str.ensures.value,
+      ap (λ (t : List ℕ). (run One t (state_of c.clear_record.new.self)).charge) c.as_str.ensures.value,
       ap (λ (s : State). (run One text s).charge) c.clear_record.ensures.state,
-    )))
+      charge-run (state_of self.live) g' text c.requires.short room,
+    ))
 
 pub returns-in-Some-clause-full : goal.returns-in-Some-clause-full
-returns-in-Some-clause-full g c err g' a =
-    let self = c.args.self.now in
-    let text = rc_str_bytes c.args.text.now in
-    let left = left_by text (state_of self.live) in
-    let is : state_of c.run.new.self ≡ left =
-    c.in_ok-result.ensures.state
-    ∙ ap (λ (t : List ℕ). (run One t (state_of c.clear_record.new.self)).state) c.as_str.ensures.value
-    ∙ ap (λ (s : State). (run One text s).state) c.clear_record.ensures.state in
-    let found = large-found (state_of c.run.new.self) c.in_ok-found.found c.in-Some.refusal c.in-Some.is c.in_ok-found.ensures.refusal in
-    let large = ap is_too_large (sym is) ∙ found.0 in
-    let room = subst (λ (n : ℕ). n < most_records) a.keeps.graph.stands.shape.records c.requires.room in
-    inr (back-full self (cell text) left (c.back.ensures.full err) g' a (step-large g' text c.requires.short room self a large))
+returns-in-Some-clause-full g c err = absurd (c.back.ensures.not_full err)
+
+pub returns-in-Some-clause-beyond : goal.returns-in-Some-clause-beyond
+returns-in-Some-clause-beyond g c err = absurd (c.back.ensures.not_full err)
+
+-- ---- a run that isn't begun
+
+pub returns-in_err-result-clause-full : goal.returns-in_err-result-clause-full
+returns-in_err-result-clause-full g c err =
+    let p = err_from_is_err_and c.from_residual.result c.from_residual.ensures.1 in
+    subst IsFull c.clear_record.ensures.state (c.in_err-result.ensures.full (cc (err, p.1, p.2)))
+
+pub returns-in_err-result-clause-beyond : goal.returns-in_err-result-clause-beyond
+returns-in_err-result-clause-beyond g c err =
+    let p = err_from_is_err_and c.from_residual.result c.from_residual.ensures.1 in
+    c.in_err-result.ensures.beyond (cc (err, p.1, p.2))
 
 -- ---- a commit
 
-pub returns-clause-prepared : goal.returns-clause-prepared
-returns-clause-prepared g c g' k =
-    let self = c.args.self.now in
-    let text = rc_str_bytes c.args.text.now in
-    let left = left_by text (state_of self.live) in
-    let is : state_of c.run.new.self ≡ left =
-    c.in_ok-result.ensures.state
-    ∙ ap (λ (t : List ℕ). (run One t (state_of c.clear_record.new.self)).state) c.as_str.ensures.value
-    ∙ ap (λ (s : State). (run One text s).state) c.clear_record.ensures.state in
-    let small = ap is_too_large (sym is) ∙ small-found (state_of c.run.new.self) c.in_ok-found.found c.in-None.is c.in_ok-found.ensures.refusal in
-    let one = ap texts_of c.from_ref-cells.ensures.value in
-    prepared-cell g' text c.requires.short (subst (λ (n : ℕ). n < most_records) k.stands.shape.records c.requires.room) (state_of self.live) small _ _ c.add_commit.new.self.graph
-    (ap (λ (t : Target). t.commit) (c.head.ensures.value ∙ k.stands.shape.head)) (cc (c.in_ok-entry.ensures.entry, one))
-    (subst (λ (l : List (List ℕ)). StandsFor c.add_commit.new.self.graph (with_commit One l g')) one (c.in_ok-commit.ensures.stands g' k.stands))
+pub commit-requires-clause-cells : goal.commit-requires-clause-cells
+commit-requires-clause-cells g c = may-commit-one c.from_ref.result.now c.args.text.now c.from_ref.ensures.value c.requires.short
 
-pub returns-clause-answered : goal.returns-clause-answered
-returns-clause-answered g c g' a =
+pub commit-requires-clause-small : goal.commit-requires-clause-small
+commit-requires-clause-small g c =
+    small-size (state_of c.run.new.self) (small-found (state_of c.run.new.self) c.in_ok-found.found c.in-None.is c.in_ok-found.ensures.refusal)
+
+pub commit-requires-clause-known : goal.commit-requires-clause-known
+commit-requires-clause-known g c = known-short c.args.self.now c.args.journal.now.place c.requires.known
+
+pub returns-clause-leads : goal.returns-clause-leads
+returns-clause-leads g c =
     let self = c.args.self.now in
     let text = rc_str_bytes c.args.text.now in
     let left = left_by text (state_of self.live) in
@@ -163,22 +122,41 @@ returns-clause-answered g c g' a =
     ∙ ap (λ (t : List ℕ). (run One t (state_of c.clear_record.new.self)).state) c.as_str.ensures.value
     ∙ ap (λ (s : State). (run One text s).state) c.clear_record.ensures.state in
     let small = ap is_too_large (sym is) ∙ small-found (state_of c.run.new.self) c.in_ok-found.found c.in-None.is c.in_ok-found.ensures.refusal in
-    let room = subst (λ (n : ℕ). n < most_records) a.keeps.graph.stands.shape.records c.requires.room in
-    let cleared = state_of c.clear_record.new.self in
-    let new = c.add_commit.new.self in
-    let one = ap texts_of c.from_ref-cells.ensures.value in
-    let count : new.cells ≡ suc (count_of g' g'.head.commit) = omega (arith, c.in_ok-commit.ensures.count g' a.keeps a.count, c.from_ref-cells.ensures.len) in
-    record {
-      answer =
-          answer-cell g' text c.requires.short room self a small c.in_ok-commit.commit new.cells (report_of c.in_ok-result.result)
-          (c.in_ok-commit.ensures.number g' a.keeps.graph.stands.shape)
-          count
-          (c.in_ok-result.ensures.report
-          ∙ ap (λ (t : List ℕ). (run One t cleared).report) c.as_str.ensures.value
-          ∙ ap (λ (s : State). (run One text s).report) (c.clear_record.ensures.state ∙ a.live));
-      at =
-          at-cell g' text c.requires.short room self a small new
-          (subst (λ (l : List (List ℕ)). Keeps new (with_commit One l g')) one (c.in_ok-commit.ensures.keeps g' a.keeps))
-          count
-          (ap state_of c.in_ok-commit.ensures.live ∙ is);
-    }
+    let room = λ (g' : Graph) (st : StandsFor self.graph g'). subst (λ (n : ℕ). n < most_records) st.shape.records c.requires.room in
+    let new = c.commit.new.self in
+    let one : texts_of c.from_ref.result.now ≡ text ∷ [] = ap texts_of c.from_ref.ensures.value in
+    let s = state_of self.live in
+    let step = λ (g' : Graph) (st : StandsFor self.graph g'). step-small s g' text c.requires.short (room g' st) small in
+    let p : Prepared = record { answer = Cell c.in_ok-made.made.number c.commit.new.self.cells c.in_ok-result.result; recorded = Some c.in_ok-made.made.recorded } in
+    committed-leads (told_file (g.H.Host.state c.args.host.now)) c.args.journal.now.place self new c.run.new.self (cell text) (texts_of c.from_ref.result.now) c.in_ok-made.made c.in_ok-made.ensures.commits
+    c.commit.ensures.live (is ∙ ap (λ (ts : List (List ℕ)). after_cells One ts s) (sym one)) (known-history self c.args.journal.now.place c.requires.known) p refl refl (λ bytes size. cc (size))
+    (λ g' st. ap (λ (x : Stepped). x.graph) (step g' st) ∙ ap (λ (ts : List (List ℕ)). with_commit One ts g') (sym one))
+    (λ g' st. unrefused s g' text c.requires.short (room g' st))
+    (λ h k count.
+    let made = c.in_ok-made.ensures.commits in
+    let counted : new.cells ≡ suc (count_of h.graph h.graph.head.commit) = cell-counted self new c.run.new.self c.args.journal.now.place h (texts_of c.from_ref.result.now) text c.in_ok-made.made made k one count in
+    let report : report_of c.in_ok-result.result ≡ (run One text s).report =
+    c.in_ok-result.ensures.report
+    ∙ ap (λ (t : List ℕ). (run One t (state_of c.clear_record.new.self)).report) c.as_str.ensures.value
+    ∙ ap (λ (x : State). (run One text x).report) c.clear_record.ensures.state in
+    cell-told s h.graph text c.in_ok-made.made.number new.cells c.in_ok-result.result (made.number h.graph k.keeps.graph.shape) counted report (step h.graph k.keeps.graph))
+
+pub returns-clause-stays : goal.returns-clause-stays
+returns-clause-stays g c =
+    let p : Prepared = record { answer = Cell c.in_ok-made.made.number c.commit.new.self.cells c.in_ok-result.result; recorded = Some c.in_ok-made.made.recorded } in
+    committed-stays c.args.self.now c.commit.new.self c.args.host.now c.args.host.now p c.in_ok-made.made.recorded refl
+
+pub returns-clause-least : goal.returns-clause-least
+returns-clause-least g c g' st =
+    let self = c.args.self.now in
+    let text = rc_str_bytes c.args.text.now in
+    let room = subst (λ (n : ℕ). n < most_records) st.shape.records c.requires.room in
+    omega (
+      arith,
+      c.in_ok-result.ensures.least,
+      c.too_large.ensures.counted,
+      c.commit.ensures.counted,
+      ap (λ (t : List ℕ). (run One t (state_of c.clear_record.new.self)).charge) c.as_str.ensures.value,
+      ap (λ (s : State). (run One text s).charge) c.clear_record.ensures.state,
+      charge-run (state_of self.live) g' text c.requires.short room,
+    )

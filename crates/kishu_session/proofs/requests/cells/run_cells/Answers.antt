@@ -14,7 +14,7 @@ use Rattle.kishu_model.specs.requests.TooLarge.{is_too_large, too_large}
 use Rattle.kishu_session.specs.Lives.{state_of}
 use Rattle.kishu_session.specs.TextLists.{texts_of, are_short}
 use Rattle.kishu_session.proofs.Items.{drop-map, take-next}
-use Rattle.kishu_session.proofs.Large.{large-found, small-found}
+use Rattle.kishu_session.proofs.Sizes.{large-found, small-found}
 use Rattle.kishu_session.proofs.Ran.{Going, follows, ends-ill, ends-large, left-end, going-none, going-on, going-end}
 use Rattle.kishu_session.proofs.TextFacts.{short-first, short-rest}
 use Rattle.kishu_session.proofs.requests.cells.run_cells.Goals as goal

@@ -1,114 +1,197 @@
-use Rattle.std.proofs.Common.{refl, subst}
-use Rattle.kishu_host.specs.Host.{Elapses}
-use Rattle.kishu_store.specs.Graph.{Graph}
-use Rattle.kishu_model.specs.Serve.{after}
+use Rattle.std.proofs.Common.{◌≡◌, ℕ, Err, refl, sym, ◌∙◌, ap, subst}
+use Rattle.std.proofs.lemmas.Bool.{false≢true}
+use Rattle.std.proofs.lemmas.Result.{err_from_is_err_and}
+use Rattle.kishu_live_laws.specs.Small.{small_after}
+use Rattle.kishu_journal.specs.Going.{IsQuiet}
 use Rattle.kishu_model.specs.Values.{request_of, answer_of}
-use Rattle.kishu_session.specs.Committing.{after_on}
-use Rattle.kishu_session.specs.Journals.{BeforeOrAfter}
-use Rattle.kishu_session.specs.Known.{IsGraphOf}
-use Rattle.kishu_session.specs.Lives.{state_of}
-use Rattle.kishu_session.specs.Prepared.{IsPrepared}
-use Rattle.kishu_session.specs.Small.{small-after}
-use Rattle.kishu_session.proofs.Applied.{at-head, at-same, at-after, back-same, known-after, known-some}
-use Rattle.kishu_session.proofs.Large.{refusal-no-size}
-use Rattle.kishu_session.proofs.Recordings.{journal-good}
-use Rattle.kishu_session.proofs.Silent.{refused-silent}
+use Rattle.kishu_session.proofs.Applied.{durable-read, known-after, may-go-on, quiet-good, quiet-here, recorded-most, stop-here}
+use Rattle.kishu_session.proofs.Fuller.{fills-replay}
+use Rattle.kishu_session.proofs.Halts.{was-damaged, was-disk, was-full, not-closed, only-these, is-error}
+use Rattle.kishu_session.proofs.ReadFacts.{lacks-here}
+use Rattle.kishu_session.proofs.Silent.{refused-silent, refused-no-size, known-some}
+use Rattle.kishu_session.proofs.Staying.{answer-after, attached-after, at-end-after, back-same, counts-after, lives-after, stop-after}
 use Rattle.kishu_session.proofs.session.Session.apply.Goals as goal
 
 pub record-requires-clause-next : goal.record-requires-clause-next
-record-requires-clause-next g c told =
-    let self = c.args.self.now in
-    let a = c.requires.at_end c.if-self.false told in
-    let of : IsGraphOf self.head.graph a.0 = record { stands = a.1.graph; good = journal-good self.journal (g.H.Host.state c.args.host.now).file a.0 a.1.journal } in
-    (a.0, after_on (state_of self.head.live) a.0 (request_of c.args.request.now), a.1.journal, (c.in-Ok.ensures.prepared a.0 of).leads)
-
-pub returns-in-Err-clause-stop_here : goal.returns-in-Err-clause-stop_here
-returns-in-Err-clause-stop_here g c told only g' a =
-    let self = c.args.self.now in
-    let of : IsGraphOf self.head.graph g' = record { stands = a.graph; good = journal-good self.journal (g.H.Host.state c.args.host.now).file g' a.journal } in
-    c.record.ensures.stop told only g' (after_on (state_of self.head.live) g' (request_of c.args.request.now)) a.journal (c.in-Ok.ensures.prepared g' of).leads
-
-pub returns-in-Err-clause-stop : goal.returns-in-Err-clause-stop
-returns-in-Err-clause-stop g c told g' a =
+record-requires-clause-next g c told1 =
     let st = g.H.Host.state in
-    subst (λ (x : Graph). Elapses (st c.args.host.now) (st c.record.new.host) (BeforeOrAfter (st c.args.host.now) g' x))
-    (at-head c.args.self.now.head g' (request_of c.args.request.now) a.at) (returns-in-Err-clause-stop_here g c told a.durable g' a.at_end)
+    let self = c.args.self.now in
+    let quiet = c.prepare.ensures.quiet in
+    let told = sym quiet.time.tells ∙ told1 in
+    let e = c.requires.at_end c.if-self.false told in
+    may-go-on self c.prepare.new.self (st c.args.host.now) (st c.prepare.new.host) (request_of c.args.request.now) c.in_ok-prepared.prepared c.in_ok-prepared.ensures.leads quiet told e.0 e.1 told1
 
 pub invariant_of-self-2 : goal.invariant_of-self-2
 invariant_of-self-2 g c =
+    let st = g.H.Host.state in
     let self = c.args.self.now in
     record {
-      going = λ _. c.in-Ok-record.ensures.open;
-      known = λ _. known-after self.head c.prepare.new.self (request_of c.args.request.now) c.in-Ok.prepared (self.known c.if-self.false) c.in-Ok.ensures.prepared;
-      at = λ _. at-after self.head c.prepare.new.self (request_of c.args.request.now) c.in-Ok.prepared (self.at c.if-self.false) c.in-Ok.ensures.answered;
+      going = λ _. c.in_ok-record.ensures.open;
+      known = λ _. known-after self c.prepare.new.self (st c.args.host.now) (st c.prepare.new.host) (request_of c.args.request.now) c.in_ok-prepared.prepared c.in_ok-prepared.ensures.leads c.prepare.ensures.quiet
+          c.record.new.journal.place (self.known c.if-self.false) c.in_ok-record.ensures.place;
     }
+
+-- ---- an answer
+
+pub returns-clause-answered : goal.returns-clause-answered
+returns-clause-answered g c told g' a =
+    let st = g.H.Host.state in
+    answer-after c.args.self.now c.prepare.new.self (st c.args.host.now) (st c.prepare.new.host) (request_of c.args.request.now) c.in_ok-prepared.prepared c.in_ok-prepared.ensures.leads c.prepare.ensures.quiet g' a
+
+pub returns-clause-attached : goal.returns-clause-attached
+returns-clause-attached g c told g' a =
+    let st = g.H.Host.state in
+    let quiet = c.prepare.ensures.quiet in
+    attached-after c.args.self.now c.prepare.new.self (st c.args.host.now) (st c.prepare.new.host) (request_of c.args.request.now) c.in_ok-prepared.prepared c.in_ok-prepared.ensures.leads quiet told _ refl refl (st c.record.new.host)
+    c.in_ok-record.ensures.stands (c.in_ok-record.ensures.durable (quiet.time.tells ∙ told) (durable-read (st c.args.host.now) (st c.prepare.new.host) quiet a.durable)) g' a
+
+pub returns-clause-at_end : goal.returns-clause-at_end
+returns-clause-at_end g c told g' e =
+    let st = g.H.Host.state in
+    at-end-after c.args.self.now c.prepare.new.self (st c.args.host.now) (st c.prepare.new.host) (request_of c.args.request.now) c.in_ok-prepared.prepared c.in_ok-prepared.ensures.leads c.prepare.ensures.quiet told _ refl
+    (st c.record.new.host) c.in_ok-record.ensures.stands g' e
+
+pub returns-clause-bytes : goal.returns-clause-bytes
+returns-clause-bytes g c told g' e =
+    let st = g.H.Host.state in
+    recorded-most c.args.self.now (st c.args.host.now) (st c.prepare.new.host) c.prepare.ensures.quiet g' e (st c.record.new.host) (c.in_ok-record.ensures.bytes (c.prepare.ensures.quiet.time.tells ∙ told))
+
+pub returns-clause-live : goal.returns-clause-live
+returns-clause-live g c lives =
+    let st = g.H.Host.state in
+    let self = c.args.self.now in
+    let new = c.prepare.new.self in
+    let quiet = c.prepare.ensures.quiet in
+    let q = request_of c.args.request.now in
+    let p = c.in_ok-prepared.prepared in
+    let leads = c.in_ok-prepared.ensures.leads in
+    let known = known-after self new (st c.args.host.now) (st c.prepare.new.host) q p leads quiet c.record.new.journal.place (self.known c.if-self.false) c.in_ok-record.ensures.place in
+    lives-after self new (st c.args.host.now) (st c.prepare.new.host) q p leads quiet c.record.new.journal (st c.record.new.host) known c.in_ok-record.ensures.stands (c.requires.at_end c.if-self.false)
+    (c.record.ensures.tells ∙ quiet.time.tells) lives
 
 pub returns-clause-is_one : goal.returns-clause-is_one
 returns-clause-is_one g c =
     let self = c.args.self.now in
-    known-some self.head.graph (request_of c.args.request.now) (answer_of c.in-Ok.prepared.answer) (self.known c.if-self.false) c.in-Ok.ensures.refuses
+    known-some self.journal.place self.head (request_of c.args.request.now) c.in_ok-prepared.prepared.answer (self.known c.if-self.false) c.in_ok-prepared.ensures.leads.refuses
 
-pub returns-clause-attached : goal.returns-clause-attached
-returns-clause-attached g c told g' a =
-    let self = c.args.self.now in
-    let q = request_of c.args.request.now in
-    let prepared = subst (λ (x : Graph). IsPrepared g' x c.in-Ok.prepared c.prepare.new.self.graph) (at-head self.head g' q a.at) (c.in-Ok.ensures.prepared g' a.at.keeps.graph) in
-    let answered = c.in-Ok.ensures.answered g' a.at in
-    record {
-      going = refl;
-      durable = c.in-Ok-record.ensures.durable told a.durable;
-      at_end = record { journal = c.in-Ok-record.ensures.stands told g' (after g' q) a.at_end.journal prepared.leads; graph = prepared.stands };
-      same = at-same c.prepare.new.self (after g' q) answered.at;
-      at = answered.at;
-    }
-
-pub returns-clause-at_end : goal.returns-clause-at_end
-returns-clause-at_end g c told g' a =
-    let self = c.args.self.now in
-    let of : IsGraphOf self.head.graph g' = record { stands = a.graph; good = journal-good self.journal (g.H.Host.state c.args.host.now).file g' a.journal } in
-    let prepared = c.in-Ok.ensures.prepared g' of in
-    record { journal = c.in-Ok-record.ensures.stands told g' (after_on (state_of self.head.live) g' (request_of c.args.request.now)) a.journal prepared.leads; graph = prepared.stands }
-
-pub returns-clause-bytes : goal.returns-clause-bytes
-returns-clause-bytes g c told g' a = c.in-Ok-record.ensures.bytes told g' a.journal
+pub returns-clause-refuses : goal.returns-clause-refuses
+returns-clause-refuses g c = c.in_ok-prepared.ensures.leads.refuses
 
 pub returns-clause-refused : goal.returns-clause-refused
 returns-clause-refused g c refusal =
     let self = c.args.self.now in
-    let none = refused-silent self.head c.prepare.new.self (request_of c.args.request.now) c.in-Ok.prepared (self.known c.if-self.false) c.in-Ok.ensures.prepared c.in-Ok.ensures.refuses refusal in
-    (c.in-Ok-record.ensures.quiet none, c.in-Ok.ensures.stays none (λ bytes size. refusal-no-size (answer_of c.in-Ok.prepared.answer) refusal.0 bytes refusal.1 size))
+    let p = c.in_ok-prepared.prepared in
+    let leads = c.in_ok-prepared.ensures.leads in
+    let none = refused-silent self.journal.place self.head c.prepare.new.self (request_of c.args.request.now) p (self.known c.if-self.false) leads.prepares leads.refuses refusal in
+    let stays = c.in_ok-prepared.ensures.stays none (refused-no-size (answer_of p.answer) refusal) in
+    (c.in_ok-record.ensures.quiet none ∙ stays.1, stays.0)
 
 pub returns-clause-too_large : goal.returns-clause-too_large
 returns-clause-too_large g c bytes size =
-    let l = c.in-Ok.ensures.large bytes size in
-    (l.0, c.in-Ok-record.ensures.quiet l.1, l.2.graph)
+    let st = g.H.Host.state in
+    let l = c.in_ok-prepared.ensures.leads.large bytes size in
+    (l.0, subst (λ x. IsQuiet (st c.args.host.now) (st x)) (sym (c.in_ok-record.ensures.quiet l.1)) c.prepare.ensures.quiet, l.2.graph)
 
 pub returns-clause-back : goal.returns-clause-back
-returns-clause-back g c bytes size = back-same c.args.self.now.head c.prepare.new.self (c.args.self.now.at c.if-self.false) (c.in-Ok.ensures.large bytes size).2
+returns-clause-back g c bytes size told lives =
+    let l = c.in_ok-prepared.ensures.leads.large bytes size in
+    back-same c.args.self.now c.prepare.new.self (g.H.Host.state c.args.host.now) told (c.requires.at_end c.if-self.false told) l.2 lives
 
-pub returns-clause-stop_here : goal.returns-clause-stop_here
-returns-clause-stop_here g c told only g' a =
-    let self = c.args.self.now in
-    let of : IsGraphOf self.head.graph g' = record { stands = a.graph; good = journal-good self.journal (g.H.Host.state c.args.host.now).file g' a.journal } in
-    c.record.ensures.stop told only g' (after_on (state_of self.head.live) g' (request_of c.args.request.now)) a.journal (c.in-Ok.ensures.prepared g' of).leads
+pub returns-clause-small : goal.returns-clause-small
+returns-clause-small g c g' all = small_after g' all (request_of c.args.request.now)
 
 pub returns-clause-stop : goal.returns-clause-stop
 returns-clause-stop g c told g' a =
     let st = g.H.Host.state in
-    subst (λ (x : Graph). Elapses (st c.args.host.now) (st c.record.new.host) (BeforeOrAfter (st c.args.host.now) g' x))
-    (at-head c.args.self.now.head g' (request_of c.args.request.now) a.at) (returns-clause-stop_here g c told a.durable g' a.at_end)
+    stop-after c.args.self.now c.prepare.new.self (st c.args.host.now) (st c.prepare.new.host) (request_of c.args.request.now) c.in_ok-prepared.prepared c.in_ok-prepared.ensures.leads c.prepare.ensures.quiet told
+    (st c.record.new.host) c.record.ensures.stop g' a
+
+pub returns-clause-stop_here : goal.returns-clause-stop_here
+returns-clause-stop_here g c told only g' e =
+    let st = g.H.Host.state in
+    stop-here c.args.self.now c.prepare.new.self (st c.args.host.now) (st c.prepare.new.host) (request_of c.args.request.now) c.in_ok-prepared.prepared c.in_ok-prepared.ensures.leads c.prepare.ensures.quiet
+    (st c.record.new.host) c.record.ensures.stop told only g' e
+
+pub returns-clause-least : goal.returns-clause-least
+returns-clause-least g c told g' a =
+    let st = g.H.Host.state in
+    counts-after c.args.self.now c.prepare.new.self (st c.args.host.now) (st c.prepare.new.host) (request_of c.args.request.now) c.in_ok-prepared.prepared c.in_ok-prepared.ensures.leads c.prepare.ensures.quiet
+    c.args.steps.now c.prepare.new.steps c.in_ok-prepared.ensures.least g' a
+
+-- ---- where the record wasn't appended
+
+pub returns-in_err-record-clause-small : goal.returns-in_err-record-clause-small
+returns-in_err-record-clause-small g c g' all = small_after g' all (request_of c.args.request.now)
+
+pub returns-in_err-record-clause-stop : goal.returns-in_err-record-clause-stop
+returns-in_err-record-clause-stop g c told g' a =
+    let st = g.H.Host.state in
+    stop-after c.args.self.now c.prepare.new.self (st c.args.host.now) (st c.prepare.new.host) (request_of c.args.request.now) c.in_ok-prepared.prepared c.in_ok-prepared.ensures.leads c.prepare.ensures.quiet told
+    (st c.record.new.host) c.record.ensures.stop g' a
+
+pub returns-in_err-record-clause-stop_here : goal.returns-in_err-record-clause-stop_here
+returns-in_err-record-clause-stop_here g c told only g' e =
+    let st = g.H.Host.state in
+    stop-here c.args.self.now c.prepare.new.self (st c.args.host.now) (st c.prepare.new.host) (request_of c.args.request.now) c.in_ok-prepared.prepared c.in_ok-prepared.ensures.leads c.prepare.ensures.quiet
+    (st c.record.new.host) c.record.ensures.stop told only g' e
+
+-- ---- where nothing was prepared
+
+pub returns-in_err-prepared-clause-small : goal.returns-in_err-prepared-clause-small
+returns-in_err-prepared-clause-small g c g' all = small_after g' all (request_of c.args.request.now)
+
+pub returns-in_err-prepared-clause-stop : goal.returns-in_err-prepared-clause-stop
+returns-in_err-prepared-clause-stop g c told g' a =
+    let st = g.H.Host.state in
+    quiet-good c.args.self.now (st c.args.host.now) (st c.prepare.new.host) c.prepare.ensures.quiet a.durable g' _ a
+
+pub returns-in_err-prepared-clause-stop_here : goal.returns-in_err-prepared-clause-stop_here
+returns-in_err-prepared-clause-stop_here g c told only g' e =
+    let st = g.H.Host.state in
+    quiet-here c.args.self.now (st c.args.host.now) (st c.prepare.new.host) c.prepare.ensures.quiet only g' _ e
+
+pub returns-in_err-prepared-clause-damaged : goal.returns-in_err-prepared-clause-damaged
+returns-in_err-prepared-clause-damaged g c at is =
+    let p = err_from_is_err_and c.from_residual.result c.from_residual.ensures.1 in
+    let e = was-damaged c.from_residual.result c.in_err-prepared.field-0.0 p at is in
+    lacks-here c.args.self.now (g.H.Host.state c.args.host.now) c.args.request.now at (c.in_err-prepared.ensures.damaged at (ap Err e))
+
+pub returns-in_err-prepared-clause-disk_fault : goal.returns-in_err-prepared-clause-disk_fault
+returns-in_err-prepared-clause-disk_fault g c is =
+    let p = err_from_is_err_and c.from_residual.result c.from_residual.ensures.1 in
+    c.in_err-prepared.ensures.disk_fault (ap Err (was-disk c.from_residual.result c.in_err-prepared.field-0.0 p is))
+
+pub returns-in_err-prepared-clause-heap_full : goal.returns-in_err-prepared-clause-heap_full
+returns-in_err-prepared-clause-heap_full g c is =
+    let p = err_from_is_err_and c.from_residual.result c.from_residual.ensures.1 in
+    c.in_err-prepared.ensures.full (ap Err (was-full c.from_residual.result c.in_err-prepared.field-0.0 p is))
+
+pub returns-in_err-prepared-clause-full : goal.returns-in_err-prepared-clause-full
+returns-in_err-prepared-clause-full g c is told g' a =
+    let p = err_from_is_err_and c.from_residual.result c.from_residual.ensures.1 in
+    fills-replay c.args.self.now (g.H.Host.state c.args.host.now) g' (request_of c.args.request.now) a (c.in_err-prepared.ensures.full (ap Err (was-full c.from_residual.result c.in_err-prepared.field-0.0 p is)))
+
+pub returns-in_err-prepared-clause-beyond : goal.returns-in_err-prepared-clause-beyond
+returns-in_err-prepared-clause-beyond g c is =
+    let p = err_from_is_err_and c.from_residual.result c.from_residual.ensures.1 in
+    c.in_err-prepared.ensures.beyond (ap Err (was-full c.from_residual.result c.in_err-prepared.field-0.0 p is))
+
+pub returns-in_err-prepared-clause-only_these : goal.returns-in_err-prepared-clause-only_these
+returns-in_err-prepared-clause-only_these g c = only-these c.from_residual.result c.in_err-prepared.field-0.0 (err_from_is_err_and c.from_residual.result c.from_residual.ensures.1)
+
+pub returns-in_err-prepared-clause-closed : goal.returns-in_err-prepared-clause-closed
+returns-in_err-prepared-clause-closed g c = (
+  λ is. absurd (not-closed c.from_residual.result c.in_err-prepared.field-0.0 (err_from_is_err_and c.from_residual.result c.from_residual.ensures.1) is),
+  λ halted. absurd (false≢true (sym c.if-self.false ∙ halted)),
+)
+
+pub returns-in_err-prepared-clause-untouched : goal.returns-in_err-prepared-clause-untouched
+returns-in_err-prepared-clause-untouched g c is = absurd (not-closed c.from_residual.result c.in_err-prepared.field-0.0 (err_from_is_err_and c.from_residual.result c.from_residual.ensures.1) is)
+
+pub returns-in_err-prepared-clause-halted : goal.returns-in_err-prepared-clause-halted
+returns-in_err-prepared-clause-halted g c = (λ _. is-error c.from_residual.result c.in_err-prepared.field-0.0 (err_from_is_err_and c.from_residual.result c.from_residual.ensures.1), λ _. refl)
+
+-- ---- closed before
 
 pub returns-then-self-clause-small : goal.returns-then-self-clause-small
-returns-then-self-clause-small g c g' all = small-after g' all (request_of c.args.request.now)
-
-pub returns-in-Err-HeapFull-clause-small : goal.returns-in-Err-HeapFull-clause-small
-returns-in-Err-HeapFull-clause-small g c g' all = small-after g' all (request_of c.args.request.now)
-
-pub returns-in-Err-NoMemory-clause-small : goal.returns-in-Err-NoMemory-clause-small
-returns-in-Err-NoMemory-clause-small g c g' all = small-after g' all (request_of c.args.request.now)
-
-pub returns-in-Err-clause-small : goal.returns-in-Err-clause-small
-returns-in-Err-clause-small g c g' all = small-after g' all (request_of c.args.request.now)
-
-pub returns-clause-small : goal.returns-clause-small
-returns-clause-small g c g' all = small-after g' all (request_of c.args.request.now)
+returns-then-self-clause-small g c g' all = small_after g' all (request_of c.args.request.now)

@@ -1,107 +1,169 @@
-use Rattle.std.proofs.Common.{◌≡◌, ◌+◌, ◌≤◌, inl, inr, ⊎_elim, refl, sym, subst}
-use Rattle.kishu_host.specs.Host.{Told, Only}
-use Rattle.kishu_store.specs.Graph.{Graph}
-use Rattle.kishu_store.specs.Holds.{graph_of}
+use Rattle.std.proofs.Common.{◌≡◌, ◌<◌, inr, ℕ, List, Err, length, refl, sym, ◌∙◌, ap, subst}
+use Rattle.std.specs.Prelude.{IsErrOf, Option, true}
+use Rattle.std.proofs.lemmas.Result.{err_from_is_err_and}
+use Rattle.kishu_host.specs.Host.{Only}
+use Rattle.kishu_store.specs.Holds.{Gives, graph_of}
+use Rattle.kishu_store.specs.Tables.{Change}
 use Rattle.kishu_store_laws.specs.Laws.{one_graph}
-use Rattle.kishu_replay.specs.Replay.{replay_charge}
 use Rattle.kishu_journal.specs.Found.{entries_of}
-use Rattle.kishu_session.specs.Head.{IsAt}
-use Rattle.kishu_session.proofs.Applied.{at-same}
-use Rattle.kishu_session.proofs.Opened.{untouched, kept-holds, opening-settled}
-use Rattle.kishu_session.proofs.Openings.{read-of, read-storable}
+use Rattle.kishu_checkout.specs.Pictures.{told_file}
+use Rattle.kishu_session.specs.Attached.{IsAtEnd}
+use Rattle.kishu_session.specs.Head.{IsLoaded, Lacks}
+use Rattle.kishu_session.specs.Opening.{IsOpening}
+use Rattle.kishu_session.specs.declared.halt.Halt.TheVariants.{Damaged, DiskFault}
+use Rattle.kishu_session.proofs.AttachFacts.{loaded-attached}
+use Rattle.kishu_session.proofs.Halts.{was-damaged}
+use Rattle.kishu_session.proofs.LoadFacts.{told-file-same}
+use Rattle.kishu_session.proofs.OpenedFacts.{opened-known, head-known, opened-at-end, opened-history, opened-kept, lacks-is-long, lacks-picture}
+use Rattle.kishu_session.proofs.OpeningFacts.{gave-back, opening-then, opening-held, opening-held-good, opening-bad, opening-settled, opening-settled-good, opening-stop, opening-stop-good, opening-damaged}
 use Rattle.kishu_session.proofs.session.Session.attach.Goals as goal
 
-pub returns-in-Err-Damaged-clause-bad : goal.returns-in-Err-Damaged-clause-bad
-returns-in-Err-Damaged-clause-bad g c told bad = untouched (g.H.Host.state c.args.host.now) (g.H.Host.state c.open_store.new.host) (c.open_store.ensures.kept told) c.open_store.ensures.out bad
+-- ---- a store that isn't opened
 
-pub returns-in-Err-Damaged-clause-damaged : goal.returns-in-Err-Damaged-clause-damaged
-returns-in-Err-Damaged-clause-damaged g c at err told = c.open_store.ensures.damaged at (cc (err, c.in-Err-Damaged.is, c.in-Err-Damaged.field-0-is)) told
-
-pub returns-in-Err-DiskFault-clause-bad : goal.returns-in-Err-DiskFault-clause-bad
-returns-in-Err-DiskFault-clause-bad g c told bad = untouched (g.H.Host.state c.args.host.now) (g.H.Host.state c.open_store.new.host) (c.open_store.ensures.kept told) c.open_store.ensures.out bad
-
-pub returns-in-Err-NoMemory-clause-bad : goal.returns-in-Err-NoMemory-clause-bad
-returns-in-Err-NoMemory-clause-bad g c told bad = untouched (g.H.Host.state c.args.host.now) (g.H.Host.state c.open_store.new.host) (c.open_store.ensures.kept told) c.open_store.ensures.out bad
-
-pub returns-in-Err-HeapFull-clause-bad : goal.returns-in-Err-HeapFull-clause-bad
-returns-in-Err-HeapFull-clause-bad g c told bad = untouched (g.H.Host.state c.args.host.now) (g.H.Host.state c.open_store.new.host) (c.open_store.ensures.kept told) c.open_store.ensures.out bad
-
-pub returns-in-Err-HeapFull-clause-held : goal.returns-in-Err-HeapFull-clause-held
-returns-in-Err-HeapFull-clause-held g c told = kept-holds (g.H.Host.state c.args.host.now).file (g.H.Host.state c.open_store.new.host).file (c.open_store.ensures.kept told) (c.open_store.ensures.short told)
-
-pub returns-in-Err-HeapFull-clause-heap_full : goal.returns-in-Err-HeapFull-clause-heap_full
-returns-in-Err-HeapFull-clause-heap_full g c err told =
+pub returns-in_err-journal-clause-bad : goal.returns-in_err-journal-clause-bad
+returns-in_err-journal-clause-bad g c =
     let st = g.H.Host.state in
-    let opens = c.in-Ok.ensures.opens in
-    let es = entries_of opens.read.found in
-    let read = read-of (st c.args.host.now) (st c.open_store.new.host) c.in-Ok.store opens in
-    (graph_of es, opens.good told, c.of_store.ensures.full (cc (c.in-Err-HeapFull.is)) (graph_of es) read)
+    opening-bad (IsErrOf c.opened.result DiskFault) (st c.args.host.now) (st c.opened.new.host) c.opened.ensures.opening
 
-pub returns-in-Err-NoMemory-of_store-clause-held : goal.returns-in-Err-NoMemory-of_store-clause-held
-returns-in-Err-NoMemory-of_store-clause-held g c told = kept-holds (g.H.Host.state c.args.host.now).file (g.H.Host.state c.open_store.new.host).file (c.open_store.ensures.kept told) (c.open_store.ensures.short told)
+pub returns-in_err-journal-clause-damaged_stays : goal.returns-in_err-journal-clause-damaged_stays
+returns-in_err-journal-clause-damaged_stays g c at err told =
+    let st = g.H.Host.state in
+    let p = err_from_is_err_and c.from_residual.result c.from_residual.ensures.1 in
+    let was : IsErrOf c.opened.result (Damaged at) = cc (err, p.1, p.2, c.in_err-journal.is) in
+    opening-damaged (IsErrOf c.opened.result DiskFault) (st c.args.host.now) (st c.opened.new.host) c.opened.ensures.opening (λ fault. cc (fault, was)) told (c.opened.ensures.damaged at was told).long
 
-pub returns-in-Err-NoMemory-of_store-clause-bad : goal.returns-in-Err-NoMemory-of_store-clause-bad
-returns-in-Err-NoMemory-of_store-clause-bad g c told bad = untouched (g.H.Host.state c.args.host.now) (g.H.Host.state c.open_store.new.host) (c.open_store.ensures.kept told) c.open_store.ensures.out bad
+-- ---- a picture that isn't loaded
 
 pub of_store-requires : goal.of_store-requires
-of_store-requires g c = read-storable (g.H.Host.state c.args.host.now) (g.H.Host.state c.open_store.new.host) c.in-Ok.store c.in-Ok.ensures.opens
+of_store-requires g c = record { known = opened-known c.in_ok-journal.field-0.graph c.in_ok-journal.field-0.journal.place c.in_ok-journal.ensures.known }
+
+pub returns-in_err-head-clause-held_good : goal.returns-in_err-head-clause-held_good
+returns-in_err-head-clause-held_good g c =
+    let st = g.H.Host.state in
+    let Then = IsErrOf c.from_residual-in_err-head.result DiskFault in
+    let o = opening-then _ Then (st c.args.host.now) (st c.opened.new.host) (st c.of_store.new.host) (g.met.H.Host.reads_now c.args.host.now) (λ fault. cc (fault)) c.in_ok-journal.ensures.opening c.of_store.ensures.quiet in
+    opening-held-good Then (st c.args.host.now) (st c.of_store.new.host) o
+
+pub returns-in_err-head-clause-bad : goal.returns-in_err-head-clause-bad
+returns-in_err-head-clause-bad g c =
+    let st = g.H.Host.state in
+    let Then = IsErrOf c.from_residual-in_err-head.result DiskFault in
+    let o = opening-then _ Then (st c.args.host.now) (st c.opened.new.host) (st c.of_store.new.host) (g.met.H.Host.reads_now c.args.host.now) (λ fault. cc (fault)) c.in_ok-journal.ensures.opening c.of_store.ensures.quiet in
+    opening-bad Then (st c.args.host.now) (st c.of_store.new.host) o
+
+pub returns-in_err-head-clause-settled_good : goal.returns-in_err-head-clause-settled_good
+returns-in_err-head-clause-settled_good g c =
+    let st = g.H.Host.state in
+    let Then = IsErrOf c.from_residual-in_err-head.result DiskFault in
+    let o = opening-then _ Then (st c.args.host.now) (st c.opened.new.host) (st c.of_store.new.host) (g.met.H.Host.reads_now c.args.host.now) (λ fault. cc (fault)) c.in_ok-journal.ensures.opening c.of_store.ensures.quiet in
+    opening-settled-good Then (st c.args.host.now) (st c.of_store.new.host) o
+
+pub returns-in_err-head-clause-damaged : goal.returns-in_err-head-clause-damaged
+returns-in_err-head-clause-damaged g c at err told =
+    let st = g.H.Host.state in
+    let s = st c.args.host.now in
+    let s1 = st c.opened.new.host in
+    let store = c.in_ok-journal.field-0 in
+    let opens = c.in_ok-journal.ensures.opens in
+    let opening = c.in_ok-journal.ensures.opening in
+    let p = err_from_is_err_and c.from_residual-in_err-head.result c.from_residual-in_err-head.ensures.1 in
+    let e = was-damaged c.from_residual-in_err-head.result c.in_err-head.field-0.0 p at err in
+    let lacks = c.in_err-head.ensures.damaged at (ap Err e) (opened-history s s1 store opens told) (opened-kept s s1 store opens told) in
+    inr (lacks-picture s s1 store opens told (opening.long told) (opening.short told) (opening.tells ∙ told) at lacks)
+
+pub returns-in_err-head-clause-damaged_stays : goal.returns-in_err-head-clause-damaged_stays
+returns-in_err-head-clause-damaged_stays g c at err told =
+    let st = g.H.Host.state in
+    let s = st c.args.host.now in
+    let s1 = st c.opened.new.host in
+    let t = st c.of_store.new.host in
+    let store = c.in_ok-journal.field-0 in
+    let opens = c.in_ok-journal.ensures.opens in
+    let opening = c.in_ok-journal.ensures.opening in
+    let Then = IsErrOf c.from_residual-in_err-head.result DiskFault in
+    let o = opening-then _ Then s s1 t (g.met.H.Host.reads_now c.args.host.now) (λ fault. cc (fault)) opening c.of_store.ensures.quiet in
+    let p = err_from_is_err_and c.from_residual-in_err-head.result c.from_residual-in_err-head.ensures.1 in
+    let e = was-damaged c.from_residual-in_err-head.result c.in_err-head.field-0.0 p at err in
+    let lacks = c.in_err-head.ensures.damaged at (ap Err e) (opened-history s s1 store opens told) (opened-kept s s1 store opens told) in
+    opening-damaged Then s t o (λ fault. cc (fault, err)) told (lacks-is-long s s1 store opens told (opening.long told) (opening.short told) (opening.tells ∙ told) at lacks)
+
+-- ---- a session
 
 pub invariant_of-result : goal.invariant_of-result
 invariant_of-result g c =
-    let st = g.H.Host.state in
-    let opens = c.in-Ok.ensures.opens in
-    let read = read-of (st c.args.host.now) (st c.open_store.new.host) c.in-Ok.store opens in
-    let at = c.in-Ok-of_store.ensures.at (graph_of (entries_of opens.read.found)) read in
+    let store = c.in_ok-journal.field-0 in
     record {
-      going = λ _. c.in-Ok.ensures.opened;
-      known = λ _. ∣ (graph_of (entries_of opens.read.found), at.keeps.graph) ∣₁;
-      at = λ _. ∣ (graph_of (entries_of opens.read.found), at) ∣₁;
+      going = λ _. c.in_ok-journal.ensures.going;
+      known = λ _. head-known store.graph store.journal.place (told_file (g.H.Host.state c.opened.new.host)) c.in_ok-head.head c.in_ok-head.ensures.graph c.in_ok-journal.ensures.known c.in_ok-head.ensures.loaded c.in_ok-head.ensures.count;
     }
+
+pub returns-clause-held : goal.returns-clause-held
+returns-clause-held g c =
+    let st = g.H.Host.state in
+    let o = opening-then _ ⊥ (st c.args.host.now) (st c.opened.new.host) (st c.of_store.new.host) (g.met.H.Host.reads_now c.args.host.now) (λ fault. cc (fault)) c.in_ok-journal.ensures.opening c.of_store.ensures.quiet in
+    opening-held ⊥ (st c.args.host.now) (st c.of_store.new.host) o
+
+pub returns-clause-held_good : goal.returns-clause-held_good
+returns-clause-held_good g c =
+    let st = g.H.Host.state in
+    let o = opening-then _ ⊥ (st c.args.host.now) (st c.opened.new.host) (st c.of_store.new.host) (g.met.H.Host.reads_now c.args.host.now) (λ fault. cc (fault)) c.in_ok-journal.ensures.opening c.of_store.ensures.quiet in
+    opening-held-good ⊥ (st c.args.host.now) (st c.of_store.new.host) o
+
+pub returns-clause-bad : goal.returns-clause-bad
+returns-clause-bad g c =
+    let st = g.H.Host.state in
+    let o = opening-then _ ⊥ (st c.args.host.now) (st c.opened.new.host) (st c.of_store.new.host) (g.met.H.Host.reads_now c.args.host.now) (λ fault. cc (fault)) c.in_ok-journal.ensures.opening c.of_store.ensures.quiet in
+    opening-bad ⊥ (st c.args.host.now) (st c.of_store.new.host) o
+
+pub returns-clause-settled : goal.returns-clause-settled
+returns-clause-settled g c =
+    let st = g.H.Host.state in
+    let o = opening-then _ _ (st c.args.host.now) (st c.opened.new.host) (st c.of_store.new.host) (g.met.H.Host.reads_now c.args.host.now) (λ fault. cc (fault)) c.in_ok-journal.ensures.opening c.of_store.ensures.quiet in
+    opening-settled _ (st c.args.host.now) (st c.of_store.new.host) o
+
+pub returns-clause-settled_good : goal.returns-clause-settled_good
+returns-clause-settled_good g c =
+    let st = g.H.Host.state in
+    let o = opening-then _ _ (st c.args.host.now) (st c.opened.new.host) (st c.of_store.new.host) (g.met.H.Host.reads_now c.args.host.now) (λ fault. cc (fault)) c.in_ok-journal.ensures.opening c.of_store.ensures.quiet in
+    opening-settled-good _ (st c.args.host.now) (st c.of_store.new.host) o
+
+pub returns-clause-stop : goal.returns-clause-stop
+returns-clause-stop g c =
+    let st = g.H.Host.state in
+    let o = opening-then _ ⊥ (st c.args.host.now) (st c.opened.new.host) (st c.of_store.new.host) (g.met.H.Host.reads_now c.args.host.now) (λ fault. cc (fault)) c.in_ok-journal.ensures.opening c.of_store.ensures.quiet in
+    opening-stop ⊥ (st c.args.host.now) (st c.of_store.new.host) o
+
+pub returns-clause-stop_good : goal.returns-clause-stop_good
+returns-clause-stop_good g c =
+    let st = g.H.Host.state in
+    let o = opening-then _ ⊥ (st c.args.host.now) (st c.opened.new.host) (st c.of_store.new.host) (g.met.H.Host.reads_now c.args.host.now) (λ fault. cc (fault)) c.in_ok-journal.ensures.opening c.of_store.ensures.quiet in
+    opening-stop-good ⊥ (st c.args.host.now) (st c.of_store.new.host) o
 
 pub returns-clause-at_end : goal.returns-clause-at_end
 returns-clause-at_end g c told =
     let st = g.H.Host.state in
-    let opens = c.in-Ok.ensures.opens in
-    let es = entries_of opens.read.found in
-    let read = read-of (st c.args.host.now) (st c.open_store.new.host) c.in-Ok.store opens in
-    let at = c.in-Ok-of_store.ensures.at (graph_of es) read in
-    (graph_of es, record { journal = record { entries = es; stands = opens.stands told; graph = refl }; graph = at.keeps.graph.stands })
+    let s = st c.args.host.now in
+    let s1 = st c.opened.new.host in
+    let t = st c.of_store.new.host in
+    let opens = c.in_ok-journal.ensures.opens in
+    let opening = c.in_ok-journal.ensures.opening in (
+      graph_of (entries_of opens.read.found),
+      opened-at-end s s1 c.in_ok-journal.field-0 opens told _ t refl c.in_ok-head.ensures.graph c.of_store.ensures.quiet.keeps.file (c.in_ok-journal.ensures.tables told)
+          (gave-back s.file s1.file (opening.long told) (opening.short told)) (graph_of (entries_of opens.read.found)) refl,
+    )
 
 pub returns-clause-attached : goal.returns-clause-attached
-returns-clause-attached g c told g' holds =
+returns-clause-attached g c told g' good =
     let st = g.H.Host.state in
-    let opens = c.in-Ok.ensures.opens in
-    let es = entries_of opens.read.found in
-    let same : graph_of es ≡ g' = one_graph (st c.args.host.now).file (graph_of es) g' (opens.good told) holds in
-    let read = read-of (st c.args.host.now) (st c.open_store.new.host) c.in-Ok.store opens in
-    let at = subst (λ (x : Graph). IsAt c.in-Ok-of_store.head x) same (c.in-Ok-of_store.ensures.at (graph_of es) read) in
-    record {
-      going = refl;
-      durable = ⊎_elim (λ e. absurd (cc (e, c.in-Ok.is))) (λ (d : Told (st c.args.host.now) (Only (st c.open_store.new.host).file (st c.open_store.new.host).may_leave)). d) c.open_store.ensures.durable told;
-      at_end = record { journal = record { entries = es; stands = opens.stands told; graph = sym same }; graph = at.keeps.graph.stands };
-      same = at-same c.in-Ok-of_store.head g' at;
-      at = at;
-    }
-
-pub returns-clause-held : goal.returns-clause-held
-returns-clause-held g c told = kept-holds (g.H.Host.state c.args.host.now).file (g.H.Host.state c.open_store.new.host).file (c.open_store.ensures.kept told) (c.open_store.ensures.short told)
-
-pub returns-clause-bad : goal.returns-clause-bad
-returns-clause-bad g c told bad = untouched (g.H.Host.state c.args.host.now) (g.H.Host.state c.open_store.new.host) (c.open_store.ensures.kept told) c.open_store.ensures.out bad
-
-pub returns-clause-settled : goal.returns-clause-settled
-returns-clause-settled g c told g' holds =
-    let st = g.H.Host.state in
-    elim (opening-settled _ (st c.args.host.now) (st c.open_store.new.host) (c.open_store.ensures.kept told) (c.open_store.ensures.short told) (c.open_store.ensures.settled told) g' holds) [
-      | inl unsynced ↦ absurd (cc (unsynced.0, c.in-Ok.is))
-      | inr each ↦ inr each
-    ]
-
-pub returns-clause-least : goal.returns-clause-least
-returns-clause-least g c told g' holds =
-    let st = g.H.Host.state in
-    let opens = c.in-Ok.ensures.opens in
-    let es = entries_of opens.read.found in
-    let same : graph_of es ≡ g' = one_graph (st c.args.host.now).file (graph_of es) g' (opens.good told) holds in
-    let read = read-of (st c.args.host.now) (st c.open_store.new.host) c.in-Ok.store opens in
-    subst (λ (x : Graph). c.args.steps.now + replay_charge x x.head.commit ≤ c.of_store.new.steps) same (c.in-Ok-of_store.ensures.least (graph_of es) read)
+    let s = st c.args.host.now in
+    let s1 = st c.opened.new.host in
+    let t = st c.of_store.new.host in
+    let opens = c.in_ok-journal.ensures.opens in
+    let opening = c.in_ok-journal.ensures.opening in
+    let quiet = c.of_store.ensures.quiet in
+    let same : g' ≡ graph_of (entries_of opens.read.found) = one_graph s.file g' (graph_of (entries_of opens.read.found)) good.holds (opens.good told) in
+    let at_end = opened-at-end s s1 c.in_ok-journal.field-0 opens told _ t refl c.in_ok-head.ensures.graph quiet.keeps.file (c.in_ok-journal.ensures.tables told)
+    (gave-back s.file s1.file (opening.long told) (opening.short told)) g' same in
+    let here = subst (λ (o : Option (List ℕ)). IsLoaded o c.in_ok-head.head) (sym (told-file-same s1 t quiet.time.tells quiet.keeps.file)) c.in_ok-head.ensures.loaded in
+    let durable : Only t.file t.may_leave = λ x left. c.in_ok-journal.ensures.durable told x (quiet.keeps.crash x left) ∙ sym quiet.keeps.file in
+    loaded-attached _ t (quiet.time.tells ∙ opening.tells ∙ told) g' (returns-clause-held_good g c told g' good) at_end here refl durable c.in_ok-head.ensures.count

@@ -1,0 +1,210 @@
+-- A file that ends with one record more, or with none: its head's table tells the live state, and where the file before was good, it is good.
+use Rattle.std.proofs.Common.{◌≡◌, ◌≤◌, ◌<◌, ⊎_elim, ℕ, suc, List, [], ◌∷◌, ◌++◌, length, refl, sym, ◌∙◌, ap, subst, arith}
+use Rattle.std.proofs.lemmas.List.{append-nil}
+use Rattle.std.specs.List.{AllZip}
+use Rattle.std.specs.Prelude.{Option, Some, None}
+use Rattle.kishu_meaning.specs.values.Values as values
+use Rattle.kishu_meaning.specs.values.Values.{empty}
+use Rattle.kishu_objects.specs.Lists.{In}
+use Rattle.kishu_objects.specs.Same.{Same}
+use Rattle.kishu_objects.specs.States.{IsSoundState}
+use Rattle.kishu_replay.specs.Replay.{after_cells, after_commits, replay}
+use Rattle.kishu_store.specs.Entries.{Entry, Record}
+use Rattle.kishu_store.specs.Graph.{Commit, Graph, newest, path_in, with_commit}
+use Rattle.kishu_store.specs.Histories.{History, head_table, led}
+use Rattle.kishu_store.specs.Holds.{HasRecords, Holds, history_by, graph_by, changes_by}
+use Rattle.kishu_store.specs.Limits.{newest_profile}
+use Rattle.kishu_store.specs.Tables.{Row, Table, Change, table_in, table_at, change_of}
+use Rattle.kishu_store_laws.specs.HistoryLaws.{IsHistory}
+use Rattle.kishu_store_laws.specs.Laws.{has-holds, has-gives, history-graph, history-push}
+use Rattle.kishu_store_laws.specs.PlaceLaws.{pictures-stay, has-history}
+use Rattle.kishu_history.specs.AllNames.{AreWhole}
+use Rattle.kishu_history.specs.Good.{IsStoreOf, IsWholeAttached, IsWholeFileOf, IsWholeStore}
+use Rattle.kishu_history.specs.Live.{IsLive, IsPictureOf}
+use Rattle.kishu_history.specs.Paths.{AreRows}
+use Rattle.kishu_history.specs.Sizes.{StaySmall}
+use Rattle.kishu_history.specs.Stored.{Held, Stored, Keeps, KeepsRecords}
+use Rattle.kishu_history_laws.specs.stores.AttachedLaws.{attached_still}
+use Rattle.kishu_history_laws.specs.stores.StoreLaws.{live_still}
+use Rattle.kishu_history_laws.specs.tables.FileLaws.{changes_are_rows, stay_keeps}
+use Rattle.kishu_history_laws.specs.versions.PathLaws.{rows_recorded}
+use Rattle.kishu_session_laws.specs.CellLaws.{cells_keep, replay_is_state, replays_are_states}
+use Rattle.kishu_live_laws.specs.AtHead.{replay_more}
+use Rattle.kishu_live_laws.specs.CellsAlike.{cells_few}
+use Rattle.kishu_live_laws.specs.Fewer.{opened_few}
+use Rattle.kishu_commit.specs.LiveLaws.{whole-table, live-untold}
+use Rattle.kishu_commit.specs.RecordedLaws.{recorded-live, recorded-attached}
+use Rattle.kishu_commit.specs.Whole.{next_entry, next_record, next_rows, stored_whole}
+use Rattle.kishu_session.specs.Head.{LivesAt, IsLoaded}
+use Rattle.kishu_session.specs.Known.{IsHistoryOf}
+use Rattle.kishu_session.specs.Lives.{state_of}
+use Rattle.kishu_session.specs.Prepared.{led_with}
+use Rattle.kishu_session.specs.Recording.{with_new}
+use Rattle.kishu_session.specs.declared.head.Head.{Head}
+use Rattle.kishu_session.proofs.RecordKinds.{IsSameStore, IsStill, IsMoved, IsCommitted, Kind, same-table, same-head-table}
+use Rattle.kishu_session.proofs.LoadFacts.{lives-untold}
+
+-- ---- whatever the host tells
+
+-- The pictures of the new head's table have the lengths that it tells.
+module _ (file : Option (List ℕ)) (old new : Head) (h : History) (good : IsHistory h) (lives : LivesAt None old h) where
+  still-untold : (n : History) → IsStill old new h n → LivesAt None new n
+  still-untold n k =
+      subst (λ (t : Table). IsLive (Stored None) t (state_of new.live)) (sym (same-head-table h n k.same k.head))
+      (subst (λ (s : values.State). IsLive (Stored None) (head_table h) s) (sym k.live) lives)
+
+  committed-untold : (r : Option Record) → IsCommitted old new h r → LivesAt None new (led_with h r)
+  committed-untold r k =
+      let u = state_of new.live in
+      let rows : IsLive (Stored None) (next_rows h k.cells u) u = live-untold u _ _ k.fits k.sound in
+      subst (λ (o : Option Record). LivesAt None new (led_with h o)) (sym k.is)
+      (subst (λ (t : Table). IsLive (Stored None) t u) (sym (whole-table h good k.cells u)) rows)
+
+  pub lives-led : (r : Option Record) → IsHistoryOf new.graph (led_with h r) → Kind file old new h r (led_with h r) → LivesAt None new (led_with h r)
+  lives-led r kept kind =
+      ⊎_elim (still-untold (led_with h r))
+      (⊎_elim (λ (k : IsMoved file new h (led_with h r)). lives-untold file (head_table (led_with h r)) (state_of new.live) (k.loaded (led_with h r) kept).lives) (committed-untold r)) kind
+
+-- ---- tables in a file that has grown
+
+keeps-table : (file grown : List ℕ) (ks : List Commit) (of : ℕ → Change) → AreRows of → KeepsRecords file grown (length ks) of → (c : ℕ) → Keeps file grown (table_in ks of c)
+keeps-table file grown ks of rows keeps c r m = (let q = rows_recorded ks of rows c r m in keeps r.version q.1 r q.0)
+
+-- What cells leave of a replay is the same as what they leave of the state, and isn't too large.
+pub record RunsAlike (s t : values.State) (cells : List (List ℕ)) : Type 0 where
+  pub same : Same (after_cells newest_profile cells s) (after_cells newest_profile cells t)
+  pub small : StaySmall newest_profile cells t
+
+-- ---- records behind those of a file
+
+with-more : (rs : List Record) (r : Option Record) → (more : List Record) × (rs ++ more ≡ with_new rs r)
+with-more rs None = ([], append-nil rs)
+with-more rs (Some r) = (r ∷ [], refl)
+
+pub led-is : (rs : List Record) (r : Option Record) → led_with (history_by rs) r ≡ history_by (with_new rs r)
+led-is rs None = refl
+led-is rs (Some r) = sym (history-push rs r)
+
+module _ (file grown : List ℕ) (rs : List Record) (r : Option Record) (has : HasRecords file rs) (has_grown : HasRecords grown (with_new rs r)) where
+  abbrev h : History
+  h = history_by rs
+
+  abbrev n : History
+  n = history_by (with_new rs r)
+
+  abbrev of : ℕ → Change
+  of = change_of h.changes
+
+  rows : AreRows of
+  rows = changes_are_rows h.graph h.changes h.place (has-history file rs has).changes
+
+  keeps : KeepsRecords file grown (newest h.graph) of
+  keeps =
+      let more = with-more rs r in
+      stay_keeps file grown h.changes (newest h.graph) (pictures-stay file grown rs more.0 has (subst (HasRecords grown) (sym more.1) has_grown))
+
+  -- the table of a commit of before
+  stays-there : (c : ℕ) (s : values.State) → IsLive (Stored (Some file)) (table_in h.graph.commits of c) s → IsLive (Stored (Some grown)) (table_in h.graph.commits of c) s
+  stays-there c s live = live_still file grown (table_in h.graph.commits of c) s (keeps-table file grown h.graph.commits of rows keeps c) live
+
+  module _ (old new : Head) where
+    -- ---- the live state
+
+    moved-grown : IsHistoryOf new.graph n → IsMoved (Some file) new h n → LivesAt (Some grown) new n
+    moved-grown kept k =
+        let table = same-table h n k.same n.graph.head.commit in
+        subst (λ (t : Table). IsLive (Stored (Some grown)) t (state_of new.live)) (sym table)
+        (stays-there n.graph.head.commit (state_of new.live) (subst (λ (t : Table). IsLive (Stored (Some file)) t (state_of new.live)) table (k.loaded n kept).lives))
+
+    committed-grown : IsCommitted old new h r → LivesAt (Some grown) new n
+    committed-grown k =
+        let u = state_of new.live in
+        subst (λ (o : Option Record). LivesAt (Some grown) new (history_by (with_new rs o))) (sym k.is)
+        (recorded-live rs k.cells u k.sound k.fits grown (subst (λ (o : Option Record). HasRecords grown (with_new rs o)) k.is has_grown))
+
+    module _ (lives : LivesAt (Some file) old h) where
+      still-grown : IsStill old new h n → LivesAt (Some grown) new n
+      still-grown k =
+          subst (λ (t : Table). IsLive (Stored (Some grown)) t (state_of new.live)) (sym (same-head-table h n k.same k.head))
+          (subst (λ (s : values.State). IsLive (Stored (Some grown)) (head_table h) s) (sym k.live) (stays-there h.graph.head.commit (state_of old.live) lives))
+
+      pub lives-grown : IsHistoryOf new.graph n → Kind (Some file) old new h r n → LivesAt (Some grown) new n
+      lives-grown kept kind = ⊎_elim still-grown (⊎_elim (moved-grown kept) committed-grown) kind
+
+    -- ---- a good file
+
+    module _ (attached : IsWholeAttached file h.graph of (state_of old.live)) where
+      abbrev s : values.State
+      s = state_of old.live
+
+      abbrev replayed : values.State
+      replayed = replay h.graph h.graph.head.commit
+
+      good-by : IsStoreOf AreWhole grown n.graph.commits (change_of n.changes) → IsWholeFileOf grown n.graph
+      good-by store = record {
+        changes = n.changes;
+        holds = subst (λ (g : Graph). Holds grown g) (sym (history-graph (with_new rs r))) (has-holds grown (with_new rs r) has_grown);
+        gives = has-gives grown (with_new rs r) has_grown;
+        store = store;
+      }
+
+      same-good : IsSameStore h n → IsWholeFileOf grown n.graph
+      same-good same =
+          let here = (attached_still file grown h.graph of rows s attached keeps h.graph refl refl).good in
+          good-by
+          (subst (λ (ks : List Commit). IsWholeStore grown ks (change_of n.changes)) (sym same.commits)
+          (subst (λ (cs : List Change). IsWholeStore grown h.graph.commits (change_of cs)) (sym same.changes) here))
+
+      committed-good : (k : IsCommitted old new h r) → RunsAlike s replayed k.cells → IsWholeFileOf grown n.graph
+      committed-good k alike =
+          let u = state_of new.live in
+          let there = replay_is_state h.graph h.graph.head.commit in
+          let same : Same u (after_cells newest_profile k.cells replayed) = subst (λ (x : values.State). Same x (after_cells newest_profile k.cells replayed)) (sym k.ran) alike.same in
+          let next : HasRecords grown (rs ++ (next_record h k.cells u ∷ [])) = subst (λ (o : Option Record). HasRecords grown (with_new rs o)) k.is has_grown in
+          let after = recorded-attached rs k.cells u k.sound k.fits grown next file has (replays_are_states h.graph) s attached (cells_keep newest_profile k.cells replayed there) same alike.small in
+          good-by (subst (λ (o : Option Record). IsWholeStore grown (history_by (with_new rs o)).graph.commits (change_of (history_by (with_new rs o)).changes)) (sym k.is) after.good)
+
+      pub good-grown : Kind (Some file) old new h r n → ((k : IsCommitted old new h r) → RunsAlike s replayed k.cells) → IsWholeFileOf grown n.graph
+      good-grown kind alike =
+          ⊎_elim (λ (k : IsStill old new h n). same-good k.same)
+          (⊎_elim (λ (k : IsMoved (Some file) new h n). same-good k.same) (λ (k : IsCommitted old new h r). committed-good k (alike k))) kind
+
+      -- ---- how many nodes there are
+
+      module _ (few : length s.nodes ≤ length replayed.nodes) where
+        abbrev IsFew : Graph → values.State → Type 0
+        IsFew g x = length x.nodes ≤ length (replay g g.head.commit).nodes
+
+        same-replay : IsSameStore h n → replay n.graph n.graph.head.commit ≡ replay h.graph n.graph.head.commit
+        same-replay same = ap (λ (ks : List Commit). after_commits (path_in ks n.graph.head.commit) empty) same.commits
+
+        still-few : IsStill old new h n → IsFew n.graph (state_of new.live)
+        still-few k =
+            let same : replay n.graph n.graph.head.commit ≡ replayed = same-replay k.same ∙ ap (λ (c : ℕ). replay h.graph c) k.head in
+            omega (arith, few, ap (λ (x : values.State). length x.nodes) same, ap (λ (x : values.State). length x.nodes) k.live)
+
+        moved-few : IsHistoryOf new.graph n → IsMoved (Some file) new h n → IsFew n.graph (state_of new.live)
+        moved-few kept k =
+            let c = n.graph.head.commit in
+            let from = (k.loaded n kept).given in
+            let each = subst (λ (t : Table). AllZip (IsPictureOf (Held file)) t from.pictures) (same-table h n k.same c) from.each in
+            let there : c ≤ newest h.graph = (let there = kept.good.graph.head.there in omega (arith, there, ap length k.same.commits)) in
+            let fewer = opened_few file h.graph of rows attached.good c there from.pictures each in
+            omega (arith, fewer, ap (λ (x : values.State). length x.nodes) from.is, ap (λ (x : values.State). length x.nodes) (same-replay k.same))
+
+        committed-few : IsCommitted old new h r → IsFew n.graph (state_of new.live)
+        committed-few k =
+            let u = state_of new.live in
+            let fewer = cells_few newest_profile k.cells s replayed attached.told.state (replay_is_state h.graph h.graph.head.commit) attached.same few in
+            let now : IsFew (with_commit newest_profile k.cells h.graph) u =
+            omega (
+              arith,
+              fewer,
+              ap (λ (x : values.State). length x.nodes) k.ran,
+              ap (λ (x : values.State). length x.nodes) (replay_more newest_profile k.cells h.graph),
+            ) in
+            subst (λ (o : Option Record). IsFew (history_by (with_new rs o)).graph u) (sym k.is)
+            (subst (λ (x : History). IsFew x.graph u) (led-is rs (Some (next_record h k.cells u))) now)
+
+        pub few-grown : IsHistoryOf new.graph n → Kind (Some file) old new h r n → IsFew n.graph (state_of new.live)
+        few-grown kept kind = ⊎_elim still-few (⊎_elim (moved-few kept) committed-few) kind

@@ -1,0 +1,105 @@
+-- What kinds of records there are, by what they make of the graph, of the tables and of the live state.
+use Rattle.std.proofs.Common.{◌≡◌, ◌⊎◌, inl, inr, ⊎_elim, ℕ, List, [], refl, sym, ◌∙◌, ap, subst}
+use Rattle.std.specs.Prelude.{Option, Some, None}
+use Rattle.kishu_meaning.specs.values.Values as values
+use Rattle.kishu_objects.specs.States.{IsSoundState}
+use Rattle.kishu_replay.specs.Replay.{after_cells}
+use Rattle.kishu_store.specs.Branches.{commit_of}
+use Rattle.kishu_store.specs.Entries.{Entry, Record, commit, move, name, MoveTo, to_commit, to_branch}
+use Rattle.kishu_store.specs.Fitting.{GoesOn, on_branch}
+use Rattle.kishu_store.specs.Graph.{Commit, Graph}
+use Rattle.kishu_store.specs.Histories.{History, head_table, led}
+use Rattle.kishu_store.specs.Limits.{newest_profile}
+use Rattle.kishu_store.specs.Tables.{Table, Change, table_in, change_of}
+use Rattle.kishu_store_laws.specs.HistoryLaws.{IsHistory, led-history}
+use Rattle.kishu_graph.specs.Kept.{Kept, KeepsHistory}
+use Rattle.kishu_commit.specs.Whole.{next_record, whole_record, CanBeStored}
+use Rattle.kishu_session.specs.Head.{IsLoaded}
+use Rattle.kishu_session.specs.Known.{IsHistoryOf}
+use Rattle.kishu_session.specs.Lives.{state_of}
+use Rattle.kishu_session.specs.Prepared.{Leads, LeadsTo, led_with, Tells, TellsBy}
+use Rattle.kishu_session.specs.declared.head.Head.{Head}
+
+-- ---- histories
+
+-- The history with the record has the graph to which it leads, and is kept.
+pub led-graph : (h : History) (now : Graph) (r : Option Record) → LeadsTo h r now → (led_with h r).graph ≡ now
+led-graph h now None leads = sym leads
+led-graph h now (Some r) leads = leads.changed_is
+
+pub led-good : (h : History) (now : Graph) (r : Option Record) → LeadsTo h r now → IsHistory h → IsHistory (led_with h r)
+led-good h now None leads good = good
+led-good h now (Some r) leads good = led-history h r.entry good leads.rules.rules leads.fits
+
+pub led-kept : (kept : Kept) (h : History) (now : Graph) (r : Option Record) → LeadsTo h r now → KeepsHistory kept (led_with h r) → IsHistory h → IsHistoryOf kept (led_with h r)
+led-kept kept h now r leads keeps good = record { keeps = keeps; good = led-good h now r leads good }
+
+-- ---- kinds
+
+-- Commits and tables stay.
+pub record IsSameStore (h n : History) : Type 0 where
+  pub commits : n.graph.commits ≡ h.graph.commits
+  pub changes : n.changes ≡ h.changes
+
+-- They do, and so do the head's commit and the live state.
+pub record IsStill (old new : Head) (h n : History) : Type 0 where
+  pub same : IsSameStore h n
+  pub head : n.graph.head.commit ≡ h.graph.head.commit
+  pub live : state_of new.live ≡ state_of old.live
+
+-- They do, and the live state was loaded.
+pub record IsMoved (file : Option (List ℕ)) (new : Head) (h n : History) : Type 0 where
+  pub same : IsSameStore h n
+  pub loaded : IsLoaded file new
+
+-- The record is the commit of these cells, which left the live state.
+pub record IsCommitted (old new : Head) (h : History) (r : Option Record) : Type 0 where
+  pub cells : List (List ℕ)
+  pub is : r ≡ Some (next_record h cells (state_of new.live))
+  pub ran : state_of new.live ≡ after_cells newest_profile cells (state_of old.live)
+  pub sound : IsSoundState (state_of new.live)
+  pub fits : CanBeStored (state_of new.live)
+
+abbrev pub Kind : Option (List ℕ) → (old new : Head) → History → Option Record → History → Type 0
+Kind file old new h r n = IsStill old new h n ⊎ IsMoved file new h n ⊎ IsCommitted old new h r
+
+same-commits : (title : List ℕ) (o : Option ℕ) (g : Graph) → (on_branch title o g).commits ≡ g.commits
+same-commits title None g = refl
+same-commits title (Some n) g = refl
+
+moved-same : (h : History) (to : MoveTo) → IsSameStore h (led h (move to))
+moved-same h (to_commit n) = record { commits = refl; changes = refl }
+moved-same h (to_branch title) = record { commits = same-commits title (commit_of title h.graph.branches) h.graph; changes = refl }
+
+module _ (file : Option (List ℕ)) (old new : Head) (h : History) (now : Graph) (kept : IsHistoryOf old.graph h) where
+  by-entry : (r : Record) (e : Entry) → r.entry ≡ e → Leads h r now → TellsBy file old new r e → Kind file old new h (Some r) (led h r.entry)
+  by-entry r (commit p f cells ds ss) is leads tells =
+      let parent : p ≡ h.graph.head.commit = subst (λ (e : Entry). GoesOn h.graph e) is leads.fits.graph.goes_on in
+      inr (inr (record {
+        cells = cells;
+        is = ap (λ (x : Record). Some x) (tells.is h kept ∙ ap (λ (n : ℕ). whole_record n cells (head_table h) (state_of new.live)) parent);
+        ran = tells.ran;
+        sound = tells.sound;
+        fits = tells.fits;
+      }))
+  by-entry r (move to) is leads tells = inr (inl (record { same = subst (λ (e : Entry). IsSameStore h (led h e)) (sym is) (moved-same h to); loaded = tells }))
+  by-entry r (name title n) is leads tells =
+      inl (record {
+        same = subst (λ (e : Entry). IsSameStore h (led h e)) (sym is) (record { commits = refl; changes = refl });
+        head = subst (λ (e : Entry). (led h e).graph.head.commit ≡ h.graph.head.commit) (sym is) refl;
+        live = ap state_of tells;
+      })
+
+  pub kind-of : (r : Option Record) → LeadsTo h r now → Tells file old new r → Kind file old new h r (led_with h r)
+  kind-of None leads (inl same) = inl (record { same = record { commits = refl; changes = refl }; head = refl; live = ap (λ (x : Head). state_of x.live) same })
+  kind-of None leads (inr back) = inr (inl (record { same = record { commits = refl; changes = refl }; loaded = back.loaded }))
+  kind-of (Some r) leads tells = by-entry r r.entry refl leads tells
+
+-- ---- tables
+
+module _ (h n : History) (same : IsSameStore h n) where
+  pub same-table : (c : ℕ) → table_in n.graph.commits (change_of n.changes) c ≡ table_in h.graph.commits (change_of h.changes) c
+  same-table c = ap (λ (ks : List Commit). table_in ks (change_of n.changes) c) same.commits ∙ ap (λ (cs : List Change). table_in h.graph.commits (change_of cs) c) same.changes
+
+  pub same-head-table : n.graph.head.commit ≡ h.graph.head.commit → head_table n ≡ head_table h
+  same-head-table head = same-table n.graph.head.commit ∙ ap (λ (c : ℕ). table_in h.graph.commits (change_of h.changes) c) head

@@ -1,0 +1,24 @@
+use std::alloc::AllocError;
+
+/// Why a request isn't prepared.
+#[derive(Clone, Copy, Debug, PartialEq, Eq)]
+pub(crate) enum Unprepared {
+    /// A cell would have begun with more than 2^31 nodes.
+    HeapFull,
+    /// At this place of the file there is no picture of a group of the commit that was to be loaded.
+    Damaged { at: u64 },
+    /// A call of the host failed.
+    DiskFault,
+    NoMemory,
+}
+
+impl From<AllocError> for Unprepared {
+    ghost use Rattle.std.specs.Prelude.{◌≡◌};
+    ghost use Rattle.kishu_session.specs.declared.unprepared.Unprepared.TheVariants.{NoMemory};
+
+    ghost from_gives = { λ _ unprepared. unprepared ≡ NoMemory };
+
+    fn from(_error: AllocError) -> Unprepared {
+        Unprepared::NoMemory
+    }
+}
