@@ -6,8 +6,6 @@
 #![tactic(auto)]
 
 mod lines;
-#[cfg(test)]
-mod tests;
 mod whole;
 
 pub use lines::LineReader;

@@ -7,8 +7,6 @@
 mod answers;
 mod line;
 mod reading;
-#[cfg(test)]
-mod tests;
 
 pub use line::write_answer;
 pub use reading::read_request;

@@ -9,8 +9,6 @@ mod floats;
 mod notebook;
 mod refusal;
 mod setting;
-#[cfg(test)]
-mod tests;
 
 pub use notebook::Notebook;
 pub use refusal::{NotebookFault, NotebookKey, NotebookRefusal};

@@ -2,7 +2,5 @@
 #![tactic(auto)]
 
 mod outputs;
-#[cfg(test)]
-mod tests;
 
 pub use outputs::outputs_json;

@@ -3,6 +3,7 @@ ghost use Rattle.std.specs.Prelude.{◌≡◌, ◌<◌};
 mod cells;
 mod language;
 mod notebooks;
+mod pictures;
 mod sessions;
 mod stops;
 mod user;
@@ -70,10 +71,10 @@ fn host_over(
     fail: Vec<u64>,
     stop: Option<u64>,
 ) -> Result<Option<MemHost>, AllocError> {
-    if file.len() > 100_000 {
+    if file.len() > 8_000_000 {
         return Ok(None);
     }
-    let host = MemHost::new(alloc, file.to_vec(alloc)?, 100_000, fail, stop)?;
+    let host = MemHost::new(alloc, file.to_vec(alloc)?, 8_000_000, fail, stop)?;
     Ok(Some(host))
 }
 
@@ -149,7 +150,14 @@ fn keeps(alloc: Global, row: &str) -> Result<bool, Fail> {
     let Some((want, text)) = row.split_once('\x1f') else {
         return Ok(false);
     };
-    let mut host = host_over(alloc, &[], Vec::new(alloc), None)?.ok_or("room")?;
+    // A list that doubles until its steps are spent leaves a picture of 35,651,604 bytes.
+    let mut host = MemHost::new(
+        alloc,
+        Vec::new(alloc),
+        40_000_000,
+        Vec::new(alloc),
+        None,
+    )?;
     let status = run_cell_of(alloc, &mut host, text.as_bytes())?;
     let (begin, end) = (cells::BEGIN, cells::END);
     let line = format!(in alloc; "{begin}{want}{end}")?;

@@ -89,7 +89,7 @@ fn each_call_stopped_and_failed(rt: HostRuntime) -> Result<(), Fail> {
             break;
         }
     }
-    // Opening a short store makes four calls, the append four, and the answer one.
-    assert_eq!(rt; whole, 10);
+    // Opening makes five calls, one of them for the picture, the append four, and the answer one.
+    assert_eq!(rt; whole, 11);
     Ok(())
 }
