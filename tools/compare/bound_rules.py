@@ -20,9 +20,7 @@ def held_by(node):
         return list(vars(node).values())
     if isinstance(node, FUNCTION):
         return list(node.__defaults__ or ())
-    if node.__traceback__ is not None:
-        raise python_cells.Unlike("an exception that was raised may have another text")
-    return list(node.args)
+    return python_cells.arguments(node)
 
 
 def met(values):
@@ -64,7 +62,7 @@ def inspected(space):
         if isinstance(node, OBJECT):
             return ["object", *(part for name, value in zip(vars(node), values) for part in (name, value))]
         if isinstance(node, FUNCTION):
-            raise python_cells.Unlike("the code of a function isn't known")
+            return ["function", "1", python_cells.code_of(node), *values]
         if isinstance(node, BaseException):
             return ["exception", type(node).__name__, *values]
         return [type(node).__name__, *values]
@@ -103,7 +101,7 @@ def row_size(node):
     if isinstance(node, OBJECT):
         return size + sum(1 + len(name) for name in vars(node))
     if isinstance(node, FUNCTION):
-        raise python_cells.Unlike("the code of a function isn't known")
+        return size + 1 + text_size(python_cells.code_of(node))
     return size + isinstance(node, BaseException)
 
 

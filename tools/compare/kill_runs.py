@@ -32,7 +32,7 @@ import time
 
 import notebook_rules
 import session_rules
-from store_rules import HEADER, Damaged, bodies_in, commit_body
+from store_rules import HEADER, Damaged, bodies_in
 
 TOP = pathlib.Path(__file__).resolve().parents[2]
 KISHU = os.path.join(TOP, "kishu")
@@ -230,8 +230,10 @@ def shown_by(numbers):
 
 def bodies_of(together):
     """The bodies of the records of all cells."""
-    texts = [text_of(number).encode() for number in range(CELLS)]
-    return [commit_body(0, texts)] if together else [commit_body(number, [text]) for number, text in enumerate(texts)]
+    texts, session = [text_of(number) for number in range(CELLS)], session_rules.Session(None)
+    for request in [{"op": "cells", "texts": texts}] if together else [{"op": "cell", "text": text} for text in texts]:
+        session.told(request)
+    return bodies_in(session.file)[0]
 
 
 def kill_notebook(program, store, together, delay):

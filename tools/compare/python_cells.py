@@ -4,6 +4,7 @@ import builtins
 import contextlib
 import dis
 import io
+import keyword
 import re
 import signal
 import sys
@@ -25,6 +26,10 @@ WRONG = {
 }
 # Cells that spend all their steps, with a cell that leaves the same state.
 SPENT = {"n = 0\nwhile True: n += 1": "n = 666666"}
+
+RESERVED = frozenset(keyword.kwlist)
+# The functions of all cells that were read: the text of each code object by its number, with the object, and the object by its text.
+CODES, FUNCTIONS = {}, {}
 
 KIND = "(NoneType|bool|int|str|range|list|tuple|dict|SimpleNamespace|function)"
 # The class of an exception that the language raises, CPython's text and Kishu's.
@@ -70,12 +75,24 @@ def plain(text):
     return re.sub(r" at 0x[0-9a-f]+>", ">", text).replace("types.SimpleNamespace", "SimpleNamespace")
 
 
-def in_a_call(error):
-    """Whether a builtin function or a method raised the exception, as `sum` where it adds and `update` where it walks."""
+def raising(error):
+    """The name of the instruction that raised an exception."""
     trace = error.__traceback__
     while trace.tb_next:
         trace = trace.tb_next
-    return "CALL" in dis.opname[trace.tb_frame.f_code.co_code[trace.tb_lasti]]
+    return dis.opname[trace.tb_frame.f_code.co_code[trace.tb_lasti]]
+
+
+def in_a_call(error):
+    """Whether a builtin function or a method raised the exception, as `sum` where it adds and `update` where it walks."""
+    return "CALL" in raising(error)
+
+
+def arguments(error):
+    """The arguments that Kishu gives an exception: where the language raised it, its text, or the key that is missing."""
+    if error.__traceback__ is None or isinstance(error, KeyError) or raising(error) == "RAISE_VARARGS":
+        return list(error.args)
+    return [text_of(error)]
 
 
 def text_of(error):
@@ -98,6 +115,56 @@ def has_foreign_names(tree):
     return any(isinstance(name, str) and not name.isascii() for name in names)
 
 
+def text_of_def(lines, node):
+    """The text of a function's code: up to its last token that stands for something, a `;` among these."""
+    first = lines[node.lineno - 1].encode()[node.col_offset :].decode()
+    last = lines[node.end_lineno - 1].encode()
+    end = last[: node.end_col_offset].decode() + re.match(r"([ \t]*;)?", last[node.end_col_offset :].decode()).group()
+    if node.lineno == node.end_lineno:
+        return first[: len(first) - (len(last.decode()) - len(end))]
+    return "\n".join([first, *lines[node.lineno : node.end_lineno - 1], end])
+
+
+def codes_in(code):
+    """The code objects in one, however deep."""
+    for part in code.co_consts:
+        if isinstance(part, types.CodeType):
+            yield part
+            yield from codes_in(part)
+
+
+def note_functions(text, tree, code):
+    """Keeps the texts of a cell's functions."""
+    lines = re.sub("\r\n?", "\n", text).split("\n")
+    texts = {(node.name, node.lineno): text_of_def(lines, node) for node in ast.walk(tree) if isinstance(node, ast.FunctionDef)}
+    for part in codes_in(code):
+        own = texts.get((part.co_name, part.co_firstlineno))
+        if own is not None:
+            CODES[id(part)], FUNCTIONS[own] = (own, part), part
+
+
+def code_of(function):
+    """The text of a function's code."""
+    return CODES[id(function.__code__)][0]
+
+
+def function_of(text, space):
+    """A function of this code in a namespace. Its defaults are as many as they have to be. Unlike: it isn't known whether the text is one's code."""
+    if text not in FUNCTIONS:
+        raise Unlike("the code isn't known")
+    made = types.FunctionType(FUNCTIONS[text], space)
+    made.__defaults__ = (None,) * len(definition(text).args.defaults)
+    return made
+
+
+def definition(text):
+    """The tree of a function's code, whose lines may stand further right."""
+    try:
+        return ast.parse(text).body[0]
+    except IndentationError:
+        raise Unlike("the code can't be read by itself") from None
+
+
 def parsed(text):
     """The code of a cell, and that of its last expression where it ends with one."""
     try:
@@ -105,7 +172,9 @@ def parsed(text):
         if has_foreign_names(tree):
             raise Unlike("a name isn't ASCII")
         last = tree.body.pop() if tree.body and isinstance(tree.body[-1], ast.Expr) else None
-        return compile(tree, "cell", "exec"), last and compile(ast.Expression(last.value), "cell", "eval")
+        code = compile(tree, "cell", "exec")
+        note_functions(text, tree, code)
+        return code, last and compile(ast.Expression(last.value), "cell", "eval")
     except (SyntaxError, ValueError) as error:
         raise Unlike(str(error)) from None
 

@@ -3,6 +3,7 @@ file between."""
 import dataclasses
 import json
 
+import picture_rules
 import python_cells
 import session_rules
 from agree_programs import Maker
@@ -229,11 +230,13 @@ class Player:
             return self.written({"op": "log"})
         if chance < 0.16:
             return self.written({"op": "status"})
-        if chance < 0.26:
+        if chance < 0.19:
+            return self.written({"op": "inspect"})
+        if chance < 0.28:
             return self.written({"op": "checkout", "to": self.reference(session)})
-        if chance < 0.33:
+        if chance < 0.34:
             return self.written({"op": "branch", "name": self.name(session)} | ({"at": self.reference(session)} if self.chance(0.5) else {}))
-        if chance < 0.43:
+        if chance < 0.44:
             return self.written({"op": "cells", "texts": self.cells(session)})
         return self.written({"op": "cell", "text": self.cell(session)})
 
@@ -258,10 +261,11 @@ class Player:
         """A cell whose meaning is known at the session's head."""
         graph = session.graph
         while True:
-            text = self.some_cell(session.state(), self.functions.get(graph.commit, {}))
             trial = session_rules.Session(session.file)
+            text = self.some_cell(trial.space, self.functions.get(graph.commit, {}))
             try:
-                fault = trial.run(text, trial.state())[3]
+                fault = trial.run(text, trial.space)[3]
+                picture_rules.picture(trial.space, python_cells.names_in(trial.space))
             except python_cells.Unlike:
                 continue
             if fault is not None and fault[0] == "NameError" and self.chance(0.8):
@@ -341,7 +345,19 @@ class Player:
         near = self.random.randrange(self.pick(length, min(length, 60)))
         near = self.pick(near, near, max(0, length - 1 - self.random.randrange(40)))
         byte = self.pick(0, 1, 2, 3, 0xA5, 0xFF, self.random.randrange(256))
-        self.step(self.pick(Harm("cut", near), Harm("set", near, byte), Harm("set", near, byte), Harm("out", near), Harm("gate"), *self.old_gates()))
+        harm = self.pick(Harm("cut", near), Harm("set", near, byte), Harm("set", near, byte), Harm("out", near), Harm("gate"), *self.old_gates())
+        if self.is_known(harm.done(self.file)):
+            self.step(harm)
+
+    def is_known(self, file):
+        """Whether what opening makes of a file is known: a function's code that no cell has may be one or none."""
+        try:
+            session_rules.Session(file)
+        except python_cells.Unlike:
+            return False
+        except (NotAJournal, Damaged):
+            pass
+        return True
 
     def old_gates(self):
         """Each open gate that could be closed, so that what stands behind it is written over, or set to another byte."""
@@ -353,20 +369,12 @@ class Player:
         return [Harm("set", self.pick(*gates), self.pick(0, 0x3C, 0xA4))] if gates else []
 
     def after_harm(self):
-        session = self.session()
-        texts = {text for cells in session.graph.cells for text in cells} if session else set()
-        if session is None or not texts <= self.case.known:
+        if self.session() is None:
             self.step(Run([STORE, "log"], b""))
         elif self.chance(0.3):
-            self.step(Run([STORE, "status"], b""))
+            self.step(Run([STORE, self.pick("status", "inspect")], b""))
         else:
             self.run()
-            if self.chance(0.5) and self.file and len(self.file) > len(HEADER):
+            if self.chance(0.5) and self.file and self.is_known(Harm("gate").done(self.file)):
                 self.step(Harm("gate"))
-                self.after_gate()
-
-    def after_gate(self):
-        """What stands behind the last gate may be a record that was written over: then it is one of known cells or none."""
-        session = self.session()
-        texts = {text for cells in session.graph.cells for text in cells} if session else set()
-        self.step(Run([STORE, "status" if texts <= self.case.known else "log"], b""))
+                self.step(Run([STORE, "status"], b""))

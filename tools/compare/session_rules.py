@@ -1,10 +1,12 @@
 """The rules of requests, answers and runs, read a second time: by docs/LINES.md, docs/STORE.md and docs/RULES.md, and by nothing of
-the program. The state at a commit is what CPython makes of the cells on its path, from an empty namespace."""
+the program. The state at a commit is read of the pictures that its table names; those of a new commit hold what CPython makes of its
+cells."""
 import json
 import re
 
 import bound_rules
 import notebook_rules
+import picture_rules
 import python_cells
 from json_rules import json_of, real
 from store_rules import (
@@ -75,7 +77,7 @@ class Session:
     def __init__(self, file, known=None):
         self.file, self.end, self.graph = opened(file)
         self.known = known
-        self.space = None
+        self.space = self.loaded(self.graph.commit)
 
     def run(self, text, space):
         """Runs a cell, where it is one of the known ones."""
@@ -83,17 +85,20 @@ class Session:
             raise python_cells.Unlike("the text isn't known")
         return python_cells.run(text, space)
 
-    def state(self):
-        """The namespace at the head: that of the cells on its path."""
-        if self.space is None:
-            self.space = python_cells.empty_space()
-            for number in self.graph.path(self.graph.commit):
-                for text in self.graph.cells[number]:
-                    self.run(text, self.space)
-        return self.space
+    def loaded(self, commit):
+        """The namespace of a commit's table. Damaged: the bytes of a row aren't a picture of its names."""
+        space = python_cells.empty_space()
+        for row in self.graph.tables[commit]:
+            try:
+                names = picture_rules.load(self.file[row.place : row.place + row.length], space)
+            except picture_rules.NoPicture:
+                raise Damaged(row.place) from None
+            if tuple(names) != row.names:
+                raise Damaged(row.place)
+        return space
 
     def record(self, body):
-        self.graph.add(entry_of(body))
+        self.graph.add(entry_of(body), self.end + 9)
         self.file, self.end = appended(self.file, self.end, body)
 
     def room(self):
@@ -102,12 +107,9 @@ class Session:
 
     def fits(self):
         """Refuses a state that is too large, and leaves that of the head."""
-        try:
-            size = bound_rules.size(self.state())
-        except python_cells.Unlike:
-            return
+        size = bound_rules.size(self.space)
         if size > bound_rules.MOST_BYTES:
-            self.space = None
+            self.space = self.loaded(self.graph.commit)
             raise Refused(7, size)
 
     def commit(self, texts):
@@ -117,12 +119,16 @@ class Session:
         self.room()
         count, results = self.graph.count(self.graph.commit), []
         for number, text in enumerate(texts, count + 1):
-            outcome, *told = self.run(text, self.state())
+            outcome, *told = self.run(text, self.space)
             results.append({"count": number, "outcome": outcome, "outputs": python_cells.outputs_of(*told, number)})
             self.fits()
             if outcome != "ok":
                 break
-        self.record(commit_body(self.graph.commit, [text.encode() for text in texts[: len(results)]]))
+        ran = [text.encode() for text in texts[: len(results)]]
+        dropped = [row.names for row in self.graph.tables[self.graph.commit]]
+        names = python_cells.names_in(self.space)
+        stored = [(names, picture_rules.picture(self.space, names))] if names else []
+        self.record(commit_body(self.graph.commit, ran, dropped, stored))
         return results
 
     def cell(self, text):
@@ -137,8 +143,8 @@ class Session:
             raise Refused(2)
         self.room()
         commit, branch = target
+        self.space = self.loaded(commit)
         self.record(move_to_commit_body(commit) if branch is None else move_to_branch_body(branch))
-        self.space = None
         return {"answer": "checkout", "commit": commit, "head": branch}
 
     def branch(self, name, at=None):
@@ -166,11 +172,11 @@ class Session:
         graph = self.graph
         return {
             "answer": "status", "branch": graph.branch, "commit": graph.commit, "commits": len(graph.parents),
-            "names": python_cells.names_in(self.state()), "records": graph.records,
+            "names": python_cells.names_in(self.space), "records": graph.records,
         }
 
     def inspect(self):
-        names, nodes = bound_rules.inspected(self.state())
+        names, nodes = bound_rules.inspected(self.space)
         return {"answer": "inspect", "commit": self.graph.commit, "names": names, "nodes": nodes}
 
     def told(self, request):
@@ -222,9 +228,31 @@ def cell_of(data):
 
 
 def lines_answered(session, data):
-    """What a session answers, and whether its input is too long."""
+    """What a session answers up to a fault of the store, and the status with its text."""
     lines, too_long = lines_of(data)
-    return b"".join(session.answer(request_of(line)) for line in lines), too_long
+    out = b""
+    for line in lines:
+        try:
+            out += session.answer(request_of(line))
+        except Damaged as damage:
+            return *damaged(damage), out
+    return (9, TOO_LONG, out) if too_long else (0, b"", out)
+
+
+def damaged(damage):
+    return 3, b"damaged at %d\n" % damage.args[0]
+
+
+def answered(session, form, data, notebook):
+    """Status, its text and output of a run over a store that is open."""
+    if form == "session":
+        return lines_answered(session, data)
+    try:
+        if notebook is not None:
+            return 0, b"", notebook_rules.pretty(notebook_rules.run(notebook, form == "run together", session.told))
+        return 0, b"", session.answer(cell_of(data) if form == "cell" else form)
+    except Damaged as damage:
+        return *damaged(damage), b""
 
 
 def expected(words, data, file, known=None):
@@ -243,12 +271,5 @@ def expected(words, data, file, known=None):
     except NotAJournal:
         return 3, b"not a journal\n", b"", file
     except Damaged as damage:
-        return 3, b"damaged at %d\n" % damage.args[0], b"", file
-    if runs:
-        out = notebook_rules.pretty(notebook_rules.run(notebook, form == "run together", session.told))
-        return 0, b"", out, session.file
-    if form == "session":
-        out, too_long = lines_answered(session, data)
-        return (9, TOO_LONG, out, session.file) if too_long else (0, b"", out, session.file)
-    out = session.answer(cell_of(data) if form == "cell" else form)
-    return 0, b"", out, session.file
+        return *damaged(damage), b"", file
+    return *answered(session, form, data, notebook), session.file

@@ -16,8 +16,8 @@ Compared are the status, its text, the output and every byte of the file after e
 by leaving out runs, lines and harm, and shown whole; then the script ends with status 1.
 
 The rules are those of session_rules.py, notebook_rules.py and store_rules.py, which stand on the documents and on nothing of the program. What a cell
-gives is what CPython 3.11 makes of the cells on the commit's path (python_cells.py), so the cells are of forms that both languages
-mean alike: those of agree_forms.py, and some about what names share. A cell whose exception has a text that isn't known is left out.
+gives is what CPython 3.11 makes of it (python_cells.py), in the state that the pictures of the store give (picture_rules.py), so the
+cells are of forms that both languages mean alike: those of agree_forms.py, and some about what names share. A cell whose exception has a text that isn't known is left out.
 An input of 2^30 bytes and a body of 2^30 bytes aren't tried.
 """
 import argparse
@@ -302,16 +302,24 @@ def main():
     if not python_cells.is_release():
         sys.exit(f"CPython 3.11 is needed, since the texts of its exceptions are known; this is {sys.version.split()[0]}")
     with tempfile.TemporaryDirectory() as folder:
-        compared, tried = Compared(os.path.abspath(given.program), folder), 0
+        compared, tried, left = Compared(os.path.abspath(given.program), folder), 0, 0
         for title, case in cases_of(given):
             if given.only is not None:
                 show_case(case)
-            if compared.difference(case) is not None:
+            try:
+                differs = compared.difference(case) is not None
+            except python_cells.Unlike:  # from there on what it gives isn't known
+                left += 1
+                continue
+            if differs:
                 report(compared, title, case)
                 sys.exit(1)
             tried += 1
     ends = ", ".join(f"{count} with status {code}" for code, count in sorted(compared.runs.items()))
-    print(f"{tried} cases of seed {given.seed}: {sum(compared.runs.values())} runs ({ends}), {compared.answers} answers; none differs")
+    print(
+        f"{tried} cases of seed {given.seed}, {left} left out from where they aren't known: "
+        f"{sum(compared.runs.values())} runs ({ends}), {compared.answers} answers; none differs"
+    )
 
 
 if __name__ == "__main__":

@@ -1,5 +1,7 @@
 """The rules of a store's bytes and of the graph in them, read a second time: by docs/STORE.md, docs/LINES.md and docs/RULES.md, and
 by nothing of the program. Scripts that compare, and scripts that make stores to be timed, take them from here."""
+import collections
+import keyword
 import re
 
 HEADER = b"KISHU-JOURNAL-1\n"
@@ -7,6 +9,7 @@ OPEN, CLOSED = b"\xa5", b"\0"
 LONGEST_CELL = 1_048_576
 LONGEST_BODY = 2**30
 MOST_RECORDS = 1_000_000
+MOST_PICTURED = 2**28
 
 
 class NotAJournal(Exception):
@@ -36,10 +39,17 @@ def body_of(head):
     return in_four(len(head)) + head
 
 
-def commit_body(parent, texts):
-    """A commit of cells, given as bytes, without groups of names."""
+def group_bytes(names):
+    return in_four(len(names)) + b"".join(bytes([len(name)]) + name.encode() for name in names)
+
+
+def commit_body(parent, texts, dropped=(), stored=()):
+    """A commit of cells, given as bytes, of groups that it drops, and of groups that it stores, each with its picture."""
     cells = b"".join(in_four(len(text)) + text for text in texts)
-    return body_of(b"\x01" + in_four(parent) + b"\x01" + in_four(len(texts)) + cells + in_four(0) + in_four(0))
+    without = in_four(len(dropped)) + b"".join(map(group_bytes, dropped))
+    behind = in_four(len(stored)) + b"".join(group_bytes(names) + in_eight(len(picture)) for names, picture in stored)
+    head = b"\x01" + in_four(parent) + b"\x01" + in_four(len(texts)) + cells + without + behind
+    return body_of(head) + b"".join(picture for _, picture in stored)
 
 
 def move_to_commit_body(commit):
@@ -92,19 +102,27 @@ class Fields:
             raise NoFit
 
 
+# A group of a commit's table: the commit that stored it, and where its picture lies in the file.
+Row = collections.namedtuple("Row", "names version place length")
+
+
 def entry_of(body):
-    """What a body records: ("commit", parent, texts), ("move", a commit's number or a branch), or ("name", branch, commit)."""
+    """What a body records: ("commit", parent, texts, dropped groups, stored groups with the places of their pictures in the body and
+    their lengths), ("move", a commit's number or a branch), or ("name", branch, commit)."""
     fields = Fields(body)
-    fields.expect(fields.number(4) == len(body) - 4)
+    head = fields.number(4)
     kind = fields.number(1)
     if kind == 1:
-        entry = ("commit", fields.number(4), texts_of(fields))
+        parent, texts, dropped, groups = fields.number(4), texts_of(fields), dropped_of(fields), stored_of(fields)
+        entry = ("commit", parent, texts, dropped, placed(groups, fields.at))
+        fields.take(sum(length for _, length in groups))
     elif kind == 2:
         entry = ("move", place_of(fields))
     else:
         fields.expect(kind == 3)
         entry = ("name", fields.text(fields.number(1)), fields.number(4))
-    fields.expect(fields.at == len(body))
+    pictures = sum(length for _, _, length in entry[4]) if kind == 1 else 0
+    fields.expect(fields.at == len(body) and head == len(body) - 4 - pictures)
     return entry
 
 
@@ -117,8 +135,46 @@ def texts_of(fields):
         length = fields.number(4)
         fields.expect(length <= LONGEST_CELL)
         texts.append(fields.text(length))
-    fields.expect(fields.number(4) == 0 and fields.number(4) == 0)
     return texts
+
+
+def is_identifier(name):
+    return re.fullmatch("[A-Za-z_][A-Za-z0-9_]*", name) is not None and name not in keyword.kwlist
+
+
+def group_of(fields):
+    names = []
+    for _ in range(fields.number(4)):
+        names.append(fields.text(fields.number(1)))
+        fields.expect(is_identifier(names[-1]))
+    fields.expect(names != [] and all(a < b for a, b in zip(names, names[1:])))
+    return tuple(names)
+
+
+def in_order(fields, groups):
+    """The groups, which have to stand in the order of their first names."""
+    fields.expect(all(a[0] < b[0] for a, b in zip(groups, groups[1:])))
+    return groups
+
+
+def dropped_of(fields):
+    return in_order(fields, [group_of(fields) for _ in range(fields.number(4))])
+
+
+def stored_of(fields):
+    """Groups with the lengths of their pictures."""
+    stored = [(group_of(fields), fields.number(8)) for _ in range(fields.number(4))]
+    in_order(fields, [names for names, _ in stored])
+    return stored
+
+
+def placed(groups, at):
+    """Groups with the places of their pictures, which lie one behind another, and the lengths."""
+    found = []
+    for names, length in groups:
+        found.append((names, at, length))
+        at += length
+    return found
 
 
 def place_of(fields):
@@ -135,10 +191,10 @@ def is_branch_name(name):
 
 
 class Graph:
-    """The commits, the branches and the head that a store's records give."""
+    """The commits with their tables, the branches and the head that a store's records give."""
 
     def __init__(self):
-        self.parents, self.cells = [0], [[]]
+        self.parents, self.cells, self.tables = [0], [[]], [[]]
         self.branches, self.branch, self.commit = {"main": 0}, "main", 0
         self.records = 0
 
@@ -160,16 +216,32 @@ class Graph:
         """The number of cells on the path of a commit."""
         return sum(len(self.cells[number]) for number in self.path(commit))
 
-    def add(self, entry):
-        """Adds what a record says. NoFit: it doesn't fit."""
+    def add(self, entry, place=0):
+        """Adds what a record says whose body stands at this place. NoFit: it doesn't fit."""
         if self.records >= MOST_RECORDS:
             raise NoFit
-        {"commit": self.add_commit, "move": self.add_move, "name": self.add_name}[entry[0]](*entry[1:])
+        if entry[0] == "commit":
+            self.add_commit(place, *entry[1:])
+        else:
+            {"move": self.add_move, "name": self.add_name}[entry[0]](*entry[1:])
         self.records += 1
 
-    def add_commit(self, parent, texts):
+    def table_after(self, dropped, rows):
+        """The head's table without some groups and with more rows. NoFit: one that is to go isn't there, or they don't go together."""
+        table = self.tables[self.commit]
+        if not {row.names for row in table}.issuperset(dropped):
+            raise NoFit
+        table = sorted([row for row in table if row.names not in dropped] + rows)
+        names = [name for row in table for name in row.names]
+        if len(names) != len(set(names)) or sum(row.length for row in table) > MOST_PICTURED:
+            raise NoFit
+        return table
+
+    def add_commit(self, place, parent, texts, dropped, stored):
         if parent != self.commit:
             raise NoFit
+        rows = [Row(names, len(self.parents), place + at, length) for names, at, length in stored]
+        self.tables.append(self.table_after(dropped, rows))
         self.parents.append(parent)
         self.cells.append(texts)
         self.commit = len(self.parents) - 1
@@ -202,7 +274,7 @@ def bodies_in(file):
             fields.expect(length <= LONGEST_BODY)
             body = fields.take(length)
             fields.expect(fields.at < len(file))
-            graph.add(entry_of(body))
+            graph.add(entry_of(body), fields.at - length)
         except NoFit:
             raise Damaged(at) from None
         bodies.append(body)

@@ -4,13 +4,14 @@
 Usage: tools/compare/stores.py PROGRAM [COUNT [SEED]]      1000 cases of seed 1 where no numbers are given
 
 PROGRAM is the built program. A case is a store file, the words of a command line and an input. Its files have records of every kind
-that fit and ones that don't, gates, lengths and headers that were changed, bytes taken out and put in, and ends cut off. Compared are
-the status, its text, the output and every byte of the file afterwards. The exit is 1 where something differed. A store of 1,000,000
+that fit and ones that don't, commits whose pictures are those of their cells' states, of other states, of other names or of none, gates,
+lengths and headers that were changed, bytes taken out and put in, and ends cut off. Compared are the status, its text, the output and
+every byte of the file afterwards. The exit is 1 where something differed. A store of 1,000,000
 records and a body of 2^30 bytes aren't tried.
 
 What is expected comes of session_rules.py and store_rules.py, which stand on the documents and on nothing of the program. The cells
-are ones that CPython runs alike, so their outputs are its; a case that would run another, since a byte in a cell was changed, is left
-out. Sessions are compared by sessions.py.
+are ones that CPython runs alike, so their outputs are its; a case whose pictures have a function's code that isn't known, since a byte
+of it was changed, is left out. Sessions are compared by sessions.py.
 """
 import json
 import os
@@ -19,9 +20,12 @@ import subprocess
 import sys
 import tempfile
 
+import picture_rules
 import python_cells
 import session_rules
-from store_rules import CLOSED, HEADER, LONGEST_CELL, OPEN, Graph, body_of, commit_body, entry_of, in_eight, in_four, record
+from store_rules import (
+    CLOSED, HEADER, LONGEST_CELL, OPEN, Damaged, Graph, NoFit, body_of, commit_body, entry_of, in_eight, in_four, record,
+)
 
 CELLS = [
     "", "# \u00fc", "x = 1", "x = x + 1", "print(7)", "print(x)", 'print("\u00e9")', "x = 3\nprint(x, x)",
@@ -31,7 +35,12 @@ LENGTHS = [LONGEST_CELL - 1, LONGEST_CELL]
 KNOWN = {*CELLS, *("#" * length for length in LENGTHS)}
 NO_TEXTS = [b"\xff", b"print(1)\xc3", b"\xed\xa0\x80", b"\xf4\x90\x80\x80", b"\xc0\x80"]
 NO_NAMES = [b"", b"9", b"-a", b"a b", b"a.b", "\u00e9".encode(), b"a" * 65, b"a" * 255, b"\xff", b"a\n"]
-FORMS = ["cell"] * 8 + ["run"] * 3 + ["log"] * 3 + ["status"] * 2 + ["checkout"] * 3 + ["branch"] * 3
+FORMS = ["cell"] * 8 + ["run"] * 3 + ["log"] * 3 + ["status"] * 2 + ["inspect"] * 3 + ["checkout"] * 4 + ["branch"] * 3
+# Cells whose states stand in pictures that no cell of the store gives.
+STATES = [
+    "x = 7", "x = [1]; y = x", "y = 'text'; z = (x, [y]) if 'x' in 'x' and False else [y]", "x = []; x.append(x)", "x = {'k': [1], (1, 2): None}; y = x['k']",
+    "def f(n, seen=[]): seen.append(n); return seen\ny = f(1)", "z = ValueError('no', [1]); x = z", "x = SimpleNamespace(a=1); y = [x, x]; z = len",
+]
 
 
 # Bodies.
@@ -57,7 +66,8 @@ def wrong_commit(rng, parent, texts):
         lambda: commit_head(parent, texts, kind=rng.choice([0, 2, 3, 4])),
         lambda: commit_head(parent, texts, profile=rng.choice([0, 2, 255])),
         lambda: commit_head(parent, texts, dropped=group),
-        lambda: commit_head(parent, texts, stored=group + in_eight(0)),
+        lambda: commit_head(parent, texts, stored=group + in_eight(1)),
+        lambda: commit_head(parent, texts, stored=rng.choice([in_four(0), in_four(2) + b"\x01y\x01x", in_four(1) + b"\x02if", in_four(1) + b"\x00"]) + in_eight(0)),
         lambda: commit_head(parent, texts, more=CLOSED),
         lambda: commit_head(parent, []),
         lambda: commit_head(parent, [rng.choice(NO_TEXTS)]),
@@ -104,14 +114,50 @@ def wrong_body(rng, graph, texts):
 def good_body(rng, graph, texts):
     """A body that fits the graph."""
     newest, kind = len(graph.parents) - 1, rng.random()
-    if kind < 0.55:
-        return commit_body(graph.commit, texts)
-    if kind < 0.7:
+    if kind < 0.4:
+        return foreign_commit(rng, graph, texts)
+    if kind < 0.6:
         return body_of(b"\x02\x00" + in_four(rng.randint(0, newest)))
-    if kind < 0.85:
+    if kind < 0.8:
         return body_of(b"\x02\x01" + named(rng.choice(list(graph.branches)).encode()))
     title = rng.choice([b"b%d" % graph.records, b"_-%d" % graph.records, b"A" * 62 + b"%02d" % graph.records])
     return body_of(b"\x03" + named(title) + in_four(rng.randint(0, newest)))
+
+
+def foreign_commit(rng, graph, texts):
+    """A commit that drops and stores other groups than its cells do, most of them ones that fit."""
+    table = [row.names for row in graph.tables[graph.commit]]
+    dropped = [names for names in table if rng.random() < 0.7]
+    if rng.random() < 0.05:
+        dropped = sorted([*dropped, ("nothing",)])
+    kept = {name for names in table if names not in dropped for name in names}
+    space = python_cells.empty_space()
+    python_cells.run(rng.choice(STATES), space)
+    names = [name for name in python_cells.names_in(space) if name not in kept or rng.random() < 0.03]
+    groups = [names] if rng.random() < 0.5 else [[name] for name in names if rng.random() < 0.8]
+    stored = [(group, spoilt(rng, picture_rules.picture(space, group), space)) for group in groups if group]
+    return commit_body(graph.commit, texts, dropped, stored)
+
+
+def spoilt(rng, picture, space):
+    """A picture as it is, or now and then another, or bytes that are none."""
+    if rng.random() < 0.85:
+        return picture
+    at = rng.randrange(len(picture))
+    return rng.choice([
+        picture[:at], picture + CLOSED, b"", picture_rules.picture(space, []),
+        picture[:at] + bytes([rng.choice([0, 1, 2, 4, 8, 9, 255])]) + picture[at + 1 :],
+    ])
+
+
+def ran_commit(rng, file, texts):
+    """The file with a commit of these cells, as the program makes it; None where the state at its head isn't known."""
+    try:
+        session = session_rules.Session(file + CLOSED, KNOWN)
+        session.told({"op": "cells", "texts": [text.decode() for text in texts]})
+    except (Damaged, python_cells.Unlike):
+        return None
+    return session.file[:-1]
 
 
 # Cases.
@@ -122,16 +168,26 @@ def chain(rng):
     file, graph = HEADER, Graph()
     for _ in range(rng.choice([0, 1, 1, 2, 3, 4, 6, 9])):
         texts = [rng.choice(CELLS).encode() for _ in range(rng.choice([1, 1, 1, 2, 3]))]
-        if rng.random() < 0.07:
+        grown = ran_commit(rng, file, texts) if rng.random() < 0.5 else None
+        if grown is not None:
+            graph, file = session_rules.opened(grown + CLOSED)[2], grown
+        elif rng.random() < 0.1:
             file += record(wrong_body(rng, graph, texts))
         else:
-            body = good_body(rng, graph, texts)
-            graph.add(entry_of(body))
-            file += record(body)
+            file, graph = with_body(file, graph, good_body(rng, graph, texts))
     file += rng.choice([CLOSED, CLOSED, CLOSED, b"<", b"\xa4", b"\xff", OPEN])
     if rng.random() < 0.3:
         file += bytes(rng.choice([0, 1, 0xA5, 0xFF]) for _ in range(rng.randrange(1, 60)))
     return file
+
+
+def with_body(file, graph, body):
+    """The file with a record more, and its graph, which stays where the record doesn't fit."""
+    try:
+        graph.add(entry_of(body), len(file) + 9)
+    except NoFit:
+        pass
+    return file + record(body), graph
 
 
 def changed(rng, file):
