@@ -1,22 +1,29 @@
 -- Names that stand apart: in whatever order they stand, and where some are put among others.
-use Rattle.std.specs.Prelude.{◌≡◌, ◌<◌, ◌≤◌, ℕ, ◌+◌, Bool, true, false, not, ◌&&◌, ◌||◌, List, [], ◌∷◌, ◌++◌, length, take, drop, get_or, refl}
+use Rattle.std.specs.Prelude.{◌≡◌, ◌<◌, ◌≤◌, ℕ, ◌+◌, Bool, true, false, not, ◌&&◌, ◌||◌, List, [], ◌∷◌, ◌++◌, length, map, take, drop, get_or, refl}
 use Rattle.std.specs.BTreeMap.{is_at}
 use Rattle.std.specs.BTreeSet.{insert_key}
 use Rattle.std.specs.Cmp.Lexicographic.{bytes_decides, slice_cmp}
 use Rattle.std.specs.List.{list_any}
+use Rattle.std.specs.List.Sorted.{IsStrictlySortedBy}
 use Rattle.std.specs.Ordering.{nat_cmp, match_ordering}
 use Rattle.std.specs.Rc.{rc_str_bytes}
 use Rattle.std.specs.Str.{bytes_eq}
 use Rattle.std.specs.declared.alloc.Global.{Global}
 use Rattle.std.specs.declared.rc.RcStr.{RcStr}
+use Rattle.std.specs.declared.vec.Vec.{Vec}
 use Rattle.std.specs.declared.cmp.Ordering.TheVariants.{Less, Equal, Greater}
-use Rattle.std.proofs.Common.{ap, sym, ◌∙◌, subst, inl, inr, Ordering, append_assoc}
+use Rattle.std.proofs.Common.{ap, sym, ◌∙◌, subst, inl, inr, Ordering, append_assoc, arith}
 use Rattle.std.proofs.lemmas.Bool.{cases_Bool, false≢true}
 use Rattle.std.proofs.lemmas.List.{append-nil, take_all, take_more, take-append-drop}
 use Rattle.kishu_language.specs.tokens.Names.{is_among}
 use Rattle.kishu_store.specs.Tables.{Row, Table, first_in, names_in, put_row, put_rows, are_apart}
-use Rattle.kishu_store_laws.specs.TableLaws.{and_true}
-use Rattle.kishu_graph.specs.Fits.{AddsNames}
+use Rattle.kishu_store.specs.Groups.{AreStored, Rise}
+use Rattle.kishu_store_laws.specs.BranchLaws.{AllBehind}
+use Rattle.kishu_store_laws.specs.TableLaws.{and_true, both_ways}
+use Rattle.kishu_graph.specs.declared.tables.TableRow as rust_row
+use Rattle.kishu_graph.specs.Fits.{AddsNames, names_of, rows_of}
+use Rattle.kishu_graph.specs.Kept.{texts_of}
+use Rattle.kishu_graph.specs.Tables.{stored_of}
 use Rattle.kishu_graph.specs.Walks.{HaveSame, all_texts}
 use Rattle.kishu_graph.proofs.Gone.{by_text, key_in, among_append, among_texts}
 
@@ -84,6 +91,27 @@ alike_fronts (x ∷ xs) ys zs =
     alike_then (ys ++ (x ∷ (xs ++ zs))) (x ∷ (ys ++ (xs ++ zs))) (x ∷ (xs ++ (ys ++ zs)))
     (alike_front x ys (xs ++ zs))
     (alike_more x (ys ++ (xs ++ zs)) (xs ++ (ys ++ zs)) (alike_fronts xs ys zs))
+
+-- ---- names that rise
+
+not_among : (x : List ℕ) (ys : List (List ℕ)) → AllBehind x ys → is_among x ys ≡ false
+not_among x [] h = refl
+not_among x (y ∷ ys) h = elim (cases_Bool (bytes_eq x y)) [
+  | inl e ↦ absurd (let m : slice_cmp nat_cmp x x ≡ Less = subst (λ z. slice_cmp nat_cmp x z ≡ Less) (sym ((bytes_decides x y).0 e)) h.0 in both_ways x x m m)
+  | inr e ↦ rw e (not_among x ys h.1)
+]
+
+pub rise-apart : (xs : List (List ℕ)) → Rise xs → are_apart xs ≡ true
+unfolding IsStrictlySortedBy
+rise-apart [] h = refl
+rise-apart (x ∷ xs) h = (let no = not_among x xs h.0 in rw no (rise-apart xs h.1))
+
+-- those of one group, or of none
+pub one-apart : (stored : List (Vec (RcStr Global) Global × ℕ)) (left : List rust_row.TableRow) → AreStored (map stored_of stored) → length stored ≤ 1 → left ≡ [] → true ≡ are_apart (names_of stored ++ names_in (rows_of left))
+one-apart [] left are few none = ap (λ (l : List rust_row.TableRow). are_apart (names_in (rows_of l))) (sym none)
+one-apart (s ∷ []) left are few none =
+    sym (ap (λ (l : List rust_row.TableRow). are_apart (names_of (s ∷ []) ++ names_in (rows_of l))) none ∙ ap are_apart (append-nil (names_of (s ∷ [])) ∙ append-nil (texts_of s.0)) ∙ rise-apart (texts_of s.0) are.each.0.0.rise)
+one-apart (s ∷ r ∷ stored) left are few none = absurd (omega (arith, few))
 
 -- ---- the names of a table
 

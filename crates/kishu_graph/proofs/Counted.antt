@@ -1,6 +1,7 @@
 -- What is kept in the fields of the program's graph, where some of them change.
-use Rattle.std.proofs.Common.{◌≡◌, ◌<◌, ◌+◌, ℕ, suc, List, [], ◌∷◌, ◌++◌, length, map, get_or, take, set, Option, Some, None, sym, ap, subst, ◌∙◌, arith}
-use Rattle.std.proofs.lemmas.List.{get_or-map, get_or_append_left, length-map, length-set, length-take-le, map_push, take_all, take_more, take_more_set}
+use Rattle.std.proofs.Common.{◌≡◌, ◌<◌, ◌+◌, ◌==◌, ℕ, Bool, true, suc, List, [], ◌∷◌, ◌++◌, length, map, get_or, take, set, Option, Some, None, sym, ap, subst, ◌∙◌, arith, length-append, eqb-true}
+use Rattle.std.proofs.lemmas.List.{get_or-map, get_or_append_left, length-map, length-set, length-take-le, map_push, nil_from_length, take_all, take_more, take_more_set}
+use Rattle.std.proofs.Math.Seq.{get_or-append_seam}
 use Rattle.std.specs.declared.alloc.Global.{Global}
 use Rattle.std.specs.declared.rc.RcStr.{RcStr}
 use Rattle.kishu_store.specs.Tables.{Change, no_change}
@@ -12,6 +13,10 @@ use Rattle.kishu_graph.specs.declared.commits.Commit as rust
 use Rattle.kishu_graph.specs.declared.tables.Noted as rust_noted
 use Rattle.kishu_graph.proofs.Counting.{counts-committed, counts-new, counts-noted}
 use Rattle.kishu_graph.proofs.Outlines.{parent-below}
+
+-- what is found to be empty has nothing in it
+pub none_in : {X : Type 0} (xs : List X) (empty : Bool) → empty ≡ (length xs == 0) → empty ≡ true → xs ≡ []
+none_in xs empty is so = nil_from_length xs (eqb-true (length xs) 0 (sym is ∙ so))
 
 pub still : (items new : List rust.Commit) (bs newer : List (RcStr Global × ℕ)) (t : rust_target.Target) (records : ℕ) (notes noted : List rust_noted.Noted) → AreKept items bs t records notes → new ≡ items → newer ≡ bs → noted ≡ notes → AreKept new newer t records noted
 still items new bs newer t records notes noted k e f g =
@@ -60,6 +65,14 @@ last-taken xs n d is = sym (take_all (n + 1) xs (omega (arith, is))) ∙ take_mo
 
 last-set : {A : Type 0} (xs : List A) (n : ℕ) (a : A) → length xs ≡ suc n → set xs n a ≡ take n xs ++ (a ∷ [])
 last-set xs n a is = sym (take_all (n + 1) (set xs n a) (omega (arith, is, length-set xs n a))) ∙ take_more_set xs n a (omega (arith, is))
+
+-- Where nothing is noted of the newest commit, no change is noted there.
+pub noted-bare : (ns : List Noted) (n : ℕ) (c : Change) (cs : List Change) → length ns ≡ suc n → get_or ns n (noted_of no_change) ≡ noted_of no_change → ns ≡ noted_in (c ∷ cs) → ns ≡ noted_in (no_change ∷ cs)
+noted-bare ns n c cs is none tells =
+    let front : n ≡ length (noted_in cs) = (let m = ap length tells in omega (arith, m, is, length-append (noted_in cs) (noted_of c ∷ []))) in
+    let last : noted_of c ≡ noted_of no_change =
+    sym (get_or-append_seam (noted_in cs) (noted_of c) [] (noted_of no_change)) ∙ ap (λ (l : List Noted). get_or l (length (noted_in cs)) (noted_of no_change)) (sym tells) ∙ ap (λ i. get_or ns i (noted_of no_change)) (sym front) ∙ none in
+    tells ∙ ap (λ (x : Noted). noted_in cs ++ (x ∷ [])) last
 
 -- What is noted then is noted in the place of what was.
 pub noted-anew : (notes : List rust_noted.Noted) (n : ℕ) (a : rust_noted.Noted) (d c : Change) (cs : List Change) → length notes ≡ suc n → note a ≡ noted_of d → map note notes ≡ noted_in (c ∷ cs) → map note (set notes n a) ≡ noted_in (d ∷ cs)

@@ -7,8 +7,9 @@ use Rattle.std.specs.Ordering.{nat_cmp, ordering_reverse, match_ordering}
 use Rattle.std.specs.declared.cmp.Ordering.TheVariants.{Less, Equal, Greater}
 use Rattle.std.proofs.Common.{ap, sym, ◌∙◌, subst, arith, Ordering}
 use Rattle.std.proofs.lemmas.Cmp.{nat_list_cmp_total}
+use Rattle.std.proofs.lemmas.List.{nil_from_length}
 use Rattle.kishu_store.specs.Groups.{Rise}
-use Rattle.kishu_store.specs.Tables.{Row, Table, first_in, put_row, put_rows}
+use Rattle.kishu_store.specs.Tables.{Row, Table, Change, first_in, put_row, put_rows, without_groups, after}
 use Rattle.kishu_store_laws.specs.BranchLaws.{AllBehind, equal_titles}
 use Rattle.kishu_store_laws.specs.TableLaws.{both_ways}
 
@@ -133,3 +134,16 @@ length_puts (r ∷ rs) t = omega (arith, length_put r (put_rows rs t), length_pu
 pub all-found : (rs found whole : Table) → put_rows rs found ≡ whole → length whole ≡ length found → found ≡ whole
 all-found [] found whole e n = e
 all-found (r ∷ rs) found whole e n = absurd (let m : length (put_rows (r ∷ rs) found) ≡ length whole = ap length e in omega (arith, m, n, length_puts (r ∷ rs) found))
+
+-- rows in order
+puts_own : (rs : Table) → Rise (map first_in rs) → put_rows rs [] ≡ rs
+unfolding IsStrictlySortedBy
+puts_own [] h = refl
+puts_own (r ∷ []) h = refl
+puts_own (r ∷ q ∷ rs) h = ap (put_row r) (puts_own (q ∷ rs) h.1) ∙ put_less r q rs h.0.0
+
+-- Where the table after a change has no more rows than it stores, it has these.
+pub own-after : (d : Change) (t : Table) → Rise (map first_in d.stored) → length (after d t) ≡ length d.stored → after d t ≡ d.stored
+own-after d t rise many =
+    let none : without_groups d.dropped t ≡ [] = nil_from_length (without_groups d.dropped t) (omega (arith, many, length_puts d.stored (without_groups d.dropped t))) in
+    ap (put_rows d.stored) none ∙ puts_own d.stored rise

@@ -1,21 +1,22 @@
 -- Of a table in order, where groups in order are dropped: each is met in its turn, and the rows that stay are those without the groups.
-use Rattle.std.specs.Prelude.{◌≡◌, ◌≤◌, ℕ, true, false, List, [], ◌∷◌, length, map, drop, refl}
+use Rattle.std.specs.Prelude.{◌≡◌, ◌≤◌, ◌<◌, ◌+◌, ℕ, true, false, List, [], ◌∷◌, ◌++◌, length, map, take, drop, get_or, refl}
 use Rattle.std.specs.Bool.{Decides}
 use Rattle.std.specs.Cmp.Lexicographic.{slice_cmp}
 use Rattle.std.specs.List.{list_all}
 use Rattle.std.specs.List.Sorted.{IsStrictlySortedBy}
 use Rattle.std.specs.Ordering.{nat_cmp}
 use Rattle.std.specs.declared.cmp.Ordering.TheVariants.{Less}
-use Rattle.std.proofs.Common.{ap, sym, ◌∙◌, subst, inl, inr}
+use Rattle.std.proofs.Common.{ap, sym, ◌∙◌, subst, inl, inr, arith}
 use Rattle.std.proofs.lemmas.Bool.{cases_Bool, false≢true}
 use Rattle.std.proofs.lemmas.Cmp.{nat_list_cmp_total}
-use Rattle.std.proofs.lemmas.List.{drop_all}
+use Rattle.std.proofs.lemmas.List.{drop_all, map_push, take_more}
 use Rattle.std.proofs.lemmas.Slice.Eq.{bytes_eq-Decides, slice_eq-Decides}
 use Rattle.kishu_store.specs.Groups.{Group, first_name, is_group, is_one_of, Rise}
 use Rattle.kishu_store.specs.Tables.{Row, Table, groups_in, first_in, without_groups}
 use Rattle.kishu_store_laws.specs.BranchLaws.{AllBehind}
 use Rattle.kishu_store_laws.specs.TableLaws.{both_ways, and_true}
-use Rattle.kishu_graph.specs.Fits.{Left, behind, is_next, left_of}
+use Rattle.kishu_graph.specs.declared.tables.TableRow as rust_row
+use Rattle.kishu_graph.specs.Fits.{Left, behind, is_next, left_of, names_at, rows_of}
 
 pub same-group : (g h : Group) → Decides (is_group g h) (g ≡ h)
 same-group g h = slice_eq-Decides bytes_eq-Decides g h (is_group g h) refl
@@ -161,3 +162,29 @@ step-stays r t (d ∷ ds) k = not_met r t d ds k
 
 pub none-next : (g : Group) (ds : List Group) (at : ℕ) → length ds ≤ at → is_next g (drop at ds) ≡ false
 none-next g ds at past = ap (is_next g) (drop_all at ds past)
+
+-- ---- where all are dropped
+
+all_left : (t : Table) → left_of t (groups_in t) ≡ record { rows = []; rest = [] }
+all_left [] = refl
+all_left (r ∷ t) = (let same : is_group r.group r.group ≡ true = (same-group r.group r.group).1 refl in rw same (all_left t))
+
+groups_at : (rows : List rust_row.TableRow) → groups_in (rows_of rows) ≡ map names_at rows
+groups_at [] = refl
+groups_at (r ∷ rows) = ap (λ (l : List Group). names_at r ∷ l) (groups_at rows)
+
+-- nothing is left of a table that has these rows
+pub left-none : (t : Table) (ds : List Group) (rows left : List rust_row.TableRow) → t ≡ rows_of rows → map names_at rows ≡ ds → left ≡ [] → left_of t ds ≡ record { rows = rows_of left; rest = [] }
+left-none t ds rows left is same none =
+    ap (left_of t) (sym same ∙ sym (groups_at rows) ∙ ap groups_in (sym is)) ∙ all_left t ∙ ap (λ (l : List rust_row.TableRow). record { rows = rows_of l; rest = [] }) (sym none)
+
+-- one more of those that are the same
+pub same-more : {X Y Z : Type 0} (f : X → Z) (g : Y → Z) (xs : List X) (ys : List Y) (i : ℕ) (x : X) (y : Y) → length xs ≡ length ys → i < length xs → x ≡ get_or xs i x → y ≡ get_or ys i y → f x ≡ g y
+    → map f (take i xs) ≡ map g (take i ys) → map f (take (i + 1) xs) ≡ map g (take (i + 1) ys)
+same-more {Z = Z} f g xs ys i x y long inside x_is y_is same before =
+    ap (map f) (take_more xs i x inside)
+    ∙ map_push f (take i xs) (get_or xs i x)
+    ∙ ap (λ (z : Z). map f (take i xs) ++ (z ∷ [])) (ap f (sym x_is) ∙ same ∙ ap g y_is)
+    ∙ ap (λ (l : List Z). l ++ (g (get_or ys i y) ∷ [])) before
+    ∙ sym (map_push g (take i ys) (get_or ys i y))
+    ∙ sym (ap (map g) (take_more ys i y (omega (arith, inside, long))))

@@ -3,11 +3,11 @@ use Rattle.std.specs.Prelude.{◌≡◌, ◌<◌, ℕ, suc, List, [], ◌∷◌,
 use Rattle.std.specs.List.{AllByRecursion}
 use Rattle.std.proofs.Common.{zero, sym, ◌∙◌, ap, subst, inl, inr, arith}
 use Rattle.std.proofs.lemmas.Bool.Decides.{eqb_tells}
-use Rattle.std.proofs.lemmas.List.{get_or_append_left, get_or-map, length-map}
+use Rattle.std.proofs.lemmas.List.{get_or_append_left, get_or-map, length-map, nil_from_length}
 use Rattle.std.proofs.Math.Seq.{get_or-append_seam}
 use Rattle.kishu_store.specs.Graph.{Commit, Numbered}
-use Rattle.kishu_store.specs.Groups.{first_name, IsGroup}
-use Rattle.kishu_store.specs.Tables.{Table, Change, groups_in, put_rows, changes_in, table_at, change_of}
+use Rattle.kishu_store.specs.Groups.{first_name, IsGroup, Rise}
+use Rattle.kishu_store.specs.Tables.{Table, Change, groups_in, first_in, put_rows, changes_in, table_in, table_at, change_of}
 use Rattle.kishu_store_laws.specs.WalkLaws.{rows_left, rows_back, found-back}
 use Rattle.kishu_graph.specs.declared.commits.Commit as rust
 use Rattle.kishu_graph.specs.declared.tables.Noted as rust_noted
@@ -17,7 +17,7 @@ use Rattle.kishu_graph.specs.Laws.{back_numbers, back-root}
 use Rattle.kishu_graph.specs.Walks.{HaveSame, HaveFound, InEachNoted, IsTableThere}
 use Rattle.kishu_graph.proofs.Gone.{back_same}
 use Rattle.kishu_graph.proofs.Outlines.{steps-back}
-use Rattle.kishu_graph.proofs.Puts.{all-found}
+use Rattle.kishu_graph.proofs.Puts.{all-found, own-after}
 
 -- ---- what the commits on a path change
 
@@ -47,7 +47,7 @@ noted_at (e ∷ cs) c d h = elim (eqb_tells c (suc (length cs))) [
       )
 ]
 
-noted_there : (noted : List rust_noted.Noted) (cs : List Change) → map note noted ≡ noted_in cs → (c : ℕ) (d : rust_noted.Noted) → c < length noted → note (get_or noted c d) ≡ noted_of (change_of cs c)
+pub noted_there : (noted : List rust_noted.Noted) (cs : List Change) → map note noted ≡ noted_in cs → (c : ℕ) (d : rust_noted.Noted) → c < length noted → note (get_or noted c d) ≡ noted_of (change_of cs c)
 noted_there noted cs notes c d there =
     let small : c < suc (length cs) = omega (arith, there, sym (length-map noted note) ∙ ap length notes ∙ length-noted cs) in
     sym (get_or-map note noted c d (note d) there) ∙ ap (λ (l : List Noted). get_or l c (note d)) notes ∙ noted_at cs c (note d) small
@@ -58,6 +58,23 @@ pub rows-counted : (commits : List rust.Commit) (noted : List rust_noted.Noted) 
 rows-counted commits noted counts c rows item there is known g cs place parents notes k =
     let some : get_or (map count_of noted) c None ≡ Some rows = get_or-map count_of noted c item None there ∙ ap count_of (sym is) ∙ known in
     sym (subst (λ (o : Option ℕ). IfSome o (λ n. n ≡ length (table_at g (change_of cs) c))) some (counts g cs place parents notes k c (omega (arith, there, length-map noted note))))
+
+-- ---- a table whose rows its commit stored
+
+own_in : (ks : List Commit) (of : ℕ → Change) (c : ℕ) → Rise (map first_in (of c).stored) → length (table_in ks of c) ≡ length (of c).stored → table_in ks of c ≡ (of c).stored
+own_in [] of c h many = sym (nil_from_length (of c).stored (sym many))
+own_in (k ∷ ks) of c h many = elim (eqb_tells c (suc (length ks))) [
+  | inl p ↦ rw p.0 (own-after (of c) (table_in ks of k.parent) h (rw p.0 at many))
+  | inr p ↦ rw p.0 (own_in ks of c h (rw p.0 at many))
+]
+
+-- Where it has as many as the commit stored, they are these.
+pub stored-alone : (commits : List rust.Commit) (noted : List rust_noted.Noted) → CountsRows (map outline commits) (map note noted) (map count_of noted) → (c : ℕ) (item : rust_noted.Noted) → c < length noted → item ≡ get_or noted c item
+    → item.rows ≡ Some (length item.stored.items) → IsTableThere commits noted c (map row_of item.stored.items)
+stored-alone commits noted counts c item there is known g cs place parents notes k =
+    let stored : map row_of item.stored.items ≡ (change_of cs c).stored = ap (λ (n : Noted). n.stored) (ap note is ∙ noted_there noted cs notes c item there) in
+    let many = rows-counted commits noted counts c (length item.stored.items) item there is known g cs place parents notes k in
+    stored ∙ sym (own_in g.commits (change_of cs) c (k.each c).rise (many ∙ sym (length-map item.stored.items row_of) ∙ ap length stored))
 
 -- ---- the rows that lead to a commit's table
 

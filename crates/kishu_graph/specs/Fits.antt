@@ -16,6 +16,10 @@ use Rattle.kishu_graph.specs.Walks.{HaveSame, all_texts}
 abbrev pub rows_of : List rust_row.TableRow → Table
 rows_of rows = map row_of rows
 
+-- the names of a row's group
+abbrev pub names_at : rust_row.TableRow → Group
+names_at r = texts_of r.group.names
+
 -- how many bytes the pictures of rows take
 abbrev pub bytes_of : List rust_row.TableRow → ℕ
 bytes_of rows = bytes_in (rows_of rows)
@@ -66,3 +70,8 @@ AddsNames names old new apart =
 abbrev pub TellsFit : Table → List (Vec (RcStr Global) Global) → List (Vec (RcStr Global) Global × ℕ) → Bool → Type 0
 TellsFit t dropped stored fits =
     Rise (map first_in t) → (commit place : ℕ) → (fits ≡ true → FitsTable t (change_from dropped stored commit place)) × (fits ≡ false → FitsTable t (change_from dropped stored commit place) → ⊥)
+
+-- The same of each table in order of which these rows stay, whatever is dropped.
+abbrev pub TellsFitWith : List rust_row.TableRow → List (Vec (RcStr Global) Global × ℕ) → Bool → Type 0
+TellsFitWith left stored fits =
+    (t : Table) (dropped : List (Vec (RcStr Global) Global)) → left_of t (map texts_of dropped) ≡ record { rows = rows_of left; rest = [] } → TellsFit t dropped stored fits

@@ -1,16 +1,17 @@
 // Which groups a commit may drop and store.
-ghost use Rattle.std.specs.Prelude.{◌≡◌, ◌≤◌, ◌<◌, ◌+◌, ◌++◌, true, false, Ok, drop, length, map, IfOk, MatchOption};
+ghost use Rattle.std.specs.Prelude.{◌≡◌, ◌≤◌, ◌<◌, ◌+◌, ◌++◌, true, false, Ok, Some, drop, length, map, IfOk, MatchOption};
 ghost use Rattle.std.specs.List.{sum};
 ghost use Rattle.std.specs.Rc.{rc_str_bytes};
 ghost use Rattle.kishu_store.specs.Groups.{AreGroups, AreStored, is_group};
 ghost use Rattle.kishu_store.specs.Limits.{most_pictured};
 ghost use Rattle.kishu_store.specs.Tables.{are_apart, names_in};
-ghost use Rattle.kishu_graph.specs.Fits.{AddsNames, StaysOf, TellsFit, bytes_of, is_next, lengths_in, names_of, rows_of};
+ghost use Rattle.kishu_graph.specs.Fits.{AddsNames, StaysOf, TellsFit, TellsFitWith, bytes_of, is_next, lengths_in, names_at, names_of, rows_of};
 ghost use Rattle.kishu_graph.specs.Kept.{texts_of};
 ghost use Rattle.kishu_graph.specs.Tables.{stored_of, table_of_rows, FitsHead, FailsHead};
 
 use crate::Graph;
-use crate::tables::{Table, TableRow};
+use crate::tables::{Noted, Table, TableRow};
+use crate::walking::are_all;
 use std::alloc::{AllocError, Global};
 use std::collections::BTreeSet;
 use std::rc::RcStr;
@@ -36,6 +37,12 @@ impl Graph {
         ensures small { result ≡ Ok true → sum (map (λ s. s.1) stored.now) ≤ most_pictured }
         ensures fails { result ≡ Ok false → FailsHead self.now dropped.now stored.now }
     {
+        if dropped.is_empty() && stored.is_empty() {
+            return Ok(true);
+        }
+        if drops_all(&self.noted[self.head.commit as usize], dropped) {
+            return fits_rows(self.alloc, &Vec::new(self.alloc), stored);
+        }
         let table = self.table(self.head.commit)?;
         fits_table(self.alloc, table, dropped, stored)
     }
@@ -48,17 +55,56 @@ fn fits_table(
     dropped: &[Vec<RcStr>],
     stored: &[(Vec<RcStr>, u64)],
 ) -> Result<bool, AllocError>
-    requires { AreGroups (map texts_of dropped.now) }
+    requires dropped { AreGroups (map texts_of dropped.now) }
+    requires stored { AreStored (map stored_of stored.now) }
     ensures fits { IfOk result (λ fits. TellsFit (table_of_rows table) dropped.now stored.now fits) }
     ensures small { IfOk result (λ fits. fits ≡ true → lengths_in stored.now ≤ most_pictured) }
 {
     let Some(left) = rows_left(alloc, table, dropped)? else {
         return Ok(false);
     };
-    if !take_few_bytes(&left, stored) {
+    fits_rows(alloc, &left, stored)
+}
+
+/// Whether a commit may store these groups where it drops all groups of the table before it but those
+/// of these rows.
+fn fits_rows(
+    alloc: Global,
+    left: &[TableRow],
+    stored: &[(Vec<RcStr>, u64)],
+) -> Result<bool, AllocError>
+    requires { AreStored (map stored_of stored.now) }
+    ensures fits { IfOk result (λ fits. TellsFitWith left.now stored.now fits) }
+    ensures small { IfOk result (λ fits. fits ≡ true → lengths_in stored.now ≤ most_pictured) }
+{
+    if !take_few_bytes(left, stored) {
         return Ok(false);
     }
-    stand_apart(alloc, &left, stored)
+    stand_apart(alloc, left, stored)
+}
+
+/// Whether a commit is known to have stored all rows of its table itself, and these are all their
+/// groups: nothing is left of the table where they are dropped.
+fn drops_all(noted: &Noted, dropped: &[Vec<RcStr>]) -> bool
+    ensures own { result ≡ true → noted.now.rows ≡ Some (length noted.now.stored.items) }
+    ensures all { result ≡ true → map names_at noted.now.stored.items ≡ map texts_of dropped.now }
+{
+    are_all(noted, noted.stored.len()) && have_groups(&noted.stored, dropped)
+}
+
+/// Whether rows have just these groups, in this order.
+fn have_groups(rows: &[TableRow], groups: &[Vec<RcStr>]) -> bool
+    ensures { result ≡ true → map names_at rows.now ≡ map texts_of groups.now }
+{
+    if rows.len() != groups.len() {
+        return false;
+    }
+    for i in 0..rows.len() {
+        if !are_same(&rows[i].group.names, &groups[i]) {
+            return false;
+        }
+    }
+    true
 }
 
 /// The rows that stay of a table where groups are dropped, both in the order of first names. There are
@@ -145,8 +191,13 @@ fn stand_apart(
     left: &[TableRow],
     stored: &[(Vec<RcStr>, u64)],
 ) -> Result<bool, AllocError>
+    requires { AreStored (map stored_of stored.now) }
     ensures { IfOk result (λ apart. apart ≡ are_apart (names_of stored.now ++ names_in (rows_of left.now))) }
 {
+    // The names of one group rise.
+    if left.is_empty() && stored.len() <= 1 {
+        return Ok(true);
+    }
     let mut names = BTreeSet::new(alloc);
     if !add_groups(&mut names, stored)? {
         return Ok(false);

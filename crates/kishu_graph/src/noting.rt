@@ -34,6 +34,9 @@ impl Graph {
         ensures err { OnErr result (self.new ≡ self.old) }
     {
         let parent = self.commits[commit as usize].parent;
+        if dropped.is_empty() && stored.is_empty() {
+            return Ok(());
+        }
         let rows = self.noted[parent as usize].rows;
         let noted = noted_of(self.alloc, &mut self.texts, rows, dropped, stored)?;
         self.noted[commit as usize] = noted;

@@ -56,7 +56,7 @@ fn rows_to(
 }
 
 /// Whether a commit's table is known to have just so many rows.
-fn are_all(noted: &Noted, rows: usize) -> bool
+pub(crate) fn are_all(noted: &Noted, rows: usize) -> bool
     ensures { result ≡ true → noted.now.rows ≡ Some rows }
 {
     match noted.rows {

@@ -6,8 +6,12 @@ use Rattle.kishu_language.specs.tokens.Names.{is_among}
 use Rattle.kishu_store.specs.Tables.{names_in, are_apart}
 use Rattle.kishu_graph.specs.Fits.{AddsNames, names_of, rows_of}
 use Rattle.kishu_graph.specs.Walks.{HaveSame, all_texts}
-use Rattle.kishu_graph.proofs.Apart.{not-apart}
+use Rattle.kishu_graph.proofs.Apart.{not-apart, one-apart}
+use Rattle.kishu_graph.proofs.Counted.{none_in}
 use Rattle.kishu_graph.proofs.fitting.stand_apart.Goals as goal
+
+pub returns-then-stored-le1 : goal.returns-then-stored-le1
+returns-then-stored-le1 c = one-apart c.args.stored.now c.args.left.now c.requires c.if-stored-le1.true (none_in c.args.left.now c.is_empty.result c.is_empty.ensures c.if-is_empty.true)
 
 pub returns-then-not-branch : goal.returns-then-not-branch
 returns-then-not-branch c =

@@ -1,11 +1,56 @@
-use Rattle.std.proofs.Common.{◌≡◌, ◌∙◌, true, false, refl, ap, subst}
+use Rattle.std.proofs.Common.{◌≡◌, ◌<◌, ◌∙◌, List, [], ℕ, length, map, true, false, refl, sym, ap, subst, arith}
+use Rattle.std.proofs.lemmas.List.{length-map}
 use Rattle.std.proofs.lemmas.Result.{IfOk-at_ok}
+use Rattle.std.specs.declared.alloc.Global.{Global}
+use Rattle.std.specs.declared.rc.RcStr.{RcStr}
+use Rattle.std.specs.declared.vec.Vec.{Vec}
 use Rattle.kishu_store.specs.Graph.{Target}
-use Rattle.kishu_store.specs.Tables.{Table, table_at, change_of}
-use Rattle.kishu_graph.specs.Fits.{TellsFit}
-use Rattle.kishu_graph.specs.Kept.{Kept}
-use Rattle.kishu_graph.specs.Tables.{table_of_rows}
+use Rattle.kishu_store.specs.Tables.{Table, table_at, change_of, FitsTable}
+use Rattle.kishu_store_laws.specs.TableLaws.{bare-fits}
+use Rattle.kishu_graph.specs.Fits.{TellsFit, TellsFitWith}
+use Rattle.kishu_graph.specs.Kept.{Kept, noted_in, note, outline, outlines, parents_of, texts_of}
+use Rattle.kishu_graph.specs.Tables.{change_from, table_of_rows}
+use Rattle.kishu_graph.proofs.Counted.{none_in}
+use Rattle.kishu_graph.proofs.Stays.{left-none}
+use Rattle.kishu_graph.proofs.WayBack.{stored-alone}
 use Rattle.kishu_graph.proofs.graph.Graph.fits.Goals as goal
+
+pub returns-then-is_empty-2-clause-fits : goal.returns-then-is_empty-2-clause-fits
+returns-then-is_empty-2-clause-fits c ok g cs place shape tells k commit begin =
+    let t = table_at g (change_of cs) g.head.commit in
+    subst (λ (ds : List (Vec (RcStr Global) Global)). FitsTable t (change_from ds c.args.stored.now commit begin)) (sym (none_in c.args.dropped.now c.is_empty.result c.is_empty.ensures c.if-is_empty.true))
+    (subst (λ (ss : List (Vec (RcStr Global) Global × ℕ)). FitsTable t (change_from [] ss commit begin)) (sym (none_in c.args.stored.now c.is_empty-then-is_empty.result c.is_empty-then-is_empty.ensures c.if-is_empty-2.true))
+    (bare-fits t (k.tables g.head.commit)))
+
+pub returns-then-drops_all-clause-fits : goal.returns-then-drops_all-clause-fits
+returns-then-drops_all-clause-fits c ok g cs place shape tells k commit begin =
+    let commits = c.self.inside.commits.items in
+    let noted = c.self.inside.noted.items in
+    let t = table_at g (change_of cs) g.head.commit in
+    let head : c.self.inside.head.commit ≡ g.head.commit = ap (λ (kept : Kept). kept.head.commit) c.self.view_is ∙ ap (λ (t : Target). t.commit) shape.head in
+    let parents : parents_of (map outline commits) ≡ parents_of (outlines g.commits) = ap (λ (kept : Kept). parents_of kept.commits) c.self.view_is ∙ shape.parents in
+    let notes : map note noted ≡ noted_in cs = ap (λ (kept : Kept). kept.noted) c.self.view_is ∙ tells in
+    let there : c.self.inside.head.commit < length noted = (let h = c.self.invariant.0.head in let n = c.self.invariant.0.noted in omega (arith, h, n, length-map noted note)) in
+    let rows = c.index.result.now.stored.items in
+    let own = stored-alone commits noted c.self.invariant.1 c.self.inside.head.commit c.index.result.now there c.index.ensures (c.drops_all.ensures.own c.if-drops_all.true) g cs place parents notes k in
+    let left = left-none t (map texts_of c.args.dropped.now) rows c.deref.result.now (sym (own ∙ ap (table_at g (change_of cs)) head)) (c.drops_all.ensures.all c.if-drops_all.true) (c.deref.ensures.value ∙ c.new.ensures.items) in
+    let told = IfOk-at_ok (λ fits. TellsFitWith c.deref.result.now c.args.stored.now fits) ok c.fits_rows.ensures.fits in
+    (told t c.args.dropped.now left (k.tables g.head.commit).rise commit begin).0 refl
+
+pub returns-then-drops_all-clause-fails : goal.returns-then-drops_all-clause-fails
+returns-then-drops_all-clause-fails c ok g cs place shape tells k commit begin =
+    let commits = c.self.inside.commits.items in
+    let noted = c.self.inside.noted.items in
+    let t = table_at g (change_of cs) g.head.commit in
+    let head : c.self.inside.head.commit ≡ g.head.commit = ap (λ (kept : Kept). kept.head.commit) c.self.view_is ∙ ap (λ (t : Target). t.commit) shape.head in
+    let parents : parents_of (map outline commits) ≡ parents_of (outlines g.commits) = ap (λ (kept : Kept). parents_of kept.commits) c.self.view_is ∙ shape.parents in
+    let notes : map note noted ≡ noted_in cs = ap (λ (kept : Kept). kept.noted) c.self.view_is ∙ tells in
+    let there : c.self.inside.head.commit < length noted = (let h = c.self.invariant.0.head in let n = c.self.invariant.0.noted in omega (arith, h, n, length-map noted note)) in
+    let rows = c.index.result.now.stored.items in
+    let own = stored-alone commits noted c.self.invariant.1 c.self.inside.head.commit c.index.result.now there c.index.ensures (c.drops_all.ensures.own c.if-drops_all.true) g cs place parents notes k in
+    let left = left-none t (map texts_of c.args.dropped.now) rows c.deref.result.now (sym (own ∙ ap (table_at g (change_of cs)) head)) (c.drops_all.ensures.all c.if-drops_all.true) (c.deref.ensures.value ∙ c.new.ensures.items) in
+    let told = IfOk-at_ok (λ fits. TellsFitWith c.deref.result.now c.args.stored.now fits) ok c.fits_rows.ensures.fits in
+    (told t c.args.dropped.now left (k.tables g.head.commit).rise commit begin).1 refl
 
 pub returns-clause-fits : goal.returns-clause-fits
 returns-clause-fits c ok g cs place shape tells k commit begin =
