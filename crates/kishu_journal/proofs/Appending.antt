@@ -2,7 +2,7 @@
 use Rattle.std.proofs.Common.{◌≡◌, ◌⊎◌, inl, inr, ⊎_elim, ◌+◌, ℕ, List, [], ◌∷◌, ◌++◌, length, sym, ◌∙◌, ap, subst, arith}
 use Rattle.kishu_host.specs.Host.{State, Elapses}
 use Rattle.kishu_host.specs.Going.{weaker}
-use Rattle.kishu_store.specs.Entries.{Entry, entries_in}
+use Rattle.kishu_store.specs.Entries.{Entry}
 use Rattle.kishu_store.specs.EntryBytes.{body_of}
 use Rattle.kishu_store.specs.Fitting.{changed}
 use Rattle.kishu_store.specs.Graph.{Graph}

@@ -8,9 +8,9 @@ use Rattle.kishu_graph.specs.Tables.{FailsHead, FitsHead, change_with, stored_of
 use Rattle.kishu_graph.specs.declared.tables.TableRow.{TableRow}
 use Rattle.kishu_language.specs.declared.profile.Profile.{Profile}
 use Rattle.kishu_store.specs.Entries.{Entry, commit}
-use Rattle.kishu_store.specs.Graph.{Graph, Target, newest}
+use Rattle.kishu_store.specs.Graph.{Target, newest}
 use Rattle.kishu_store.specs.Histories.{FollowsAt, History, before_pictures}
-use Rattle.kishu_store.specs.Tables.{Change, FitsTable, Table, change_of, rows_from, table_at}
+use Rattle.kishu_store.specs.Tables.{FitsTable, Table, change_of, rows_from, table_at}
 use Rattle.kishu_journal.specs.Following.{FitsNext, GoesOn, IsFull, IsKept, TakesChange, TakesCommit}
 
 -- rows of what may be stored may be stored

@@ -9,7 +9,7 @@ use Rattle.kishu_store.specs.Entries.{Entry, commit, move, name}
 use Rattle.kishu_store.specs.Fitting.{changed}
 use Rattle.kishu_store.specs.Graph.{Graph, newest}
 use Rattle.kishu_store.specs.Histories.{FollowsAt, Follows, History, before_body, before_pictures, body_length, gives_at, led_by, new_history}
-use Rattle.kishu_store.specs.Holds.{graph_of, history_of}
+use Rattle.kishu_store.specs.Holds.{history_of}
 use Rattle.kishu_store.specs.Rules.{IsEntry}
 use Rattle.kishu_store.specs.Tables.{Change, Table, rows_from}
 use Rattle.kishu_store_laws.specs.HistoryLaws.{AreChanges, IsHistory, led-history, new-history}

@@ -6,7 +6,6 @@ use Rattle.kishu_host.specs.Host.{State}
 use Rattle.kishu_record.specs.declared.entry.Entry as program
 use Rattle.kishu_record.specs.Entries.{entry_of}
 use Rattle.kishu_store.specs.Entries.{Entry, Record, entries_in}
-use Rattle.kishu_store.specs.Graph.{Graph}
 use Rattle.kishu_store.specs.Histories.{AreRecords, History, led, new_history}
 use Rattle.kishu_store.specs.Holds.{Ends, Gives, Holds, changes_by, front, graph_of, history_of}
 use Rattle.kishu_store.specs.Limits.{most_records}

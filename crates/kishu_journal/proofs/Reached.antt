@@ -8,7 +8,7 @@ use Rattle.kishu_store.specs.Entries.{Entry, Record}
 use Rattle.kishu_store.specs.EntryBytes.{body_of}
 use Rattle.kishu_store.specs.Histories.{AreRecords, Follows, FollowsAt, History, body_length, led, led_at, new_history}
 use Rattle.kishu_store.specs.Holds.{header, fresh_length, open_gate, end_of, history_by, BeginsRecord, IsBroken}
-use Rattle.kishu_store_laws.specs.HistoryLaws.{IsHistory, place-end, records-history}
+use Rattle.kishu_store_laws.specs.HistoryLaws.{place-end, records-history}
 use Rattle.kishu_store_laws.specs.Laws.{records-push, history-push}
 use Rattle.kishu_journal.specs.Facts.{RecordAt}
 use Rattle.kishu_journal.specs.Following.{GoOn, IsKept}

@@ -4,7 +4,6 @@ use Rattle.std.specs.List.{AllByRecursion}
 use Rattle.kishu_graph.specs.Kept.{Kept, TellsChanges}
 use Rattle.kishu_host.specs.Host.{State}
 use Rattle.kishu_record.specs.declared.entry.Entry as program
-use Rattle.kishu_record.specs.Entries.{entry_of}
 use Rattle.kishu_store.specs.Histories.{new_history}
 use Rattle.kishu_store.specs.Holds.{history_of}
 use Rattle.kishu_store.specs.Rules.{IsEntry}

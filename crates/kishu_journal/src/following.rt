@@ -73,6 +73,9 @@ fn add_with_groups(
 
 /// Changes a graph by the entry of a record that fits behind those before, and whose body stands at that
 /// place. One that doesn't fit leaves the graph as it is.
+///
+/// An error says that no memory is left. Nothing is promised of the graph then: it may have a commit whose
+/// groups aren't noted.
 pub fn follow(
     alloc: Global,
     graph: &mut Graph,
