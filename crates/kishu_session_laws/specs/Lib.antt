@@ -1,4 +1,5 @@
 pub mod CellLaws
 pub mod RunLaws
+pub mod WrittenStores
 pub mod WrittenLaws
 pub mod StoredLaws
