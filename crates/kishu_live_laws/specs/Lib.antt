@@ -1,3 +1,4 @@
+pub mod Alike
 pub mod OnStates
 pub mod Refusals
 pub mod Replays

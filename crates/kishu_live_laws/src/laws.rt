@@ -1,6 +1,6 @@
 // What requests give on a live state.
 
-ghost use Rattle.std.specs.Prelude.{◌≡◌, ◌≤◌, ◌<◌, if◌then◌else◌, ℕ, List, [], length, Some, None};
+ghost use Rattle.std.specs.Prelude.{◌≡◌, ◌≤◌, ◌<◌, if◌then◌else◌, ℕ, List, [], Some, None};
 ghost use Rattle.std.specs.List.{AllZip};
 ghost use Rattle.kishu_language.specs.declared.profile.Profile.{Profile};
 ghost use Rattle.kishu_meaning.specs.values.Values.{State, empty};
@@ -29,83 +29,133 @@ ghost use Rattle.kishu_history.specs.Paths.{AreRows, table_at};
 ghost use Rattle.kishu_history.specs.Sizes.{AllStaySmall, StaySmall};
 ghost use Rattle.kishu_history.specs.Stored.{Held};
 ghost use Rattle.kishu_history.specs.Tables.{Change, Row};
+ghost use Rattle.kishu_live_laws.specs.Alike.{IsFewer, OnHeads, OnSame, head_after, head_of};
 ghost use Rattle.kishu_live_laws.specs.OnStates.{IsNoCheckout, after_on, answer_on, charge_on, left_of, ran_by, state_on};
 ghost use Rattle.kishu_live_laws.specs.Refusals.{LeavesTooLarge, refusal_in};
 
-/// On the replay of the head a request gives just what one step of the machine gives that replays each commit from empty.
+/// On the replay of the head a request gives just what one step of the machine gives that replays each
+/// commit from empty.
 pub fn replays_step()
-    ensures answer { (g : Graph) (q : Request) → answer_on (replay g g.head.commit) g q ≡ (step g q).answer }
-    ensures after { (g : Graph) (q : Request) → after_on (replay g g.head.commit) g q ≡ after g q }
-    ensures charge { (g : Graph) (q : Request) → charge_on (replay g g.head.commit) g q ≡ charge_of g q }
+    ensures answer { (g : Graph) (q : Request) → answer_on (head_of g) g q ≡ (step g q).answer }
+    ensures after { (g : Graph) (q : Request) → after_on (head_of g) g q ≡ after g q }
+    ensures charge { (g : Graph) (q : Request) → charge_on (head_of g) g q ≡ charge_of g q }
 {}
 
-/// So it does on each state that is the same as that replay; and the state that it leaves is the same as the replay of the new head, where it makes a commit, where the head stays at its commit, and where it is no checkout.
+/// So it does on each state that is the same as that replay; and the state that it leaves is the same as
+/// the replay of the new head, where it makes a commit, where the head stays at its commit, and where it is
+/// no checkout.
 pub fn live_states_step()
-    ensures answer { (s : State) (g : Graph) → IsSoundState s → Same s (replay g g.head.commit) → (q : Request) → answer_on s g q ≡ (step g q).answer }
-    ensures after { (s : State) (g : Graph) → IsSoundState s → Same s (replay g g.head.commit) → (q : Request) → after_on s g q ≡ after g q }
-    ensures charge { (s : State) (g : Graph) → IsSoundState s → Same s (replay g g.head.commit) → (q : Request) → charge_on s g q ≡ charge_of g q }
-    ensures committed { (s : State) (g : Graph) → IsSoundState s → Same s (replay g g.head.commit) → (q : Request) → newest g < newest (after g q) → Same (state_on s g q) (replay (after g q) (after g q).head.commit) }
-    ensures stayed { (s : State) (g : Graph) → IsSoundState s → Same s (replay g g.head.commit) → (q : Request) → (after g q).head.commit ≡ g.head.commit → Same (state_on s g q) (replay (after g q) (after g q).head.commit) }
-    ensures others { (s : State) (g : Graph) → IsSoundState s → Same s (replay g g.head.commit) → (q : Request) → IsNoCheckout q → Same (state_on s g q) (replay (after g q) (after g q).head.commit) }
+    ensures answer { OnHeads (λ s g. (q : Request) → answer_on s g q ≡ (step g q).answer) }
+    ensures after { OnHeads (λ s g. (q : Request) → after_on s g q ≡ after g q) }
+    ensures charge { OnHeads (λ s g. (q : Request) → charge_on s g q ≡ charge_of g q) }
+    ensures committed { OnHeads (λ s g. (q : Request)
+        → newest g < newest (after g q) → Same (state_on s g q) (head_after g q)) }
+    ensures stayed { OnHeads (λ s g. (q : Request)
+        → (after g q).head.commit ≡ g.head.commit → Same (state_on s g q) (head_after g q)) }
+    ensures others { OnHeads (λ s g. (q : Request)
+        → IsNoCheckout q → Same (state_on s g q) (head_after g q)) }
 {}
 
-/// Where such a state has no more nodes than the replay, so it is with the state that a request leaves, and where a cell would begin with too many nodes, so would it on the replay. A picture has no more nodes than its state, and what a good store gives of a commit none more than the commit's replay.
+/// Where such a state has no more nodes than the replay, so it is with the state that a request leaves, and
+/// where a cell would begin with too many nodes, so would it on the replay. A picture has no more nodes than
+/// its state, and what a good store gives of a commit none more than the commit's replay.
 pub fn live_states_have_fewer_nodes()
-    ensures committed { (s : State) (g : Graph) → IsSoundState s → Same s (replay g g.head.commit) → (q : Request) → length s.nodes ≤ length (replay g g.head.commit).nodes → newest g < newest (after g q) → length (state_on s g q).nodes ≤ length (replay (after g q) (after g q).head.commit).nodes }
-    ensures stayed { (s : State) (g : Graph) → IsSoundState s → Same s (replay g g.head.commit) → (q : Request) → length s.nodes ≤ length (replay g g.head.commit).nodes → (after g q).head.commit ≡ g.head.commit → length (state_on s g q).nodes ≤ length (replay (after g q) (after g q).head.commit).nodes }
-    ensures others { (s : State) (g : Graph) → IsSoundState s → Same s (replay g g.head.commit) → (q : Request) → length s.nodes ≤ length (replay g g.head.commit).nodes → IsNoCheckout q → length (state_on s g q).nodes ≤ length (replay (after g q) (after g q).head.commit).nodes }
-    ensures fills { (profile : Profile) (texts : List (List ℕ)) (s t : State) → IsSoundState s → IsSoundState t → Same s t → length s.nodes ≤ length t.nodes → FillsIn profile texts s → FillsIn profile texts t }
-    ensures ran { (profile : Profile) (texts : List (List ℕ)) (s t : State) → IsSoundState s → IsSoundState t → Same s t → length s.nodes ≤ length t.nodes → FillsIn profile (cells_run profile texts s) s → FillsIn profile (cells_run profile texts t) t }
-    ensures pictures { (s : State) (names : List (List ℕ)) → IsSound s → length (picture s names).nodes ≤ length s.nodes }
-    ensures opened { (file : List ℕ) (g : Graph) (of : ℕ → Change) → AreRows of → IsWholeStore file g.commits of → (c : ℕ) → c ≤ newest g → (ps : List State) → AllZip (IsPictureOf (Held file)) (table_at g of c) ps → length (carried [] ps empty).nodes ≤ length (replay g c).nodes }
+    ensures committed { OnHeads (λ s g. (q : Request) → IsFewer s (head_of g)
+        → newest g < newest (after g q) → IsFewer (state_on s g q) (head_after g q)) }
+    ensures stayed { OnHeads (λ s g. (q : Request) → IsFewer s (head_of g)
+        → (after g q).head.commit ≡ g.head.commit → IsFewer (state_on s g q) (head_after g q)) }
+    ensures others { OnHeads (λ s g. (q : Request) → IsFewer s (head_of g)
+        → IsNoCheckout q → IsFewer (state_on s g q) (head_after g q)) }
+    ensures fills { (profile : Profile) (texts : List (List ℕ)) → OnSame (λ s t. IsFewer s t
+        → FillsIn profile texts s → FillsIn profile texts t) }
+    ensures ran { (profile : Profile) (texts : List (List ℕ)) → OnSame (λ s t. IsFewer s t
+        → FillsIn profile (cells_run profile texts s) s → FillsIn profile (cells_run profile texts t) t) }
+    ensures pictures { (s : State) (names : List (List ℕ)) → IsSound s → IsFewer (picture s names) s }
+    ensures opened { (file : List ℕ) (g : Graph) (of : ℕ → Change) → AreRows of
+        → IsWholeStore file g.commits of → (c : ℕ) → c ≤ newest g → (ps : List State)
+        → AllZip (IsPictureOf (Held file)) (table_at g of c) ps → IsFewer (carried [] ps empty) (replay g c) }
 {}
 
-/// Whatever the state is: a request makes one commit, of the cells that are run on that state, or none; the state that it leaves is a state; and where it makes none, the state stays.
+/// Whatever the state is: a request makes one commit, of the cells that are run on that state, or none; the
+/// state that it leaves is a state; and where it makes none, the state stays.
 pub fn requests_commit_what_ran()
-    ensures commit { (s : State) (g : Graph) (q : Request) → newest g < newest (after_on s g q) → after_on s g q ≡ with_commit newest_profile (ran_by q s) g }
-    ensures none { (s : State) (g : Graph) (q : Request) → newest (after_on s g q) ≤ newest g → (after_on s g q).commits ≡ g.commits }
-    ensures left { (s : State) (g : Graph) (q : Request) → newest g < newest (after_on s g q) → state_on s g q ≡ left_of q s }
-    ensures stays { (s : State) (g : Graph) (q : Request) → newest (after_on s g q) ≤ newest g → state_on s g q ≡ s }
-    ensures head { (s : State) (g : Graph) (q : Request) → IsNoCheckout q → newest (after_on s g q) ≤ newest g → (after_on s g q).head ≡ g.head }
+    ensures commit { (s : State) (g : Graph) (q : Request)
+        → newest g < newest (after_on s g q) → after_on s g q ≡ with_commit newest_profile (ran_by q s) g }
+    ensures none { (s : State) (g : Graph) (q : Request)
+        → newest (after_on s g q) ≤ newest g → (after_on s g q).commits ≡ g.commits }
+    ensures left { (s : State) (g : Graph) (q : Request)
+        → newest g < newest (after_on s g q) → state_on s g q ≡ left_of q s }
+    ensures stays { (s : State) (g : Graph) (q : Request)
+        → newest (after_on s g q) ≤ newest g → state_on s g q ≡ s }
+    ensures head { (s : State) (g : Graph) (q : Request) → IsNoCheckout q
+        → newest (after_on s g q) ≤ newest g → (after_on s g q).head ≡ g.head }
     ensures sound { (s : State) (g : Graph) (q : Request) → IsSoundState s → IsSoundState (state_on s g q) }
 {}
 
-/// The graph alone decides each refusal but that for a state's size, by its branches, its head, and how many commits and records it has; what is refused changes nothing; and a state is refused for its size only where the request's cells left it.
+/// The graph alone decides each refusal but that for a state's size, by its branches, its head, and how many
+/// commits and records it has; what is refused changes nothing; and a state is refused for its size only
+/// where the request's cells left it.
 pub fn refusals_change_nothing()
-    ensures alike { (g : Graph) (s t : State) (q : Request) → refusal_in (answer_on s g q) ≡ refusal_in (answer_on t g q) }
-    ensures step { (g : Graph) (s : State) (q : Request) → refusal_in (answer_on s g q) ≡ refusal_in (step g q).answer }
-    ensures graphs { (g h : Graph) → g.branches ≡ h.branches → g.head ≡ h.head → newest g ≡ newest h → g.records ≡ h.records → (q : Request) → refusal_in (step g q).answer ≡ refusal_in (step h q).answer }
-    ensures stays { (g : Graph) (s : State) (q : Request) (r : Refusal) → answer_on s g q ≡ refused r → after_on s g q ≡ g }
-    ensures unchanged { (g : Graph) (s : State) (q : Request) (r : Refusal) → refusal_in (answer_on s g q) ≡ Some r → after_on s g q ≡ g }
-    ensures large { (g : Graph) (s : State) (q : Request) (bytes : ℕ) → answer_on s g q ≡ refused (state_too_large bytes) → LeavesTooLarge s q bytes }
+    ensures alike { (g : Graph) (s t : State) (q : Request)
+        → refusal_in (answer_on s g q) ≡ refusal_in (answer_on t g q) }
+    ensures step { (g : Graph) (s : State) (q : Request)
+        → refusal_in (answer_on s g q) ≡ refusal_in (step g q).answer }
+    ensures graphs { (g h : Graph) → g.branches ≡ h.branches → g.head ≡ h.head → newest g ≡ newest h
+        → g.records ≡ h.records → (q : Request) → refusal_in (step g q).answer ≡ refusal_in (step h q).answer }
+    ensures stays { (g : Graph) (s : State) (q : Request) (r : Refusal)
+        → answer_on s g q ≡ refused r → after_on s g q ≡ g }
+    ensures unchanged { (g : Graph) (s : State) (q : Request) (r : Refusal)
+        → refusal_in (answer_on s g q) ≡ Some r → after_on s g q ≡ g }
+    ensures large { (g : Graph) (s : State) (q : Request) (bytes : ℕ)
+        → answer_on s g q ≡ refused (state_too_large bytes) → LeavesTooLarge s q bytes }
 {}
 
-/// Where cells are committed no state after one of them is too large, and so the replay isn't, where the live state is the same; a graph none of whose replays is too large stays one.
+/// Where cells are committed no state after one of them is too large, and so the replay isn't, where the
+/// live state is the same; a graph none of whose replays is too large stays one.
 pub fn commits_stay_small()
-    ensures live { (s : State) (g : Graph) (q : Request) → newest g < newest (after_on s g q) → StaySmall newest_profile (ran_by q s) s }
-    ensures replay { (s : State) (g : Graph) → IsSoundState s → Same s (replay g g.head.commit) → (q : Request) → newest g < newest (after g q) → StaySmall newest_profile (ran_by q s) (replay g g.head.commit) }
-    ensures all { (g : Graph) (q : Request) → ((c : ℕ) → c ≤ newest g → AllStaySmall (path_in g.commits c) empty) → (c : ℕ) → AllStaySmall (path_in (after g q).commits c) empty }
+    ensures live { (s : State) (g : Graph) (q : Request)
+        → newest g < newest (after_on s g q) → StaySmall newest_profile (ran_by q s) s }
+    ensures replay { OnHeads (λ s g. (q : Request)
+        → newest g < newest (after g q) → StaySmall newest_profile (ran_by q s) (head_of g)) }
+    ensures all { (g : Graph) (q : Request)
+        → ((c : ℕ) → c ≤ newest g → AllStaySmall (path_in g.commits c) empty)
+        → (c : ℕ) → AllStaySmall (path_in (after g q).commits c) empty }
 {}
 
-/// Cells can't tell states apart that are the same: as many of them are run, they show the same and take as many steps.
+/// Cells can't tell states apart that are the same: as many of them are run, they show the same and take as
+/// many steps.
 pub fn cells_run_alike()
-    ensures ran { (profile : Profile) (texts : List (List ℕ)) (s t : State) → IsSoundState s → IsSoundState t → Same s t → cells_run profile texts s ≡ cells_run profile texts t }
-    ensures shown { (count : ℕ) (profile : Profile) (texts : List (List ℕ)) (s t : State) → IsSoundState s → IsSoundState t → Same s t → results_from count profile texts s ≡ results_from count profile texts t }
-    ensures charge { (profile : Profile) (texts : List (List ℕ)) (s t : State) → IsSoundState s → IsSoundState t → Same s t → charge_in profile texts s ≡ charge_in profile texts t }
-    ensures left { (profile : Profile) (texts : List (List ℕ)) (s t : State) → IsSoundState s → IsSoundState t → Same s t → Same (after_cells profile (cells_run profile texts s) s) (after_cells profile (cells_run profile texts t) t) }
+    ensures ran { (profile : Profile) (texts : List (List ℕ))
+        → OnSame (λ s t. cells_run profile texts s ≡ cells_run profile texts t) }
+    ensures shown { (count : ℕ) (profile : Profile) (texts : List (List ℕ))
+        → OnSame (λ s t. results_from count profile texts s ≡ results_from count profile texts t) }
+    ensures charge { (profile : Profile) (texts : List (List ℕ))
+        → OnSame (λ s t. charge_in profile texts s ≡ charge_in profile texts t) }
+    ensures left { (profile : Profile) (texts : List (List ℕ)) → OnSame (λ s t.
+        Same (after_cells profile (cells_run profile texts s) s)
+        (after_cells profile (cells_run profile texts t) t)) }
 {}
 
-/// States that are the same are told alike: their names, what is bound in them, and whether they are too large.
+/// States that are the same are told alike: their names, what is bound in them, and whether they are too
+/// large.
 pub fn same_states_are_told_alike()
-    ensures large { (s t : State) → IsSoundState s → IsSoundState t → Same s t → is_too_large s ≡ is_too_large t }
-    ensures refusal { (s t : State) → IsSoundState s → IsSoundState t → Same s t → (if is_too_large s then Some (too_large s) else None) ≡ (if is_too_large t then Some (too_large t) else None) }
-    ensures told { (s t : State) → IsSoundState s → IsSoundState t → Same s t → (commit : ℕ) → told_at commit (whole s) ≡ told_at commit (whole t) }
-    ensures names { (s t : State) → IsSoundState s → IsSoundState t → Same s t → names_in s ≡ names_in t }
+    ensures large { OnSame (λ s t. is_too_large s ≡ is_too_large t) }
+    ensures refusal { OnSame (λ s t. (if is_too_large s then Some (too_large s) else None)
+        ≡ (if is_too_large t then Some (too_large t) else None)) }
+    ensures told { OnSame (λ s t. (commit : ℕ) → told_at commit (whole s) ≡ told_at commit (whole t)) }
+    ensures names { OnSame (λ s t. names_in s ≡ names_in t) }
 {}
 
-/// Of a file that holds a graph the functions of each replay, and of its pictures, are of the profile that there is; and on a good store of all names the picture of each row of a commit's table is a state that may be loaded for it.
+/// Of a file that holds a graph the functions of each replay, and of its pictures, are of the profile that
+/// there is; and on a good store of all names the picture of each row of a commit's table is a state that may
+/// be loaded for it.
 pub fn stored_pictures_can_be_loaded()
     ensures known { (file : List ℕ) (g : Graph) → Holds file g → (c : ℕ) → AreKnown (replay g c).nodes }
-    ensures pictures { (file : List ℕ) (g : Graph) → Holds file g → (c : ℕ) (names : List (List ℕ)) → AreKnown (picture (replay g c) names).nodes }
-    ensures loads { (file : List ℕ) (g : Graph) (of : ℕ → Change) → AreRows of → IsWholeStore file g.commits of → Holds file g → (c : ℕ) → c ≤ newest g → (r : Row) → In r (table_at g of c) → IsStoredPicture (Held file) r (picture (replay g c) r.group) × AreKnown (picture (replay g c) r.group).nodes }
+    ensures pictures { (file : List ℕ) (g : Graph) → Holds file g
+        → (c : ℕ) (names : List (List ℕ)) → AreKnown (picture (replay g c) names).nodes }
+    ensures loads { (file : List ℕ) (g : Graph) (of : ℕ → Change) → AreRows of
+        → IsWholeStore file g.commits of → Holds file g → (c : ℕ) → c ≤ newest g
+        → (r : Row) → In r (table_at g of c)
+        → IsStoredPicture (Held file) r (picture (replay g c) r.group)
+        × AreKnown (picture (replay g c) r.group).nodes }
 {}
