@@ -1,7 +1,6 @@
 -- A request that was answered: what the session has then, from what was prepared and what was recorded.
-use Rattle.std.proofs.Common.{◌≡◌, ◌<◌, ◌≤◌, ◌⊎◌, inl, inr, ⊎_elim, ℕ, suc, List, [], ◌∷◌, length, refl, sym, ◌∙◌, ap, subst, arith}
-use Rattle.std.specs.Coded.{Coded-set, coded_bool}
-use Rattle.std.specs.Prelude.{Bool, true, false, if◌then◌else◌, Option, Some, None, IsSome}
+use Rattle.std.proofs.Common.{◌≡◌, ◌<◌, ◌⊎◌, inl, inr, ⊎_elim, ℕ, suc, List, [], ◌∷◌, refl, sym, ◌∙◌, ap, subst, arith}
+use Rattle.std.specs.Prelude.{true, Option}
 use Rattle.std.proofs.Math.Logic.{∥∥₁_elim}
 use Rattle.kishu_host.specs.Host as host
 use Rattle.kishu_host.specs.Host.{Elapses, Now, Only}
@@ -10,74 +9,45 @@ use Rattle.kishu_meaning.specs.values.Values as values
 use Rattle.kishu_objects.specs.Same.{Same}
 use Rattle.kishu_objects.specs.States.{IsSoundState}
 use Rattle.kishu_replay.specs.Replay.{after_cells, replay}
-use Rattle.kishu_store.specs.Entries.{Entry, Record, entries_in}
+use Rattle.kishu_store.specs.Entries.{Record, entries_in}
 use Rattle.kishu_store.specs.Graph.{Commit, Graph, newest, with_commit}
-use Rattle.kishu_store.specs.Histories.{History, head_table, table_to}
-use Rattle.kishu_store.specs.Holds.{HasRecords, Holds, Gives, graph_of, history_by, changes_by}
+use Rattle.kishu_store.specs.Histories.{History}
+use Rattle.kishu_store.specs.Holds.{HasRecords, Holds, history_by, changes_by}
 use Rattle.kishu_store.specs.Limits.{newest_profile}
-use Rattle.kishu_store.specs.Tables.{Table, Change, change_of}
-use Rattle.kishu_store_laws.specs.HistoryLaws.{records-history, place-end}
-use Rattle.kishu_store_laws.specs.Laws.{history-graph, ends-gives, ends-holds, ends-records, has-holds, has-gives, one_changes}
-use Rattle.kishu_graph.specs.Kept.{Kept, StandsFor, TellsChanges, KeepsHistory}
-use Rattle.kishu_history.specs.Good.{IsWholeAttached, IsWholeFileOf}
+use Rattle.kishu_store.specs.Tables.{Change}
+use Rattle.kishu_store_laws.specs.Laws.{history-graph, ends-gives, ends-holds, ends-records, has-holds, one_changes}
+use Rattle.kishu_graph.specs.Kept.{StandsFor, TellsChanges, KeepsHistory}
+use Rattle.kishu_history.specs.Good.{IsWholeFileOf}
 use Rattle.kishu_history.specs.Sizes.{StaySmall}
-use Rattle.kishu_history.specs.Stored.{Held, Stored}
 use Rattle.kishu_session_laws.specs.CellLaws.{replay_is_state}
-use Rattle.kishu_live_laws.specs.AtHead.{answer_here, after_here, charge_here, replay_stays_small}
-use Rattle.kishu_live_laws.specs.OnStates.{after_on, ran_by, left_of}
-use Rattle.kishu_live_laws.specs.Outcomes.{when_more}
+use Rattle.kishu_live_laws.specs.AtHead.{after_here, replay_stays_small}
+use Rattle.kishu_live_laws.specs.OnStates.{after_on, ran_by, left_of, state_on}
+use Rattle.kishu_live_laws.specs.Outcomes.{when_more, more_state}
 use Rattle.kishu_live_laws.specs.RequestsAlike.{ran_by_alike, left_of_alike}
 use Rattle.kishu_model.specs.Request.{Request}
 use Rattle.kishu_model.specs.Serve.{after}
 use Rattle.kishu_journal.specs.Going.{IsQuiet}
 use Rattle.kishu_checkout.specs.Pictures.{told_file}
-use Rattle.kishu_session.specs.Attached.{IsAtEnd, IsAttached, LivesIn}
-use Rattle.kishu_session.specs.Head.{CountsPath, IsKnown, LivesAt, Lives}
+use Rattle.kishu_session.specs.Attached.{IsAtEnd, IsAttached}
+use Rattle.kishu_session.specs.Ends.{at-end-behind}
+use Rattle.kishu_session.specs.Head.{CountsPath, IsKnown}
 use Rattle.kishu_session.specs.Journals.{BeforeOrAfter, GoodBeforeOrAfter}
 use Rattle.kishu_session.specs.Known.{IsHistoryOf}
 use Rattle.kishu_session.specs.Lives.{state_of}
 use Rattle.kishu_session.specs.Prepared.{LeadsTo, LeadsOn, led_with, record_in}
-use Rattle.kishu_session.specs.Recording.{IsJournalAt, MayGoOn, GoesOn, WithOrWithout, LeavesOne, with_new}
+use Rattle.kishu_session.specs.Recording.{IsJournalAt, MayGoOn, WithOrWithout, LeavesOne, with_new}
 use Rattle.kishu_session.specs.Written.{IsRecorded}
 use Rattle.kishu_session.specs.declared.head.Head.{Head}
 use Rattle.kishu_session.specs.declared.prepared.Prepared.{Prepared}
 use Rattle.kishu_session.specs.declared.session.Session.{Session}
-use Rattle.kishu_session.proofs.AttachFacts.{told-attached}
-use Rattle.kishu_session.proofs.Grown.{led-is, lives-led, lives-grown, good-grown, few-grown, RunsAlike}
-use Rattle.kishu_session.proofs.RecordKinds.{Kind, IsCommitted, kind-of, led-graph, led-kept}
-use Rattle.kishu_session.proofs.OneTable.{one-head-table}
+use Rattle.kishu_session.proofs.Grown.{led-is, lives-led, RunsAlike}
+use Rattle.kishu_session.proofs.RecordKinds.{Kind, kind-of, led-graph, led-kept}
 
 -- ---- what a session stands behind
 
--- Behind these records, whose history is kept, and has this graph.
-pub record IsBehind (session : Session) (file : List ℕ) (g : Graph) : Type 0 where
-  pub found : List Record
-  pub at : IsJournalAt session.journal file found
-  pub kept : IsHistoryOf session.head.graph (history_by found)
-  pub place : (history_by found).place ≡ session.journal.place
-  pub graph : (history_by found).graph ≡ g
-
-pub at-end-behind : (session : Session) (s : host.State) (g : Graph) → IsAtEnd session s g → IsBehind session s.file g
-at-end-behind session s g e =
-    let stands = e.journal.stands in
-    let found = stands.found in
-    let same : (history_by found).graph ≡ g = history-graph found ∙ ap (λ (es : List Entry). graph_of es) stands.says ∙ sym e.journal.graph in
-    record {
-      found = found;
-      at = record { ends = stands.ends; place = stands.place };
-      kept = record {
-        keeps = record {
-          graph = subst (λ (x : Graph). StandsFor session.head.graph x) (sym same) e.graph;
-          changes = e.tables (changes_by found) (ends-gives s.file found stands.ends);
-        };
-        good = records-history found stands.ends.fit;
-      };
-      place = place-end found stands.ends.fit ∙ sym stands.place;
-      graph = same;
-    }
-
 -- A session that stands behind records whose history is kept is at the end of their file.
-pub behind-at-end : (session : Session) (s : host.State) (rs : List Record) (g : Graph) → IsJournalAt session.journal s.file rs → KeepsHistory session.head.graph (history_by rs) → (history_by rs).graph ≡ g → IsAtEnd session s g
+pub behind-at-end : (session : Session) (s : host.State) (rs : List Record) (g : Graph) → IsJournalAt session.journal s.file rs
+    → KeepsHistory session.head.graph (history_by rs) → (history_by rs).graph ≡ g → IsAtEnd session s g
 behind-at-end session s rs g at keeps same = record {
   journal = record {
     entries = entries_in rs;
@@ -85,36 +55,44 @@ behind-at-end session s rs g at keeps same = record {
     graph = sym same ∙ history-graph rs;
   };
   graph = subst (λ (x : Graph). StandsFor session.head.graph x) same keeps.graph;
-  tables = λ cs gives. subst (λ (x : List Change). TellsChanges session.head.graph x) (one_changes s.file (changes_by rs) cs (ends-gives s.file rs at.ends) gives) keeps.changes;
+  tables = λ cs gives. subst (λ (x : List Change). TellsChanges session.head.graph x)
+      (one_changes s.file (changes_by rs) cs (ends-gives s.file rs at.ends) gives) keeps.changes;
 }
 
--- ---- on a state that is the same as the head's replay
+-- ---- a request whose cells are committed
 
--- The cells of a commit are those of the request, and leave of the replay what they leave of the state.
-module _ (s : values.State) (g : Graph) (here : IsSoundState s) (same : Same s (replay g g.head.commit)) (q : Request) (cells : List (List ℕ)) (is : after_on s g q ≡ with_commit newest_profile cells g) where
-  abbrev there : values.State
-  there = replay g g.head.commit
-
+module _ (s : values.State) (g : Graph) (q : Request) (cells : List (List ℕ)) (is : after_on s g q ≡ with_commit newest_profile cells g) where
   abbrev first_cells : List Commit → List (List ℕ)
   first_cells [] = []
   first_cells (k ∷ ks) = k.cells
 
-  more : newest g < newest (after_on s g q)
-  more = (let e : newest (after_on s g q) ≡ suc (newest g) = ap newest is in omega (arith, e))
+  more-commits : newest g < newest (after_on s g q)
+  more-commits = (let e : newest (after_on s g q) ≡ suc (newest g) = ap newest is in omega (arith, e))
 
+  -- Those of the commit are the request's, which left the state after it.
   cells-are : ran_by q s ≡ cells
-  cells-are = ap (λ (x : Graph). first_cells x.commits) (sym (when_more s g q more).graph ∙ is)
+  cells-are = ap (λ (x : Graph). first_cells x.commits) (sym (when_more s g q more-commits).graph ∙ is)
 
-  pub ran-alike : RunsAlike s there cells
-  ran-alike =
-      let state = replay_is_state g g.head.commit in
-      let now : newest g < newest (after g q) = subst (λ (x : Graph). newest g < newest x) (after_here s g here same q) more in
-      record {
-        same =
-            subst (λ (cs : List (List ℕ)). Same (after_cells newest_profile cs s) (after_cells newest_profile cs there)) cells-are
-            (subst (λ (cs : List (List ℕ)). Same (left_of q s) (after_cells newest_profile cs there)) (sym (ran_by_alike s there here state same g q)) (left_of_alike s there here state same g q));
-        small = subst (λ (cs : List (List ℕ)). StaySmall newest_profile cs there) cells-are (replay_stays_small s g here same q now);
-      }
+  pub left-on : after_cells newest_profile cells s ≡ state_on s g q
+  left-on =
+      ap (λ (cs : List (List ℕ)). after_cells newest_profile cs s) (sym cells-are) ∙ sym (more_state s g q (when_more s g q more-commits))
+
+  -- They leave of the head's replay, where the state is the same, what they leave of the state.
+  module _ (here : IsSoundState s) (same : Same s (replay g g.head.commit)) where
+    abbrev there : values.State
+    there = replay g g.head.commit
+
+    pub ran-alike : RunsAlike s there cells
+    ran-alike =
+        let state = replay_is_state g g.head.commit in
+        let now : newest g < newest (after g q) = subst (λ (x : Graph). newest g < newest x) (after_here s g here same q) more-commits in
+        record {
+          same =
+              subst (λ (cs : List (List ℕ)). Same (after_cells newest_profile cs s) (after_cells newest_profile cs there)) cells-are
+              (subst (λ (cs : List (List ℕ)). Same (left_of q s) (after_cells newest_profile cs there))
+              (sym (ran_by_alike s there here state same g q)) (left_of_alike s there here state same g q));
+          small = subst (λ (cs : List (List ℕ)). StaySmall newest_profile cs there) cells-are (replay_stays_small s g here same q now);
+        }
 
 -- ---- the host is only read
 
@@ -123,14 +101,17 @@ durable-read s s1 quiet only c left = only c (quiet.keeps.crash c left) ∙ sym 
 
 -- The file has one record more than the one that was read, or it is that one.
 pub recorded-most : (old : Session) (s s1 : host.State) → IsQuiet s s1 → (g : Graph) → IsAtEnd old s g → (t : host.State)
-    → ((rs : List Record) → IsJournalAt old.journal s1.file rs → (t.file ≡ s1.file) ⊎ IsRecorded s1.file t.file) → (t.file ≡ s.file) ⊎ IsRecorded s.file t.file
+    → ((rs : List Record) → IsJournalAt old.journal s1.file rs → (t.file ≡ s1.file) ⊎ IsRecorded s1.file t.file)
+    → (t.file ≡ s.file) ⊎ IsRecorded s.file t.file
 recorded-most old s s1 quiet g e t bytes =
     let b = at-end-behind old s g e in
-    subst (λ (f : List ℕ). (t.file ≡ f) ⊎ IsRecorded f t.file) quiet.keeps.file (bytes b.found (subst (λ (f : List ℕ). IsJournalAt old.journal f b.found) (sym quiet.keeps.file) b.at))
+    subst (λ (f : List ℕ). (t.file ≡ f) ⊎ IsRecorded f t.file) quiet.keeps.file
+    (bytes b.found (subst (λ (f : List ℕ). IsJournalAt old.journal f b.found) (sym quiet.keeps.file) b.at))
 
 -- ---- what was prepared
 
-module _ (old : Session) (new : Head) (s s1 : host.State) (q : Request) (p : Prepared) (leads : LeadsOn (told_file s) old.journal.place old.head new q p) (quiet : IsQuiet s s1) where
+module _ (old : Session) (new : Head) (s s1 : host.State) (q : Request) (p : Prepared)
+    (leads : LeadsOn (told_file s) old.journal.place old.head new q p) (quiet : IsQuiet s s1) where
   abbrev r : Option Record
   r = record_in p.recorded
 
@@ -154,7 +135,8 @@ module _ (old : Session) (new : Head) (s s1 : host.State) (q : Request) (p : Pre
     graph-now = led-graph h (After h.graph) r leads-to
 
   -- There is a history that is kept then.
-  pub known-after : (place : ℕ) → IsKnown old.head old.journal.place → ((h : History) → h.place ≡ old.journal.place → (led_with h r).place ≡ place) → IsKnown new place
+  pub known-after : (place : ℕ) → IsKnown old.head old.journal.place
+      → ((h : History) → h.place ≡ old.journal.place → (led_with h r).place ≡ place) → IsKnown new place
   known-after place known moves =
       ∥∥₁_elim known squash₁
       (λ k.
@@ -173,18 +155,25 @@ module _ (old : Session) (new : Head) (s s1 : host.State) (q : Request) (p : Pre
   -- The record may be appended.
   pub may-go-on : s.tells ≡ true → (g : Graph) → IsAtEnd old s g → MayGoOn old.journal s1 r
   may-go-on told g e told1 =
-      let b = at-end-behind old s g e in
-      (b.found, After (history_by b.found).graph, subst (λ (f : List ℕ). IsJournalAt old.journal f b.found) (sym quiet.keeps.file) b.at, leads-to (history_by b.found) b.kept b.place)
+      let b = at-end-behind old s g e in (
+        b.found,
+        After (history_by b.found).graph,
+        subst (λ (f : List ℕ). IsJournalAt old.journal f b.found) (sym quiet.keeps.file) b.at,
+        leads-to
+            (history_by b.found) b.kept b.place,
+      )
 
   -- ---- what a stop leaves
 
   module _ (t : host.State) (leaves : LeavesOne old.journal s1 t r) (told : s.tells ≡ true) (only : Only s.file s.may_leave) where
-    pub left-one : (rs : List Record) (now : Graph) → IsJournalAt old.journal s.file rs → LeadsTo (history_by rs) r now → Elapses s t (WithOrWithout s rs r)
+    pub left-one : (rs : List Record) (now : Graph) → IsJournalAt old.journal s.file rs → LeadsTo (history_by rs) r now
+        → Elapses s t (WithOrWithout s rs r)
     left-one rs now at to =
         let P = WithOrWithout s rs r in
         let here : HasRecords s.file rs = ends-records s.file rs at.ends in
         let before = weaker s s1 P (Now s) quiet.time (λ f o l. (l.1, inl (subst (λ (x : List ℕ). HasRecords x rs) (sym (only f l.0)) here))) in
-        let later = leaves (quiet.time.tells ∙ told) (durable-read s s1 quiet only) rs now (subst (λ (f : List ℕ). IsJournalAt old.journal f rs) (sym quiet.keeps.file) at) to in
+        let later = leaves (quiet.time.tells ∙ told) (durable-read s s1 quiet only) rs now
+        (subst (λ (f : List ℕ). IsJournalAt old.journal f rs) (sym quiet.keeps.file) at) to in
         goes_on s s1 t P (WithOrWithout s1 rs r) before later (λ f o w. (w.0 ∙ quiet.keeps.out, w.1))
 
     pub stop-here : (g : Graph) → IsAtEnd old s g → Elapses s t (BeforeOrAfter s g (After g))
@@ -192,12 +181,14 @@ module _ (old : Session) (new : Head) (s s1 : host.State) (q : Request) (p : Pre
         let b = at-end-behind old s g e in
         let rs = b.found in
         let h = history_by rs in
-        let now : (history_by (with_new rs r)).graph ≡ After g = ap (λ (x : History). x.graph) (sym (led-is rs r)) ∙ graph-now h b.kept b.place ∙ ap After b.graph in
+        let now : (history_by (with_new rs r)).graph ≡ After g = ap (λ (x : History). x.graph) (sym (led-is rs r)) ∙ graph-now h b.kept b.place
+        ∙ ap After b.graph in
         weaker s t (BeforeOrAfter s g (After g)) (WithOrWithout s rs r) (left-one rs (After h.graph) b.at (leads-to h b.kept b.place))
         (λ f o w. (
           w.0,
           ⊎_elim (λ (k : HasRecords f rs). inl (subst (λ (x : Graph). Holds f x) (sym (history-graph rs) ∙ b.graph) (has-holds f rs k)))
-              (λ (k : HasRecords f (with_new rs r)). inr (subst (λ (x : Graph). Holds f x) (sym (history-graph (with_new rs r)) ∙ now) (has-holds f (with_new rs r) k))) w.1,
+              (λ (k : HasRecords f (with_new rs r)). inr
+              (subst (λ (x : Graph). Holds f x) (sym (history-graph (with_new rs r)) ∙ now) (has-holds f (with_new rs r) k))) w.1,
         ))
 
 -- ---- where nothing was prepared, the host was only read
@@ -209,9 +200,12 @@ module _ (old : Session) (s s1 : host.State) (quiet : IsQuiet s s1) (only : Only
       subst (λ (x : Graph). Holds s.file x) (sym (history-graph b.found) ∙ b.graph) (ends-holds s.file b.found b.at.ends)
 
   pub quiet-here : (now : Graph) → IsAtEnd old s g → Elapses s s1 (BeforeOrAfter s g now)
-  quiet-here now e = weaker s s1 (BeforeOrAfter s g now) (Now s) quiet.time (λ f o l. (l.1, inl (subst (λ (x : List ℕ). Holds x g) (sym (only f l.0)) (at-end-holds e))))
+  quiet-here now e =
+      weaker s s1 (BeforeOrAfter s g now) (Now s) quiet.time
+      (λ f o l. (l.1, inl (subst (λ (x : List ℕ). Holds x g) (sym (only f l.0)) (at-end-holds e))))
 
   pub quiet-good : (now : Graph) → IsAttached old s g → Elapses s s1 (GoodBeforeOrAfter s g now)
   quiet-good now a =
       let good : IsWholeFileOf s.file g = record { changes = a.changes; holds = at-end-holds a.at_end; gives = a.gives; store = a.states.good } in
-      weaker s s1 (GoodBeforeOrAfter s g now) (Now s) quiet.time (λ f o l. (l.1, inl (subst (λ (x : List ℕ). IsWholeFileOf x g) (sym (only f l.0)) good)))
+      weaker s s1 (GoodBeforeOrAfter s g now) (Now s) quiet.time
+      (λ f o l. (l.1, inl (subst (λ (x : List ℕ). IsWholeFileOf x g) (sym (only f l.0)) good)))

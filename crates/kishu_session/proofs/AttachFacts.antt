@@ -4,7 +4,7 @@ use Rattle.std.specs.Prelude.{Bool, true, false, if◌then◌else◌, Option, So
 use Rattle.kishu_host.specs.Host.{State, Only}
 use Rattle.kishu_meaning.specs.values.Values as values
 use Rattle.kishu_objects.specs.Same.{Same}
-use Rattle.kishu_store.specs.Graph.{Graph, newest}
+use Rattle.kishu_store.specs.Graph.{Graph}
 use Rattle.kishu_store.specs.Histories.{History, head_table}
 use Rattle.kishu_store.specs.Tables.{Table, Change, change_of, table_at}
 use Rattle.kishu_store_laws.specs.GraphLaws.{IsGraph, held-graph}
@@ -63,7 +63,7 @@ module _ (file : List ℕ) (g : Graph) (good : IsWholeFileOf file g) where
 pub told-some : (s : State) → s.tells ≡ true → told_file s ≡ Some s.file
 told-some s told = ap (λ (b : Bool). if b then Some s.file else None) told
 
-head-table-of : (h : History) (g : Graph) (cs : List Change) → h.graph ≡ g → h.changes ≡ cs → head_table h ≡ table_at g (change_of cs) g.head.commit
+pub head-table-of : (h : History) (g : Graph) (cs : List Change) → h.graph ≡ g → h.changes ≡ cs → head_table h ≡ table_at g (change_of cs) g.head.commit
 head-table-of h g cs same gives = ap (λ (x : Graph). table_at x (change_of h.changes) x.head.commit) same ∙ ap (λ (l : List Change). table_at g (change_of l) g.head.commit) gives
 
 -- ---- the session

@@ -15,7 +15,7 @@ use Rattle.kishu_graph.specs.Refusals.{unless_named, start_of, HasBranched}
 use Rattle.kishu_graph.specs.declared.fault.GraphFault.{GraphFault}
 use Rattle.kishu_graph.specs.declared.fault.GraphFault.TheVariants.{NoSuchRef, BadName, NameTaken, StoreFull, NoMemory}
 use Rattle.kishu_live_laws.specs.Refusals.{by_graph, refusal_in}
-use Rattle.kishu_model.specs.Answers.{Answer, Refusal, branched, refused, state_too_large, no_such_ref, bad_name, name_taken, store_full}
+use Rattle.kishu_model.specs.Answers.{Refusal, branched, refused, state_too_large, no_such_ref, bad_name, name_taken, store_full}
 use Rattle.kishu_model.specs.Request.{Stepped, branch, refused_with}
 use Rattle.kishu_model.specs.Serve.{after}
 use Rattle.kishu_model.specs.Step.{step}
@@ -51,14 +51,16 @@ module _ (g : Graph) (title : List ℕ) (at : Option (List ℕ)) (c : ℕ) (old 
   named : is_branch_name title ≡ true
   named = (branch-accepted g title at c b.start_is b.accepted).form_is
 
-module _ (old new : Head) (title : List ℕ) (at : Option (List ℕ)) (c : ℕ) (lt : c < 2 ^ 32) (branches : BranchesAt old.graph new.graph title at c) (same : new.live ≡ old.live) (counted : new.cells ≡ old.cells)
+module _ (old new : Head) (title : List ℕ) (at : Option (List ℕ)) (c : ℕ) (lt : c < 2 ^ 32) (branches : BranchesAt old.graph new.graph title at c)
+    (same : new.live ≡ old.live) (counted : new.cells ≡ old.cells)
     (p : Prepared) (answer : answer_of p.answer ≡ Some (branched c title)) (recorded : record_in p.recorded ≡ Some (plain (name title c))) where
   abbrev r : Record
   r = plain (name title c)
 
   rules-by : HasHistory old.graph → IsRecord r
   rules-by known =
-      let form : is_branch_name title ≡ true = ∥∥₁_elim known (hlevel props) (λ k. named k.0.graph title at c old.graph new.graph (branches k.0.graph k.1.keeps.graph.shape)) in
+      let form : is_branch_name title ≡ true = ∥∥₁_elim known (hlevel props)
+      (λ k. named k.0.graph title at c old.graph new.graph (branches k.0.graph k.1.keeps.graph.shape)) in
       name-record title c (branch_title title form) lt
 
   module _ (rules : IsRecord r) where
@@ -110,7 +112,8 @@ module _ (old new : Head) (title : List ℕ) (at : Option (List ℕ)) (c : ℕ) 
 pub branch-fault : (g : Graph) (title : List ℕ) (at : Option (List ℕ)) (kept : Kept) (fault : GraphFault) (r : Refusal) → refusal_by fault ≡ Some r
     → IsCause kept title at fault → HasShapeOf kept g → step g (branch title at) ≡ refused_with r g
 branch-fault g title at kept fault r by cause shape =
-    branch-refused g title at fault r (by-cause ((h : Graph) → HasShapeOf kept h → unless_named title (start_of at h) h ≡ Some fault) fault r by cause g shape) by
+    branch-refused g title at fault r (by-cause ((h : Graph) → HasShapeOf kept h → unless_named title (start_of at h) h ≡ Some fault) fault r by
+    cause g shape) by
 
 pub fault-by-graph : (fault : GraphFault) (r : Refusal) → refusal_by fault ≡ Some r → by_graph r ≡ Some r
 fault-by-graph NoSuchRef r by = (let is : no_such_ref ≡ r = cc (by) in subst (λ (x : Refusal). by_graph x ≡ Some x) is refl)

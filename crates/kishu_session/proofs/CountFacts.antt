@@ -1,5 +1,5 @@
 -- How many cells are on the path to a commit, by the way back to the root.
-use Rattle.std.proofs.Common.{◌≡◌, ◌<◌, ◌≤◌, ◌+◌, ◌*◌, ◌^◌, ℕ, suc, List, [], ◌∷◌, ◌++◌, length, refl, sym, ap, ◌∙◌, ⊎_elim, arith}
+use Rattle.std.proofs.Common.{◌≡◌, ◌<◌, ◌≤◌, ◌+◌, ℕ, suc, List, [], ◌∷◌, ◌++◌, length, refl, sym, ap, ◌∙◌, ⊎_elim, arith}
 use Rattle.std.proofs.lemmas.Bool.Decides.{eqb_tells}
 use Rattle.kishu_store.specs.Graph.{Commit, path_in, cell_count}
 use Rattle.kishu_store_laws.specs.GraphLaws.{AreOrdered}
@@ -9,6 +9,9 @@ use Rattle.kishu_graph.specs.Laws.{outline-older, outline-newest}
 pub counted-last : (ks : List Commit) (k : Commit) → cell_count (ks ++ (k ∷ [])) ≡ cell_count ks + length k.cells
 counted-last [] k = omega arith
 counted-last (j ∷ ks) k = omega (arith, counted-last ks k)
+
+pub path-other : (k : Commit) (ks : List Commit) (c : ℕ) → (c ≡ suc (length ks) → ⊥) → path_in (k ∷ ks) c ≡ path_in ks c
+path-other k ks c other = ⊎_elim (λ p. absurd (other p.1)) (λ p. rw p.0 refl) (eqb_tells c (suc (length ks)))
 
 path-older : (k : Commit) (ks : List Commit) (c : ℕ) → c < suc (length ks) → path_in (k ∷ ks) c ≡ path_in ks c
 path-older k ks c h = ⊎_elim (λ p. absurd (omega (arith, h, p.1))) (λ p. rw p.0 refl) (eqb_tells c (suc (length ks)))

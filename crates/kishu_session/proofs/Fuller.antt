@@ -1,12 +1,12 @@
 -- Where cells would begin with too many nodes on the live state of an attached session, so they would on the replay of the head.
-use Rattle.std.proofs.Common.{◌≤◌, ◌<◌, ◌^◌, length, arith}
+use Rattle.std.proofs.Common.{◌≤◌, length, arith}
 use Rattle.kishu_host.specs.Host.{State}
 use Rattle.kishu_meaning.specs.values.Values as values
 use Rattle.kishu_objects.specs.Same.{Same}
 use Rattle.kishu_objects.specs.States.{IsSoundState}
 use Rattle.kishu_store.specs.Graph.{Graph}
 use Rattle.kishu_store.specs.Limits.{newest_profile}
-use Rattle.kishu_replay.specs.Replay.{IsFull, replay}
+use Rattle.kishu_replay.specs.Replay.{replay}
 use Rattle.kishu_session_laws.specs.CellLaws.{replay_is_state}
 use Rattle.kishu_live_laws.specs.CellsAlike.{ran_fills_alike}
 use Rattle.kishu_model.specs.Request.{Request, cell, cells, checkout, branch, log, status, inspect, unreadable}

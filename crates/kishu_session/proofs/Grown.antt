@@ -1,20 +1,18 @@
 -- A file that ends with one record more, or with none: its head's table tells the live state, and where the file before was good, it is good.
-use Rattle.std.proofs.Common.{◌≡◌, ◌≤◌, ◌<◌, ⊎_elim, ℕ, suc, List, [], ◌∷◌, ◌++◌, length, refl, sym, ◌∙◌, ap, subst, arith}
+use Rattle.std.proofs.Common.{◌≡◌, ◌≤◌, ⊎_elim, ℕ, List, [], ◌∷◌, ◌++◌, length, refl, sym, ◌∙◌, ap, subst, arith}
 use Rattle.std.proofs.lemmas.List.{append-nil}
 use Rattle.std.specs.List.{AllZip}
 use Rattle.std.specs.Prelude.{Option, Some, None}
 use Rattle.kishu_meaning.specs.values.Values as values
 use Rattle.kishu_meaning.specs.values.Values.{empty}
-use Rattle.kishu_objects.specs.Lists.{In}
 use Rattle.kishu_objects.specs.Same.{Same}
-use Rattle.kishu_objects.specs.States.{IsSoundState}
 use Rattle.kishu_replay.specs.Replay.{after_cells, after_commits, replay}
-use Rattle.kishu_store.specs.Entries.{Entry, Record}
+use Rattle.kishu_store.specs.Entries.{Record}
 use Rattle.kishu_store.specs.Graph.{Commit, Graph, newest, path_in, with_commit}
-use Rattle.kishu_store.specs.Histories.{History, head_table, led}
-use Rattle.kishu_store.specs.Holds.{HasRecords, Holds, history_by, graph_by, changes_by}
+use Rattle.kishu_store.specs.Histories.{History, head_table}
+use Rattle.kishu_store.specs.Holds.{HasRecords, Holds, history_by}
 use Rattle.kishu_store.specs.Limits.{newest_profile}
-use Rattle.kishu_store.specs.Tables.{Row, Table, Change, table_in, table_at, change_of}
+use Rattle.kishu_store.specs.Tables.{Table, Change, table_in, change_of}
 use Rattle.kishu_store_laws.specs.HistoryLaws.{IsHistory}
 use Rattle.kishu_store_laws.specs.Laws.{has-holds, has-gives, history-graph, history-push}
 use Rattle.kishu_store_laws.specs.PlaceLaws.{pictures-stay, has-history}
@@ -34,8 +32,8 @@ use Rattle.kishu_live_laws.specs.CellsAlike.{cells_few}
 use Rattle.kishu_live_laws.specs.Fewer.{opened_few}
 use Rattle.kishu_commit.specs.LiveLaws.{whole-table, live-untold}
 use Rattle.kishu_commit.specs.RecordedLaws.{recorded-live, recorded-attached}
-use Rattle.kishu_commit.specs.Whole.{next_entry, next_record, next_rows, stored_whole}
-use Rattle.kishu_session.specs.Head.{LivesAt, IsLoaded}
+use Rattle.kishu_commit.specs.Whole.{next_record, next_rows}
+use Rattle.kishu_session.specs.Head.{LivesAt}
 use Rattle.kishu_session.specs.Known.{IsHistoryOf}
 use Rattle.kishu_session.specs.Lives.{state_of}
 use Rattle.kishu_session.specs.Prepared.{led_with}
@@ -63,11 +61,13 @@ module _ (file : Option (List ℕ)) (old new : Head) (h : History) (good : IsHis
   pub lives-led : (r : Option Record) → IsHistoryOf new.graph (led_with h r) → Kind file old new h r (led_with h r) → LivesAt None new (led_with h r)
   lives-led r kept kind =
       ⊎_elim (still-untold (led_with h r))
-      (⊎_elim (λ (k : IsMoved file new h (led_with h r)). lives-untold file (head_table (led_with h r)) (state_of new.live) (k.loaded (led_with h r) kept).lives) (committed-untold r)) kind
+      (⊎_elim (λ (k : IsMoved file new h (led_with h r)). lives-untold file (head_table (led_with h r)) (state_of new.live)
+      (k.loaded (led_with h r) kept).lives) (committed-untold r)) kind
 
 -- ---- tables in a file that has grown
 
-keeps-table : (file grown : List ℕ) (ks : List Commit) (of : ℕ → Change) → AreRows of → KeepsRecords file grown (length ks) of → (c : ℕ) → Keeps file grown (table_in ks of c)
+keeps-table : (file grown : List ℕ) (ks : List Commit) (of : ℕ → Change) → AreRows of → KeepsRecords file grown (length ks) of → (c : ℕ)
+    → Keeps file grown (table_in ks of c)
 keeps-table file grown ks of rows keeps c r m = (let q = rows_recorded ks of rows c r m in keeps r.version q.1 r q.0)
 
 -- What cells leave of a replay is the same as what they leave of the state, and isn't too large.
@@ -104,7 +104,8 @@ module _ (file grown : List ℕ) (rs : List Record) (r : Option Record) (has : H
       stay_keeps file grown h.changes (newest h.graph) (pictures-stay file grown rs more.0 has (subst (HasRecords grown) (sym more.1) has_grown))
 
   -- the table of a commit of before
-  stays-there : (c : ℕ) (s : values.State) → IsLive (Stored (Some file)) (table_in h.graph.commits of c) s → IsLive (Stored (Some grown)) (table_in h.graph.commits of c) s
+  stays-there : (c : ℕ) (s : values.State) → IsLive (Stored (Some file)) (table_in h.graph.commits of c) s
+      → IsLive (Stored (Some grown)) (table_in h.graph.commits of c) s
   stays-there c s live = live_still file grown (table_in h.graph.commits of c) s (keeps-table file grown h.graph.commits of rows keeps c) live
 
   module _ (old new : Head) where
@@ -114,7 +115,8 @@ module _ (file grown : List ℕ) (rs : List Record) (r : Option Record) (has : H
     moved-grown kept k =
         let table = same-table h n k.same n.graph.head.commit in
         subst (λ (t : Table). IsLive (Stored (Some grown)) t (state_of new.live)) (sym table)
-        (stays-there n.graph.head.commit (state_of new.live) (subst (λ (t : Table). IsLive (Stored (Some file)) t (state_of new.live)) table (k.loaded n kept).lives))
+        (stays-there n.graph.head.commit (state_of new.live)
+        (subst (λ (t : Table). IsLive (Stored (Some file)) t (state_of new.live)) table (k.loaded n kept).lives))
 
     committed-grown : IsCommitted old new h r → LivesAt (Some grown) new n
     committed-grown k =
@@ -126,7 +128,8 @@ module _ (file grown : List ℕ) (rs : List Record) (r : Option Record) (has : H
       still-grown : IsStill old new h n → LivesAt (Some grown) new n
       still-grown k =
           subst (λ (t : Table). IsLive (Stored (Some grown)) t (state_of new.live)) (sym (same-head-table h n k.same k.head))
-          (subst (λ (s : values.State). IsLive (Stored (Some grown)) (head_table h) s) (sym k.live) (stays-there h.graph.head.commit (state_of old.live) lives))
+          (subst (λ (s : values.State). IsLive (Stored (Some grown)) (head_table h) s) (sym k.live)
+          (stays-there h.graph.head.commit (state_of old.live) lives))
 
       pub lives-grown : IsHistoryOf new.graph n → Kind (Some file) old new h r n → LivesAt (Some grown) new n
       lives-grown kept kind = ⊎_elim still-grown (⊎_elim (moved-grown kept) committed-grown) kind
@@ -159,10 +162,14 @@ module _ (file grown : List ℕ) (rs : List Record) (r : Option Record) (has : H
       committed-good k alike =
           let u = state_of new.live in
           let there = replay_is_state h.graph h.graph.head.commit in
-          let same : Same u (after_cells newest_profile k.cells replayed) = subst (λ (x : values.State). Same x (after_cells newest_profile k.cells replayed)) (sym k.ran) alike.same in
-          let next : HasRecords grown (rs ++ (next_record h k.cells u ∷ [])) = subst (λ (o : Option Record). HasRecords grown (with_new rs o)) k.is has_grown in
-          let after = recorded-attached rs k.cells u k.sound k.fits grown next file has (replays_are_states h.graph) s attached (cells_keep newest_profile k.cells replayed there) same alike.small in
-          good-by (subst (λ (o : Option Record). IsWholeStore grown (history_by (with_new rs o)).graph.commits (change_of (history_by (with_new rs o)).changes)) (sym k.is) after.good)
+          let same : Same u (after_cells newest_profile k.cells replayed) = subst
+          (λ (x : values.State). Same x (after_cells newest_profile k.cells replayed)) (sym k.ran) alike.same in
+          let next : HasRecords grown (rs ++ (next_record h k.cells u ∷ [])) = subst (λ (o : Option Record). HasRecords grown (with_new rs o))
+          k.is has_grown in
+          let after = recorded-attached rs k.cells u k.sound k.fits grown next file has (replays_are_states h.graph) s attached
+          (cells_keep newest_profile k.cells replayed there) same alike.small in
+          good-by (subst (λ (o : Option Record). IsWholeStore grown (history_by (with_new rs o)).graph.commits
+          (change_of (history_by (with_new rs o)).changes)) (sym k.is) after.good)
 
       pub good-grown : Kind (Some file) old new h r n → ((k : IsCommitted old new h r) → RunsAlike s replayed k.cells) → IsWholeFileOf grown n.graph
       good-grown kind alike =
@@ -195,7 +202,8 @@ module _ (file grown : List ℕ) (rs : List Record) (r : Option Record) (has : H
         committed-few : IsCommitted old new h r → IsFew n.graph (state_of new.live)
         committed-few k =
             let u = state_of new.live in
-            let fewer = cells_few newest_profile k.cells s replayed attached.told.state (replay_is_state h.graph h.graph.head.commit) attached.same few in
+            let fewer = cells_few newest_profile k.cells s replayed attached.told.state (replay_is_state h.graph h.graph.head.commit)
+            attached.same few in
             let now : IsFew (with_commit newest_profile k.cells h.graph) u =
             omega (
               arith,

@@ -28,6 +28,7 @@ mod Grown
 mod Applied
 mod Untold
 mod Staying
+mod LiveFacts
 mod Silent
 mod ReadFacts
 mod RefusedBranch

@@ -1,12 +1,12 @@
 -- What the loading of the head's table leaves.
-use Rattle.std.proofs.Common.{◌≡◌, ◌<◌, ◌≤◌, ◌*◌, ◌^◌, ℕ, List, refl, ◌∙◌, sym, ap, subst, arith}
+use Rattle.std.proofs.Common.{◌≡◌, ◌<◌, ◌≤◌, ℕ, List, refl, ◌∙◌, sym, ap, subst, arith}
 use Rattle.std.specs.List.{AllByRecursion, AllByRecursion-prop}
 use Rattle.std.specs.Prelude.{Bool, true, false, if◌then◌else◌, IsTrue, Option, Some, None, length, map}
 use Rattle.std.proofs.Math.Logic.{∥∥₁_elim}
 use Rattle.std.proofs.Props.{props}
 use Rattle.kishu_host.specs.Host.{State}
 use Rattle.kishu_meaning.specs.values.Values as values
-use Rattle.kishu_store.specs.Graph.{Graph, Target, newest, count_of}
+use Rattle.kishu_store.specs.Graph.{Target, count_of}
 use Rattle.kishu_store.specs.Groups.{Group, IsGroup, IsName, Rise}
 use Rattle.kishu_store.specs.Histories.{History, head_table, table_to}
 use Rattle.kishu_store.specs.Limits.{most_pictured}

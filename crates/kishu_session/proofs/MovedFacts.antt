@@ -21,7 +21,7 @@ use Rattle.kishu_graph.specs.Laws.{moved-stands}
 use Rattle.kishu_graph.specs.Refusals.{HasMoved, unless_there}
 use Rattle.kishu_graph.specs.declared.fault.GraphFault.{GraphFault}
 use Rattle.kishu_graph.specs.declared.fault.GraphFault.TheVariants.{NoMemory}
-use Rattle.kishu_model.specs.Answers.{Answer, Refusal, refused, checked_out}
+use Rattle.kishu_model.specs.Answers.{Refusal, refused, checked_out}
 use Rattle.kishu_model.specs.Request.{Stepped, checkout, refused_with}
 use Rattle.kishu_model.specs.requests.Checkout.{went_to}
 use Rattle.kishu_model.specs.Serve.{after}
@@ -125,8 +125,11 @@ module _ (old new : Kept) (to : List ℕ) (c : ℕ) (moves : (g : Graph) → Has
 
   pub lacks-moved : (s : State) (at : ℕ) → LacksAtHead new s at → LacksFor old s (checkout to) at
   lacks-moved s at lacks h k =
-      let m = moves h.graph k.keeps.graph.shape in
-      subst (λ (t : Table). Lacks s t at) (moved-table h to c old new m) (lacks (led h (move (move_to new.head))) (moved-history h to c old new m k))
+      let m = moves h.graph k.keeps.graph.shape in (
+        m.accepted,
+        subst (λ (t : Table). Lacks s t at) (moved-table h to c old new m)
+            (lacks (led h (move (move_to new.head))) (moved-history h to c old new m k)),
+      )
 
 -- ---- what the request leads to
 

@@ -1,17 +1,19 @@
--- Histories that are kept have one table for each commit.
-use Rattle.std.proofs.Common.{◌≡◌, ◌<◌, ℕ, suc, List, [], ◌∷◌, ◌++◌, length, map, refl, sym, ◌∙◌, ap, subst, ⊎_elim, arith, length-append}
+-- Histories that are kept have one table for each commit, and as many cells on the path to their head.
+use Rattle.std.proofs.Common.{◌≡◌, ◌≤◌, ◌+◌, ◌*◌, ◌^◌, ℕ, suc, List, [], ◌∷◌, ◌++◌, length, map, refl, sym, ◌∙◌, ap, subst, ⊎_elim, arith, length-append}
 use Rattle.std.proofs.lemmas.Bool.Decides.{eqb_tells}
 use Rattle.std.proofs.lemmas.List.{map-append}
 use Rattle.std.specs.List.{AllByRecursion}
-use Rattle.std.specs.Prelude.{◌==◌, if◌then◌else◌}
-use Rattle.kishu_store.specs.Graph.{Commit, Target}
+use Rattle.std.specs.Prelude.{◌==◌}
+use Rattle.kishu_store.specs.Graph.{Commit, Target, path_in, cell_count, count_of}
 use Rattle.kishu_store.specs.Groups.{IsGroup, first_name}
 use Rattle.kishu_store.specs.Histories.{History, head_table, table_to}
-use Rattle.kishu_store.specs.Tables.{Table, Change, groups_in, table_of, put_rows, changes_in, change_of, no_change}
+use Rattle.kishu_store.specs.Tables.{Table, Change, groups_in, put_rows, changes_in, change_of}
 use Rattle.kishu_store_laws.specs.WalkLaws.{rows_left, rows_back, found-back}
-use Rattle.kishu_graph.specs.Kept.{Kept, Noted, Outline, noted_of, noted_in, outlines, outline_of, parents_of}
-use Rattle.kishu_graph.specs.Laws.{length-outlines}
+use Rattle.kishu_graph.specs.Kept.{Kept, Noted, Outline, noted_of, noted_in, outlines, outline_of, parents_of, counts_of}
+use Rattle.kishu_session.specs.Head.{CountsPath}
 use Rattle.kishu_session.specs.Known.{IsHistoryOf}
+use Rattle.kishu_session.specs.declared.head.Head.{Head}
+use Rattle.kishu_session.proofs.CountFacts.{counted-last, path-newest, path-other}
 
 -- ---- lists that end alike
 
@@ -79,6 +81,40 @@ noted-alike (e ∷ cs) (d ∷ ds) same c =
     let there : (c == suc (length ds)) ≡ (c == suc (length cs)) = ap (λ (n : ℕ). c == suc n) (sym few) in
     ⊎_elim (λ p. rw (there, p.0) k.1) (λ p. rw (there, p.0) (noted-alike cs ds k.0 c)) (eqb_tells c (suc (length cs)))
 
+-- ---- the cells on a path, by parents and numbers of cells
+
+cells-alike : (ks js : List Commit) → parents_of (outlines ks) ≡ parents_of (outlines js) → counts_of (outlines ks) ≡ counts_of (outlines js)
+    → length ks ≡ length js → (c : ℕ) → cell_count (path_in ks c) ≡ cell_count (path_in js c)
+cells-alike [] [] same counts long c = refl
+cells-alike [] (j ∷ js) same counts long c = absurd (omega (arith, long))
+cells-alike (k ∷ ks) [] same counts long c = absurd (omega (arith, long))
+cells-alike (k ∷ ks) (j ∷ js) same counts long c =
+    let parent = λ (o : Outline). o.parent in
+    let own = λ (o : Outline). o.cells in
+    let ends : parents_of (outlines ks) ++ (k.parent ∷ []) ≡ parents_of (outlines js) ++ (j.parent ∷ []) =
+    sym (map-append parent (outlines ks) (outline_of k ∷ [])) ∙ same ∙ map-append parent (outlines js) (outline_of j ∷ []) in
+    let counted : counts_of (outlines ks) ++ (length k.cells ∷ []) ≡ counts_of (outlines js) ++ (length j.cells ∷ []) =
+    sym (map-append own (outlines ks) (outline_of k ∷ [])) ∙ counts ∙ map-append own (outlines js) (outline_of j ∷ []) in
+    let up = last-alike (parents_of (outlines ks)) (parents_of (outlines js)) k.parent j.parent ends in
+    let cells = last-alike (counts_of (outlines ks)) (counts_of (outlines js)) (length k.cells) (length j.cells) counted in
+    let few : length ks ≡ length js = omega (arith, long) in
+    let rest = cells-alike ks js up.0 cells.0 few in
+    ⊎_elim
+    (λ p.
+    let here : cell_count (path_in (k ∷ ks) c) ≡ cell_count (path_in ks k.parent) + length k.cells =
+    ap cell_count (path-newest k ks c p.1) ∙ counted-last (path_in ks k.parent) k in
+    let there : cell_count (path_in (j ∷ js) c) ≡ cell_count (path_in js j.parent) + length j.cells =
+    ap cell_count (path-newest j js c (p.1 ∙ ap suc few)) ∙ counted-last (path_in js j.parent) j in
+    let before : cell_count (path_in ks k.parent) ≡ cell_count (path_in js j.parent) =
+    rest k.parent ∙ ap (λ (n : ℕ). cell_count (path_in js n)) up.1 in
+    let own_is : length k.cells ≡ length j.cells = cells.1 in
+    omega (arith, here, there, before, own_is))
+    (λ p.
+    ap cell_count (path-other k ks c p.1)
+    ∙ rest c
+    ∙ sym (ap cell_count (path-other j js c (λ (e : c ≡ suc (length js)). p.1 (e ∙ ap suc (sym few))))))
+    (eqb_tells c (suc (length ks)))
+
 -- ---- two histories
 
 module _ (kept : Kept) (h j : History) (k : IsHistoryOf kept h) (l : IsHistoryOf kept j) where
@@ -100,5 +136,21 @@ module _ (kept : Kept) (h j : History) (k : IsHistoryOf kept h) (l : IsHistoryOf
       ∙ ap (λ (t : Table). put_rows t []) (back-noted [] cs ∙ ap (noted_back []) path ∙ sym (back-noted [] ds))
       ∙ found-back ds (l.good.changes.fit c) (path-groups j.graph.commits on (λ n. (l.good.changes.each n).groups) c)
 
+  one-head : h.graph.head.commit ≡ j.graph.head.commit
+  one-head = ap (λ (t : Target). t.commit) (sym k.keeps.graph.shape.head ∙ l.keeps.graph.shape.head)
+
   pub one-head-table : head_table h ≡ head_table j
-  one-head-table = one-table h.graph.head.commit ∙ ap (table_to j) (ap (λ (t : Target). t.commit) (sym k.keeps.graph.shape.head ∙ l.keeps.graph.shape.head))
+  one-head-table = one-table h.graph.head.commit ∙ ap (table_to j) one-head
+
+  -- The cells that are counted on the path to one's head are those of the other's.
+  pub one-count : (head : Head) → CountsPath head h.graph → CountsPath head j.graph
+  one-count head count =
+      let parents = sym k.keeps.graph.shape.parents ∙ l.keeps.graph.shape.parents in
+      let counts = sym k.keeps.graph.cells.counts ∙ l.keeps.graph.cells.counts in
+      record {
+        is =
+            count.is
+            ∙ cells-alike h.graph.commits j.graph.commits parents counts few-alike h.graph.head.commit
+            ∙ ap (λ (c : ℕ). count_of j.graph c) one-head;
+        few = subst (λ (n : ℕ). head.cells ≤ n * 2 ^ 32) few-alike count.few;
+      }

@@ -1,5 +1,5 @@
 -- A store that is open: its history, where the host tells its file and where it doesn't, and what is damaged where a picture isn't loaded.
-use Rattle.std.proofs.Common.{◌≡◌, ◌≤◌, ◌<◌, ◌⊎◌, inl, inr, ⊎_elim, ℕ, List, [], length, refl, sym, ◌∙◌, ap, subst, arith}
+use Rattle.std.proofs.Common.{◌≡◌, ◌≤◌, ◌<◌, inl, ⊎_elim, ℕ, List, [], length, refl, sym, ◌∙◌, ap, subst}
 use Rattle.std.specs.Prelude.{true, Option}
 use Rattle.std.proofs.Math.Logic.{∥∥₁_elim}
 use Rattle.std.proofs.lemmas.Bool.{cases_lt}
@@ -7,9 +7,9 @@ use Rattle.kishu_host.specs.Host.{State}
 use Rattle.kishu_store.specs.Entries.{Entry}
 use Rattle.kishu_store.specs.Graph.{Graph, new_graph}
 use Rattle.kishu_store.specs.Histories.{History, head_table}
-use Rattle.kishu_store.specs.Holds.{Holds, Gives, graph_of, history_of, history_by, changes_by}
+use Rattle.kishu_store.specs.Holds.{Holds, Gives, graph_of, history_of, history_by}
 use Rattle.kishu_store.specs.Tables.{Table, Change, change_of, table_at}
-use Rattle.kishu_store_laws.specs.HistoryLaws.{IsHistory, records-history}
+use Rattle.kishu_store_laws.specs.HistoryLaws.{records-history}
 use Rattle.kishu_store_laws.specs.Laws.{history-graph, ends-holds, ends-gives, one_graph, one_changes}
 use Rattle.kishu_graph.specs.Kept.{Kept, StandsFor, TellsChanges}
 use Rattle.kishu_history.specs.Good.{IsWholeFile, IsWholeFileOf}
@@ -20,10 +20,10 @@ use Rattle.kishu_journal.specs.Found.{entries_of}
 use Rattle.kishu_journal.specs.Stands.{JournalState, Stands}
 use Rattle.kishu_journal.specs.Stores.{Opens}
 use Rattle.kishu_journal.specs.declared.open_store.OpenStore.{OpenStore}
-use Rattle.kishu_checkout.specs.Pictures.{HasEach, HasNone, LacksAt}
+use Rattle.kishu_checkout.specs.Pictures.{HasEach, HasNone}
 use Rattle.kishu_session.specs.Attached.{IsAtEnd}
 use Rattle.kishu_session.specs.Attaching.{LacksPicture}
-use Rattle.kishu_session.specs.Head.{Counts, IsLoaded, IsKnown, Lacks, LacksAtHead}
+use Rattle.kishu_session.specs.Head.{Counts, IsLoaded, IsKnown, Lacks}
 use Rattle.kishu_session.specs.Known.{HasHistory, IsHistoryOf}
 use Rattle.kishu_session.specs.declared.head.Head.{Head}
 use Rattle.kishu_session.specs.declared.session.Session.{Session}

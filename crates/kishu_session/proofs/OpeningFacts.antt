@@ -3,9 +3,9 @@ use Rattle.std.proofs.Common.{◌≡◌, ◌⊎◌, ◌≤◌, ◌<◌, inl, inr
 use Rattle.std.proofs.lemmas.Bool.{cases_lt}
 use Rattle.std.proofs.lemmas.Bool.Decides.{nat_tests}
 use Rattle.std.specs.Prelude.{Bool, true, false, if◌then◌else◌, nat_le}
-use Rattle.kishu_host.specs.Host.{State, Told, Now, Only, Keeps, Elapses}
+use Rattle.kishu_host.specs.Host.{State, Told, Now}
 use Rattle.kishu_host.specs.Going.{weaker, goes_on}
-use Rattle.kishu_store.specs.Graph.{Commit, Graph, new_graph}
+use Rattle.kishu_store.specs.Graph.{Graph, new_graph}
 use Rattle.kishu_store.specs.Holds.{Holds, Gives}
 use Rattle.kishu_store.specs.Tables.{Change, change_of}
 use Rattle.kishu_store_laws.specs.Laws.{one_graph, one_changes}
@@ -16,7 +16,7 @@ use Rattle.kishu_journal.specs.Facts.{KeepsLong, StaysShort, Settles, StopsAtOpe
 use Rattle.kishu_journal.specs.Going.{IsQuiet, LeavesShort}
 use Rattle.kishu_session.specs.Attaching.{KeepsGraphs, KeepsGood, KeepsBad, SettlesUnless, SettlesGood, LeavesGraph, LeavesGood, StaysDamaged}
 use Rattle.kishu_session.specs.Opening.{IsOpening}
-use Rattle.kishu_session.specs.Written.{HoldsNone, Stays, begun}
+use Rattle.kishu_session.specs.Written.{HoldsNone, begun}
 
 -- a file that holds nothing is a long one
 long-bad : (file : List ℕ) → HoldsNone file → 17 < length file

@@ -1,12 +1,12 @@
 -- The commit whose table a request may read is there; and on a good file each of its rows has a picture that may be loaded.
-use Rattle.std.proofs.Common.{◌≡◌, ◌≤◌, ◌<◌, Bool, true, false, if◌then◌else◌, ℕ, List, Option, Some, None, refl, sym, ◌∙◌, ap, subst, arith}
+use Rattle.std.proofs.Common.{◌≡◌, ◌≤◌, ◌<◌, Bool, true, false, if◌then◌else◌, ℕ, List, Option, Some, None, refl, sym, subst, arith}
 use Rattle.std.specs.Prelude.{nat_le}
 use Rattle.std.proofs.lemmas.Bool.Decides.{nat_tests}
 use Rattle.kishu_host.specs.Host as host
 use Rattle.kishu_store.specs.Entries.{move}
 use Rattle.kishu_store.specs.Graph.{Graph, Target, newest, with_head}
-use Rattle.kishu_store.specs.Histories.{History, table_to}
-use Rattle.kishu_store.specs.Holds.{Holds, history_by, changes_by}
+use Rattle.kishu_store.specs.Histories.{table_to}
+use Rattle.kishu_store.specs.Holds.{Holds, history_by}
 use Rattle.kishu_store.specs.Limits.{most_records}
 use Rattle.kishu_store.specs.References.{resolve}
 use Rattle.kishu_store.specs.Tables.{Change, change_of}
@@ -20,16 +20,16 @@ use Rattle.kishu_live_laws.specs.Loads.{whole_loads}
 use Rattle.kishu_model.specs.declared.request.Request as rust
 use Rattle.kishu_model.specs.Answers.{store_full}
 use Rattle.kishu_model.specs.Values.{request_of}
-use Rattle.kishu_model.specs.Request.{Request, Stepped, cell, cells, checkout, branch, log, status, inspect, unreadable, refused_with}
+use Rattle.kishu_model.specs.Request.{Request, cell, cells, checkout, branch, log, status, inspect, unreadable, refused_with}
 use Rattle.kishu_model.specs.requests.Checkout.{checkout_to, went_to}
-use Rattle.kishu_checkout.specs.Pictures.{HasEach, LacksSome}
+use Rattle.kishu_checkout.specs.Pictures.{HasEach}
 use Rattle.kishu_session.specs.Applying.{LacksHere}
 use Rattle.kishu_session.specs.Attached.{IsAttached}
+use Rattle.kishu_session.specs.Ends.{at-end-behind}
 use Rattle.kishu_session.specs.Moves.{move_to}
 use Rattle.kishu_session.specs.Prepared.{LacksFor}
 use Rattle.kishu_session.specs.Reading.{reads_at}
 use Rattle.kishu_session.specs.declared.session.Session.{Session}
-use Rattle.kishu_session.proofs.Applied.{at-end-behind}
 use Rattle.kishu_session.proofs.MoveSteps.{resolved-reaches}
 
 -- ---- the commit is there
@@ -39,10 +39,12 @@ module _ (g : Graph) (good : IsGraph g) where
   target-there : (to : List ℕ) (t : Target) → resolve g to ≡ Some t → g.records < most_records → t.commit ≤ newest g
   target-there to t is room =
       let reaches = resolved-reaches g to t is in
-      let now : IsGraph (with_head t g) = subst IsGraph reaches.changed_is (changed-graph g (move (move_to t)) (record { room = room; goes_on = reaches.goes_on }) good) in
+      let now : IsGraph (with_head t g) = subst IsGraph reaches.changed_is
+      (changed-graph g (move (move_to t)) (record { room = room; goes_on = reaches.goes_on }) good) in
       now.head.there
 
-  went-there : (to : List ℕ) (t : Target) → resolve g to ≡ Some t → (b : Bool) → nat_le most_records g.records ≡ b → (if b then refused_with store_full g else went_to t g).graph.head.commit ≤ newest g
+  went-there : (to : List ℕ) (t : Target) → resolve g to ≡ Some t → (b : Bool) → nat_le most_records g.records ≡ b
+      → (if b then refused_with store_full g else went_to t g).graph.head.commit ≤ newest g
   went-there to t is true full = good.head.there
   went-there to t is false room = target-there to t is (grind (arith, nat_tests, room))
 
@@ -74,10 +76,15 @@ module _ (session : Session) (s : host.State) (ask : rust.Request) (at : ℕ) (l
       let rows = changes_are_rows h.graph h.changes h.place b.kept.good.changes in
       let changes : a.changes ≡ h.changes = one_changes s.file a.changes h.changes a.gives (ends-gives s.file b.found b.at.ends) in
       let store : IsWholeStore s.file h.graph.commits (change_of h.changes) =
-      subst (λ (x : Graph). IsWholeStore s.file x.commits (change_of h.changes)) (sym b.graph) (subst (λ (cs : List Change). IsWholeStore s.file g.commits (change_of cs)) changes a.states.good) in
+      subst (λ (x : Graph). IsWholeStore s.file x.commits (change_of h.changes)) (sym b.graph)
+      (subst (λ (cs : List Change). IsWholeStore s.file g.commits (change_of cs)) changes a.states.good) in
       let holds : Holds s.file h.graph = subst (λ (x : Graph). Holds s.file x) (sym (history-graph b.found)) (ends-holds s.file b.found b.at.ends) in
-      let each : HasEach s.file (table_to h c) = λ row m. (picture (replay h.graph c) row.group, whole_loads s.file h.graph (change_of h.changes) rows store holds c (reads-there h.graph b.kept.good.graph q) row m) in
-      (lacks h b.kept).some told each
+      let each : HasEach s.file (table_to h c) = λ row m. (
+        picture (replay h.graph c) row.group,
+        whole_loads s.file h.graph (change_of h.changes) rows store holds c
+            (reads-there h.graph b.kept.good.graph q) row m,
+      ) in
+      (lacks h b.kept).1.some told each
 
   pub lacks-here : LacksHere session s ask at
-  lacks-here = record { lacks = λ h kept. (lacks h kept).lacks; never = never-lacks }
+  lacks-here = record { lacks = λ h kept. ((lacks h kept).0, (lacks h kept).1.lacks); never = never-lacks }

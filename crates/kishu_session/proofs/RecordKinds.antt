@@ -1,7 +1,6 @@
 -- What kinds of records there are, by what they make of the graph, of the tables and of the live state.
-use Rattle.std.proofs.Common.{◌≡◌, ◌⊎◌, inl, inr, ⊎_elim, ℕ, List, [], refl, sym, ◌∙◌, ap, subst}
+use Rattle.std.proofs.Common.{◌≡◌, ◌⊎◌, inl, inr, ℕ, List, refl, sym, ◌∙◌, ap, subst}
 use Rattle.std.specs.Prelude.{Option, Some, None}
-use Rattle.kishu_meaning.specs.values.Values as values
 use Rattle.kishu_objects.specs.States.{IsSoundState}
 use Rattle.kishu_replay.specs.Replay.{after_cells}
 use Rattle.kishu_store.specs.Branches.{commit_of}
@@ -10,7 +9,7 @@ use Rattle.kishu_store.specs.Fitting.{GoesOn, on_branch}
 use Rattle.kishu_store.specs.Graph.{Commit, Graph}
 use Rattle.kishu_store.specs.Histories.{History, head_table, led}
 use Rattle.kishu_store.specs.Limits.{newest_profile}
-use Rattle.kishu_store.specs.Tables.{Table, Change, table_in, change_of}
+use Rattle.kishu_store.specs.Tables.{Change, table_in, change_of}
 use Rattle.kishu_store_laws.specs.HistoryLaws.{IsHistory, led-history}
 use Rattle.kishu_graph.specs.Kept.{Kept, KeepsHistory}
 use Rattle.kishu_commit.specs.Whole.{next_record, whole_record, CanBeStored}
@@ -31,7 +30,8 @@ pub led-good : (h : History) (now : Graph) (r : Option Record) → LeadsTo h r n
 led-good h now None leads good = good
 led-good h now (Some r) leads good = led-history h r.entry good leads.rules.rules leads.fits
 
-pub led-kept : (kept : Kept) (h : History) (now : Graph) (r : Option Record) → LeadsTo h r now → KeepsHistory kept (led_with h r) → IsHistory h → IsHistoryOf kept (led_with h r)
+pub led-kept : (kept : Kept) (h : History) (now : Graph) (r : Option Record) → LeadsTo h r now → KeepsHistory kept (led_with h r) → IsHistory h
+    → IsHistoryOf kept (led_with h r)
 led-kept kept h now r leads keeps good = record { keeps = keeps; good = led-good h now r leads good }
 
 -- ---- kinds
@@ -82,7 +82,8 @@ module _ (file : Option (List ℕ)) (old new : Head) (h : History) (now : Graph)
         sound = tells.sound;
         fits = tells.fits;
       }))
-  by-entry r (move to) is leads tells = inr (inl (record { same = subst (λ (e : Entry). IsSameStore h (led h e)) (sym is) (moved-same h to); loaded = tells }))
+  by-entry r (move to) is leads tells =
+      inr (inl (record { same = subst (λ (e : Entry). IsSameStore h (led h e)) (sym is) (moved-same h to); loaded = tells }))
   by-entry r (name title n) is leads tells =
       inl (record {
         same = subst (λ (e : Entry). IsSameStore h (led h e)) (sym is) (record { commits = refl; changes = refl });
@@ -91,7 +92,8 @@ module _ (file : Option (List ℕ)) (old new : Head) (h : History) (now : Graph)
       })
 
   pub kind-of : (r : Option Record) → LeadsTo h r now → Tells file old new r → Kind file old new h r (led_with h r)
-  kind-of None leads (inl same) = inl (record { same = record { commits = refl; changes = refl }; head = refl; live = ap (λ (x : Head). state_of x.live) same })
+  kind-of None leads (inl same) =
+      inl (record { same = record { commits = refl; changes = refl }; head = refl; live = ap (λ (x : Head). state_of x.live) same })
   kind-of None leads (inr back) = inr (inl (record { same = record { commits = refl; changes = refl }; loaded = back.loaded }))
   kind-of (Some r) leads tells = by-entry r r.entry refl leads tells
 
@@ -99,7 +101,9 @@ module _ (file : Option (List ℕ)) (old new : Head) (h : History) (now : Graph)
 
 module _ (h n : History) (same : IsSameStore h n) where
   pub same-table : (c : ℕ) → table_in n.graph.commits (change_of n.changes) c ≡ table_in h.graph.commits (change_of h.changes) c
-  same-table c = ap (λ (ks : List Commit). table_in ks (change_of n.changes) c) same.commits ∙ ap (λ (cs : List Change). table_in h.graph.commits (change_of cs) c) same.changes
+  same-table c =
+      ap (λ (ks : List Commit). table_in ks (change_of n.changes) c) same.commits
+      ∙ ap (λ (cs : List Change). table_in h.graph.commits (change_of cs) c) same.changes
 
   pub same-head-table : n.graph.head.commit ≡ h.graph.head.commit → head_table n ≡ head_table h
   same-head-table head = same-table n.graph.head.commit ∙ ap (λ (c : ℕ). table_in h.graph.commits (change_of h.changes) c) head

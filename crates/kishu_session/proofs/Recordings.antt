@@ -1,5 +1,5 @@
 -- A record behind those of a store, and what it leaves.
-use Rattle.std.proofs.Common.{◌≡◌, ◌+◌, inl, ℕ, List, [], ◌∷◌, length, map, refl, sym, ◌∙◌, ap, arith, length-append}
+use Rattle.std.proofs.Common.{◌≡◌, ◌+◌, inl, ℕ, List, [], ◌∷◌, length, map, refl, ◌∙◌, ap, arith, length-append}
 use Rattle.std.specs.List.{sum}
 use Rattle.std.specs.Prelude.{flat_map}
 use Rattle.std.proofs.lemmas.List.Sums.{sum_by-cons}
@@ -18,7 +18,8 @@ use Rattle.kishu_session.specs.Prepared.{Leads}
 use Rattle.kishu_session.specs.Recording.{IsJournalAt}
 use Rattle.kishu_session.specs.Written.{IsRecorded}
 
-module _ (journal : JournalState) (file body : List ℕ) (rs : List Record) (r : Record) (j : IsJournalAt journal file rs) (body_is : body ≡ body_of r) where
+module _ (journal : JournalState) (file body : List ℕ) (rs : List Record) (r : Record) (j : IsJournalAt journal file rs)
+    (body_is : body ≡ body_of r) where
   pub recorded-by : (new : List ℕ) → new ≡ appended journal.place body file → IsRecorded file new
   recorded-by new is = (
     rs,
@@ -38,9 +39,11 @@ module _ (journal : JournalState) (file body : List ℕ) (rs : List Record) (r :
   }
 
 -- A journal that stands behind the record's entry stands behind the record.
-pub journal-after : (journal : JournalState) (file : List ℕ) (rs : List Record) (r : Record) → Stands journal file (with_entry (entries_in rs) r.entry) → Ends file (with_record rs r)
+pub journal-after : (journal : JournalState) (file : List ℕ) (rs : List Record) (r : Record)
+    → Stands journal file (with_entry (entries_in rs) r.entry) → Ends file (with_record rs r)
     → IsJournalAt journal file (with_record rs r)
-journal-after journal file rs r stands ends = record { ends = ends; place = stands.place ∙ ap end_of (one_ending file stands.found (with_record rs r) stands.ends ends) }
+journal-after journal file rs r stands ends =
+    record { ends = ends; place = stands.place ∙ ap end_of (one_ending file stands.found (with_record rs r) stands.ends ends) }
 
 pub elapses-none : (s : State) (P : List ℕ → List ℕ → Type 0) → Elapses s s P
 elapses-none s P = record { tells = refl; later = omega arith; nothing_else = λ t c o le left. inl left; keeps = λ t c o le left. left }

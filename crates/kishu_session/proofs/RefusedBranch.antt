@@ -16,7 +16,7 @@ use Rattle.kishu_graph.specs.declared.fault.GraphFault.{GraphFault}
 use Rattle.kishu_graph.specs.declared.fault.GraphFault.TheVariants.{BadName, NameTaken, NoSuchRef}
 use Rattle.kishu_model.specs.Answers.{Refusal, bad_name, name_taken, no_such_ref, store_full, branched}
 use Rattle.kishu_model.specs.Request.{Stepped, branch, refused_with}
-use Rattle.kishu_model.specs.requests.Branch.{branch_at, step_branch}
+use Rattle.kishu_model.specs.requests.Branch.{branch_at}
 use Rattle.kishu_model.specs.requests.Branch as model
 use Rattle.kishu_model.specs.Step.{step}
 use Rattle.kishu_session.specs.Refusing.{refusal_by}

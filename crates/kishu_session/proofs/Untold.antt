@@ -90,17 +90,15 @@ row-or-none x (r ∷ t) =
     ⊎_elim (λ (here : In x r.group). inl (r, inl refl, here))
     (λ (away : In x r.group → ⊥).
     ⊎_elim (λ (k : HasRow x t). inl (k.0, inr k.1, k.2))
-    (λ (none : HasRow x t → ⊥). inr (λ k. ⊎_elim (λ (e : k.0 ≡ r). away (subst (λ (q : Row). In x q.group) e k.2)) (λ (m : In k.0 t). none (k.0, m, k.2)) k.1))
+    (λ (none : HasRow x t → ⊥). inr (λ k. ⊎_elim (λ (e : k.0 ≡ r). away (subst (λ (q : Row). In x q.group) e k.2))
+    (λ (m : In k.0 t). none (k.0, m, k.2)) k.1))
     (row-or-none x t))
     (in-or-not x r.group)
-
-⊥-prop : IsProp ⊥
-⊥-prop a b = absurd a
 
 -- What is there merely, and is there or not, is there.
 is-there : {P : Type 0} → P ⊎ (P → ⊥) → ∥ P ∥₁ → P
 is-there (inl p) merely = p
-is-there (inr away) merely = absurd (∥∥₁_elim merely ⊥-prop away)
+is-there (inr away) merely = absurd (∥∥₁_elim merely (λ x y. absurd x) away)
 
 -- ---- live states
 

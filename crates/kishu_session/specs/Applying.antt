@@ -1,5 +1,5 @@
 -- What a request gives, over the graph of the host's file: `s` is the host before, `t` the host after.
-use Rattle.std.specs.Prelude.{◌≡◌, ◌≤◌, ◌⊎◌, ℕ, ◌+◌, true, Some}
+use Rattle.std.specs.Prelude.{◌≡◌, ◌≤◌, ◌⊎◌, ℕ, ◌+◌, Some}
 use Rattle.kishu_history.specs.Sizes.{StaysSmall}
 use Rattle.kishu_host.specs.Host.{State, Told, Only, Elapses}
 use Rattle.kishu_objects.specs.Same.{Same}
@@ -18,7 +18,7 @@ use Rattle.kishu_session.specs.Filling.{FillsBy}
 use Rattle.kishu_session.specs.Journals.{BeforeOrAfter, GoodBeforeOrAfter}
 use Rattle.kishu_session.specs.Known.{IsHistoryOf}
 use Rattle.kishu_session.specs.Lives.{state_of}
-use Rattle.kishu_session.specs.Reading.{reads_at}
+use Rattle.kishu_session.specs.Reading.{reads_at, MayRead}
 use Rattle.kishu_session.specs.Written.{IsRecorded}
 use Rattle.kishu_session.specs.declared.session.Session.{Session}
 
@@ -70,9 +70,9 @@ IsBackAt old new s = Told s (LivesIn old s → Same (state_of new.head.live) (st
 
 -- ---- why a picture isn't loaded
 
--- At this place a row of the table that the request reads has no picture. An attached session has no such place.
+-- The request may read pictures, and at this place a row of the table that it reads has none. An attached session has no such place.
 pub record LacksHere (old : Session) (s : State) (q : Request) (at : ℕ) : Type 0 where
-  pub lacks : (h : History) → IsHistoryOf old.head.graph h → LacksAt s (table_to h (reads_at h.graph (request_of q))) at
+  pub lacks : (h : History) → IsHistoryOf old.head.graph h → MayRead h.graph (request_of q) × LacksAt s (table_to h (reads_at h.graph (request_of q))) at
   pub never : Told s ((g : Graph) → IsAttached old s g → ⊥)
 
 -- ---- where the heap is full

@@ -1,5 +1,4 @@
 -- The history of a session, whatever its host tells.
-use Rattle.std.specs.Prelude.{◌≡◌, ℕ}
 use Rattle.kishu_store.specs.Histories.{History}
 use Rattle.kishu_store_laws.specs.HistoryLaws.{IsHistory}
 use Rattle.kishu_graph.specs.Kept.{Kept, KeepsHistory}

@@ -1,5 +1,4 @@
 pub mod TextLists
-pub mod Small
 pub mod Known
 pub mod Lives
 pub mod Running
@@ -18,6 +17,7 @@ pub mod Journals
 pub mod Recording
 pub mod Attached
 pub mod Ends
+pub mod Becoming
 pub mod Faults
 pub mod Halting
 pub mod Opening

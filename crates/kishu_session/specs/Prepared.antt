@@ -22,7 +22,7 @@ use Rattle.kishu_session.specs.Committing.{record_of}
 use Rattle.kishu_session.specs.Head.{CountsPath, IsLoaded, Lacks}
 use Rattle.kishu_session.specs.Known.{IsHistoryOf}
 use Rattle.kishu_session.specs.Lives.{state_of}
-use Rattle.kishu_session.specs.Reading.{reads_at}
+use Rattle.kishu_session.specs.Reading.{reads_at, MayRead}
 use Rattle.kishu_session.specs.Refusing.{RefusesAs, RefusesSize}
 use Rattle.kishu_session.specs.declared.head.Head.{Head}
 use Rattle.kishu_session.specs.declared.prepared.Prepared.{Prepared}
@@ -136,6 +136,6 @@ LeadsAlone old new q prepared = (file : Option (List ℕ)) (place : ℕ) → Lea
 abbrev pub StaysWithout : {H : Type 0} → (old new : Head) → (host now : H) → Prepared → Type 0
 StaysWithout old new host now prepared = prepared.recorded ≡ None → RefusesNoSize prepared.answer → (new ≡ old) × (now ≡ host)
 
--- A row of the table that the request reads has no picture at this place.
+-- The request may read pictures, and a row of the table that it reads has none at this place.
 abbrev pub LacksFor : Kept → State → Request → ℕ → Type 0
-LacksFor kept s q at = (h : History) → IsHistoryOf kept h → Lacks s (table_to h (reads_at h.graph q)) at
+LacksFor kept s q at = (h : History) → IsHistoryOf kept h → MayRead h.graph q × Lacks s (table_to h (reads_at h.graph q)) at

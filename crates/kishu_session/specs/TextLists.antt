@@ -1,5 +1,5 @@
 -- Texts, as their bytes.
-use Rattle.std.specs.Prelude.{◌≡◌, ℕ, nat_le, Bool, IsTrue, List, ◌++◌, length, map, Option, option_map}
+use Rattle.std.specs.Prelude.{ℕ, nat_le, Bool, IsTrue, List, length, map, Option, option_map}
 use Rattle.std.specs.List.{list_all}
 use Rattle.std.specs.declared.rc.RcStr.{RcStr}
 use Rattle.std.specs.declared.alloc.Global.{Global}
@@ -19,7 +19,3 @@ are_short texts = list_all (λ text. nat_le (length text) longest_text) texts
 
 abbrev pub AreShort : List (RcStr Global) → Type 0
 AreShort texts = IsTrue (are_short (texts_of texts))
-
--- The new texts are the old ones with these behind them.
-abbrev pub GainsTexts : (old new : List (RcStr Global)) → List (List ℕ) → Type 0
-GainsTexts old new more = texts_of new ≡ texts_of old ++ more

@@ -9,6 +9,8 @@ ghost use Rattle.kishu_session.specs.Applying.{IsAnswer, StaysAttached, Counts, 
 ghost use Rattle.kishu_session.specs.Attached.{IsReady};
 ghost use Rattle.kishu_session.specs.Faults.{DiskFailed};
 ghost use Rattle.kishu_session.specs.Filling.{FillsBy};
+ghost use Rattle.kishu_session.specs.Head.{IsKnown};
+ghost use Rattle.kishu_session.specs.Becoming.{GoesOnLive, IsAnswerHere};
 ghost use Rattle.kishu_session.specs.Lives.{state_of};
 ghost use Rattle.kishu_session.specs.Prepared.{RefusesFor};
 ghost use Rattle.kishu_session.specs.Refusing.{IsRefusal, RefusesSize};
@@ -56,8 +58,17 @@ impl Session {
             (StaysAtEnd self.old self.new (H.state host.old) (H.state host.new) request.now) }
         ensures bytes { OnOk result (RecordsOne self.old (H.state host.old) (H.state host.new)) }
 
+        // So the answer is the one on the live state. That becomes the one that the request's cells left,
+        // where they are committed; else it stays, or is loaded for the head of the graph after the request.
+        ensures answered_here { IfOk result (IsAnswerHere self.old (H.state host.old) request.now) }
+        ensures goes_on { OnOk result (GoesOnLive self.old self.new (H.state host.old) request.now) }
+
         // On every store the live state stays the one that the head's table tells.
         ensures live { OnOk result (StaysLive self.old self.new (H.state host.old) (H.state host.new)) }
+
+        // On every host there is a history that is kept, and the live state has the names of its head's table, no
+        // two rows share a node, and each has a picture of its length.
+        ensures known { OnOk result (IsKnown self.new.head self.new.journal.place) }
 
         // On every host the answer is one, a request is refused just for the causes that the session's graph
         // gives, or for a state's size, and a refusal for such a cause leaves host, graph, nodes and names as

@@ -6,6 +6,8 @@ ghost use Rattle.kishu_journal.specs.Stores.{Opens};
 ghost use Rattle.kishu_session.specs.Attached.{StandsAtEnd, LivesIn};
 ghost use Rattle.kishu_session.specs.Attaching.{Attaches, IsBegun, KeepsGraphs, KeepsGood, KeepsBad, KeepsDamaged, SettlesUnless, SettlesGood, LeavesGraph, LeavesGood, FindsForeign, FindsDamage};
 ghost use Rattle.kishu_session.specs.Faults.{DiskFailed};
+ghost use Rattle.kishu_session.specs.Becoming.{LoadsHead};
+ghost use Rattle.kishu_session.specs.Head.{IsKnown};
 ghost use Rattle.kishu_session.specs.Opening.{IsOpening, IsUnopened};
 ghost use Rattle.kishu_session.specs.Written.{HoldsSome};
 ghost use Rattle.kishu_session.specs.declared.halt.Halt.TheVariants.{NotAJournal, Damaged, DiskFault, HeapFull, Closed};
@@ -63,8 +65,13 @@ impl Session {
         ensures going { IfOk result (λ s. s.halted ≡ false) }
         ensures begun { OnOk result (IsBegun (H.state host.old) (H.state host.new)) }
 
-        // On every store the live state is the one that the head's table tells.
+        // On every store the live state is the one that the head's table tells, and was loaded for it.
         ensures live { IfOk result (λ s. LivesIn s (H.state host.new)) }
+        ensures loaded { IfOk result (λ s. LoadsHead s (H.state host.old) (H.state host.new)) }
+
+        // On every host there is a history that is kept, and the live state has the names of its head's table, no
+        // two rows share a node, and each has a picture of its length.
+        ensures known { IfOk result (λ s. IsKnown s.head s.journal.place) }
 
         // What a file holds stays, and nothing is put out.
         ensures held { KeepsGraphs (H.state host.old) (H.state host.new) }

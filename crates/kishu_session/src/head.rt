@@ -76,6 +76,7 @@ impl Head {
     {
         let commit = self.graph.head().commit;
         let table = self.graph.table(commit)?;
+        // The old heap is gone while the pictures are loaded.
         self.live = Live::new(self.alloc);
         match restore(self.alloc, journal, host, &table) {
             Ok(restored) => {

@@ -1,4 +1,4 @@
-// What cells have left, and the running of one more.
+// What cells have left, or what was loaded, and the running of one cell more.
 ghost use Rattle.std.specs.Prelude.{◌≡◌, ◌≤◌, ◌⊎◌, ◌+◌, [], Some, IsTrue, IfOk, IfErr, OnOk, IsErrOf, length, option_map};
 ghost use Rattle.kishu_meaning.specs.moments.Accesses.{with_accesses};
 ghost use Rattle.kishu_language.specs.Limits.{longest_text};
@@ -35,7 +35,7 @@ pub(crate) struct Live {
 impl Live {
     ghost use Rattle.kishu_session.specs.Lives.{state_of, run_on};
 
-    /// What no cell has left.
+    /// An empty heap and no names.
     pub(crate) fn new(alloc: Global) -> Live
         ensures { state_of result ≡ empty }
     {

@@ -9,9 +9,9 @@ ghost use Rattle.kishu_journal.specs.Going.{IsQuiet};
 ghost use Rattle.kishu_session.specs.Asked.{cell_for};
 ghost use Rattle.kishu_session.specs.Faults.{DiskFailed};
 ghost use Rattle.kishu_session.specs.Filling.{FillsBy};
-ghost use Rattle.kishu_session.specs.Head.{IsKnown};
+ghost use Rattle.kishu_session.specs.Head.{IsKnown, LacksAtHead};
 ghost use Rattle.kishu_session.specs.Lives.{state_of};
-ghost use Rattle.kishu_session.specs.Prepared.{LeadsOn, CountsOn, StaysWithout, LacksFor};
+ghost use Rattle.kishu_session.specs.Prepared.{LeadsOn, CountsOn, StaysWithout};
 ghost use Rattle.kishu_session.specs.declared.unprepared.Unprepared.TheVariants.{HeapFull, Damaged, DiskFault};
 
 use crate::head::Head;
@@ -47,7 +47,7 @@ impl Head {
         ensures full { IsErrOf result HeapFull → FillsBy (state_of self.old.live) (cell_for text.now) }
         ensures beyond { IsErrOf result HeapFull → IsFull (state_of self.new.live) }
         ensures damaged { (at : ℕ) → IsErrOf result (Damaged at)
-            → LacksFor self.old.graph (H.state host.old) (cell_for text.now) at }
+            → LacksAtHead self.old.graph (H.state host.old) at }
         ensures disk_fault { IsErrOf result DiskFault → DiskFailed (H.state host.old) (H.state host.new) }
     {
         self.live.clear_record();
@@ -86,7 +86,7 @@ impl Head {
         ensures full { IsErrOf result HeapFull → FillsBy (state_of self.old.live) (cell_for text.now) }
         ensures beyond { IsErrOf result HeapFull → IsFull (state_of self.new.live) }
         ensures damaged { (at : ℕ) → IsErrOf result (Damaged at)
-            → LacksFor self.old.graph (H.state host.old) (cell_for text.now) at }
+            → LacksAtHead self.old.graph (H.state host.old) at }
         ensures disk_fault { IsErrOf result DiskFault → DiskFailed (H.state host.old) (H.state host.new) }
     {
         if text.len() > LONGEST_TEXT {

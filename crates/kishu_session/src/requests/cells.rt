@@ -12,9 +12,9 @@ ghost use Rattle.kishu_model.specs.requests.Cells.{is_ok, is_too_long, texts_siz
 ghost use Rattle.kishu_session.specs.Asked.{cells_for};
 ghost use Rattle.kishu_session.specs.Faults.{DiskFailed};
 ghost use Rattle.kishu_session.specs.Filling.{FillsBy};
-ghost use Rattle.kishu_session.specs.Head.{IsKnown};
+ghost use Rattle.kishu_session.specs.Head.{IsKnown, LacksAtHead};
 ghost use Rattle.kishu_session.specs.Lives.{state_of, state_after_ran, charge_of_ran, FillsRan};
-ghost use Rattle.kishu_session.specs.Prepared.{LeadsOn, CountsOn, StaysWithout, LacksFor};
+ghost use Rattle.kishu_session.specs.Prepared.{LeadsOn, CountsOn, StaysWithout};
 ghost use Rattle.kishu_session.specs.Running.{IsGivenBy};
 ghost use Rattle.kishu_session.specs.TextLists.{texts_of, AreShort};
 ghost use Rattle.kishu_session.specs.declared.unprepared.Unprepared.TheVariants.{HeapFull, Damaged, DiskFault, NoMemory};
@@ -133,7 +133,7 @@ impl Head {
         ensures full { IsErrOf result HeapFull → FillsBy (state_of self.old.live) (cells_for texts.now) }
         ensures beyond { IsErrOf result HeapFull → IsFull (state_of self.new.live) }
         ensures damaged { (at : ℕ) → IsErrOf result (Damaged at)
-            → LacksFor self.old.graph (H.state host.old) (cells_for texts.now) at }
+            → LacksAtHead self.old.graph (H.state host.old) at }
         ensures disk_fault { IsErrOf result DiskFault → DiskFailed (H.state host.old) (H.state host.new) }
     {
         self.live.clear_record();
@@ -173,7 +173,7 @@ impl Head {
         ensures full { IsErrOf result HeapFull → FillsBy (state_of self.old.live) (cells_for texts.now) }
         ensures beyond { IsErrOf result HeapFull → IsFull (state_of self.new.live) }
         ensures damaged { (at : ℕ) → IsErrOf result (Damaged at)
-            → LacksFor self.old.graph (H.state host.old) (cells_for texts.now) at }
+            → LacksAtHead self.old.graph (H.state host.old) at }
         ensures disk_fault { IsErrOf result DiskFault → DiskFailed (H.state host.old) (H.state host.new) }
     {
         if texts.is_empty() {

@@ -1,4 +1,4 @@
-use Rattle.std.proofs.Common.{◌≡◌, ◌<◌, arith, ap, ◌∙◌, sym}
+use Rattle.std.proofs.Common.{◌≡◌, ◌<◌, arith, ap, ◌∙◌}
 use Rattle.kishu_store.specs.Graph.{count_of}
 use Rattle.kishu_graph.specs.Laws.{count-shape}
 use Rattle.kishu_session.proofs.CountFacts.{count-step, count-root}

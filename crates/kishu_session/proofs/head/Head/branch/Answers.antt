@@ -1,5 +1,4 @@
 use Rattle.std.proofs.Common.{◌≡◌, List, Some, ℕ, refl, sym, subst, arith}
-use Rattle.std.specs.Prelude.{IfOk}
 use Rattle.std.specs.Rc.{rc_str_bytes}
 use Rattle.kishu_store.specs.Entries.{plain, name as named}
 use Rattle.kishu_model.specs.Answers.{branched}
@@ -23,8 +22,10 @@ returns-in-Ok-clause-leads c =
     let commit = c.in-Ok.commit in
     let new : Head = record old { graph = c.add_branch.new.graph } in
     let made = subst (λ (t : List ℕ). BranchesAt old.graph c.add_branch.new.graph t at commit) c.as_str.ensures.value c.in-Ok.ensures.branched in
-    both c.branched.result (λ (p : Prepared). answer_of p.answer ≡ Some (branched commit title)) (λ (p : Prepared). record_in p.recorded ≡ Some (plain (named title commit))) (LeadsAlone old new (branch title at))
-    c.branched.ensures.answer c.branched.ensures.record (λ p answer recorded. branch-leads old new title at commit (omega arith) made refl refl p answer recorded c.requires.known)
+    both c.branched.result (λ (p : Prepared). answer_of p.answer ≡ Some (branched commit title))
+    (λ (p : Prepared). record_in p.recorded ≡ Some (plain (named title commit))) (LeadsAlone old new (branch title at))
+    c.branched.ensures.answer c.branched.ensures.record
+    (λ p answer recorded. branch-leads old new title at commit (omega arith) made refl refl p answer recorded c.requires.known)
 
 pub returns-in_ok-refusal-in-Err-clause-leads : goal.returns-in_ok-refusal-in-Err-clause-leads
 returns-in_ok-refusal-in-Err-clause-leads c =
@@ -36,4 +37,5 @@ returns-in_ok-refusal-in-Err-clause-leads c =
     let by = c.in_ok-refusal-in-Err.ensures in
     let cause = subst (λ (t : List ℕ). IsCause old.graph t at fault) c.as_str.ensures.value c.in-Err.ensures.refused in
     subst (λ (k : Kept). LeadsAlone old (record old { graph = k }) (branch title at) c.refused.result) (sym c.in-Err.ensures.err)
-    (refused-leads old (branch title at) r c.refused.result (fault-by-graph fault r by) c.refused.ensures.answer c.refused.ensures.record (λ g s. branch-fault g title at old.graph fault r by cause s.shape))
+    (refused-leads old (branch title at) r c.refused.result (fault-by-graph fault r by) c.refused.ensures.answer c.refused.ensures.record
+    (λ g s. branch-fault g title at old.graph fault r by cause s.shape))

@@ -1,11 +1,8 @@
 use Rattle.std.proofs.Common.{ℕ, List, sym, subst}
-use Rattle.std.specs.declared.alloc.Global.{Global}
-use Rattle.std.specs.declared.rc.RcStr.{RcStr}
 use Rattle.kishu_model.specs.declared.request.Request.{Request}
 use Rattle.kishu_model.specs.Request.{checkout}
 use Rattle.kishu_model.specs.Values.{request_of}
 use Rattle.kishu_checkout.specs.Pictures.{told_file}
-use Rattle.kishu_session.specs.Asked.{cells_for}
 use Rattle.kishu_session.specs.Prepared.{LacksFor, LeadsOn}
 use Rattle.kishu_session.proofs.Commits.{known-history}
 use Rattle.kishu_session.proofs.head.Head.prepare.Goals as goal
@@ -18,14 +15,13 @@ branch-self-requires g c = record { known = known-history c.args.self.now c.args
 
 pub returns-in-Cell-clause-damaged : goal.returns-in-Cell-clause-damaged
 returns-in-Cell-clause-damaged g c at is =
-    subst (λ (r : Request). LacksFor c.args.self.now.graph (g.H.Host.state c.args.host.now) (request_of r) at) (sym c.in-Cell.is) (c.cell.ensures.damaged at is)
+    subst (λ (r : Request). LacksFor c.args.self.now.graph (g.H.Host.state c.args.host.now) (request_of r) at) (sym c.in-Cell.is)
+    (λ h kept. (tt, c.cell.ensures.damaged at is h kept))
 
 pub returns-in-Cells-clause-damaged : goal.returns-in-Cells-clause-damaged
 returns-in-Cells-clause-damaged g c at is =
-    let s = g.H.Host.state c.args.host.now in
-    let kept = c.args.self.now.graph in
-    subst (λ (r : Request). LacksFor kept s (request_of r) at) (sym c.in-Cells.is)
-    (subst (λ (ts : List (RcStr Global)). LacksFor kept s (cells_for ts) at) c.deref.ensures.value (c.cells.ensures.damaged at is))
+    subst (λ (r : Request). LacksFor c.args.self.now.graph (g.H.Host.state c.args.host.now) (request_of r) at) (sym c.in-Cells.is)
+    (λ h kept. (tt, c.cells.ensures.damaged at is h kept))
 
 pub returns-in-Checkout-clause-damaged : goal.returns-in-Checkout-clause-damaged
 returns-in-Checkout-clause-damaged g c at is =
@@ -38,22 +34,26 @@ pub returns-in_ok-branch-in-Branch-clause-leads : goal.returns-in_ok-branch-in-B
 returns-in_ok-branch-in-Branch-clause-leads g c =
     let file = told_file (g.H.Host.state c.args.host.now) in
     let place = c.args.journal.now.place in
-    subst (λ (r : Request). LeadsOn file place c.args.self.now c.branch-self.new.self (request_of r) c.in_ok-branch-in-Branch.field-0) (sym c.in-Branch.is) (c.in_ok-branch-in-Branch.ensures.leads file place)
+    subst (λ (r : Request). LeadsOn file place c.args.self.now c.branch-self.new.self (request_of r) c.in_ok-branch-in-Branch.field-0)
+    (sym c.in-Branch.is) (c.in_ok-branch-in-Branch.ensures.leads file place)
 
 pub returns-in_ok-log-in-Log-clause-leads : goal.returns-in_ok-log-in-Log-clause-leads
 returns-in_ok-log-in-Log-clause-leads g c =
     let file = told_file (g.H.Host.state c.args.host.now) in
     let place = c.args.journal.now.place in
-    subst (λ (r : Request). LeadsOn file place c.args.self.now c.args.self.now (request_of r) c.in_ok-log-in-Log.field-0) (sym c.in-Log.is) (c.in_ok-log-in-Log.ensures.leads file place)
+    subst (λ (r : Request). LeadsOn file place c.args.self.now c.args.self.now (request_of r) c.in_ok-log-in-Log.field-0) (sym c.in-Log.is)
+    (c.in_ok-log-in-Log.ensures.leads file place)
 
 pub returns-in_ok-status-in-Status-clause-leads : goal.returns-in_ok-status-in-Status-clause-leads
 returns-in_ok-status-in-Status-clause-leads g c =
     let file = told_file (g.H.Host.state c.args.host.now) in
     let place = c.args.journal.now.place in
-    subst (λ (r : Request). LeadsOn file place c.args.self.now c.args.self.now (request_of r) c.in_ok-status-in-Status.field-0) (sym c.in-Status.is) (c.in_ok-status-in-Status.ensures.leads file place)
+    subst (λ (r : Request). LeadsOn file place c.args.self.now c.args.self.now (request_of r) c.in_ok-status-in-Status.field-0)
+    (sym c.in-Status.is) (c.in_ok-status-in-Status.ensures.leads file place)
 
 pub returns-in_ok-inspect-in-Inspect-clause-leads : goal.returns-in_ok-inspect-in-Inspect-clause-leads
 returns-in_ok-inspect-in-Inspect-clause-leads g c =
     let file = told_file (g.H.Host.state c.args.host.now) in
     let place = c.args.journal.now.place in
-    subst (λ (r : Request). LeadsOn file place c.args.self.now c.args.self.now (request_of r) c.in_ok-inspect-in-Inspect.field-0) (sym c.in-Inspect.is) (c.in_ok-inspect-in-Inspect.ensures.leads file place)
+    subst (λ (r : Request). LeadsOn file place c.args.self.now c.args.self.now (request_of r) c.in_ok-inspect-in-Inspect.field-0)
+    (sym c.in-Inspect.is) (c.in_ok-inspect-in-Inspect.ensures.leads file place)

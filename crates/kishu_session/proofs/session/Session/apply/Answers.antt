@@ -1,4 +1,4 @@
-use Rattle.std.proofs.Common.{◌≡◌, ℕ, Err, refl, sym, ◌∙◌, ap, subst}
+use Rattle.std.proofs.Common.{Err, refl, sym, ◌∙◌, ap, subst}
 use Rattle.std.proofs.lemmas.Bool.{false≢true}
 use Rattle.std.proofs.lemmas.Result.{err_from_is_err_and}
 use Rattle.kishu_live_laws.specs.Small.{small_after}
@@ -7,8 +7,10 @@ use Rattle.kishu_model.specs.Values.{request_of, answer_of}
 use Rattle.kishu_session.proofs.Applied.{durable-read, known-after, may-go-on, quiet-good, quiet-here, recorded-most, stop-here}
 use Rattle.kishu_session.proofs.Fuller.{fills-replay}
 use Rattle.kishu_session.proofs.Halts.{was-damaged, was-disk, was-full, not-closed, only-these, is-error}
+use Rattle.kishu_session.proofs.LiveFacts.{answer-on-live, goes-on-live}
 use Rattle.kishu_session.proofs.ReadFacts.{lacks-here}
-use Rattle.kishu_session.proofs.Silent.{refused-silent, refused-no-size, known-some}
+use Rattle.kishu_session.proofs.Silent.{refused-silent, known-some}
+use Rattle.kishu_session.proofs.Sizes.{refusal-no-size}
 use Rattle.kishu_session.proofs.Staying.{answer-after, attached-after, at-end-after, back-same, counts-after, lives-after, stop-after}
 use Rattle.kishu_session.proofs.session.Session.apply.Goals as goal
 
@@ -19,7 +21,8 @@ record-requires-clause-next g c told1 =
     let quiet = c.prepare.ensures.quiet in
     let told = sym quiet.time.tells ∙ told1 in
     let e = c.requires.at_end c.if-self.false told in
-    may-go-on self c.prepare.new.self (st c.args.host.now) (st c.prepare.new.host) (request_of c.args.request.now) c.in_ok-prepared.prepared c.in_ok-prepared.ensures.leads quiet told e.0 e.1 told1
+    may-go-on self c.prepare.new.self (st c.args.host.now) (st c.prepare.new.host) (request_of c.args.request.now) c.in_ok-prepared.prepared
+    c.in_ok-prepared.ensures.leads quiet told e.0 e.1 told1
 
 pub invariant_of-self-2 : goal.invariant_of-self-2
 invariant_of-self-2 g c =
@@ -27,7 +30,9 @@ invariant_of-self-2 g c =
     let self = c.args.self.now in
     record {
       going = λ _. c.in_ok-record.ensures.open;
-      known = λ _. known-after self c.prepare.new.self (st c.args.host.now) (st c.prepare.new.host) (request_of c.args.request.now) c.in_ok-prepared.prepared c.in_ok-prepared.ensures.leads c.prepare.ensures.quiet
+      known =
+          λ _. known-after self c.prepare.new.self (st c.args.host.now) (st c.prepare.new.host) (request_of c.args.request.now)
+          c.in_ok-prepared.prepared c.in_ok-prepared.ensures.leads c.prepare.ensures.quiet
           c.record.new.journal.place (self.known c.if-self.false) c.in_ok-record.ensures.place;
     }
 
@@ -36,25 +41,42 @@ invariant_of-self-2 g c =
 pub returns-clause-answered : goal.returns-clause-answered
 returns-clause-answered g c told g' a =
     let st = g.H.Host.state in
-    answer-after c.args.self.now c.prepare.new.self (st c.args.host.now) (st c.prepare.new.host) (request_of c.args.request.now) c.in_ok-prepared.prepared c.in_ok-prepared.ensures.leads c.prepare.ensures.quiet g' a
+    answer-after c.args.self.now c.prepare.new.self (st c.args.host.now) (st c.prepare.new.host) (request_of c.args.request.now)
+    c.in_ok-prepared.prepared c.in_ok-prepared.ensures.leads c.prepare.ensures.quiet g' a
 
 pub returns-clause-attached : goal.returns-clause-attached
 returns-clause-attached g c told g' a =
     let st = g.H.Host.state in
     let quiet = c.prepare.ensures.quiet in
-    attached-after c.args.self.now c.prepare.new.self (st c.args.host.now) (st c.prepare.new.host) (request_of c.args.request.now) c.in_ok-prepared.prepared c.in_ok-prepared.ensures.leads quiet told _ refl refl (st c.record.new.host)
-    c.in_ok-record.ensures.stands (c.in_ok-record.ensures.durable (quiet.time.tells ∙ told) (durable-read (st c.args.host.now) (st c.prepare.new.host) quiet a.durable)) g' a
+    attached-after c.args.self.now c.prepare.new.self (st c.args.host.now) (st c.prepare.new.host) (request_of c.args.request.now)
+    c.in_ok-prepared.prepared c.in_ok-prepared.ensures.leads quiet told _ refl refl (st c.record.new.host)
+    c.in_ok-record.ensures.stands (c.in_ok-record.ensures.durable (quiet.time.tells ∙ told)
+    (durable-read (st c.args.host.now) (st c.prepare.new.host) quiet a.durable)) g' a
 
 pub returns-clause-at_end : goal.returns-clause-at_end
 returns-clause-at_end g c told g' e =
     let st = g.H.Host.state in
-    at-end-after c.args.self.now c.prepare.new.self (st c.args.host.now) (st c.prepare.new.host) (request_of c.args.request.now) c.in_ok-prepared.prepared c.in_ok-prepared.ensures.leads c.prepare.ensures.quiet told _ refl
+    at-end-after c.args.self.now c.prepare.new.self (st c.args.host.now) (st c.prepare.new.host) (request_of c.args.request.now)
+    c.in_ok-prepared.prepared c.in_ok-prepared.ensures.leads c.prepare.ensures.quiet told _ refl
     (st c.record.new.host) c.in_ok-record.ensures.stands g' e
 
 pub returns-clause-bytes : goal.returns-clause-bytes
 returns-clause-bytes g c told g' e =
     let st = g.H.Host.state in
-    recorded-most c.args.self.now (st c.args.host.now) (st c.prepare.new.host) c.prepare.ensures.quiet g' e (st c.record.new.host) (c.in_ok-record.ensures.bytes (c.prepare.ensures.quiet.time.tells ∙ told))
+    recorded-most c.args.self.now (st c.args.host.now) (st c.prepare.new.host) c.prepare.ensures.quiet g' e (st c.record.new.host)
+    (c.in_ok-record.ensures.bytes (c.prepare.ensures.quiet.time.tells ∙ told))
+
+pub returns-clause-answered_here : goal.returns-clause-answered_here
+returns-clause-answered_here g c told g' e =
+    let self = c.args.self.now in
+    answer-on-live self c.prepare.new.self (g.H.Host.state c.args.host.now) (request_of c.args.request.now) c.in_ok-prepared.prepared
+    c.in_ok-prepared.ensures.leads (self.known c.if-self.false) g' e
+
+pub returns-clause-goes_on : goal.returns-clause-goes_on
+returns-clause-goes_on g c told g' e =
+    let st = g.H.Host.state in
+    goes-on-live c.args.self.now c.prepare.new.self (st c.args.host.now) (request_of c.args.request.now) c.in_ok-prepared.prepared
+    c.in_ok-prepared.ensures.leads (st c.prepare.new.host) c.prepare.ensures.quiet told g' e
 
 pub returns-clause-live : goal.returns-clause-live
 returns-clause-live g c lives =
@@ -65,14 +87,24 @@ returns-clause-live g c lives =
     let q = request_of c.args.request.now in
     let p = c.in_ok-prepared.prepared in
     let leads = c.in_ok-prepared.ensures.leads in
-    let known = known-after self new (st c.args.host.now) (st c.prepare.new.host) q p leads quiet c.record.new.journal.place (self.known c.if-self.false) c.in_ok-record.ensures.place in
-    lives-after self new (st c.args.host.now) (st c.prepare.new.host) q p leads quiet c.record.new.journal (st c.record.new.host) known c.in_ok-record.ensures.stands (c.requires.at_end c.if-self.false)
+    let known = known-after self new (st c.args.host.now) (st c.prepare.new.host) q p leads quiet c.record.new.journal.place
+    (self.known c.if-self.false) c.in_ok-record.ensures.place in
+    lives-after self new (st c.args.host.now) (st c.prepare.new.host) q p leads quiet c.record.new.journal (st c.record.new.host) known
+    c.in_ok-record.ensures.stands (c.requires.at_end c.if-self.false)
     (c.record.ensures.tells ∙ quiet.time.tells) lives
+
+pub returns-clause-known : goal.returns-clause-known
+returns-clause-known g c =
+    let st = g.H.Host.state in
+    let self = c.args.self.now in
+    known-after self c.prepare.new.self (st c.args.host.now) (st c.prepare.new.host) (request_of c.args.request.now) c.in_ok-prepared.prepared
+    c.in_ok-prepared.ensures.leads c.prepare.ensures.quiet c.record.new.journal.place (self.known c.if-self.false) c.in_ok-record.ensures.place
 
 pub returns-clause-is_one : goal.returns-clause-is_one
 returns-clause-is_one g c =
     let self = c.args.self.now in
-    known-some self.journal.place self.head (request_of c.args.request.now) c.in_ok-prepared.prepared.answer (self.known c.if-self.false) c.in_ok-prepared.ensures.leads.refuses
+    known-some self.journal.place self.head (request_of c.args.request.now) c.in_ok-prepared.prepared.answer (self.known c.if-self.false)
+    c.in_ok-prepared.ensures.leads.refuses
 
 pub returns-clause-refuses : goal.returns-clause-refuses
 returns-clause-refuses g c = c.in_ok-prepared.ensures.leads.refuses
@@ -82,8 +114,9 @@ returns-clause-refused g c refusal =
     let self = c.args.self.now in
     let p = c.in_ok-prepared.prepared in
     let leads = c.in_ok-prepared.ensures.leads in
-    let none = refused-silent self.journal.place self.head c.prepare.new.self (request_of c.args.request.now) p (self.known c.if-self.false) leads.prepares leads.refuses refusal in
-    let stays = c.in_ok-prepared.ensures.stays none (refused-no-size (answer_of p.answer) refusal) in
+    let none = refused-silent self.journal.place self.head c.prepare.new.self (request_of c.args.request.now) p (self.known c.if-self.false)
+    leads.prepares leads.refuses refusal in
+    let stays = c.in_ok-prepared.ensures.stays none (λ bytes size. refusal-no-size (answer_of p.answer) refusal.0 bytes refusal.1 size) in
     (c.in_ok-record.ensures.quiet none ∙ stays.1, stays.0)
 
 pub returns-clause-too_large : goal.returns-clause-too_large
@@ -103,19 +136,22 @@ returns-clause-small g c g' all = small_after g' all (request_of c.args.request.
 pub returns-clause-stop : goal.returns-clause-stop
 returns-clause-stop g c told g' a =
     let st = g.H.Host.state in
-    stop-after c.args.self.now c.prepare.new.self (st c.args.host.now) (st c.prepare.new.host) (request_of c.args.request.now) c.in_ok-prepared.prepared c.in_ok-prepared.ensures.leads c.prepare.ensures.quiet told
+    stop-after c.args.self.now c.prepare.new.self (st c.args.host.now) (st c.prepare.new.host) (request_of c.args.request.now)
+    c.in_ok-prepared.prepared c.in_ok-prepared.ensures.leads c.prepare.ensures.quiet told
     (st c.record.new.host) c.record.ensures.stop g' a
 
 pub returns-clause-stop_here : goal.returns-clause-stop_here
 returns-clause-stop_here g c told only g' e =
     let st = g.H.Host.state in
-    stop-here c.args.self.now c.prepare.new.self (st c.args.host.now) (st c.prepare.new.host) (request_of c.args.request.now) c.in_ok-prepared.prepared c.in_ok-prepared.ensures.leads c.prepare.ensures.quiet
+    stop-here c.args.self.now c.prepare.new.self (st c.args.host.now) (st c.prepare.new.host) (request_of c.args.request.now)
+    c.in_ok-prepared.prepared c.in_ok-prepared.ensures.leads c.prepare.ensures.quiet
     (st c.record.new.host) c.record.ensures.stop told only g' e
 
 pub returns-clause-least : goal.returns-clause-least
 returns-clause-least g c told g' a =
     let st = g.H.Host.state in
-    counts-after c.args.self.now c.prepare.new.self (st c.args.host.now) (st c.prepare.new.host) (request_of c.args.request.now) c.in_ok-prepared.prepared c.in_ok-prepared.ensures.leads c.prepare.ensures.quiet
+    counts-after c.args.self.now c.prepare.new.self (st c.args.host.now) (st c.prepare.new.host) (request_of c.args.request.now)
+    c.in_ok-prepared.prepared c.in_ok-prepared.ensures.leads c.prepare.ensures.quiet
     c.args.steps.now c.prepare.new.steps c.in_ok-prepared.ensures.least g' a
 
 -- ---- where the record wasn't appended
@@ -126,13 +162,15 @@ returns-in_err-record-clause-small g c g' all = small_after g' all (request_of c
 pub returns-in_err-record-clause-stop : goal.returns-in_err-record-clause-stop
 returns-in_err-record-clause-stop g c told g' a =
     let st = g.H.Host.state in
-    stop-after c.args.self.now c.prepare.new.self (st c.args.host.now) (st c.prepare.new.host) (request_of c.args.request.now) c.in_ok-prepared.prepared c.in_ok-prepared.ensures.leads c.prepare.ensures.quiet told
+    stop-after c.args.self.now c.prepare.new.self (st c.args.host.now) (st c.prepare.new.host) (request_of c.args.request.now)
+    c.in_ok-prepared.prepared c.in_ok-prepared.ensures.leads c.prepare.ensures.quiet told
     (st c.record.new.host) c.record.ensures.stop g' a
 
 pub returns-in_err-record-clause-stop_here : goal.returns-in_err-record-clause-stop_here
 returns-in_err-record-clause-stop_here g c told only g' e =
     let st = g.H.Host.state in
-    stop-here c.args.self.now c.prepare.new.self (st c.args.host.now) (st c.prepare.new.host) (request_of c.args.request.now) c.in_ok-prepared.prepared c.in_ok-prepared.ensures.leads c.prepare.ensures.quiet
+    stop-here c.args.self.now c.prepare.new.self (st c.args.host.now) (st c.prepare.new.host) (request_of c.args.request.now)
+    c.in_ok-prepared.prepared c.in_ok-prepared.ensures.leads c.prepare.ensures.quiet
     (st c.record.new.host) c.record.ensures.stop told only g' e
 
 -- ---- where nothing was prepared
@@ -169,7 +207,8 @@ returns-in_err-prepared-clause-heap_full g c is =
 pub returns-in_err-prepared-clause-full : goal.returns-in_err-prepared-clause-full
 returns-in_err-prepared-clause-full g c is told g' a =
     let p = err_from_is_err_and c.from_residual.result c.from_residual.ensures.1 in
-    fills-replay c.args.self.now (g.H.Host.state c.args.host.now) g' (request_of c.args.request.now) a (c.in_err-prepared.ensures.full (ap Err (was-full c.from_residual.result c.in_err-prepared.field-0.0 p is)))
+    fills-replay c.args.self.now (g.H.Host.state c.args.host.now) g' (request_of c.args.request.now) a
+    (c.in_err-prepared.ensures.full (ap Err (was-full c.from_residual.result c.in_err-prepared.field-0.0 p is)))
 
 pub returns-in_err-prepared-clause-beyond : goal.returns-in_err-prepared-clause-beyond
 returns-in_err-prepared-clause-beyond g c is =
@@ -177,19 +216,26 @@ returns-in_err-prepared-clause-beyond g c is =
     c.in_err-prepared.ensures.beyond (ap Err (was-full c.from_residual.result c.in_err-prepared.field-0.0 p is))
 
 pub returns-in_err-prepared-clause-only_these : goal.returns-in_err-prepared-clause-only_these
-returns-in_err-prepared-clause-only_these g c = only-these c.from_residual.result c.in_err-prepared.field-0.0 (err_from_is_err_and c.from_residual.result c.from_residual.ensures.1)
+returns-in_err-prepared-clause-only_these g c =
+    only-these c.from_residual.result c.in_err-prepared.field-0.0 (err_from_is_err_and c.from_residual.result c.from_residual.ensures.1)
 
 pub returns-in_err-prepared-clause-closed : goal.returns-in_err-prepared-clause-closed
 returns-in_err-prepared-clause-closed g c = (
-  λ is. absurd (not-closed c.from_residual.result c.in_err-prepared.field-0.0 (err_from_is_err_and c.from_residual.result c.from_residual.ensures.1) is),
+  λ is. absurd (not-closed c.from_residual.result c.in_err-prepared.field-0.0
+      (err_from_is_err_and c.from_residual.result c.from_residual.ensures.1) is),
   λ halted. absurd (false≢true (sym c.if-self.false ∙ halted)),
 )
 
 pub returns-in_err-prepared-clause-untouched : goal.returns-in_err-prepared-clause-untouched
-returns-in_err-prepared-clause-untouched g c is = absurd (not-closed c.from_residual.result c.in_err-prepared.field-0.0 (err_from_is_err_and c.from_residual.result c.from_residual.ensures.1) is)
+returns-in_err-prepared-clause-untouched g c is =
+    absurd (not-closed c.from_residual.result c.in_err-prepared.field-0.0 (err_from_is_err_and c.from_residual.result c.from_residual.ensures.1) is)
 
 pub returns-in_err-prepared-clause-halted : goal.returns-in_err-prepared-clause-halted
-returns-in_err-prepared-clause-halted g c = (λ _. is-error c.from_residual.result c.in_err-prepared.field-0.0 (err_from_is_err_and c.from_residual.result c.from_residual.ensures.1), λ _. refl)
+returns-in_err-prepared-clause-halted g c = (
+  λ _. is-error c.from_residual.result c.in_err-prepared.field-0.0 (err_from_is_err_and c.from_residual.result c.from_residual.ensures.1),
+  λ _.
+      refl,
+)
 
 -- ---- closed before
 

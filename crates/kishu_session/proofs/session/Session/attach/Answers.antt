@@ -1,18 +1,16 @@
-use Rattle.std.proofs.Common.{◌≡◌, ◌<◌, inr, ℕ, List, Err, length, refl, sym, ◌∙◌, ap, subst}
-use Rattle.std.specs.Prelude.{IsErrOf, Option, true}
+use Rattle.std.proofs.Common.{◌≡◌, inr, ℕ, List, Err, refl, sym, ◌∙◌, ap, subst}
+use Rattle.std.specs.Prelude.{IsErrOf, Option}
 use Rattle.std.proofs.lemmas.Result.{err_from_is_err_and}
 use Rattle.kishu_host.specs.Host.{Only}
-use Rattle.kishu_store.specs.Holds.{Gives, graph_of}
-use Rattle.kishu_store.specs.Tables.{Change}
+use Rattle.kishu_store.specs.Holds.{graph_of}
 use Rattle.kishu_store_laws.specs.Laws.{one_graph}
 use Rattle.kishu_journal.specs.Found.{entries_of}
 use Rattle.kishu_checkout.specs.Pictures.{told_file}
-use Rattle.kishu_session.specs.Attached.{IsAtEnd}
-use Rattle.kishu_session.specs.Head.{IsLoaded, Lacks}
-use Rattle.kishu_session.specs.Opening.{IsOpening}
+use Rattle.kishu_session.specs.Head.{IsLoaded}
 use Rattle.kishu_session.specs.declared.halt.Halt.TheVariants.{Damaged, DiskFault}
 use Rattle.kishu_session.proofs.AttachFacts.{loaded-attached}
 use Rattle.kishu_session.proofs.Halts.{was-damaged}
+use Rattle.kishu_session.proofs.LiveFacts.{head-loaded}
 use Rattle.kishu_session.proofs.LoadFacts.{told-file-same}
 use Rattle.kishu_session.proofs.OpenedFacts.{opened-known, head-known, opened-at-end, opened-history, opened-kept, lacks-is-long, lacks-picture}
 use Rattle.kishu_session.proofs.OpeningFacts.{gave-back, opening-then, opening-held, opening-held-good, opening-bad, opening-settled, opening-settled-good, opening-stop, opening-stop-good, opening-damaged}
@@ -97,6 +95,11 @@ invariant_of-result g c =
       known = λ _. head-known store.graph store.journal.place (told_file (g.H.Host.state c.opened.new.host)) c.in_ok-head.head c.in_ok-head.ensures.graph c.in_ok-journal.ensures.known c.in_ok-head.ensures.loaded c.in_ok-head.ensures.count;
     }
 
+pub returns-clause-known : goal.returns-clause-known
+returns-clause-known g c =
+    let store = c.in_ok-journal.field-0 in
+    head-known store.graph store.journal.place (told_file (g.H.Host.state c.opened.new.host)) c.in_ok-head.head c.in_ok-head.ensures.graph c.in_ok-journal.ensures.known c.in_ok-head.ensures.loaded c.in_ok-head.ensures.count
+
 pub returns-clause-held : goal.returns-clause-held
 returns-clause-held g c =
     let st = g.H.Host.state in
@@ -151,6 +154,15 @@ returns-clause-at_end g c told =
       opened-at-end s s1 c.in_ok-journal.field-0 opens told _ t refl c.in_ok-head.ensures.graph c.of_store.ensures.quiet.keeps.file (c.in_ok-journal.ensures.tables told)
           (gave-back s.file s1.file (opening.long told) (opening.short told)) (graph_of (entries_of opens.read.found)) refl,
     )
+
+pub returns-clause-loaded : goal.returns-clause-loaded
+returns-clause-loaded g c told g' holds =
+    let st = g.H.Host.state in
+    let s1 = st c.opened.new.host in
+    let t = st c.of_store.new.host in
+    let quiet = c.of_store.ensures.quiet in
+    let here = subst (λ (o : Option (List ℕ)). IsLoaded o c.in_ok-head.head) (sym (told-file-same s1 t quiet.time.tells quiet.keeps.file)) c.in_ok-head.ensures.loaded in
+    head-loaded _ t (quiet.time.tells ∙ c.in_ok-journal.ensures.opening.tells ∙ told) (returns-clause-at_end g c told) here g' holds
 
 pub returns-clause-attached : goal.returns-clause-attached
 returns-clause-attached g c told g' good =

@@ -1,0 +1,127 @@
+-- What the live state becomes, on every store: after a request that was answered, and where it was loaded as a store was opened.
+use Rattle.std.proofs.Common.{◌≡◌, ◌≤◌, inl, inr, ⊎_elim, ℕ, List, length, refl, sym, ◌∙◌, ap, subst, arith}
+use Rattle.std.specs.Coded.{Coded-set, coded_ℕ, le_prop}
+use Rattle.std.specs.Prelude.{true, Option, Some}
+use Rattle.std.proofs.Math.Logic.{∥∥₁_elim}
+use Rattle.kishu_host.specs.Host as host
+use Rattle.kishu_meaning.specs.values.Values as values
+use Rattle.kishu_store.specs.Entries.{Record}
+use Rattle.kishu_store.specs.Graph.{Graph, newest}
+use Rattle.kishu_store.specs.Histories.{History}
+use Rattle.kishu_store.specs.Holds.{Holds, Gives, history_by}
+use Rattle.kishu_store.specs.Tables.{Table}
+use Rattle.kishu_store_laws.specs.Laws.{ends-gives, one_graph}
+use Rattle.kishu_live_laws.specs.OnStates.{after_on, answer_on}
+use Rattle.kishu_live_laws.specs.Outcomes.{still_state, when_none}
+use Rattle.kishu_model.specs.Request.{Request}
+use Rattle.kishu_model.specs.Values.{answer_of}
+use Rattle.kishu_journal.specs.Going.{IsQuiet}
+use Rattle.kishu_checkout.specs.Loads.{IsLoadedFrom}
+use Rattle.kishu_checkout.specs.Pictures.{told_file}
+use Rattle.kishu_session.specs.Attached.{IsAtEnd, StandsAtEnd}
+use Rattle.kishu_session.specs.Becoming.{IsHeadLoaded, IsNextState}
+use Rattle.kishu_session.specs.Ends.{at-end-behind, at-end-history}
+use Rattle.kishu_session.specs.Head.{CountsPath, IsGiven, IsKnown, IsLoaded}
+use Rattle.kishu_session.specs.Known.{IsHistoryOf}
+use Rattle.kishu_session.specs.Lives.{state_of}
+use Rattle.kishu_session.specs.Prepared.{LeadsOn, led_with, record_in}
+use Rattle.kishu_session.specs.declared.head.Head.{Head}
+use Rattle.kishu_session.specs.declared.prepared.Prepared.{Prepared}
+use Rattle.kishu_session.specs.declared.session.Session.{Session}
+use Rattle.kishu_session.proofs.Applied.{graph-now, kept-now, kind-now, left-on}
+use Rattle.kishu_session.proofs.AttachFacts.{head-table-of, told-some}
+use Rattle.kishu_session.proofs.OneTable.{one-count}
+use Rattle.kishu_session.proofs.RecordKinds.{Kind, IsSameStore, IsStill, IsMoved, IsCommitted}
+
+-- ---- as a store is opened
+
+-- A session whose head's state was loaded, and which stands at the end of its host's file.
+pub head-loaded : (session : Session) (s : host.State) → s.tells ≡ true → StandsAtEnd session s → IsLoaded (told_file s) session.head
+    → (g : Graph) → Holds s.file g → IsHeadLoaded s.file g (state_of session.head.live)
+head-loaded session s told stands loaded g holds =
+    let i = at-end-history session s stands.0 stands.1 in
+    let h = i.history in
+    let given = subst (λ (o : Option (List ℕ)). IsGiven o session.head h) (told-some s told) (loaded h i.kept).given in
+    record {
+      changes = h.changes;
+      gives = i.gives;
+      loaded =
+          subst (λ (t : Table). IsLoadedFrom s.file t (state_of session.head.live))
+          (head-table-of h g h.changes (one_graph s.file h.graph g i.holds holds) refl) given;
+    }
+
+-- ---- after a request
+
+-- From a history that is kept, whose changes a file gives, to the one with the request's record.
+module _ (file : List ℕ) (old new : Head) (h : History) (q : Request) (r : Option Record) (gives : Gives file h.changes)
+    (after : (led_with h r).graph ≡ after_on (state_of old.live) h.graph q) where
+  abbrev u : values.State
+  u = state_of old.live
+
+  abbrev v : values.State
+  v = state_of new.live
+
+  abbrev now : Graph
+  now = after_on u h.graph q
+
+  -- where the commits stay, the request makes none
+  none-made : IsSameStore h (led_with h r) → newest now ≤ newest h.graph
+  none-made k =
+      let same : newest (led_with h r).graph ≡ newest h.graph = ap length k.commits in
+      omega (arith, same, ap newest after)
+
+  still-next : IsStill old new h (led_with h r) → IsNextState file h.graph u q v
+  still-next k = inl (k.live ∙ sym (still_state u h.graph q (when_none u h.graph q (none-made k.same))))
+
+  moved-next : IsHistoryOf new.graph (led_with h r) → IsMoved (Some file) new h (led_with h r) → IsNextState file h.graph u q v
+  moved-next kept k =
+      inr (
+        none-made k.same,
+        record {
+          changes = h.changes;
+          gives = gives;
+          loaded =
+              subst (λ (t : Table). IsLoadedFrom file t v) (head-table-of (led_with h r) now h.changes after k.same.changes)
+              (k.loaded (led_with h r) kept).given;
+        },
+      )
+
+  committed-next : IsCommitted old new h r → IsNextState file h.graph u q v
+  committed-next k =
+      inl (k.ran ∙ left-on u h.graph q k.cells (sym after ∙ ap (λ (o : Option Record). (led_with h o).graph) k.is))
+
+  next-state : IsHistoryOf new.graph (led_with h r) → Kind (Some file) old new h r (led_with h r) → IsNextState file h.graph u q v
+  next-state kept kind = ⊎_elim still-next (⊎_elim (moved-next kept) committed-next) kind
+
+-- The cells that a session counts are those on the path to the head of each history that is kept.
+counts-known : (head : Head) (place : ℕ) (h : History) → IsHistoryOf head.graph h → IsKnown head place → CountsPath head h.graph
+counts-known head place h kept known = record {
+  is = ∥∥₁_elim known (Coded-set coded_ℕ _ _) (λ k. (one-count head.graph k.0 h k.1.kept kept head k.1.count).is);
+  few = ∥∥₁_elim known le_prop (λ k. (one-count head.graph k.0 h k.1.kept kept head k.1.count).few);
+}
+
+module _ (old : Session) (new : Head) (s : host.State) (q : Request) (p : Prepared)
+    (leads : LeadsOn (told_file s) old.journal.place old.head new q p) where
+  abbrev live : values.State
+  live = state_of old.head.live
+
+  abbrev r : Option Record
+  r = record_in p.recorded
+
+  pub answer-on-live : IsKnown old.head old.journal.place → (g : Graph) → IsAtEnd old s g → answer_of p.answer ≡ Some (answer_on live g q)
+  answer-on-live known g e =
+      let b = at-end-behind old s g e in
+      let h = history_by b.found in
+      let count = counts-known old.head old.journal.place h b.kept known in
+      subst (λ (x : Graph). answer_of p.answer ≡ Some (answer_on live x q)) b.graph (leads.answers h b.kept count).answer
+
+  pub goes-on-live : (s1 : host.State) → IsQuiet s s1 → s.tells ≡ true → (g : Graph) → IsAtEnd old s g
+      → IsNextState s.file g live q (state_of new.live)
+  goes-on-live s1 quiet told g e =
+      let b = at-end-behind old s g e in
+      let h = history_by b.found in
+      let kind = subst (λ (o : Option (List ℕ)). Kind o old.head new h r (led_with h r)) (told-some s told)
+      (kind-now old new s s1 q p leads quiet h b.kept b.place) in
+      subst (λ (x : Graph). IsNextState s.file x live q (state_of new.live)) b.graph
+      (next-state s.file old.head new h q r (ends-gives s.file b.found b.at.ends) (graph-now old new s s1 q p leads quiet h b.kept b.place)
+      (kept-now old new s s1 q p leads quiet h b.kept b.place) kind)

@@ -1,0 +1,46 @@
+-- What the live state becomes from request to request, on every store.
+use Rattle.std.specs.Prelude.{◌≡◌, ◌≤◌, ◌⊎◌, ℕ, List, Some}
+use Rattle.kishu_host.specs.Host as host
+use Rattle.kishu_meaning.specs.values.Values.{State}
+use Rattle.kishu_store.specs.Graph.{Graph, newest}
+use Rattle.kishu_store.specs.Holds.{Holds, Gives}
+use Rattle.kishu_store.specs.Tables.{Change, change_of, table_at}
+use Rattle.kishu_model.specs.Request.{Request}
+use Rattle.kishu_model.specs.Values.{request_of, answer_of}
+use Rattle.kishu_model.specs.declared.answer.Answer.{Answer}
+use Rattle.kishu_model.specs.declared.request.Request as rust_request
+use Rattle.kishu_live_laws.specs.OnStates.{after_on, answer_on, state_on}
+use Rattle.kishu_checkout.specs.Loads.{IsLoadedFrom}
+use Rattle.kishu_session.specs.Attached.{IsAtEnd}
+use Rattle.kishu_session.specs.Lives.{state_of}
+use Rattle.kishu_session.specs.declared.session.Session.{Session}
+
+-- It is what the pictures leave of the empty state that a file holds for the table of a graph's head.
+pub record IsHeadLoaded (file : List ℕ) (g : Graph) (u : State) : Type 0 where
+  pub changes : List Change
+  pub gives : Gives file changes
+  pub loaded : IsLoadedFrom file (table_at g (change_of changes) g.head.commit) u
+
+-- After a request that commits nothing it may be the one that was loaded for the head of the graph.
+abbrev pub IsLoadedAfter : List ℕ → Graph → State → Request → State → Type 0
+IsLoadedAfter file g u q v = (newest (after_on u g q) ≤ newest g) × IsHeadLoaded file (after_on u g q) v
+
+-- After a request on a state it is the one that the request's cells left, where they are committed, and the same where none are; or none are, and it was loaded for the head of the graph after it.
+abbrev pub IsNextState : List ℕ → Graph → State → Request → State → Type 0
+IsNextState file g u q v = (v ≡ state_on u g q) ⊎ IsLoadedAfter file g u q v
+
+-- ---- of a session: `s` is the host before, `t` the host after
+
+-- A session that is opened has loaded it.
+abbrev pub LoadsHead : Session → (s t : host.State) → Type 0
+LoadsHead session s t = host.Told s ((g : Graph) → Holds t.file g → IsHeadLoaded t.file g (state_of session.head.live))
+
+-- From one that stands at the file's end it goes on so, whatever it is.
+abbrev pub GoesOnLive : (old new : Session) → host.State → rust_request.Request → Type 0
+GoesOnLive old new s q =
+    host.Told s ((g : Graph) → IsAtEnd old s g → IsNextState s.file g (state_of old.head.live) (request_of q) (state_of new.head.live))
+
+-- The answer is the one on that state.
+abbrev pub IsAnswerHere : Session → host.State → rust_request.Request → Answer → Type 0
+IsAnswerHere old s q a =
+    host.Told s ((g : Graph) → IsAtEnd old s g → answer_of a ≡ Some (answer_on (state_of old.head.live) g (request_of q)))
