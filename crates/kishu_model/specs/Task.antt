@@ -8,6 +8,7 @@ use Rattle.kishu_model.specs.Request.{Request, cell, unreadable}
 use Rattle.kishu_model.specs.Serve.{Item, answered}
 use Rattle.kishu_model.specs.notebooks.Notebook.{opening}
 use Rattle.kishu_model.specs.notebooks.Run.{notebook_run}
+use Rattle.kishu_model.specs.generated.Run.{generated_run}
 
 pub data Form : Type 0 where
   -- the whole input is one cell
@@ -18,6 +19,8 @@ pub data Form : Type 0 where
   notebook : (together : Bool) → Form
   -- the words tell the request, and no input is read
   one_request : Request → Form
+  -- the words tell how many requests are made from which number, and no input is read
+  generated : (start many : ℕ) → Form
 
 -- Bytes are a cell's text where they are UTF-8.
 abbrev pub cell_request : List ℕ → Request
@@ -86,3 +89,4 @@ task (Some one_cell) g input = answered (cell_request input) ∷ []
 task (Some session) g input = map answered (map line_request (session_lines session_limits input))
 task (Some (notebook together)) g input = notebook_run together g (opening input)
 task (Some (one_request q)) g input = answered q ∷ []
+task (Some (generated start many)) g input = generated_run start many g

@@ -4,4 +4,5 @@ mod Whole
 mod Ends
 mod Parsed
 mod Stores
+mod Numerals
 mod Rows

@@ -2,7 +2,7 @@
 use Rattle.std.proofs.Common.{◌≡◌, refl, Option, Some, None, List, [], ◌∷◌, true, false}
 use Rattle.std.specs.Prelude.{codes}
 use Rattle.kishu_model.specs.Request.{branch, checkout, inspect, log, status}
-use Rattle.kishu_model.specs.Task.{notebook, one_cell, one_request, session}
+use Rattle.kishu_model.specs.Task.{generated, notebook, one_cell, one_request, session}
 use Rattle.kishu_words.specs.Words.{form_of, store_word}
 
 a_session : form_of (codes "S" ∷ codes "session" ∷ []) ≡ Some session
@@ -40,6 +40,33 @@ a_branch = refl
 
 a_branch_there : form_of (codes "S" ∷ codes "branch" ∷ codes "try" ∷ codes "1" ∷ []) ≡ Some (one_request (branch (codes "try") (Some (codes "1"))))
 a_branch_there = refl
+
+made_requests : form_of (codes "S" ∷ codes "gen" ∷ codes "7" ∷ codes "10" ∷ []) ≡ Some (generated 7 10)
+made_requests = refl
+
+no_request_made : form_of (codes "S" ∷ codes "gen" ∷ codes "0" ∷ codes "0" ∷ []) ≡ Some (generated 0 0)
+no_request_made = refl
+
+largest_numbers : form_of (codes "S" ∷ codes "gen" ∷ codes "2147483647" ∷ codes "100000" ∷ []) ≡ Some (generated 2147483647 100000)
+largest_numbers = refl
+
+start_too_large : form_of (codes "S" ∷ codes "gen" ∷ codes "2147483648" ∷ codes "1" ∷ []) ≡ None
+start_too_large = refl
+
+too_many_requests : form_of (codes "S" ∷ codes "gen" ∷ codes "7" ∷ codes "100001" ∷ []) ≡ None
+too_many_requests = refl
+
+a_leading_zero : form_of (codes "S" ∷ codes "gen" ∷ codes "07" ∷ codes "10" ∷ []) ≡ None
+a_leading_zero = refl
+
+a_sign : form_of (codes "S" ∷ codes "gen" ∷ codes "7" ∷ codes "+10" ∷ []) ≡ None
+a_sign = refl
+
+a_start_alone : form_of (codes "S" ∷ codes "gen" ∷ codes "7" ∷ []) ≡ None
+a_start_alone = refl
+
+flag_with_made_requests : form_of (codes "S" ∷ codes "gen" ∷ codes "7" ∷ codes "10" ∷ codes "--together" ∷ []) ≡ None
+flag_with_made_requests = refl
 
 flag_twice : form_of (codes "S" ∷ codes "--together" ∷ codes "--together" ∷ codes "run" ∷ []) ≡ None
 flag_twice = refl

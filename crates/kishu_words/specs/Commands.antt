@@ -16,6 +16,7 @@ form_by commands.Status = model.one_request status
 form_by commands.Inspect = model.one_request inspect
 form_by (commands.Checkout to) = model.one_request (checkout (rc_str_bytes to))
 form_by (commands.Branch name at) = model.one_request (branch (rc_str_bytes name) (option_map rc_str_bytes at))
+form_by (commands.Gen start n) = model.generated start n
 
 -- Words have no command where they have no form.
 abbrev pub form_found : Option rust.Command → Option model.Form

@@ -1,12 +1,13 @@
 -- The words of a command line, and which of them have which form.
-use Rattle.std.specs.Prelude.{ℕ, zero, suc, Bool, true, false, not, ◌==◌, ◌||◌, if◌then◌else◌, List, [], ◌∷◌, length, map, filter, find, codes, Option, Some, None, option_and_then}
+use Rattle.std.specs.Prelude.{ℕ, zero, suc, Bool, true, false, not, ◌==◌, ◌||◌, nat_le, if◌then◌else◌, List, [], ◌∷◌, length, map, filter, find, codes, Option, Some, None, option_map, option_and_then}
 use Rattle.std.specs.List.{list_all}
 use Rattle.std.specs.Str.{bytes_eq}
 use Rattle.std.specs.String.{string_bytes}
 use Rattle.std.specs.declared.string.String.{String}
 use Rattle.std.specs.declared.alloc.Global.{Global}
+use Rattle.kishu_store.specs.References.{is_decimal, number_from}
 use Rattle.kishu_model.specs.Request.{checkout, branch, log, status, inspect}
-use Rattle.kishu_model.specs.Task.{Form, one_cell, session, one_request, notebook}
+use Rattle.kishu_model.specs.Task.{Form, one_cell, session, one_request, notebook, generated}
 
 abbrev pub texts : List (String Global) → List (List ℕ)
 texts words = map (λ w. string_bytes w) words
@@ -74,8 +75,19 @@ one_form command first =
     else if bytes_eq command (codes "branch") then Some (one_request (branch first None))
     else None
 
+-- the number that a word is in decimal digits without leading zeros, up to a largest
+abbrev pub number_within : (most : ℕ) → List ℕ → Option ℕ
+number_within most word = if is_decimal word then (if nat_le (number_from 0 word) most then Some (number_from 0 word) else None) else None
+
+-- the number from which requests are made, and how many
+abbrev pub gen_form : List ℕ → List ℕ → Option Form
+gen_form first second = option_and_then (λ start. option_map (generated start) (number_within 100000 second)) (number_within 2147483647 first)
+
 abbrev pub two_form : List ℕ → List ℕ → List ℕ → Option Form
-two_form command first second = if bytes_eq command (codes "branch") then Some (one_request (branch first (Some second))) else None
+two_form command first second =
+    if bytes_eq command (codes "branch") then Some (one_request (branch first (Some second)))
+    else if bytes_eq command (codes "gen") then gen_form first second
+    else None
 
 abbrev pub form_behind : List ℕ → List (List ℕ) → Option Form
 form_behind command [] = alone_form false command

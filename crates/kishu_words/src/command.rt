@@ -21,4 +21,6 @@ pub enum Command {
     /// To make a branch of this name at what the reference names, or without one at the head's
     /// commit.
     Branch { name: RcStr, at: Option<RcStr> },
+    /// To make `n` requests from the number `start`, and to sum up their answers.
+    Gen { start: u32, n: u32 },
 }

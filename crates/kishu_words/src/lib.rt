@@ -6,6 +6,7 @@
 
 mod command;
 mod line;
+mod number;
 mod path;
 mod reading;
 

@@ -2,12 +2,13 @@
 ghost use Rattle.std.specs.Prelude.{◌≡◌, ◌||◌, IfOk, false, Ok, None};
 ghost use Rattle.std.specs.List.{list_all};
 ghost use Rattle.std.specs.Str.{bytes_eq};
-ghost use Rattle.kishu_words.specs.Words.{Line, texts, is_flag, is_plain, is_word, alone_form, one_form, two_form, form_at, form_behind, form_of, form_with};
+ghost use Rattle.kishu_words.specs.Words.{Line, texts, is_flag, is_plain, is_word, alone_form, one_form, two_form, gen_form, form_at, form_behind, form_of, form_with};
 ghost use Rattle.kishu_words.specs.Commands.{form_found, words_in};
 ghost use Rattle.kishu_words.specs.Parses.{Tells};
 
 use crate::Command;
 use crate::line::parse;
+use crate::number::number_within;
 use clap::ArgMatches;
 use std::alloc::{AllocError, Global};
 use std::rc::RcStr;
@@ -82,6 +83,21 @@ fn with_one(alloc: Global, command: &str, first: &str) -> Result<Option<Command>
     Ok(None)
 }
 
+/// The largest number from which requests are made.
+const LARGEST_START: u32 = 2_147_483_647;
+
+/// The most requests that are made at once.
+const MOST_REQUESTS: u32 = 100_000;
+
+/// To make requests, where both words are numbers.
+fn generated(first: &str, second: &str) -> Option<Command>
+    ensures { form_found result ≡ gen_form first.now second.now }
+{
+    let start = number_within(first, LARGEST_START)?;
+    let n = number_within(second, MOST_REQUESTS)?;
+    Some(Command::Gen { start, n })
+}
+
 /// The command of this name, with two words behind it.
 fn with_two(
     alloc: Global,
@@ -95,6 +111,9 @@ fn with_two(
         let name = RcStr::from_str(alloc, first)?;
         let at = Some(RcStr::from_str(alloc, second)?);
         return Ok(Some(Command::Branch { name, at }));
+    }
+    if is(command, "gen") {
+        return Ok(generated(first, second));
     }
     Ok(None)
 }
@@ -147,6 +166,8 @@ fn command_of(alloc: Global, matches: &ArgMatches) -> Result<Option<Command>, Al
 ///
 /// - `STORE session`, `STORE cell`, `STORE run`, `STORE log`, `STORE status` and `STORE inspect`.
 /// - `STORE checkout REF`, `STORE branch NAME` and `STORE branch NAME REF`.
+/// - `STORE gen START N`, two numbers in decimal digits without leading zeros: START is at most
+///   2,147,483,647, and N at most 100,000.
 /// - `--together` stands once at any place of the words of `run`, and nowhere else.
 ///
 /// None says that the words are no command. An empty word, or one that begins with `-` and isn't
