@@ -36,6 +36,6 @@ ends-damaged session s t q at stands same lacks = (
   λ told.
       let end = stands told in
       let h = at-end-history session s end.0 end.1 in
-      lacks-picture s t.file h.history.graph h.history.changes (reads_at h.history.graph (request_of q)) at told same h.holds h.gives (lacks.lacks h.history h.kept),
+      lacks-picture s t.file h.history.graph h.history.changes (reads_at h.history.graph (request_of q)) at told same h.holds h.gives (lacks.lacks h.history h.kept).1,
   lacks.never,
 )

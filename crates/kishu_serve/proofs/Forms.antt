@@ -7,7 +7,7 @@ use Rattle.kishu_store.specs.Graph.{Graph}
 use Rattle.kishu_replay.specs.Replay.{replay, IsFull}
 use Rattle.kishu_model.specs.Request.{cell, unreadable}
 use Rattle.kishu_model.specs.Serve.{Item, answered}
-use Rattle.kishu_model.specs.Task.{Form, one_cell, session, notebook, one_request, cell_request, limit_place, session_limits}
+use Rattle.kishu_model.specs.Task.{Form, one_cell, session, notebook, one_request, generated, cell_request, limit_place, session_limits}
 use Rattle.kishu_model.specs.notebooks.Notebook.{Fault}
 use Rattle.kishu_input.specs.Sources.{TakesMoreThan, TakesAtMost}
 use Rattle.kishu_session.specs.Filling.{FillsBy}
@@ -19,7 +19,7 @@ use Rattle.kishu_serve.specs.Work.{to_do, is_session, still_reads, Knows, AsksFo
 use Rattle.kishu_serve.specs.declared.asking.Requests.{Requests}
 use Rattle.kishu_serve.specs.declared.asking.Requests.TheVariants.{Done, One, Lines}
 use Rattle.kishu_serve.specs.declared.work.Work.{Work}
-use Rattle.kishu_serve.specs.declared.work.Work.TheVariants.{Answers, Runs}
+use Rattle.kishu_serve.specs.declared.work.Work.TheVariants.{Answers, Runs, Makes}
 use Rattle.kishu_serve.proofs.Askings.{knows-told}
 
 -- ---- the forms
@@ -29,12 +29,14 @@ session-form one_cell e = absurd (cc e)
 session-form session e = refl
 session-form (notebook together) e = absurd (cc e)
 session-form (one_request q) e = absurd (cc e)
+session-form (generated start many) e = absurd (cc e)
 
 pub whole-not-session : (f : Form) → ReadsWhole (Some f) → is_session f ≡ true → ⊥
 whole-not-session one_cell whole e = cc e
 whole-not-session session whole e = whole
 whole-not-session (notebook together) whole e = cc e
 whole-not-session (one_request q) whole e = whole
+whole-not-session (generated start many) whole e = whole
 
 pub session-not-whole : (f : Form) → f ≡ session → ReadsWhole (Some f) → ⊥
 session-not-whole f e whole = subst (λ (x : Form). ReadsWhole (Some x)) e whole
@@ -50,6 +52,7 @@ long-whole one_cell left whole lt = lt
 long-whole session left whole lt = absurd whole
 long-whole (notebook together) left whole lt = omega (arith, lt)
 long-whole (one_request q) left whole lt = absurd whole
+long-whole (generated start many) left whole lt = absurd whole
 
 pub passes-whole : (f : Form) (from to : SourceState) → ReadsWhole (Some f) → TakesMoreThan (longest_input (Some f)) from to → PassesLimit (Some f) from
 passes-whole f from to whole taken told = long-whole f from.left whole (omega (arith, taken told))
@@ -59,6 +62,7 @@ passes-session one_cell from e limited told = absurd (cc e)
 passes-session session from e limited told = limited told
 passes-session (notebook together) from e limited told = absurd (cc e)
 passes-session (one_request q) from e limited told = absurd (cc e)
+passes-session (generated start many) from e limited told = absurd (cc e)
 
 pub stays-within : (f : Form) (from : SourceState) → (ReadsWhole (Some f) → from.tells ≡ true → length from.left ≤ longest_input (Some f))
     → (f ≡ session → from.tells ≡ true → IsSome (limit_place session_limits from.left) → ⊥) → StaysWithin (Some f) from
@@ -66,6 +70,7 @@ stays-within one_cell from whole limited told long = absurd (omega (arith, whole
 stays-within session from whole limited told long = limited refl told long
 stays-within (notebook together) from whole limited told long = absurd (omega (arith, whole tt told, long))
 stays-within (one_request q) from whole limited told long = long
+stays-within (generated start many) from whole limited told long = long
 
 -- ---- the bytes that are taken
 
@@ -75,6 +80,7 @@ none-taken one_cell none = absurd (omega (arith, none))
 none-taken session none = absurd (omega (arith, none))
 none-taken (notebook together) none = absurd (omega (arith, none))
 none-taken (one_request q) none = (λ whole. whole, refl)
+none-taken (generated start many) none = (λ whole. whole, refl)
 
 -- ---- the faults of a notebook
 
@@ -85,6 +91,7 @@ one-fault (Some one_cell) s a b told x y = absurd x
 one-fault (Some session) s a b told x y = absurd x
 one-fault (Some (notebook together)) s a b told x y = cc (x told, y told)
 one-fault (Some (one_request q)) s a b told x y = absurd x
+one-fault (Some (generated start many)) s a b told x y = absurd x
 
 -- ---- from the making of the work to its end
 
@@ -95,6 +102,8 @@ taken-form session old mid new first alone unread last = subst (λ (s : SourceSt
 taken-form (notebook together) old mid new first alone unread last =
     subst (λ (s : SourceState). TakesAtMost (most_taken (Some (notebook together))) old s) (sym (alone refl)) first
 taken-form (one_request q) old mid new first alone unread last = subst (λ (s : SourceState). TakesAtMost (most_taken (Some (one_request q))) old s) (sym (alone refl)) first
+taken-form (generated start many) old mid new first alone unread last =
+    subst (λ (s : SourceState). TakesAtMost (most_taken (Some (generated start many))) old s) (sym (alone refl)) first
 
 -- What is to do is known where no lines are read for it.
 alone-asks : (rs : Requests) (s : SourceState) → asking.reads_lines rs ≡ false → asking.Knows rs s
@@ -102,9 +111,10 @@ alone-asks Done s alone = tt
 alone-asks (One q) s alone = tt
 alone-asks (Lines reader) s alone = absurd (cc alone)
 
-alone-knows : (work : Work) (s : SourceState) → still_reads work ≡ false → Knows work s
+pub alone-knows : (work : Work) (s : SourceState) → still_reads work ≡ false → Knows work s
 alone-knows (Answers rs) s alone = alone-asks rs s alone
 alone-knows (Runs book) s alone = tt
+alone-knows (Makes script) s alone = tt
 
 module _ (g : Graph) (input : List ℕ) where
   by-cell : (b : Bool) → FillsBy (replay g g.head.commit) (if b then cell input else unreadable) → IsFull (replay g g.head.commit)
@@ -122,3 +132,4 @@ fills-form one_cell work old mid g asks one lines tells full =
 fills-form session work old mid g asks one lines tells full = λ told. subst (λ (is : List Item). FillsByAny g is) (asks told g) (full (knows-told work mid (tells ∙ told)))
 fills-form (notebook together) work old mid g asks one lines tells full = λ told. subst (λ (is : List Item). FillsByAny g is) (asks told g) (full (knows-told work mid (tells ∙ told)))
 fills-form (one_request q) work old mid g asks one lines tells full = subst (λ (is : List Item). FillsByAny g is) (asks tt g) (full (alone-knows work mid lines))
+fills-form (generated start many) work old mid g asks one lines tells full = subst (λ (is : List Item). FillsByAny g is) (asks tt g) (full (alone-knows work mid lines))

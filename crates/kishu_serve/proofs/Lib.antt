@@ -6,4 +6,7 @@ mod Runs
 mod Damages
 mod Chain
 mod CellRuns
+mod LiveRuns
+mod LiveForms
+mod MadeRuns
 mod Rows

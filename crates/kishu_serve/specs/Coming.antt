@@ -2,7 +2,11 @@
 use Rattle.std.specs.Prelude.{◌≡◌, ◌≤◌, ◌+◌, ℕ, List, [], ◌∷◌, ◌++◌}
 use Rattle.kishu_host.specs.Host.{State, Elapses}
 use Rattle.kishu_store.specs.Graph.{Graph}
-use Rattle.kishu_model.specs.Serve.{Item, after_all, answers, charges}
+use Rattle.kishu_model.specs.Request.{Request}
+use Rattle.kishu_model.specs.Serve.{Item, closing, after_all, answers, charges}
+use Rattle.kishu_model.specs.generated.Run.{summary_of, summed_up}
+use Rattle.kishu_gen.specs.Summaries.{HasTaken}
+use Rattle.kishu_gen.specs.declared.summary.Summary.{Summary}
 use Rattle.kishu_notebook.specs.declared.notebook.Notebook.{Notebook}
 use Rattle.kishu_session.specs.Attached.{IsAttached}
 use Rattle.kishu_session.specs.declared.session.Session.{Session}
@@ -28,3 +32,11 @@ pub record ComesTo (s0 s : State) (session : Session) (g : Graph) (all : List It
 -- All cells that are run were run, and the notebook is left to be written.
 abbrev pub CellsAreRun : State → State → Session → Graph → List Item → Notebook → ℕ → ℕ → Type 0
 CellsAreRun s0 s session g all notebook steps0 steps = ComesTo s0 s session g all (λ _. last_item notebook ∷ []) steps0 steps
+
+-- All requests that are made were applied, and the line that sums them up is left to be written, of the lines that were taken.
+abbrev pub last_line : (lines : List ℕ) → Graph → List Item
+last_line lines now = closing (summary_of now lines) ∷ []
+
+abbrev pub AreApplied : State → State → Session → Graph → List Request → Summary → ℕ → ℕ → Type 0
+AreApplied s0 s session g made summary steps0 steps =
+    (lines : List ℕ) × HasTaken summary lines × ComesTo s0 s session g (summed_up g made) (last_line lines) steps0 steps

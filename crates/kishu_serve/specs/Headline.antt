@@ -6,7 +6,7 @@ use Rattle.kishu_host.specs.Source.{SourceState}
 use Rattle.kishu_store.specs.Graph.{Graph}
 use Rattle.kishu_history.specs.Good.{IsWholeFileOf}
 use Rattle.kishu_model.specs.Serve.{Item, Reached, after_all, answers}
-use Rattle.kishu_model.specs.Task.{Form, one_cell, session, notebook, one_request, limit_place, session_limits, notebook_limit}
+use Rattle.kishu_model.specs.Task.{Form, one_cell, session, notebook, one_request, generated, limit_place, session_limits, notebook_limit}
 use Rattle.kishu_model.specs.notebooks.Notebook.{Fault, opening}
 use Rattle.kishu_notebook.specs.declared.refusal.NotebookRefusal.{NotebookRefusal}
 use Rattle.kishu_serve.specs.declared.status.Status.{Status}
@@ -41,6 +41,7 @@ IsRead (Some one_cell) left = left ≡ []
 IsRead (Some session) left = left ≡ []
 IsRead (Some (notebook together)) left = left ≡ []
 IsRead (Some (one_request q)) left = Unit {0}
+IsRead (Some (generated start many)) left = Unit {0}
 
 -- The form reads its whole input before the store is opened.
 abbrev pub ReadsWhole : Option Form → Type 0
@@ -49,6 +50,7 @@ ReadsWhole (Some one_cell) = Unit {0}
 ReadsWhole (Some session) = ⊥
 ReadsWhole (Some (notebook together)) = Unit {0}
 ReadsWhole (Some (one_request q)) = ⊥
+ReadsWhole (Some (generated start many)) = ⊥
 
 -- so long an input may be then
 abbrev pub longest_input : Option Form → ℕ
@@ -57,6 +59,7 @@ longest_input (Some one_cell) = longest_text
 longest_input (Some session) = 0
 longest_input (Some (notebook together)) = notebook_limit - 1
 longest_input (Some (one_request q)) = 0
+longest_input (Some (generated start many)) = 0
 
 -- The input of a form that reads it reaches a limit.
 abbrev pub IsTooLong : Option Form → List ℕ → Type 0
@@ -65,6 +68,7 @@ IsTooLong (Some one_cell) input = longest_text < length input
 IsTooLong (Some session) input = IsSome (limit_place session_limits input)
 IsTooLong (Some (notebook together)) input = notebook_limit ≤ length input
 IsTooLong (Some (one_request q)) input = ⊥
+IsTooLong (Some (generated start many)) input = ⊥
 
 -- The input of a notebook's run has this fault, where it is told.
 abbrev pub HasFault : Option Form → SourceState → Fault → Type 0
@@ -73,6 +77,7 @@ HasFault (Some one_cell) source fault = ⊥
 HasFault (Some session) source fault = ⊥
 HasFault (Some (notebook together)) source fault = source.tells ≡ true → opening source.left ≡ Err fault
 HasFault (Some (one_request q)) source fault = ⊥
+HasFault (Some (generated start many)) source fault = ⊥
 
 -- how many bytes of an input are taken at most
 abbrev pub most_taken : Option Form → ℕ
@@ -81,6 +86,7 @@ most_taken (Some one_cell) = longest_text + 4096
 most_taken (Some session) = 2 ^ 30 + 4096
 most_taken (Some (notebook together)) = notebook_limit + 4095
 most_taken (Some (one_request q)) = 0
+most_taken (Some (generated start many)) = 0
 
 -- ---- the store, by the form
 
@@ -91,6 +97,7 @@ writes_many (Some one_cell) = false
 writes_many (Some session) = true
 writes_many (Some (notebook together)) = not together
 writes_many (Some (one_request q)) = false
+writes_many (Some (generated start many)) = true
 
 -- A run that ends so hasn't opened its store: for its words, or for the input that it reads whole.
 abbrev pub IsUnopened : Option Form → Status → Type 0

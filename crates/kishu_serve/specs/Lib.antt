@@ -7,5 +7,7 @@ pub mod Headline
 pub mod Filling
 pub mod Promise
 pub mod Serving
+pub mod EveryStore
+pub mod Fillable
 pub mod Coming
 pub mod Stops

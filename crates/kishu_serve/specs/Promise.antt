@@ -15,7 +15,8 @@ use Rattle.kishu_model.specs.notebooks.Notebook.{Fault}
 use Rattle.kishu_notebook.specs.Values.{fault_of}
 use Rattle.kishu_notebook.specs.declared.refusal.NotebookRefusal.{NotebookRefusal}
 use Rattle.kishu_checkout.specs.Pictures.{HasNone}
-use Rattle.kishu_serve.specs.Filling.{FillsInForm}
+use Rattle.kishu_session.specs.Written.{begun}
+use Rattle.kishu_serve.specs.Filling.{FillsInForm, FillsFrom}
 use Rattle.kishu_serve.specs.Headline.{IsPart, IsGiven, IsTooLong, ReadsWhole}
 use Rattle.kishu_words.specs.Words.{texts, form_of}
 use Rattle.kishu_serve.specs.Work.{to_do, Knows}
@@ -94,6 +95,10 @@ RefusesFor fault status = (why : NotebookRefusal) × (fault_of why ≡ fault) ×
 -- Where the store is good, the run would fill the heap with the graph that it holds.
 abbrev pub FillsHeap : Option Form → State → SourceState → Type 0
 FillsHeap form host source = Told host ((g : Graph) → IsWholeFileOf host.file g → FillsInForm form source g)
+
+-- On every store the run would fill the heap with the state that is loaded for the head of the file's graph, or with one to which requests led from it.
+abbrev pub FillsHeapLive : Option Form → State → SourceState → Type 0
+FillsHeapLive form host source = Told host (FillsFrom form source (begun host.file))
 
 -- ---- what is made of the words and the input
 

@@ -13,9 +13,11 @@ ghost use Rattle.kishu_notebook.specs.Views.{data_of};
 ghost use Rattle.kishu_session.specs.Attached.{IsAttached};
 ghost use Rattle.kishu_session.specs.Filling.{FillsBy};
 ghost use Rattle.kishu_session.specs.Faults.{DiskFailed};
-ghost use Rattle.kishu_serve.specs.Filling.{FillsByAny};
+ghost use Rattle.kishu_session.specs.Lives.{state_of};
+ghost use Rattle.kishu_serve.specs.EveryStore.{AppliesHere, GoesOnHere, FillsHere};
+ghost use Rattle.kishu_serve.specs.Filling.{FillsByAny, cells_asked};
 ghost use Rattle.kishu_serve.specs.Headline.{IsWhole};
-ghost use Rattle.kishu_serve.specs.Notebooks.{IsSet, run_of, items_of};
+ghost use Rattle.kishu_serve.specs.Notebooks.{IsSet, run_of, texts_of, items_of};
 ghost use Rattle.kishu_serve.specs.Recorded.{Records};
 ghost use Rattle.kishu_serve.specs.Coming.{CellsAreRun};
 ghost use Rattle.kishu_serve.specs.Serving.{OutputFailed, WhereAttached, IsOpen, EndsDamaged, WritesOne, StopsInPart, AreOut, GoOut};
@@ -60,6 +62,11 @@ fn run_request<H: Host, L: Ledger>(
         steps.old + charge_of g (request_of request.now) ≤ steps.new)) }
     ensures full { IsErrOf result HeapFull → WhereAttached session.old (H.state host.old) (λ g.
         FillsBy (replay g g.head.commit) (request_of request.now)) }
+    ensures applied { OnOk result (AppliesHere session.old session.new (H.state host.old) (H.state host.new)
+        (request_of request.now)) }
+    ensures goes_on_live { IfOk result (GoesOnHere session.old (H.state host.old) (request_of request.now)) }
+    ensures full_live { IsErrOf result HeapFull
+        → FillsBy (state_of session.old.head.live) (request_of request.now) }
     ensures damaged { (at : ℕ) → IsErrOf result (Damaged at)
         → EndsDamaged session.old (H.state host.old) (H.state host.new) at }
     ensures stop { WhereAttached session.old (H.state host.old) (λ g.
@@ -107,6 +114,8 @@ fn run_each<H: Host, L: Ledger>(
         (run_of false g (map rc_str_bytes texts.now) (data_of notebook.old))) }
     ensures full { IsErrOf result HeapFull → WhereAttached session.old (H.state host.old) (λ g.
         FillsByAny g (run_of false g (map rc_str_bytes texts.now) (data_of notebook.old))) }
+    ensures full_live { IsErrOf result HeapFull
+        → FillsHere session.old (H.state host.old) (cells_asked false (map rc_str_bytes texts.now)) }
     ensures damaged { (at : ℕ) → IsErrOf result (Damaged at)
         → EndsDamaged session.old (H.state host.old) (H.state host.new) at }
     ensures tells { (H.state host.new).tells ≡ (H.state host.old).tells }
@@ -152,6 +161,8 @@ fn run_together<H: Host, L: Ledger>(
         (run_of true g (map rc_str_bytes texts.items) (data_of notebook.old))) }
     ensures full { IsErrOf result HeapFull → WhereAttached session.old (H.state host.old) (λ g.
         FillsByAny g (run_of true g (map rc_str_bytes texts.items) (data_of notebook.old))) }
+    ensures full_live { IsErrOf result HeapFull
+        → FillsHere session.old (H.state host.old) (cells_asked true (map rc_str_bytes texts.items)) }
     ensures damaged { (at : ℕ) → IsErrOf result (Damaged at)
         → EndsDamaged session.old (H.state host.old) (H.state host.new) at }
     ensures tells { (H.state host.new).tells ≡ (H.state host.old).tells }
@@ -192,6 +203,8 @@ fn run_cells<H: Host, L: Ledger>(
         (run_of together g (map rc_str_bytes texts.items) (data_of notebook.old))) }
     ensures full { IsErrOf result HeapFull → WhereAttached session.old (H.state host.old) (λ g.
         FillsByAny g (run_of together g (map rc_str_bytes texts.items) (data_of notebook.old))) }
+    ensures full_live { IsErrOf result HeapFull
+        → FillsHere session.old (H.state host.old) (cells_asked together (map rc_str_bytes texts.items)) }
     ensures damaged { (at : ℕ) → IsErrOf result (Damaged at)
         → EndsDamaged session.old (H.state host.old) (H.state host.new) at }
     ensures tells { (H.state host.new).tells ≡ (H.state host.old).tells }
@@ -252,6 +265,8 @@ pub(crate) fn run_notebook<H: Host, L: Ledger>(
         steps.old + charges g (items_of book g) ≤ steps.new)) }
     ensures full { IsErrOf result HeapFull → WhereAttached session.old (H.state host.old) (λ g.
         FillsByAny g (items_of book g)) }
+    ensures full_live { IsErrOf result HeapFull
+        → FillsHere session.old (H.state host.old) (cells_asked book.together (texts_of book)) }
     ensures damaged { (at : ℕ) → IsErrOf result (Damaged at)
         → EndsDamaged session.old (H.state host.old) (H.state host.new) at }
 

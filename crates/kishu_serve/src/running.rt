@@ -3,7 +3,8 @@ ghost use Rattle.std.specs.Prelude.{ℕ, ◌≡◌, ◌≤◌, ◌⊎◌, ◌+�
 ghost use Rattle.kishu_model.specs.Serve.{charges};
 ghost use Rattle.kishu_input.specs.Sources.{InputFailed};
 ghost use Rattle.kishu_session.specs.Faults.{DiskFailed};
-ghost use Rattle.kishu_serve.specs.Asking.{reads_lines, HaveRoom, Knows, IsLimited, IsRead, KeepsTaken};
+ghost use Rattle.kishu_serve.specs.Asking.{reads_lines, to_come, HaveRoom, Knows, IsLimited, IsRead, KeepsTaken};
+ghost use Rattle.kishu_serve.specs.EveryStore.{FillsHere};
 ghost use Rattle.kishu_serve.specs.Filling.{FillsByAny};
 ghost use Rattle.kishu_serve.specs.Headline.{IsWhole};
 ghost use Rattle.kishu_serve.specs.Recorded.{Records};
@@ -61,6 +62,8 @@ pub(crate) fn serve_all<H: Host, S: Source, L: Ledger>(
     ensures full { IsErrOf result HeapFull
         → WhereKnown (Answers requests.old) (S.source source.old) session.old (H.state host.old) (λ g items.
         FillsByAny g items) }
+    ensures full_live { IsErrOf result HeapFull → Knows requests.old (S.source source.old)
+        → FillsHere session.old (H.state host.old) (to_come requests.old (S.source source.old).left) }
 
     ensures damaged { (at : ℕ) → IsErrOf result (Damaged at)
         → EndsDamaged session.old (H.state host.old) (H.state host.new) at }

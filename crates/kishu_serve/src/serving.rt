@@ -8,7 +8,9 @@ ghost use Rattle.kishu_model.specs.Values.{answer_of as said_by};
 ghost use Rattle.kishu_session.specs.Attached.{IsAttached};
 ghost use Rattle.kishu_session.specs.Filling.{FillsBy};
 ghost use Rattle.kishu_session.specs.Faults.{DiskFailed};
+ghost use Rattle.kishu_session.specs.Lives.{state_of};
 ghost use Rattle.kishu_serve.specs.Asking.{asked_of};
+ghost use Rattle.kishu_serve.specs.EveryStore.{AppliesHere};
 ghost use Rattle.kishu_serve.specs.Serving.{OutputFailed, IsAnswerOut, AnswerGoesOut, WhereAttached, IsOpen, EndsDamaged, IsAnswered, WritesOne, StopsInPart};
 ghost use Rattle.kishu_serve.specs.declared.serving.Stop.TheVariants.{HeapFull, DiskFault, InputFault, OutputFault, TooLong, Damaged};
 
@@ -82,6 +84,10 @@ pub(crate) fn serve<H: Host, L: Ledger>(
         steps.old + charge_of g (asked_of asked.now) ≤ steps.new)) }
     ensures full { IsErrOf result HeapFull → WhereAttached session.old (H.state host.old) (λ g.
         FillsBy (replay g g.head.commit) (asked_of asked.now)) }
+    ensures applied { OnOk result (AppliesHere session.old session.new (H.state host.old) (H.state host.new)
+        (asked_of asked.now)) }
+    ensures full_live { IsErrOf result HeapFull
+        → FillsBy (state_of session.old.head.live) (asked_of asked.now) }
     ensures damaged { (at : ℕ) → IsErrOf result (Damaged at)
         → EndsDamaged session.old (H.state host.old) (H.state host.new) at }
     ensures stop { WhereAttached session.old (H.state host.old) (λ g.

@@ -11,11 +11,13 @@ ghost use Rattle.kishu_model.specs.notebooks.Notebook.{Fault};
 ghost use Rattle.kishu_notebook.specs.Values.{fault_of};
 ghost use Rattle.kishu_notebook.specs.declared.refusal.NotebookRefusal.{NotebookRefusal};
 ghost use Rattle.kishu_session.specs.Faults.{DiskFailed};
-ghost use Rattle.kishu_session.specs.Written.{HoldsNone, Stays};
+ghost use Rattle.kishu_session.specs.Written.{begun, HoldsNone, Stays};
 ghost use Rattle.kishu_session.specs.declared.halt.Halt.TheVariants.{NotAJournal as Foreign, Damaged as Broken, DiskFault as NoDisk, HeapFull as Full};
+ghost use Rattle.kishu_serve.specs.EveryStore.{FillsHere};
+ghost use Rattle.kishu_serve.specs.Fillable.{asks_for, FillsFile};
 ghost use Rattle.kishu_serve.specs.Filling.{FillsByAny};
 ghost use Rattle.kishu_serve.specs.Headline.{IsWhole, IsRead, IsUnopened, ReadsWhole, longest_input, most_taken, writes_many, HasFault};
-ghost use Rattle.kishu_serve.specs.Promise.{OverGood, form_named, asked_by, ReadsInput, EndsInPart, StopsAsPromised, SettlesInPart, HoldsSome, PassesLimit, StaysWithin, RefusesNotebook, RefusesFor, FillsHeap, IsDamaged, OverKnown};
+ghost use Rattle.kishu_serve.specs.Promise.{OverGood, form_named, asked_by, ReadsInput, EndsInPart, StopsAsPromised, SettlesInPart, HoldsSome, PassesLimit, StaysWithin, RefusesNotebook, RefusesFor, FillsHeap, FillsHeapLive, IsDamaged, OverKnown};
 ghost use Rattle.kishu_serve.specs.Recorded.{Records, IsWritten};
 ghost use Rattle.kishu_serve.specs.Serving.{OutputFailed, IsOpen, EndsDamaged, WhereKnown, StopsInPart};
 ghost use Rattle.kishu_serve.specs.Work.{HaveRoom, still_reads, records_many, taken_by, Knows, IsLimited, IsRead as IsReadFor};
@@ -24,6 +26,7 @@ ghost use Rattle.kishu_serve.specs.declared.status.Status.TheVariants.{Done, Usa
 ghost use Rattle.kishu_serve.specs.declared.work.Unread.TheVariants.{Fault as SourceFault, TooLong as PastLimit, Refused as Unfit};
 
 use crate::Status;
+use crate::making::run_script;
 use crate::notebooks::run_notebook;
 use crate::running::serve_all;
 use crate::serving::Stop;
@@ -122,6 +125,8 @@ fn carry_out<H: Host, S: Source, L: Ledger>(
     ensures full { IsErrOf result StopFull
         → WhereKnown work (S.source source.old) session.old (H.state host.old) (λ g items.
         FillsByAny g items) }
+    ensures full_live { IsErrOf result StopFull → Knows work (S.source source.old)
+        → FillsHere session.old (H.state host.old) (asks_for work (S.source source.old).left) }
     ensures damaged { (at : ℕ) → IsErrOf result (StopDamaged at)
         → EndsDamaged session.old (H.state host.old) (H.state host.new) at }
 
@@ -146,6 +151,7 @@ fn carry_out<H: Host, S: Source, L: Ledger>(
             serve_all(alloc, session, &mut requests, source, host, steps)
         }
         Work::Runs(book) => run_notebook(session, host, book, steps),
+        Work::Makes(script) => run_script(alloc, session, host, script, steps),
     }
 }
 
@@ -190,6 +196,8 @@ fn run_work<H: Host, S: Source, L: Ledger>(
         ⊎ (result ≡ DiskFault) ⊎ (result ≡ InputFault) ⊎ (result ≡ OutputFault)) }
     ensures full { result ≡ HeapFull → OverKnown work (S.source source.old) (H.state host.old) (λ g items.
         FillsByAny g items) }
+    ensures full_live { result ≡ HeapFull → Told (H.state host.old)
+        (FillsFile work (S.source source.old) (begun (H.state host.old).file)) }
     ensures counted { result ≡ Done → OverKnown work (S.source source.old) (H.state host.old) (λ g items.
         steps.old + charges g items ≤ steps.new) }
 
@@ -218,11 +226,14 @@ fn run_work<H: Host, S: Source, L: Ledger>(
 ///   showed. With `--together`, at any place among the words, all those that are run are one commit.
 /// - `STORE log`, `STORE status`, `STORE inspect`, `STORE checkout REF`, `STORE branch NAME` and
 ///   `STORE branch NAME REF` answer that one request, and read no input.
+/// - `STORE gen START N` makes N requests from START, applies them, and sums them up in one line: how many
+///   commits and records there are then, and the SHA-256 of the lines that would have answered them. It
+///   reads no input.
 ///
 /// An answer is one line, which goes out once its record is on the disk. What is refused is answered in
 /// one line too, and changes nothing. For the cells of a notebook no answers go out; the notebook does,
-/// once the last of their records is on the disk. An input that is no notebook is told by
-/// `NotebookRefused`, before the store is opened.
+/// once the last of their records is on the disk. So it is with the line that sums up requests that are
+/// made. An input that is no notebook is told by `NotebookRefused`, before the store is opened.
 ///
 /// A line that reaches 2^24 bytes before its line feed, an input of `session` that reaches 2^30 bytes, a
 /// notebook that reaches 2^26 and an input of `cell` of more than 1,048,576 end the run with
@@ -261,8 +272,8 @@ pub fn kishu<H: Host, S: Source, L: Ledger>(
         (asked_by words.now (S.source source.old) g)) }
 
     // Done: each byte of the file is that of the old one, which was begun anew where it was short, or that of
-    // the records that were written behind it, one after another; one at most but in a session and in a run
-    // of cells one by one.
+    // the records that were written behind it, one after another; one at most but in a session, in a run of
+    // cells one by one, and of requests that are made.
     ensures bytes { result ≡ Done → Told (H.state host.old) (IsWritten (writes_many (form_named words.now))
         (H.state host.old).file (H.state host.new).file) }
 
@@ -310,6 +321,11 @@ pub fn kishu<H: Host, S: Source, L: Ledger>(
     // 2^31 nodes as the machine makes them that replays each commit from empty.
     ensures heap_full { result ≡ HeapFull
         → FillsHeap (form_named words.now) (H.state host.old) (S.source source.old) }
+
+    // On every store the heap is full only where a cell would begin with more than 2^31 nodes of the pictures
+    // that were loaded and the cells that were run in this call.
+    ensures heap_full_live { result ≡ HeapFull
+        → FillsHeapLive (form_named words.now) (H.state host.old) (S.source source.old) }
 
     // Where no fault came, it does its work, unless memory ran out, the input is too long or no notebook, or
     // the heap is full.

@@ -12,6 +12,7 @@ ghost use Rattle.kishu_notebook.specs.declared.refusal.NotebookRefusal.{Notebook
 ghost use Rattle.kishu_words.specs.Commands.{form_by};
 ghost use Rattle.kishu_input.specs.Sources.{InputFailed, IsAllLeft, TakesMoreThan, TakesAtMost};
 ghost use Rattle.kishu_serve.specs.Asking.{asked_of};
+ghost use Rattle.kishu_serve.specs.Fillable.{asks_for, AsksHere};
 ghost use Rattle.kishu_serve.specs.Headline.{ReadsWhole, longest_input, most_taken, writes_many, HasFault};
 ghost use Rattle.kishu_serve.specs.Notebooks.{IsReadAs};
 ghost use Rattle.kishu_serve.specs.Work.{to_do, HaveRoom, still_reads, records_many, is_session, taken_by, AsksFor, IsOneCell, IsSomeCell, KeepsLimit, WithinWhole};
@@ -19,6 +20,7 @@ ghost use Rattle.kishu_serve.specs.declared.work.Unread.TheVariants.{Fault as So
 
 use crate::asking::{Asked, Requests};
 use crate::book::Book;
+use kishu_gen::Script;
 use kishu_host::Source;
 use kishu_input::{InputStop, LineReader, read_input};
 use kishu_language::LONGEST_TEXT;
@@ -37,6 +39,8 @@ pub(crate) enum Work {
     Answers(Requests),
     /// It runs the cells of a notebook.
     Runs(Book),
+    /// It applies requests that are made, and sums them up.
+    Makes(Script),
 }
 
 /// Why an input that is read whole isn't what the command asks for.
@@ -122,6 +126,7 @@ impl Work {
         requires { HasRoom (request_of request) }
         ensures asks { (g : Graph) (left : List ℕ)
             → to_do result g left ≡ answered (request_of request) ∷ [] }
+        ensures asks_here { (left : List ℕ) → asks_for result left ≡ answered (request_of request) ∷ [] }
         ensures room { HaveRoom result }
         ensures lines { still_reads result ≡ false }
         ensures many { records_many result ≡ false }
@@ -138,6 +143,8 @@ impl Work {
     ) -> Result<Work, Unread>
         ensures asked { IfOk result (λ work.
             AsksFor (form_by command) (S.source source.old) work (S.source source.new)) }
+        ensures asked_here { IfOk result (λ work.
+            AsksHere (form_by command) (S.source source.old) work (S.source source.new)) }
         ensures cell { IfOk result (λ work. form_by command ≡ one_cell → IsOneCell work) }
         ensures limits { IfOk result (λ work.
             form_by command ≡ session → KeepsLimit (S.source source.old) work (S.source source.new)) }
@@ -171,6 +178,7 @@ impl Work {
             Command::Inspect => Ok(Work::one(Request::Inspect)),
             Command::Checkout { to } => Ok(Work::one(Request::Checkout { to })),
             Command::Branch { name, at } => Ok(Work::one(Request::Branch { name, at })),
+            Command::Gen { start, n } => Ok(Work::Makes(Script::new(start, n))),
         }
     }
 }

@@ -1,11 +1,13 @@
 use Rattle.std.proofs.Common.{◌≡◌, ◌+◌, ◌∷◌, ℕ, true, List, map, drop, refl, sym, ◌∙◌, ap, subst, arith}
+use Rattle.std.proofs.lemmas.List.{drop_all, length-map}
 use Rattle.std.proofs.lemmas.Result.{err_from_is_err_and}
 use Rattle.std.specs.Rc.{rc_str_bytes}
 use Rattle.kishu_model.specs.Request.{cell}
 use Rattle.kishu_model.specs.Step.{step}
 use Rattle.kishu_model.specs.notebooks.Run.{with_answer}
 use Rattle.kishu_notebook.specs.Views.{data_of}
-use Rattle.kishu_serve.proofs.CellRuns.{recorded-more, drop-texts, cell-stop, cell-fills, goes-further, ends-here}
+use Rattle.kishu_serve.proofs.CellRuns.{recorded-more, drop-texts, cell-stop, cell-fills, goes-further, ends-here, at-last}
+use Rattle.kishu_serve.proofs.LiveRuns.{cells_from, cells-here, silent-full, silent-goes}
 use Rattle.kishu_serve.proofs.notebooks.run_each.Goals as goal
 
 pub run_request-requires-clause-stands : goal.run_request-requires-clause-stands
@@ -31,6 +33,23 @@ returns-in_err-run_request-clause-full g c is_full told g' a =
     let p = err_from_is_err_and c.from_residual.result c.from_residual.ensures.1 in
     cell-fills i texts (data_of c.loop-text.notebook) so (rc_str_bytes c.in-Ok.text) here (g.H.Host.state c.run_request.new.host)
     (c.in_err-run_request.ensures.full (cc (is_full, p.1, p.2)) (before.tells ∙ told) so.now so.attached)
+
+-- no text was there for it, or all cells are run
+
+pub returns-in_default-clause-stop : goal.returns-in_default-clause-stop
+returns-in_default-clause-stop g c told g' a = (c.loop-text.invariant.comes told g' a).comes.stop
+
+pub returns-clause-stop : goal.returns-clause-stop
+returns-clause-stop g c told g' a = (c.loop-text.invariant.comes told g' a).comes.stop
+
+pub returns-clause-comes : goal.returns-clause-comes
+returns-clause-comes g c told g' a =
+    let i = c.loop-text.text-index in
+    let texts = map rc_str_bytes c.args.texts.now in
+    let none = drop_all i texts (omega (arith, length-map c.args.texts.now rc_str_bytes, c.loop-text.auto.text-index-end, c.loop-text-test.false)) in
+    at-last i texts (data_of c.loop-text.notebook) none (c.loop-text.invariant.comes told g' a)
+
+-- ---- a cell that is run
 
 pub returns-then-not-branch-clause-stop : goal.returns-then-not-branch-clause-stop
 returns-then-not-branch-clause-stop g c told g' a =
@@ -93,7 +112,29 @@ loop-text-preserved g c =
           goes-further i texts (data_of c.loop-text.notebook) so text here (g.H.Host.state c.run_request.new.host) c.run_request.new.session set c.run_request.new.steps
           (ran.attached now_told so.now so.attached) c.run_request.ensures.out (ran.least now_told so.now so.attached)
           (c.run_request.ensures.stop now_told so.now so.attached) is_set (cc (ran.goes_on now_told so.now so.attached, c.if-not-branch.false)) (i + 1) refl;
+      live = λ told lives g' a.
+          let so = before.live told lives g' a in
+          let i = c.loop-text.text-index in
+          let texts = map rc_str_bytes c.args.texts.now in
+          let text = rc_str_bytes c.in-Ok.text in
+          let here = drop-texts c.args.texts.now i c.text-item.result c.loop-text-test.true c.text-item.is ∙ ap (λ (t : List ℕ). t ∷ drop (i + 1) texts) (sym c.in-Ok.ensures.cases) in
+          let now_told = before.tells ∙ told in
+          silent-goes so (cell text) (cells_from (i + 1) texts) (cells-here i texts text here)
+          (g.H.Host.state c.run_request.new.host) c.run_request.new.session
+          (ran.applied now_told so.lives so.now so.at_end) (cc (ran.goes_on_live now_told so.now so.at_end, c.if-not-branch.false));
       tells = c.run_request.ensures.tells ∙ before.tells;
       disk = omega (arith, before.disk, c.run_request.ensures.disk);
       outs = omega (arith, before.outs, c.run_request.ensures.outs);
     }
+
+pub returns-in_err-run_request-clause-full_live : goal.returns-in_err-run_request-clause-full_live
+returns-in_err-run_request-clause-full_live g c is_full told lives g' a =
+    let before = c.loop-text.invariant in
+    let so = before.live told lives g' a in
+    let i = c.loop-text.text-index in
+    let texts = map rc_str_bytes c.args.texts.now in
+    let text = rc_str_bytes c.in-Ok.text in
+    let here = drop-texts c.args.texts.now i c.text-item.result c.loop-text-test.true c.text-item.is ∙ ap (λ (t : List ℕ). t ∷ drop (i + 1) texts) (sym c.in-Ok.ensures.cases) in
+    let p = err_from_is_err_and c.from_residual.result c.from_residual.ensures.1 in
+    silent-full so (cell text) (cells_from (i + 1) texts) (cells-here i texts text here)
+    (c.in_err-run_request.ensures.full_live (cc (is_full, p.1, p.2)))

@@ -5,10 +5,12 @@ use Rattle.kishu_store.specs.Graph.{Graph}
 use Rattle.kishu_notebook.specs.Views.{data_of}
 use Rattle.kishu_session.specs.Attached.{IsAttached}
 use Rattle.kishu_serve.specs.Coming.{ComesTo}
+use Rattle.kishu_serve.specs.Filling.{cells_asked}
 use Rattle.kishu_serve.specs.Notebooks.{run_of}
 use Rattle.kishu_serve.specs.Recorded.{Records}
 use Rattle.kishu_serve.specs.Serving.{IsOpen}
 use Rattle.kishu_serve.proofs.CellRuns.{left_from}
+use Rattle.kishu_serve.proofs.LiveRuns.{ComesHere, cells_from}
 use Rattle.kishu_serve.proofs.notebooks.run_each.Given as goal
 
 abbrev pub invariant-loop-text : goal.invariant-loop-text
@@ -23,6 +25,7 @@ invariant-loop-text g l =
       place : l.at ≡ l.text-index;
       comes : Told s0 ((g' : Graph) → IsAttached l.fn.session s0 g'
           → ComesTo s0 (st l.host) l.session g' (run_of false g' texts (data_of l.fn.notebook)) (left_from l.text-index texts (data_of l.notebook)) l.fn.steps l.steps);
+      live : ComesHere s0 (st l.host) l.fn.session l.session (cells_asked false texts) (cells_from l.text-index texts);
       tells : (st l.host).tells ≡ s0.tells;
       disk : s0.disk_faults ≤ (st l.host).disk_faults;
       outs : s0.out_faults ≤ (st l.host).out_faults;

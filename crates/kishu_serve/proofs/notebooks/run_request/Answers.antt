@@ -1,8 +1,9 @@
-use Rattle.std.proofs.Common.{sym, ◌∙◌, IsErrOf}
+use Rattle.std.proofs.Common.{refl, sym, ◌∙◌, IsErrOf}
 use Rattle.kishu_model.specs.Serve.{silent}
 use Rattle.kishu_model.specs.Values.{request_of}
 use Rattle.kishu_session.specs.declared.halt.Halt.TheVariants.{Damaged}
 use Rattle.kishu_serve.proofs.Damages.{ends-damaged}
+use Rattle.kishu_serve.proofs.LiveRuns.{applied-here}
 use Rattle.kishu_serve.proofs.Parts.{applied-stop}
 use Rattle.kishu_serve.proofs.notebooks.run_request.Goals as goal
 
@@ -50,3 +51,10 @@ returns-in-Err-Damaged-clause-damaged g c at is =
     let st = g.H.Host.state in
     let halt : IsErrOf c.apply.result (Damaged at) = cc (is, c.in-Err-Damaged.is) in
     ends-damaged c.args.session.now (st c.args.host.now) (st c.apply.new.host) c.args.request.now at c.requires.stands (c.apply.ensures.damaged_stays at halt) (c.apply.ensures.damaged at halt)
+
+pub returns-clause-applied : goal.returns-clause-applied
+returns-clause-applied g c told lives g' a =
+    let st = g.H.Host.state in
+    let s1 = st c.apply.new.host in
+    applied-here c.args.session.now c.apply.new.self (st c.args.host.now) s1 s1 (request_of c.args.request.now) g' refl refl (c.apply.ensures.tells ∙ told)
+    (c.in-Ok.ensures.at_end told g' a) (c.in-Ok.ensures.live lives) (c.in-Ok.ensures.bytes told g' a) (c.in-Ok.ensures.goes_on told g' a)

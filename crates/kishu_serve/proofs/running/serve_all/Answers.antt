@@ -1,7 +1,8 @@
 use Rattle.std.proofs.Common.{◌≡◌, false, Ok, Err, ◌∙◌, ap, arith}
 use Rattle.std.proofs.lemmas.Result.{err_from_is_err_and}
-use Rattle.kishu_serve.specs.Asking.{to_come, asked_of, reads_lines}
+use Rattle.kishu_serve.specs.Asking.{to_come, asked_of, reads_lines, Knows}
 use Rattle.kishu_serve.proofs.Chain.{Along, known-along, stopped-long, none-recorded, more-recorded, turn-stop, turn-full, served-more, served-whole, served-least}
+use Rattle.kishu_serve.proofs.LiveRuns.{ComesHere, answered-full, answered-more}
 use Rattle.kishu_serve.proofs.running.serve_all.Given.{Over}
 use Rattle.kishu_serve.proofs.running.serve_all.Goals.{In_ok-serve}
 use Rattle.kishu_serve.proofs.running.serve_all.Goals as goal
@@ -44,30 +45,55 @@ turn g c =
       ins = omega (arith, before.ins, c.next.ensures.faults);
     }
 
+live : (g : Over) (c : In_ok-serve g) → Knows c.args.requests.now (g.S.Source.source c.args.source.now)
+    → ComesHere (g.H.Host.state c.args.host.now) (g.H.Host.state c.serve.new.host) c.args.session.now c.serve.new.session
+    (to_come c.args.requests.now (g.S.Source.source c.args.source.now).left) (to_come c.next.new.self (g.S.Source.source c.next.new.source).left)
+live g c known told lives graph a =
+    let before = c.loop-asked.invariant in
+    let next = rw c.in-Some.is at c.in_ok-asked.ensures.next in
+    let so = before.live known told lives graph a in
+    answered-more so (asked_of c.in-Some.asked) (to_come c.next.new.self (g.S.Source.source c.next.new.source).left)
+    (next (known-along before.along known)).0
+    (g.H.Host.state c.serve.new.host) c.serve.new.session (c.in_ok-serve.ensures.applied (before.along.host_tells ∙ told) so.lives so.now so.at_end)
+
 unread : (g : Over) (c : In_ok-serve g) → reads_lines c.args.requests.now ≡ false → c.next.new.source ≡ c.args.source.now
 unread g c none = c.next.ensures.alone (c.loop-asked.invariant.along.lines ∙ none) ∙ c.loop-asked.invariant.alone none
 
 -- a goal for each kind of what was asked
 pub loop-asked-preserved-in_ok-serve : goal.loop-asked-preserved-in_ok-serve
-loop-asked-preserved-in_ok-serve g c = let c = (goal.at.loop-asked-preserved-in_ok-serve g c).In_ok-serve in record { along = turn g c; alone = unread g c }
+loop-asked-preserved-in_ok-serve g c =
+    let c = (goal.at.loop-asked-preserved-in_ok-serve g c).In_ok-serve in
+    record { along = turn g c; live = live g c; alone = unread g c }
 
 pub loop-asked-preserved-in_ok-serve-2 : goal.loop-asked-preserved-in_ok-serve-2
-loop-asked-preserved-in_ok-serve-2 g c = let c = (goal.at.loop-asked-preserved-in_ok-serve-2 g c).In_ok-serve in record { along = turn g c; alone = unread g c }
+loop-asked-preserved-in_ok-serve-2 g c =
+    let c = (goal.at.loop-asked-preserved-in_ok-serve-2 g c).In_ok-serve in
+    record { along = turn g c; live = live g c; alone = unread g c }
 
 pub loop-asked-preserved-in_ok-serve-3 : goal.loop-asked-preserved-in_ok-serve-3
-loop-asked-preserved-in_ok-serve-3 g c = let c = (goal.at.loop-asked-preserved-in_ok-serve-3 g c).In_ok-serve in record { along = turn g c; alone = unread g c }
+loop-asked-preserved-in_ok-serve-3 g c =
+    let c = (goal.at.loop-asked-preserved-in_ok-serve-3 g c).In_ok-serve in
+    record { along = turn g c; live = live g c; alone = unread g c }
 
 pub loop-asked-preserved-in_ok-serve-4 : goal.loop-asked-preserved-in_ok-serve-4
-loop-asked-preserved-in_ok-serve-4 g c = let c = (goal.at.loop-asked-preserved-in_ok-serve-4 g c).In_ok-serve in record { along = turn g c; alone = unread g c }
+loop-asked-preserved-in_ok-serve-4 g c =
+    let c = (goal.at.loop-asked-preserved-in_ok-serve-4 g c).In_ok-serve in
+    record { along = turn g c; live = live g c; alone = unread g c }
 
 pub loop-asked-preserved-in_ok-serve-5 : goal.loop-asked-preserved-in_ok-serve-5
-loop-asked-preserved-in_ok-serve-5 g c = let c = (goal.at.loop-asked-preserved-in_ok-serve-5 g c).In_ok-serve in record { along = turn g c; alone = unread g c }
+loop-asked-preserved-in_ok-serve-5 g c =
+    let c = (goal.at.loop-asked-preserved-in_ok-serve-5 g c).In_ok-serve in
+    record { along = turn g c; live = live g c; alone = unread g c }
 
 pub loop-asked-preserved-in_ok-serve-6 : goal.loop-asked-preserved-in_ok-serve-6
-loop-asked-preserved-in_ok-serve-6 g c = let c = (goal.at.loop-asked-preserved-in_ok-serve-6 g c).In_ok-serve in record { along = turn g c; alone = unread g c }
+loop-asked-preserved-in_ok-serve-6 g c =
+    let c = (goal.at.loop-asked-preserved-in_ok-serve-6 g c).In_ok-serve in
+    record { along = turn g c; live = live g c; alone = unread g c }
 
 pub loop-asked-preserved : goal.loop-asked-preserved
-loop-asked-preserved g c = let c = (goal.at.loop-asked-preserved g c).In_ok-serve in record { along = turn g c; alone = unread g c }
+loop-asked-preserved g c =
+    let c = (goal.at.loop-asked-preserved g c).In_ok-serve in
+    record { along = turn g c; live = live g c; alone = unread g c }
 
 pub serve-requires-clause-stands : goal.serve-requires-clause-stands
 serve-requires-clause-stands g c = c.loop-asked.invariant.along.stands
@@ -93,6 +119,16 @@ returns-in_err-serve-clause-full g c is_full told known graph a =
     let p = err_from_is_err_and c.from_residual-in_err-serve.result c.from_residual-in_err-serve.ensures.1 in
     turn-full served (g.H.Host.state c.serve.new.host) (asked_of c.in-Some.asked) (to_come c.next.new.self (g.S.Source.source c.next.new.source).left) (next (known-along before known)).0 known
     (c.in_err-serve.ensures.full (cc (is_full, p.1, p.2)) (before.host_tells ∙ told) served.now served.attached)
+
+pub returns-in_err-serve-clause-full_live : goal.returns-in_err-serve-clause-full_live
+returns-in_err-serve-clause-full_live g c is_full known told lives graph a =
+    let before = c.loop-asked.invariant in
+    let next = rw c.in-Some.is at c.in_ok-asked.ensures.next in
+    let p = err_from_is_err_and c.from_residual-in_err-serve.result c.from_residual-in_err-serve.ensures.1 in
+    let so = before.live known told lives graph a in
+    answered-full so (asked_of c.in-Some.asked) (to_come c.next.new.self (g.S.Source.source c.next.new.source).left)
+    (next (known-along before.along known)).0
+    (c.in_err-serve.ensures.full_live (cc (is_full, p.1, p.2)))
 
 pub returns-in_err-serve-clause-damaged : goal.returns-in_err-serve-clause-damaged
 returns-in_err-serve-clause-damaged g c at is =

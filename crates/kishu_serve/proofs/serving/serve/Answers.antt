@@ -8,8 +8,10 @@ use Rattle.kishu_model.specs.Values.{request_of}
 use Rattle.kishu_session.specs.Attached.{IsAttached}
 use Rattle.kishu_session.specs.declared.halt.Halt.TheVariants.{Damaged}
 use Rattle.kishu_serve.specs.Asking.{asked_of}
+use Rattle.kishu_serve.specs.EveryStore.{LeadsOn}
 use Rattle.kishu_serve.specs.Headline.{IsPart}
 use Rattle.kishu_serve.proofs.Damages.{ends-damaged}
+use Rattle.kishu_serve.proofs.LiveRuns.{applied-here, unread-here}
 use Rattle.kishu_serve.proofs.Parts.{attached-kept, at-end-kept, held, and_then, recorded-kept, told-stop, applied-stop, served-stop}
 use Rattle.kishu_serve.proofs.serving.serve.Goals as goal
 
@@ -133,3 +135,33 @@ returns-in-Err-Damaged-clause-damaged g c at is =
     let st = g.H.Host.state in
     let halt : IsErrOf c.apply.result (Damaged at) = cc (is, c.in-Err-Damaged.is) in
     ends-damaged c.args.session.now (st c.args.host.now) (st c.apply.new.host) c.in-Request.request at c.requires.stands (c.apply.ensures.damaged_stays at halt) (c.apply.ensures.damaged at halt)
+
+-- ---- on every store
+
+pub returns-in-Ok-clause-applied : goal.returns-in-Ok-clause-applied
+returns-in-Ok-clause-applied g c =
+    let st = g.H.Host.state in
+    let old = c.args.session.now in
+    let new = c.apply.new.self in
+    let q = request_of c.in-Request.request in
+    let s0 = st c.args.host.now in
+    let s1 = st c.apply.new.host in
+    let s2 = st c.tell-in-Ok.new.host in
+    held c.tell-in-Ok.result
+    (λ told lives g' a.
+    subst
+    (λ (r : Request). LeadsOn old new s0 s2 r g') (sym (ap asked_of c.in-Request.is))
+    (applied-here old new s0 s1 s2 q g' c.tell-in-Ok.ensures.file c.tell-in-Ok.ensures.tells (c.apply.ensures.tells ∙ told)
+    (c.in-Ok.ensures.at_end told g' a) (c.in-Ok.ensures.live lives) (c.in-Ok.ensures.bytes told g' a) (c.in-Ok.ensures.goes_on told g' a)))
+
+pub returns-in_default-clause-applied : goal.returns-in_default-clause-applied
+returns-in_default-clause-applied g c =
+    let st = g.H.Host.state in
+    let session = c.args.session.now in
+    let s0 = st c.args.host.now in
+    let s1 = st c.tell.new.host in
+    held c.tell.result
+    (λ told lives g' a.
+    subst
+    (λ (r : Request). LeadsOn session session s0 s1 r g')
+    (sym (ap asked_of c.in_default.is)) (unread-here session s0 s1 g' c.tell.ensures.file c.tell.ensures.tells told lives a))

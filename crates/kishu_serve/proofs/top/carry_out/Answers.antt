@@ -1,9 +1,12 @@
 use Rattle.std.proofs.Common.{◌⊎◌, sym, subst, OnOk, IsOk, IsErrOf}
 use Rattle.kishu_serve.specs.Headline.{IsWhole}
 use Rattle.kishu_serve.specs.Recorded.{Records}
+use Rattle.kishu_serve.specs.EveryStore.{FillsHere}
+use Rattle.kishu_serve.specs.Fillable.{asks_for}
+use Rattle.kishu_serve.specs.Filling.{FillsByAny}
 use Rattle.kishu_serve.specs.Serving.{WhereKnown, StopsInPart}
-use Rattle.kishu_serve.specs.Work.{records_many}
-use Rattle.kishu_serve.specs.declared.serving.Stop.TheVariants.{TooLong}
+use Rattle.kishu_serve.specs.Work.{records_many, Knows}
+use Rattle.kishu_serve.specs.declared.serving.Stop.TheVariants.{TooLong, HeapFull}
 use Rattle.kishu_serve.specs.declared.work.Work.{Work}
 use Rattle.kishu_serve.proofs.top.carry_out.Goals as goal
 
@@ -68,3 +71,49 @@ returns-in-Runs-clause-bytes g c =
 
 pub returns-in-Runs-clause-damaged : goal.returns-in-Runs-clause-damaged
 returns-in-Runs-clause-damaged g c = c.run_notebook.ensures.damaged
+
+-- ---- where the heap is full
+
+pub returns-in-Answers-clause-full : goal.returns-in-Answers-clause-full
+returns-in-Answers-clause-full g c =
+    let s0 = g.H.Host.state c.args.host.now in
+    let i0 = g.S.Source.source c.args.source.now in
+    subst
+    (λ (w : Work). IsErrOf c.serve_all.result HeapFull → WhereKnown w i0 c.args.session.now s0 (λ g' items. FillsByAny g' items))
+    (sym c.in-Answers.is) c.serve_all.ensures.full
+
+pub returns-in-Answers-clause-full_live : goal.returns-in-Answers-clause-full_live
+returns-in-Answers-clause-full_live g c =
+    let s0 = g.H.Host.state c.args.host.now in
+    let i0 = g.S.Source.source c.args.source.now in
+    subst
+    (λ (w : Work). IsErrOf c.serve_all.result HeapFull → Knows w i0 → FillsHere c.args.session.now s0 (asks_for w i0.left))
+    (sym c.in-Answers.is) c.serve_all.ensures.full_live
+
+pub returns-in-Runs-clause-full_live : goal.returns-in-Runs-clause-full_live
+returns-in-Runs-clause-full_live g c =
+    let s0 = g.H.Host.state c.args.host.now in
+    let i0 = g.S.Source.source c.args.source.now in
+    subst
+    (λ (w : Work). IsErrOf c.run_notebook.result HeapFull → Knows w i0 → FillsHere c.args.session.now s0 (asks_for w i0.left))
+    (sym c.in-Runs.is) (λ is known. c.run_notebook.ensures.full_live is)
+
+-- ---- requests that are made are applied
+
+pub returns-in-Makes-clause-bytes : goal.returns-in-Makes-clause-bytes
+returns-in-Makes-clause-bytes g c =
+    let st = g.H.Host.state in
+    subst
+    (λ (w : Work). OnOk c.run_script.result (Records (records_many w) (st c.args.host.now) (st c.run_script.new.host)))
+    (sym c.in-Makes.is) c.run_script.ensures.bytes
+
+pub returns-in-Makes-clause-damaged : goal.returns-in-Makes-clause-damaged
+returns-in-Makes-clause-damaged g c = c.run_script.ensures.damaged
+
+pub returns-in-Makes-clause-full_live : goal.returns-in-Makes-clause-full_live
+returns-in-Makes-clause-full_live g c =
+    let s0 = g.H.Host.state c.args.host.now in
+    let i0 = g.S.Source.source c.args.source.now in
+    subst
+    (λ (w : Work). IsErrOf c.run_script.result HeapFull → Knows w i0 → FillsHere c.args.session.now s0 (asks_for w i0.left))
+    (sym c.in-Makes.is) (λ is known. c.run_script.ensures.full_live is)

@@ -5,11 +5,13 @@ use Rattle.kishu_model.specs.Task.{Form, session}
 use Rattle.kishu_input.specs.Sources.{TakesMoreThan, TakesAtMost}
 use Rattle.kishu_notebook.specs.Values.{fault_of}
 use Rattle.kishu_words.specs.Commands.{form_by, form_found}
-use Rattle.kishu_serve.specs.Filling.{FillsInForm}
+use Rattle.kishu_session.specs.Written.{begun}
+use Rattle.kishu_serve.specs.Filling.{FillsInForm, FillsFrom}
 use Rattle.kishu_serve.specs.Headline.{IsPart, IsWhole, IsRead, ReadsWhole, longest_input, most_taken, HasFault}
 use Rattle.kishu_serve.specs.Promise.{form_named, PassesLimit, StaysWithin}
 use Rattle.kishu_serve.proofs.Askings.{knows-told, form-told, asked-form, read-form, whole-alone}
 use Rattle.kishu_serve.proofs.Forms.{session-form, whole-not-session, session-not-whole, form-is, passes-whole, passes-session, stays-within, none-taken, one-fault, taken-form, fills-form}
+use Rattle.kishu_serve.proofs.LiveForms.{fills-from}
 use Rattle.kishu_serve.proofs.Runs.{none-done, risen}
 use Rattle.kishu_serve.proofs.top.kishu.Goals as goal
 
@@ -329,6 +331,16 @@ returns-in-Ok-clause-heap_full g c full told g' good =
     subst (λ (o : Option Form). FillsInForm o (src c.args.source.now) g') is
     (fills-form f c.in-Ok.work (src c.args.source.now) (src c.of_command.new.source) g' c.in-Ok.ensures.asked c.in-Ok.ensures.cell c.in-Ok.ensures.lines c.of_command.ensures.tells
     (λ knows. c.run_work.ensures.full full told knows g' good))
+
+pub returns-in-Ok-clause-heap_full_live : goal.returns-in-Ok-clause-heap_full_live
+returns-in-Ok-clause-heap_full_live g c full told =
+    let src = g.S.Source.source in
+    let f = form_by c.in-Ok-Some.command in
+    let is : Some f ≡ form_named c.args.words.now = sym (ap (λ o. form_found o) c.in-Ok-Some.field-0-is) ∙ c.in-Ok-Some.ensures.form in
+    let file = begun (g.H.Host.state c.args.host.now).file in
+    subst (λ (o : Option Form). FillsFrom o (src c.args.source.now) file) is
+    (fills-from f c.in-Ok.work (src c.args.source.now) (src c.of_command.new.source) file
+    c.in-Ok.ensures.asked_here c.in-Ok.ensures.cell c.in-Ok.ensures.lines c.of_command.ensures.tells (c.run_work.ensures.full_live full told))
 
 pub returns-in-Ok-clause-opened : goal.returns-in-Ok-clause-opened
 returns-in-Ok-clause-opened g c form either =

@@ -6,6 +6,7 @@ use Rattle.kishu_serve.specs.Work.{to_do}
 use Rattle.kishu_serve.specs.Headline.{IsPart}
 use Rattle.kishu_serve.specs.declared.serving.Stop.TheVariants.{TooLong}
 use Rattle.kishu_serve.proofs.Damages.{lacks-picture}
+use Rattle.kishu_serve.proofs.LiveRuns.{fills-file}
 use Rattle.kishu_serve.proofs.Parts.{attached-good}
 use Rattle.kishu_serve.proofs.Runs.{none-done, start-part, opening-stop, part-from, serving-stop, whole-from, succeeded, written}
 use Rattle.kishu_serve.proofs.top.run_work.Goals as goal
@@ -73,6 +74,13 @@ returns-in-Ok-clause-bytes g c done told =
 pub returns-in-Ok-clause-full : goal.returns-in-Ok-clause-full
 returns-in-Ok-clause-full g c is told knows g' good =
     c.carry_out.ensures.full (c.served.ensures.full is) (c.attach.ensures.tells ∙ told) knows g' (c.in-Ok.ensures.attached told g' good)
+
+pub returns-in-Ok-clause-full_live : goal.returns-in-Ok-clause-full_live
+returns-in-Ok-clause-full_live g c is told =
+    let st = g.H.Host.state in
+    let told1 = c.attach.ensures.tells ∙ told in
+    fills-file c.args.work (g.S.Source.source c.args.source.now) c.in-Ok.session (st c.args.host.now) (st c.attach.new.host)
+    (c.in-Ok.ensures.begun told) (c.in-Ok.ensures.at_end told) (c.in-Ok.ensures.loaded told) (λ knows. c.carry_out.ensures.full_live (c.served.ensures.full is) knows told1 c.in-Ok.ensures.live)
 
 pub returns-in-Ok-clause-counted : goal.returns-in-Ok-clause-counted
 returns-in-Ok-clause-counted g c done told knows g' holds =

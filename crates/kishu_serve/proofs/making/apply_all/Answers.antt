@@ -1,0 +1,113 @@
+use Rattle.std.proofs.Common.{List, map, true, Ok, refl, ◌∙◌, ap, arith}
+use Rattle.std.proofs.lemmas.Result.{err_from_is_err_and}
+use Rattle.kishu_model.specs.Request.{Request}
+use Rattle.kishu_model.specs.Serve.{answered}
+use Rattle.kishu_model.specs.Values.{request_of}
+use Rattle.kishu_gen.specs.Scripts.{to_come}
+use Rattle.kishu_serve.proofs.CellRuns.{recorded-more}
+use Rattle.kishu_serve.proofs.LiveRuns.{answered-full, answered-more}
+use Rattle.kishu_serve.proofs.MadeRuns.{OnTheWay, made-stop, made-fills, made-more, taken-last}
+use Rattle.kishu_serve.proofs.making.apply_all.Given.{Over}
+use Rattle.kishu_serve.proofs.making.apply_all.Goals.{In_ok-apply_silently}
+use Rattle.kishu_serve.proofs.making.apply_all.Goals as goal
+
+-- ---- a turn
+
+turn : (g : Over) (c : In_ok-apply_silently g)
+    → OnTheWay (g.H.Host.state c.args.host.now) (g.H.Host.state c.apply_silently.new.host) c.args.session.now c.apply_silently.new.session
+    (to_come c.args.script.now) (to_come c.next_made.new.script) c.apply_silently.new.summary c.args.steps.now c.apply_silently.new.steps
+turn g c =
+    let before = c.loop-request.invariant in
+    let next = rw c.in-Some.is at c.in_ok-request.ensures.next in
+    let ran = c.in_ok-apply_silently.ensures in
+    record {
+      going = ran.going;
+      stands = ran.stands;
+      recorded = λ told.
+          recorded-more true (g.H.Host.state c.args.host.now).file (g.H.Host.state c.loop-request.host).file
+          (g.H.Host.state c.apply_silently.new.host).file refl
+          (before.recorded told) (ran.bytes (before.tells ∙ told));
+      comes = λ told g' a.
+          let t = before.comes told g' a in
+          let now_told = before.tells ∙ told in
+          made-more t (request_of c.in-Some.request) (to_come c.next_made.new.script) next
+          (g.H.Host.state c.apply_silently.new.host) c.apply_silently.new.session c.apply_silently.new.summary c.apply_silently.new.steps
+          (ran.attached now_told t.so.now t.so.attached) c.apply_silently.ensures.out (ran.taken now_told t.so.now t.so.attached)
+          (ran.least now_told t.so.now t.so.attached)
+          (c.apply_silently.ensures.stop now_told t.so.now t.so.attached);
+      live = λ told lives g' a.
+          let so = before.live told lives g' a in
+          answered-more so (request_of c.in-Some.request) (map answered (to_come c.next_made.new.script))
+          (ap (λ (qs : List Request). map answered qs) next)
+          (g.H.Host.state c.apply_silently.new.host) c.apply_silently.new.session (ran.applied (before.tells ∙ told) so.lives so.now so.at_end);
+      tells = c.apply_silently.ensures.tells ∙ before.tells;
+      disk = omega (arith, before.disk, c.apply_silently.ensures.disk);
+      outs = omega (arith, before.outs, c.apply_silently.ensures.outs);
+    }
+
+-- a goal for each kind of request
+pub loop-request-preserved-in_ok-apply_silently : goal.loop-request-preserved-in_ok-apply_silently
+loop-request-preserved-in_ok-apply_silently g c = let c = (goal.at.loop-request-preserved-in_ok-apply_silently g c).In_ok-apply_silently in turn g c
+
+pub loop-request-preserved-in_ok-apply_silently-3 : goal.loop-request-preserved-in_ok-apply_silently-3
+loop-request-preserved-in_ok-apply_silently-3 g c =
+    let c = (goal.at.loop-request-preserved-in_ok-apply_silently-3 g c).In_ok-apply_silently in turn g c
+
+pub loop-request-preserved : goal.loop-request-preserved
+loop-request-preserved g c = let c = (goal.at.loop-request-preserved g c).In_ok-apply_silently in turn g c
+
+pub apply_silently-requires-clause-stands : goal.apply_silently-requires-clause-stands
+apply_silently-requires-clause-stands g c = c.loop-request.invariant.stands
+
+pub apply_silently-requires-clause-room : goal.apply_silently-requires-clause-room
+apply_silently-requires-clause-room g c = rw c.in-Some.is at c.in_ok-request.ensures.room
+
+-- ---- a request that isn't applied
+
+pub returns-in_err-apply_silently-clause-stop : goal.returns-in_err-apply_silently-clause-stop
+returns-in_err-apply_silently-clause-stop g c told g' a =
+    let before = c.loop-request.invariant in
+    let t = before.comes told g' a in
+    let next = rw c.in-Some.is at c.in_ok-request.ensures.next in
+    made-stop t (request_of c.in-Some.request) (to_come c.next_made.new.script) next (g.H.Host.state c.apply_silently.new.host)
+    (c.apply_silently.ensures.stop (before.tells ∙ told) t.so.now t.so.attached)
+
+pub returns-in_err-apply_silently-clause-full : goal.returns-in_err-apply_silently-clause-full
+returns-in_err-apply_silently-clause-full g c is_full told g' a =
+    let before = c.loop-request.invariant in
+    let t = before.comes told g' a in
+    let next = rw c.in-Some.is at c.in_ok-request.ensures.next in
+    let p = err_from_is_err_and c.from_residual-in_err-apply_silently.result c.from_residual-in_err-apply_silently.ensures.1 in
+    made-fills t (request_of c.in-Some.request) (to_come c.next_made.new.script) next (g.H.Host.state c.apply_silently.new.host)
+    (c.in_err-apply_silently.ensures.full (cc (is_full, p.1, p.2)) (before.tells ∙ told) t.so.now t.so.attached)
+
+pub returns-in_err-apply_silently-clause-full_live : goal.returns-in_err-apply_silently-clause-full_live
+returns-in_err-apply_silently-clause-full_live g c is_full told lives g' a =
+    let so = c.loop-request.invariant.live told lives g' a in
+    let next = rw c.in-Some.is at c.in_ok-request.ensures.next in
+    let p = err_from_is_err_and c.from_residual-in_err-apply_silently.result c.from_residual-in_err-apply_silently.ensures.1 in
+    answered-full so (request_of c.in-Some.request) (map answered (to_come c.next_made.new.script))
+    (ap (λ (qs : List Request). map answered qs) next)
+    (c.in_err-apply_silently.ensures.full_live (cc (is_full, p.1, p.2)))
+
+pub returns-in_err-apply_silently-clause-damaged : goal.returns-in_err-apply_silently-clause-damaged
+returns-in_err-apply_silently-clause-damaged g c at is =
+    let before = c.loop-request.invariant in
+    let p = err_from_is_err_and c.from_residual-in_err-apply_silently.result c.from_residual-in_err-apply_silently.ensures.1 in
+    let d = c.in_err-apply_silently.ensures.damaged at (cc (is, p.1, p.2)) in (
+      λ told. d.0 (before.tells ∙ told),
+      λ told g' a. let t = before.comes told g' a in d.1 (before.tells ∙ told) t.so.now t.so.attached,
+    )
+
+-- ---- no request is to come
+
+pub returns-in_err-request-clause-stop : goal.returns-in_err-request-clause-stop
+returns-in_err-request-clause-stop g c told g' a = (c.loop-request.invariant.comes told g' a).so.comes.stop
+
+pub returns-clause-stop : goal.returns-clause-stop
+returns-clause-stop g c told g' a = (c.loop-request.invariant.comes told g' a).so.comes.stop
+
+pub returns-clause-applied : goal.returns-clause-applied
+returns-clause-applied g c told g' a =
+    let none = c.in_ok-request.ensures.end (ap Ok c.in_default.is) in
+    taken-last (to_come c.args.script.now) none.0 (c.loop-request.invariant.comes told g' a)
