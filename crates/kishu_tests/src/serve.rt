@@ -1,6 +1,7 @@
 ghost use Rattle.std.specs.Prelude.{◌≡◌, ◌<◌};
 
 mod cells;
+mod generated;
 mod language;
 mod notebooks;
 mod pictures;
@@ -151,13 +152,7 @@ fn keeps(alloc: Global, row: &str) -> Result<bool, Fail> {
         return Ok(false);
     };
     // A list that doubles until its steps are spent leaves a picture of 35,651,604 bytes.
-    let mut host = MemHost::new(
-        alloc,
-        Vec::new(alloc),
-        40_000_000,
-        Vec::new(alloc),
-        None,
-    )?;
+    let mut host = MemHost::new(alloc, Vec::new(alloc), 40_000_000, Vec::new(alloc), None)?;
     let status = run_cell_of(alloc, &mut host, text.as_bytes())?;
     let (begin, end) = (cells::BEGIN, cells::END);
     let line = format!(in alloc; "{begin}{want}{end}")?;
@@ -225,7 +220,7 @@ fn examples_that_spend_their_steps(rt: HostRuntime) -> Result<(), Fail> {
 #[test]
 fn words_and_statuses(rt: HostRuntime) -> Result<(), Fail> {
     let alloc = rt.alloc();
-    let forms: [&[&str]; 23] = [
+    let forms: [&[&str]; 29] = [
         &[],
         &["S"],
         &["S", "fly"],
@@ -241,7 +236,13 @@ fn words_and_statuses(rt: HostRuntime) -> Result<(), Fail> {
         &["S", "run", "--together=true"],
         &["S", "run", "--"],
         &["S", "run", "x"],
-        &["S", "gen", "7", "0"],
+        &["S", "gen"],
+        &["S", "gen", "7"],
+        &["S", "gen", "7", "1", "x"],
+        &["S", "gen", "07", "1"],
+        &["S", "gen", "2147483648", "1"],
+        &["S", "gen", "7", "100001"],
+        &["S", "gen", "7", "1", "--together"],
         &["S", "-"],
         &["S", "session", "x"],
         &["S", "log", "x"],

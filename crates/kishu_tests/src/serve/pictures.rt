@@ -2,6 +2,7 @@
 use super::sessions::run_words;
 use super::{FIRST, host_over, run_cell_of};
 use kishu_serve::Status;
+use std::alloc::Global;
 use std::test::Fail;
 
 /// The store of one commit with the cell `a = [1]; b = a`. Its picture begins at byte 81.
@@ -15,6 +16,46 @@ fn a_commit_stores_its_picture(rt: HostRuntime) -> Result<(), Fail> {
     let status = run_cell_of(alloc, &mut host, b"a = [1]; b = a".as_slice())?;
     assert!(rt; status == Status::Done);
     assert!(rt; host.file() == SHARED.as_slice());
+    Ok(())
+}
+
+/// The answer to `print(a, a is b)` where the list's item is 2.
+const SECOND_LINE: &str =
+    "{\"answer\":\"cell\",\"commit\":2,\"count\":2,\"outcome\":\"ok\",\"outputs\":[{\"name\":\"stdout\",\"output_type\":\"stream\",\"text\":\"[2] True\\n\"}]}\n";
+
+#[test]
+fn opening_takes_another_picture(rt: HostRuntime) -> Result<(), Fail> {
+    let alloc = rt.alloc();
+    let mut file = SHARED;
+    file[124] = 2;
+    let mut host = host_over(alloc, &file, Vec::new(alloc), None)?.ok_or("room")?;
+    let status = run_cell_of(alloc, &mut host, b"print(a, a is b)".as_slice())?;
+    assert!(rt; status == Status::Done);
+    assert!(rt; host.out() == SECOND_LINE.as_bytes());
+    Ok(())
+}
+
+/// Whether that store with this byte at that place has no picture at byte 81, and nothing is done with it.
+fn lacks_its_picture(alloc: Global, place: usize, byte: u8) -> Result<bool, Fail> {
+    let mut file = SHARED.to_vec(alloc)?;
+    let Some(changed) = file.get_mut(place) else {
+        return Ok(false);
+    };
+    *changed = byte;
+    let mut host = host_over(alloc, &file, Vec::new(alloc), None)?.ok_or("room")?;
+    let status = run_cell_of(alloc, &mut host, b"print(a, a is b)".as_slice())?;
+    let stays = host.out().is_empty() && host.file() == file.as_slice();
+    Ok(stays && status == Status::Damaged { at: 81 })
+}
+
+#[test]
+fn opening_finds_no_picture(rt: HostRuntime) -> Result<(), Fail> {
+    let alloc = rt.alloc();
+    // The picture has three names, a node that isn't there, the name `c`, and a kind of node that there isn't.
+    assert!(rt; lacks_its_picture(alloc, 84, 3)?);
+    assert!(rt; lacks_its_picture(alloc, 98, 1)?);
+    assert!(rt; lacks_its_picture(alloc, 93, b'c')?);
+    assert!(rt; lacks_its_picture(alloc, 103, 7)?);
     Ok(())
 }
 
