@@ -4,7 +4,7 @@ ghost use Rattle.std.specs.Rc.{rc_str_bytes};
 ghost use Rattle.kishu_objects.specs.Lists.{Rise};
 
 use crate::cells::State;
-use crate::questions::{Question, told};
+use crate::questions::{Question, is_told};
 use kishu_groups::groups;
 use kishu_meaning::Steps;
 use std::alloc::{AllocError, Global};
@@ -92,9 +92,11 @@ const GROUPS: [(&str, &str); 14] = [
 #[test]
 fn groups_of_cells(rt: HostRuntime) -> Result<(), Fail> {
     let alloc = rt.alloc();
-    for (texts, want) in GROUPS {
-        let groups = told(alloc, Question::Groups, texts, "")?;
-        assert_eq!(rt; groups.as_str(), want, "at {texts}");
+    for (texts, want) in &GROUPS {
+        assert!(rt;
+            is_told(alloc, Question::Groups, texts, "", want)?,
+            "at {texts}"
+        );
     }
     Ok(())
 }
@@ -109,9 +111,11 @@ const GROUPS_OF_THE_REST: [(&str, &str); 3] = [
 #[test]
 fn groups_of_some_names(rt: HostRuntime) -> Result<(), Fail> {
     let alloc = rt.alloc();
-    for (texts, want) in GROUPS_OF_THE_REST {
-        let groups = told(alloc, Question::GroupsOfTheRest, texts, "")?;
-        assert_eq!(rt; groups.as_str(), want, "at {texts}");
+    for (texts, want) in &GROUPS_OF_THE_REST {
+        assert!(rt;
+            is_told(alloc, Question::GroupsOfTheRest, texts, "", want)?,
+            "at {texts}"
+        );
     }
     Ok(())
 }
@@ -121,7 +125,6 @@ fn groups_of_some_names(rt: HostRuntime) -> Result<(), Fail> {
 fn groups_of_a_chain(rt: HostRuntime) -> Result<(), Fail> {
     let alloc = rt.alloc();
     let texts = "a = []\x1efor i in range(100000): a = [a]\x1eb = a";
-    let groups = told(alloc, Question::Groups, texts, "")?;
-    assert_eq!(rt; groups.as_str(), "a b | i | ");
+    assert!(rt; is_told(alloc, Question::Groups, texts, "", "a b | i | ")?);
     Ok(())
 }

@@ -1,7 +1,7 @@
 // Pictures that are loaded, and bytes that are none with the place of their fault.
 use crate::cells::State;
 use crate::pictures::{is_short, whole};
-use crate::questions::{Question, told};
+use crate::questions::{Question, is_told};
 use crate::sameness::same_told;
 use kishu_heap::Heap;
 use kishu_loading::{LoadFault, load};
@@ -204,14 +204,18 @@ fn fault(
     }
 }
 
+/// Whether the fault of bytes is told at this place.
+fn is_at_fault(alloc: Global, bytes: &[u8], at: u64) -> Result<bool, AllocError> {
+    let mut heap = Heap::new(alloc);
+    let mut names = Names::new(alloc);
+    Ok(fault(alloc, bytes, &mut heap, &mut names)? == Some(at))
+}
+
 #[test]
 fn tells_the_place_of_a_fault(rt: HostRuntime) -> Result<(), Fail> {
     let alloc = rt.alloc();
-    for (rule, bytes, at) in FAULTS {
-        let mut heap = Heap::new(alloc);
-        let mut names = Names::new(alloc);
-        let told = fault(alloc, bytes, &mut heap, &mut names)?;
-        assert_eq!(rt; told, Some(at), "{rule}");
+    for (rule, bytes, at) in &FAULTS {
+        assert!(rt; is_at_fault(alloc, bytes, *at)?, "{rule}");
     }
     Ok(())
 }
@@ -224,18 +228,20 @@ fn node_of(names: &Names, name: &str) -> Option<u32> {
     }
 }
 
+/// Pictures that are loaded in turn, how many nodes there are then, and the node of `a`.
+const LOADS: [(&[u8], u32, u32); 3] = [(PICTURE, 1, 0), (SHARED, 2, 1), (EACH_KIND, 8, 2)];
+
 #[test]
 fn loads_pictures(rt: HostRuntime) -> Result<(), Fail> {
     let alloc = rt.alloc();
     let mut heap = Heap::new(alloc);
     let mut names = Names::new(alloc);
-    for (bytes, nodes, first) in [(PICTURE, 1, 0), (SHARED, 2, 1), (EACH_KIND, 8, 2)] {
-        let told = fault(alloc, bytes, &mut heap, &mut names)?;
-        assert_eq!(rt; told, None);
-        assert_eq!(rt; heap.len(), nodes);
-        assert_eq!(rt; node_of(&names, "a"), Some(first));
+    for (bytes, nodes, first) in &LOADS {
+        assert!(rt; fault(alloc, bytes, &mut heap, &mut names)?.is_none());
+        assert!(rt; heap.len() == *nodes);
+        assert!(rt; node_of(&names, "a") == Some(*first));
     }
-    assert_eq!(rt; node_of(&names, "b"), Some(1));
+    assert!(rt; node_of(&names, "b") == Some(1));
     assert!(rt; names.accessed().is_empty());
     Ok(())
 }
@@ -298,9 +304,11 @@ const LOADED: [(&str, &str, &str); 7] = [
 #[test]
 fn loads_the_same(rt: HostRuntime) -> Result<(), Fail> {
     let alloc = rt.alloc();
-    for (texts, others, want) in LOADED {
-        let one = told(alloc, Question::Loaded, texts, others)?;
-        assert_eq!(rt; one.as_str(), want, "{texts}\n{others}");
+    for (texts, others, want) in &LOADED {
+        assert!(rt;
+            is_told(alloc, Question::Loaded, texts, others, want)?,
+            "{texts}\n{others}"
+        );
     }
     Ok(())
 }

@@ -5,7 +5,7 @@ ghost use Rattle.kishu_picture.specs.Held.{held};
 ghost use Rattle.kishu_iso.specs.Wholes.{HasShortPicture};
 
 use crate::cells::State;
-use crate::questions::{Question, told};
+use crate::questions::{Question, is_told};
 use kishu_meaning::{NodeId, Steps};
 use kishu_picture::{order, picture, picture_len};
 use std::alloc::{AllocError, Global};
@@ -158,9 +158,11 @@ const PICTURES: [(&str, &str); 13] = [
 #[test]
 fn pictures_of_cells(rt: HostRuntime) -> Result<(), Fail> {
     let alloc = rt.alloc();
-    for (texts, want) in PICTURES {
-        let picture = told(alloc, Question::Picture, texts, "")?;
-        assert_eq!(rt; picture.as_str(), want, "at {texts}");
+    for (texts, want) in &PICTURES {
+        assert!(rt;
+            is_told(alloc, Question::Picture, texts, "", want)?,
+            "at {texts}"
+        );
     }
     Ok(())
 }
@@ -179,9 +181,11 @@ const ORDERS: [(&str, &str, &str); 6] = [
 #[test]
 fn nodes_in_the_order_of_meeting(rt: HostRuntime) -> Result<(), Fail> {
     let alloc = rt.alloc();
-    for (texts, of, want) in ORDERS {
-        let ids = told(alloc, Question::Order, texts, of)?;
-        assert_eq!(rt; ids.as_str(), want, "at {texts}, {of}");
+    for (texts, of, want) in &ORDERS {
+        assert!(rt;
+            is_told(alloc, Question::Order, texts, of, want)?,
+            "at {texts}, {of}"
+        );
     }
     Ok(())
 }
@@ -206,9 +210,11 @@ const LENGTHS: [(&str, &str, &str); 9] = [
 #[test]
 fn lengths_of_pictures(rt: HostRuntime) -> Result<(), Fail> {
     let alloc = rt.alloc();
-    for (texts, of, want) in LENGTHS {
-        let len = told(alloc, Question::Length, texts, of)?;
-        assert_eq!(rt; len.as_str(), want, "at {texts}, {of}");
+    for (texts, of, want) in &LENGTHS {
+        assert!(rt;
+            is_told(alloc, Question::Length, texts, of, want)?,
+            "at {texts}, {of}"
+        );
     }
     Ok(())
 }

@@ -54,15 +54,20 @@ fn answer<L: Ledger>(
     }
 }
 
-/// What a question about the state that cells leave is answered. `of` has the names that it is about,
-/// or the other cells.
-pub(crate) fn told(
+fn told(alloc: Global, question: Question, texts: &str, of: &str) -> Result<String, AllocError> {
+    let texts = RcStr::from_str(alloc, texts)?;
+    let of = RcStr::from_str(alloc, of)?;
+    answer::<Brand>(alloc, question, &texts, &of, Blank::new(1))
+}
+
+/// Whether a question about the state that cells leave is answered so. `of` has the names that it is
+/// about, or the other cells.
+pub(crate) fn is_told(
     alloc: Global,
     question: Question,
     texts: &str,
     of: &str,
-) -> Result<String, AllocError> {
-    let texts = RcStr::from_str(alloc, texts)?;
-    let of = RcStr::from_str(alloc, of)?;
-    answer::<Brand>(alloc, question, &texts, &of, Blank::new(1))
+    want: &str,
+) -> Result<bool, AllocError> {
+    Ok(told(alloc, question, texts, of)?.as_str() == want)
 }

@@ -1,7 +1,7 @@
 // Whether cells leave the same state.
 use crate::cells::{State, after_cells};
 use crate::pictures::is_short;
-use crate::questions::{Question, told};
+use crate::questions::{Question, is_told};
 use kishu_iso::same;
 use kishu_meaning::Steps;
 use std::alloc::{AllocError, Global};
@@ -37,6 +37,15 @@ pub(crate) fn same_told<L: Ledger>(
     let other = after_cells(alloc, others, steps)?;
     let told = are_same(alloc, one, &other, steps)?;
     String::from_str(alloc, if told { "same" } else { "another" })
+}
+
+// Whether both of two questions, whether some cells leave the same as others and these the same as the
+// first, are answered so.
+fn are_told(alloc: Global, texts: &str, others: &str, want: &str) -> Result<bool, AllocError> {
+    Ok(
+        is_told(alloc, Question::Same, texts, others, want)?
+            && is_told(alloc, Question::Same, others, texts, want)?,
+    )
 }
 
 /// Cells, and others that leave the same.
@@ -75,11 +84,11 @@ const SAME: [(&str, &str); 14] = [
 #[test]
 fn cells_that_leave_the_same(rt: HostRuntime) -> Result<(), Fail> {
     let alloc = rt.alloc();
-    for (texts, others) in SAME {
-        let one = told(alloc, Question::Same, texts, others)?;
-        assert_eq!(rt; one.as_str(), "same", "{texts}\n{others}");
-        let other = told(alloc, Question::Same, others, texts)?;
-        assert_eq!(rt; other.as_str(), "same", "{others}\n{texts}");
+    for (texts, others) in &SAME {
+        assert!(rt;
+            are_told(alloc, texts, others, "same")?,
+            "{texts}\n{others}"
+        );
     }
     Ok(())
 }
@@ -121,11 +130,11 @@ const ANOTHER: [(&str, &str); 24] = [
 #[test]
 fn cells_that_leave_another_state(rt: HostRuntime) -> Result<(), Fail> {
     let alloc = rt.alloc();
-    for (texts, others) in ANOTHER {
-        let one = told(alloc, Question::Same, texts, others)?;
-        assert_eq!(rt; one.as_str(), "another", "{texts}\n{others}");
-        let other = told(alloc, Question::Same, others, texts)?;
-        assert_eq!(rt; other.as_str(), "another", "{others}\n{texts}");
+    for (texts, others) in &ANOTHER {
+        assert!(rt;
+            are_told(alloc, texts, others, "another")?,
+            "{texts}\n{others}"
+        );
     }
     Ok(())
 }

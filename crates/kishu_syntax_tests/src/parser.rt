@@ -39,7 +39,7 @@ fn texts_have_their_trees(rt: HostRuntime) -> Result<(), Fail> {
             count = count.wrapping_add(1);
         }
     }
-    assert_eq!(rt; count, table::COUNT);
+    assert!(rt; count == table::COUNT);
     Ok(())
 }
 
@@ -55,21 +55,28 @@ fn def_line(alloc: Global, text: &str) -> u32 {
     }
 }
 
+/// Texts, and the lines of their faults.
+const DEF_LINES: [(&str, u32); 12] = [
+    ("def f(a, b=1):\n  return a", 0),
+    ("def f(): pass", 0),
+    ("def f(): pass\n", 1),
+    (" def f(): pass", 1),
+    ("def f(): pass # c", 1),
+    ("def f():\r\n  pass", 1),
+    ("x = 1", 1),
+    ("", 1),
+    ("def f(): pass\ndef g(): pass", 1),
+    ("def f(): pass\nx = = 1", 2),
+    ("\n\ndef f(): break", 3),
+    ("def f():\n  return 'a", 2),
+];
+
 #[test]
 fn only_the_code_of_one_function(rt: HostRuntime) -> Result<(), Fail> {
     let alloc = rt.alloc();
-    assert_eq!(rt; def_line(alloc, "def f(a, b=1):\n  return a"), 0);
-    assert_eq!(rt; def_line(alloc, "def f(): pass"), 0);
-    assert_eq!(rt; def_line(alloc, "def f(): pass\n"), 1);
-    assert_eq!(rt; def_line(alloc, " def f(): pass"), 1);
-    assert_eq!(rt; def_line(alloc, "def f(): pass # c"), 1);
-    assert_eq!(rt; def_line(alloc, "def f():\r\n  pass"), 1);
-    assert_eq!(rt; def_line(alloc, "x = 1"), 1);
-    assert_eq!(rt; def_line(alloc, ""), 1);
-    assert_eq!(rt; def_line(alloc, "def f(): pass\ndef g(): pass"), 1);
-    assert_eq!(rt; def_line(alloc, "def f(): pass\nx = = 1"), 2);
-    assert_eq!(rt; def_line(alloc, "\n\ndef f(): break"), 3);
-    assert_eq!(rt; def_line(alloc, "def f():\n  return 'a"), 2);
+    for (text, want) in &DEF_LINES {
+        assert!(rt; def_line(alloc, text) == *want, "at {text}");
+    }
     Ok(())
 }
 
@@ -95,7 +102,7 @@ fn codes_read_as_their_functions(rt: HostRuntime) -> Result<(), Fail> {
             count = count.wrapping_add(1);
         }
     }
-    assert_eq!(rt; count, codes::COUNT);
+    assert!(rt; count == codes::COUNT);
     Ok(())
 }
 
@@ -117,13 +124,27 @@ fn pieces_of(alloc: Global, text: &str) -> Result<String, AllocError> {
     Ok(out)
 }
 
+/// Texts, and their pieces.
+const PIECES: [(&str, &str); 4] = [
+    ("", ""),
+    ("x = 1", "1:1 "),
+    (
+        "\nx = 1; y = 2\n\nif x:\n  y = 3\nelse:\n  y = 4\n# c\ndef f(): pass",
+        "2:2 4:1 9:1 ",
+    ),
+    ("x = 1\ny = = 2", "line 2"),
+];
+
+// Whether a text has these pieces.
+fn has_pieces(alloc: Global, text: &str, want: &str) -> Result<bool, AllocError> {
+    Ok(pieces_of(alloc, text)?.as_str() == want)
+}
+
 #[test]
 fn pieces_have_their_lines(rt: HostRuntime) -> Result<(), Fail> {
     let alloc = rt.alloc();
-    assert_eq!(rt; pieces_of(alloc, "")?.as_str(), "");
-    assert_eq!(rt; pieces_of(alloc, "x = 1")?.as_str(), "1:1 ");
-    let several = "\nx = 1; y = 2\n\nif x:\n  y = 3\nelse:\n  y = 4\n# c\ndef f(): pass";
-    assert_eq!(rt; pieces_of(alloc, several)?.as_str(), "2:2 4:1 9:1 ");
-    assert_eq!(rt; pieces_of(alloc, "x = 1\ny = = 2")?.as_str(), "line 2");
+    for (text, want) in &PIECES {
+        assert!(rt; has_pieces(alloc, text, want)?, "at {text}");
+    }
     Ok(())
 }

@@ -1,11 +1,12 @@
 // Heaps after some calls, and comparisons of values over them.
-ghost use Rattle.std.specs.Prelude.{◌≡◌, ◌+◌, ◌<◌, ◌^◌, IsTrue, IfSome, length, true};
-ghost use Rattle.kishu_language.specs.tokens.Names.{is_name};
+ghost use Rattle.std.specs.Prelude.{◌≡◌, ◌+◌, ◌<◌, ◌^◌, IfSome, length, true};
 ghost use Rattle.kishu_meaning.specs.values.Nodes.{found, list_in};
 
+use crate::methods::{key, new_dict, new_object};
 use indexmap::IndexMap;
 use kishu_heap::{CompareFault, Heap, Node};
-use kishu_meaning::{Budget, Key, KeyPart, NodeId, Steps, Value};
+use kishu_meaning::{Budget, Key, NodeId, Steps, Value};
+use kishu_names::is_name;
 use std::alloc::{AllocError, Global};
 use std::marker::Brand;
 use std::rc::RcStr;
@@ -17,17 +18,24 @@ const FULL: Budget = Budget {
     depth: 0,
 };
 
-// A comparison of two values: what it answers, and the steps that it took.
+#[derive(Clone, Copy)]
+enum Call {
+    Equal,
+    Less,
+}
+
+// A comparison of two nodes: what it answers, and the steps that it took.
 #[derive(Drop)]
 struct Compared {
     answer: Result<bool, CompareFault>,
     taken: u64,
 }
 
-fn counted_equal<L: Ledger>(
+fn counted<L: Ledger>(
     heap: &Heap,
-    a: &Value,
-    b: &Value,
+    call: Call,
+    a: NodeId,
+    b: NodeId,
     start: Budget,
     blank: Blank,
 ) -> Compared
@@ -37,39 +45,20 @@ fn counted_equal<L: Ledger>(
 {
     let mut steps = Steps::<L>::new(blank);
     let mut budget = start;
-    let answer = heap.equal(a, b, &mut budget, &mut steps);
+    let one = Value::Node(a);
+    let other = Value::Node(b);
+    let answer = match call {
+        Call::Equal => heap.equal(&one, &other, &mut budget, &mut steps),
+        Call::Less => heap.less(&one, &other, &mut budget, &mut steps),
+    };
     Compared {
         answer,
         taken: start.left.saturating_sub(budget.left),
     }
 }
 
-fn counted_less<L: Ledger>(
-    heap: &Heap,
-    a: &Value,
-    b: &Value,
-    start: Budget,
-    blank: Blank,
-) -> Compared
-    requires name { blank.name ≡ L.name }
-    requires parts { blank.parts ≡ L.parts }
-    requires some { 0 < L.parts }
-{
-    let mut steps = Steps::<L>::new(blank);
-    let mut budget = start;
-    let answer = heap.less(a, b, &mut budget, &mut steps);
-    Compared {
-        answer,
-        taken: start.left.saturating_sub(budget.left),
-    }
-}
-
-fn equal(heap: &Heap, a: NodeId, b: NodeId, start: Budget) -> Compared {
-    counted_equal::<Brand>(heap, &Value::Node(a), &Value::Node(b), start, Blank::new(1))
-}
-
-fn less(heap: &Heap, a: NodeId, b: NodeId, start: Budget) -> Compared {
-    counted_less::<Brand>(heap, &Value::Node(a), &Value::Node(b), start, Blank::new(1))
+fn comparison(heap: &Heap, call: Call, a: NodeId, b: NodeId, start: Budget) -> Compared {
+    counted::<Brand>(heap, call, a, b, start, Blank::new(1))
 }
 
 // Whether there is room for a node that leads to this one.
@@ -107,30 +96,32 @@ fn number_list(alloc: Global, heap: &mut Heap, number: i128) -> Result<NodeId, A
     }
 }
 
+/// How deep two lists are nested, and what their comparison answers.
+const DEPTHS: [(u32, Result<bool, CompareFault>); 3] = [
+    (999, Ok(true)),
+    (1_000, Ok(true)),
+    (1_001, Err(CompareFault::Depth)),
+];
+
+// Whether two lists that are nested so deep are compared so.
+fn are_compared(
+    alloc: Global,
+    times: u32,
+    want: &Result<bool, CompareFault>,
+) -> Result<bool, AllocError> {
+    let mut heap = Heap::new(alloc);
+    let a = nested(alloc, &mut heap, times)?;
+    let b = nested(alloc, &mut heap, times)?;
+    Ok(comparison(&heap, Call::Equal, a, b, FULL).answer == *want)
+}
+
 #[test]
 fn depths(rt: HostRuntime) -> Result<(), Fail> {
     let alloc = rt.alloc();
-    for (times, want) in [
-        (999, Ok(true)),
-        (1_000, Ok(true)),
-        (1_001, Err(CompareFault::Depth)),
-    ] {
-        let mut heap = Heap::new(alloc);
-        let a = nested(alloc, &mut heap, times)?;
-        let b = nested(alloc, &mut heap, times)?;
-        assert_eq!(rt; equal(&heap, a, b, FULL).answer, want, "{times} times");
+    for (times, want) in &DEPTHS {
+        assert!(rt; are_compared(alloc, *times, want)?, "{times} times");
     }
     Ok(())
-}
-
-// An empty dict.
-fn new_dict(alloc: Global, heap: &mut Heap) -> Result<NodeId, AllocError> {
-    let entries = IndexMap::new(alloc);
-    if heap.len() < 4_000_000_000 {
-        heap.make(Node::Dict(entries))
-    } else {
-        Ok(NodeId(0))
-    }
 }
 
 fn put(heap: &mut Heap, id: NodeId, key: Key, number: i128) -> Result<(), AllocError> {
@@ -151,35 +142,55 @@ fn taken(heap: &mut Heap, id: NodeId, key: &Key) -> i128 {
     0
 }
 
-fn pair(alloc: Global, part: KeyPart) -> Result<Key, AllocError> {
-    Ok(Key::Tuple(vec![in alloc; part]?))
+// A dict with these numbers under these keys, which are put in in turn.
+fn filled(alloc: Global, heap: &mut Heap, entries: &[(&str, i128)]) -> Result<NodeId, AllocError> {
+    let dict = new_dict(alloc, heap)?;
+    for (written, number) in entries {
+        put(heap, dict, key(alloc, written)?, *number)?;
+    }
+    Ok(dict)
 }
 
-fn text(alloc: Global, text: &str) -> Result<Key, AllocError> {
-    Ok(Key::Text(RcStr::from_str(alloc, text)?))
+/// Keys, and the numbers that are put under them in turn.
+const PUT: [(&str, i128); 6] = [
+    ("True", 1),
+    ("1", 2),
+    ("tuple~1", 3),
+    ("tuple~True", 4),
+    ("'a", 5),
+    ("None", 6),
+];
+
+/// Keys that are taken out in turn, with the number that each had then, and what the dict holds after.
+const TAKEN: [(&str, i128, &str); 5] = [
+    ("True", 2, "tuple 4 a 5 None 6 "),
+    ("1", 0, "tuple 4 a 5 None 6 "),
+    ("tuple~1", 4, "a 5 None 6 "),
+    ("'a", 5, "None 6 "),
+    ("None", 6, ""),
+];
+
+// Whether a dict had this number under a key, and holds this once the key is taken out.
+fn loses(
+    alloc: Global,
+    heap: &mut Heap,
+    dict: NodeId,
+    row: &(&str, i128, &str),
+) -> Result<bool, AllocError> {
+    let (written, number, after) = row;
+    let lost = key(alloc, written)?;
+    Ok(taken(heap, dict, &lost) == *number && is_told(alloc, heap, dict, after)?)
 }
 
 #[test]
 fn keys(rt: HostRuntime) -> Result<(), Fail> {
     let alloc = rt.alloc();
     let mut heap = Heap::new(alloc);
-    let dict = new_dict(alloc, &mut heap)?;
-    put(&mut heap, dict, Key::Bool(true), 1)?;
-    put(&mut heap, dict, Key::Int(1), 2)?;
-    put(&mut heap, dict, pair(alloc, KeyPart::Int(1))?, 3)?;
-    put(&mut heap, dict, pair(alloc, KeyPart::Bool(true))?, 4)?;
-    put(&mut heap, dict, text(alloc, "a")?, 5)?;
-    put(&mut heap, dict, Key::None, 6)?;
-    assert_eq!(rt;
-        told(alloc, &heap, dict)?.as_str(),
-        "bool 2 tuple 4 a 5 None 6 "
-    );
-    assert_eq!(rt; taken(&mut heap, dict, &Key::Bool(true)), 2);
-    assert_eq!(rt; taken(&mut heap, dict, &Key::Int(1)), 0);
-    assert_eq!(rt; told(alloc, &heap, dict)?.as_str(), "tuple 4 a 5 None 6 ");
-    assert_eq!(rt; taken(&mut heap, dict, &pair(alloc, KeyPart::Int(1))?), 4);
-    assert_eq!(rt; taken(&mut heap, dict, &text(alloc, "a")?), 5);
-    assert_eq!(rt; taken(&mut heap, dict, &Key::None), 6);
+    let dict = filled(alloc, &mut heap, &PUT)?;
+    assert!(rt; is_told(alloc, &heap, dict, "bool 2 tuple 4 a 5 None 6 ")?);
+    for row in &TAKEN {
+        assert!(rt; loses(alloc, &mut heap, dict, row)?, "at {}", row.0);
+    }
     Ok(())
 }
 
@@ -187,19 +198,13 @@ fn keys(rt: HostRuntime) -> Result<(), Fail> {
 fn orders(rt: HostRuntime) -> Result<(), Fail> {
     let alloc = rt.alloc();
     let mut heap = Heap::new(alloc);
-    let a = new_dict(alloc, &mut heap)?;
-    put(&mut heap, a, Key::Int(1), 1)?;
-    put(&mut heap, a, Key::Int(2), 2)?;
-    let b = new_dict(alloc, &mut heap)?;
-    put(&mut heap, b, Key::Int(2), 2)?;
-    put(&mut heap, b, Key::Bool(true), 1)?;
-    let found = equal(&heap, a, b, FULL);
-    assert_eq!(rt; found.answer, Ok(true));
-    assert_eq!(rt; found.taken, 2);
-    assert_eq!(rt;
-        less(&heap, a, b, FULL).answer,
-        Err(CompareFault::Unordered)
-    );
+    let a = filled(alloc, &mut heap, &[("1", 1), ("2", 2)])?;
+    let b = filled(alloc, &mut heap, &[("2", 2), ("True", 1)])?;
+    let equal = comparison(&heap, Call::Equal, a, b, FULL);
+    assert!(rt; equal.answer == Ok(true));
+    assert!(rt; equal.taken == 2);
+    let less = comparison(&heap, Call::Less, a, b, FULL);
+    assert!(rt; less.answer == Err(CompareFault::Unordered));
     Ok(())
 }
 
@@ -213,24 +218,91 @@ fn loops(alloc: Global, heap: &mut Heap) -> Result<(), AllocError>
     heap.make_all(vec![in alloc; first, second, third]?)
 }
 
+/// A comparison of two nodes by their numbers, with the steps that it may take; what it answers, and the
+/// steps that it takes, where they count.
+struct Row {
+    call: Call,
+    a: u32,
+    b: u32,
+    left: u64,
+    answer: Result<bool, CompareFault>,
+    taken: Option<u64>,
+}
+
+/// Two lists and a tuple that each hold themselves.
+const IN_THEMSELVES: [Row; 6] = [
+    Row {
+        call: Call::Equal,
+        a: 0,
+        b: 0,
+        left: 4_000_000,
+        answer: Ok(true),
+        taken: Some(1),
+    },
+    Row {
+        call: Call::Equal,
+        a: 2,
+        b: 2,
+        left: 4_000_000,
+        answer: Ok(true),
+        taken: None,
+    },
+    Row {
+        call: Call::Equal,
+        a: 0,
+        b: 1,
+        left: 4_000_000,
+        answer: Err(CompareFault::Depth),
+        taken: Some(1_001),
+    },
+    Row {
+        call: Call::Equal,
+        a: 0,
+        b: 1,
+        left: 5,
+        answer: Err(CompareFault::Spent),
+        taken: None,
+    },
+    Row {
+        call: Call::Less,
+        a: 0,
+        b: 0,
+        left: 4_000_000,
+        answer: Ok(false),
+        taken: None,
+    },
+    Row {
+        call: Call::Less,
+        a: 0,
+        b: 2,
+        left: 4_000_000,
+        answer: Err(CompareFault::Unordered),
+        taken: None,
+    },
+];
+
+// Whether a comparison answers and takes what its row says.
+fn holds(heap: &Heap, row: &Row) -> bool {
+    let start = Budget {
+        left: row.left,
+        depth: 0,
+    };
+    let found = comparison(heap, row.call, NodeId(row.a), NodeId(row.b), start);
+    let takes_as_many = match row.taken {
+        Some(taken) => found.taken == taken,
+        None => true,
+    };
+    found.answer == row.answer && takes_as_many
+}
+
 #[test]
 fn nodes_in_themselves(rt: HostRuntime) -> Result<(), Fail> {
     let alloc = rt.alloc();
     let mut heap = Heap::new(alloc);
     loops(alloc, &mut heap)?;
-    let (a, b, tuple) = (NodeId(0), NodeId(1), NodeId(2));
-    assert_eq!(rt; equal(&heap, a, a, FULL).answer, Ok(true));
-    assert_eq!(rt; equal(&heap, a, a, FULL).taken, 1);
-    assert_eq!(rt; equal(&heap, tuple, tuple, FULL).answer, Ok(true));
-    assert_eq!(rt; equal(&heap, a, b, FULL).answer, Err(CompareFault::Depth));
-    assert_eq!(rt; equal(&heap, a, b, FULL).taken, 1_001);
-    let few = Budget { left: 5, depth: 0 };
-    assert_eq!(rt; equal(&heap, a, b, few).answer, Err(CompareFault::Spent));
-    assert_eq!(rt; less(&heap, a, a, FULL).answer, Ok(false));
-    assert_eq!(rt;
-        less(&heap, a, tuple, FULL).answer,
-        Err(CompareFault::Unordered)
-    );
+    for row in &IN_THEMSELVES {
+        assert!(rt; holds(&heap, row), "at {} and {}", row.a, row.b);
+    }
     Ok(())
 }
 
@@ -316,6 +388,11 @@ fn told(alloc: Global, heap: &Heap, id: NodeId) -> Result<String, AllocError> {
     }
 }
 
+// Whether this is in a node.
+fn is_told(alloc: Global, heap: &Heap, id: NodeId, want: &str) -> Result<bool, AllocError> {
+    Ok(told(alloc, heap, id)?.as_str() == want)
+}
+
 // Whether a list has an item at a place.
 fn reaches<L: Ledger>(heap: &Heap, id: NodeId, at: usize, blank: Blank) -> bool
     requires name { blank.name ≡ L.name }
@@ -369,13 +446,13 @@ fn lists(rt: HostRuntime) -> Result<(), Fail> {
     push(&mut heap, list, 2)?;
     push(&mut heap, list, 3)?;
     replace(&mut heap, list, 0, 4);
-    assert_eq!(rt; told(alloc, &heap, list)?.as_str(), "4 2 3 ");
-    assert_eq!(rt; pop(&mut heap, list), 3);
-    assert_eq!(rt; told(alloc, &heap, list)?.as_str(), "4 2 ");
+    assert!(rt; is_told(alloc, &heap, list, "4 2 3 ")?);
+    assert!(rt; pop(&mut heap, list) == 3);
+    assert!(rt; is_told(alloc, &heap, list, "4 2 ")?);
     keep_one(alloc, &mut heap, list, 7)?;
-    assert_eq!(rt; pop(&mut heap, list), 7);
-    assert_eq!(rt; pop(&mut heap, list), -1);
-    assert_eq!(rt; told(alloc, &heap, list)?.as_str(), "");
+    assert!(rt; pop(&mut heap, list) == 7);
+    assert!(rt; pop(&mut heap, list) == -1);
+    assert!(rt; is_told(alloc, &heap, list, "")?);
     Ok(())
 }
 
@@ -385,12 +462,9 @@ fn set(
     id: NodeId,
     name: &str,
     number: i128,
-) -> Result<(), AllocError>
-    requires { IsTrue (is_name name.now) }
-{
-    let name = RcStr::from_str(alloc, name)?;
-    if id.0 < heap.len() {
-        heap.set_attr(id, name, Value::Int(number))
+) -> Result<(), AllocError> {
+    if is_name(name) && id.0 < heap.len() {
+        heap.set_attr(id, RcStr::from_str(alloc, name)?, Value::Int(number))
     } else {
         Ok(())
     }
@@ -404,29 +478,20 @@ fn unset(heap: &mut Heap, id: NodeId, name: &str) -> i128 {
     }
 }
 
-// An object without attributes.
-fn new_object(alloc: Global, heap: &mut Heap) -> Result<NodeId, AllocError> {
-    let attributes = IndexMap::new(alloc);
-    if heap.len() < 4_000_000_000 {
-        heap.make(Node::Object(attributes))
-    } else {
-        Ok(NodeId(0))
-    }
-}
+/// Attributes, and the numbers that are set in turn.
+const SET: [(&str, i128); 4] = [("b", 1), ("a", 2), ("c", 3), ("b", 4)];
 
 #[test]
-#[tactic(auto, unfolding(kishu_language::specs::tokens::Names::reserved_words))]
 fn objects(rt: HostRuntime) -> Result<(), Fail> {
     let alloc = rt.alloc();
     let mut heap = Heap::new(alloc);
     let object = new_object(alloc, &mut heap)?;
-    set(alloc, &mut heap, object, "b", 1)?;
-    set(alloc, &mut heap, object, "a", 2)?;
-    set(alloc, &mut heap, object, "c", 3)?;
-    set(alloc, &mut heap, object, "b", 4)?;
-    assert_eq!(rt; told(alloc, &heap, object)?.as_str(), "b 4 a 2 c 3 ");
-    assert_eq!(rt; unset(&mut heap, object, "a"), 2);
-    assert_eq!(rt; unset(&mut heap, object, "a"), -1);
-    assert_eq!(rt; told(alloc, &heap, object)?.as_str(), "b 4 c 3 ");
+    for (name, number) in &SET {
+        set(alloc, &mut heap, object, name, *number)?;
+    }
+    assert!(rt; is_told(alloc, &heap, object, "b 4 a 2 c 3 ")?);
+    assert!(rt; unset(&mut heap, object, "a") == 2);
+    assert!(rt; unset(&mut heap, object, "a") == -1);
+    assert!(rt; is_told(alloc, &heap, object, "b 4 c 3 ")?);
     Ok(())
 }

@@ -1,6 +1,7 @@
 // Tables of worked numbers, as tools/rows/numbers.py prints them.
 use kishu_num::NumFault::{NegativePower, Overflow, ZeroDivisor};
 use kishu_num::{NumFault, add, floor_div, modulo, mul, power, read_int, sub, write_int};
+use std::alloc::{AllocError, Global};
 use std::test::Fail;
 
 #[derive(Clone, Copy)]
@@ -187,24 +188,29 @@ fn result_of(operator: Operator, a: i128, b: i128) -> Result<i128, NumFault> {
 
 #[test]
 fn operations(rt: HostRuntime) {
-    for (a, operator, b, want) in OPERATIONS {
-        assert_eq!(rt; result_of(operator, a, b), want, "at {a} and {b}");
+    for (a, operator, b, want) in &OPERATIONS {
+        assert!(rt; result_of(*operator, *a, *b) == *want, "at {a} and {b}");
     }
 }
 
 #[test]
 fn readings(rt: HostRuntime) {
-    for (text, want) in READINGS {
-        assert_eq!(rt; read_int(text), want, "at {text}");
+    for (text, want) in &READINGS {
+        assert!(rt; read_int(text) == *want, "at {text}");
     }
+}
+
+// Whether a number is written so, and read again.
+fn is_written(alloc: Global, n: i128, want: &str) -> Result<bool, AllocError> {
+    let text = write_int(alloc, n)?;
+    Ok(text.as_str() == want && read_int(&text) == Some(n))
 }
 
 #[test]
 fn writings(rt: HostRuntime) -> Result<(), Fail> {
-    for (n, want) in WRITINGS {
-        let text = write_int(rt.alloc(), n)?;
-        assert_eq!(rt; text.as_str(), want, "at {n}");
-        assert_eq!(rt; read_int(&text), Some(n), "at {n}");
+    let alloc = rt.alloc();
+    for (n, want) in &WRITINGS {
+        assert!(rt; is_written(alloc, *n, want)?, "at {n}");
     }
     Ok(())
 }

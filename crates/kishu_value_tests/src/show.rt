@@ -2,13 +2,13 @@
 // function, whose text has no address here, and for an exception that is being shown already, where
 // the class and three dots are this language's own.
 ghost use Rattle.kishu_language.specs.Limits.{longest_text};
-ghost use Rattle.std.specs.Prelude.{◌≡◌, ◌<◌, ◌≤◌, ◌^◌, [], IsTrue, IfOk, IfSome, length};
-ghost use Rattle.kishu_language.specs.tokens.Names.{is_name};
+ghost use Rattle.std.specs.Prelude.{◌≡◌, ◌<◌, ◌≤◌, [], IfOk, IfSome, length};
 
-use indexmap::IndexMap;
+use crate::methods::{key, new_dict, new_object, part, range};
 use kishu_heap::{FunctionNode, Heap, Node};
 use kishu_language::Profile;
-use kishu_meaning::{Budget, Builtin, ClassId, Key, KeyPart, NodeId, Steps, Value};
+use kishu_meaning::{Budget, ClassId, NodeId, Steps, Value, builtin_named, class_named};
+use kishu_names::is_name;
 use kishu_parser::parse_def;
 use kishu_show::{ShowFault, repr_of, show};
 use std::alloc::{AllocError, Global};
@@ -66,55 +66,81 @@ fn told(
     }
 }
 
-fn text(alloc: Global, text: &str) -> Result<Value, AllocError> {
-    Ok(Value::Text(RcStr::from_str(alloc, text)?))
+// Whether these are a value's repr and its str, each with the steps that it takes.
+fn are_told(
+    alloc: Global,
+    value: &Value,
+    heap: &Heap,
+    repr: &str,
+    str: &str,
+) -> Result<bool, AllocError> {
+    let shown = told(alloc, Call::Repr, value, heap, FULL)?;
+    Ok(shown.as_str() == repr && told(alloc, Call::Str, value, heap, FULL)?.as_str() == str)
+}
+
+/// Values that are no nodes, with the repr and the str of each.
+const PLAIN: [(&str, &str, &str); 12] = [
+    ("None", "None 4", "None 4"),
+    ("True", "True 4", "True 4"),
+    ("False", "False 5", "False 5"),
+    ("-170", "-170 4", "-170 4"),
+    (
+        "170141183460469231731687303715884105727",
+        "170141183460469231731687303715884105727 39",
+        "170141183460469231731687303715884105727 39",
+    ),
+    ("'it's", "\"it's\" 6", "it's 4"),
+    ("'a\t\\é\x1f", "'a\\t\\\\é\\x1f' 12", "a\t\\é\x1f 5"),
+    ("''\"", "'\\'\"' 5", "'\" 2"),
+    ("range~0~-7~1", "range(0, -7) 12", "range(0, -7) 12"),
+    ("range~0~9~3", "range(0, 9, 3) 14", "range(0, 9, 3) 14"),
+    (
+        "builtin~len",
+        "<built-in function len> 23",
+        "<built-in function len> 23",
+    ),
+    (
+        "class~KeyError",
+        "<class 'KeyError'> 18",
+        "<class 'KeyError'> 18",
+    ),
+];
+
+// A value that is no node, as its row tells it.
+fn plain(alloc: Global, written: &str) -> Result<Value, AllocError> {
+    let (kind, inside) = written.split_once('~').unwrap_or((written, ""));
+    match kind {
+        "range" => range(alloc, inside),
+        "builtin" => Ok(match builtin_named(inside.as_bytes()) {
+            Some(builtin) => Value::Builtin(builtin),
+            None => Value::None,
+        }),
+        "class" => Ok(match class_named(inside.as_bytes()) {
+            Some(class) => Value::Class(class),
+            None => Value::None,
+        }),
+        _ => part(alloc, written),
+    }
 }
 
 #[test]
 fn plain_values(rt: HostRuntime) -> Result<(), Fail> {
     let alloc = rt.alloc();
     let heap = Heap::new(alloc);
-    let rows = vec![in alloc;
-        (Value::None, "None 4", "None 4"),
-        (Value::Bool(true), "True 4", "True 4"),
-        (Value::Bool(false), "False 5", "False 5"),
-        (Value::Int(-170), "-170 4", "-170 4"),
-        (
-            Value::Int(i128::MAX),
-            "170141183460469231731687303715884105727 39",
-            "170141183460469231731687303715884105727 39"
-        ),
-        (text(alloc, "it's")?, "\"it's\" 6", "it's 4"),
-        (
-            text(alloc, "a\t\\é\x1f")?,
-            "'a\\t\\\\é\\x1f' 12",
-            "a\t\\é\x1f 5"
-        ),
-        (text(alloc, "'\"")?, "'\\'\"' 5", "'\" 2"),
-        (Value::Range(0, -7, 1), "range(0, -7) 12", "range(0, -7) 12"),
-        (
-            Value::Range(0, 9, 3),
-            "range(0, 9, 3) 14",
-            "range(0, 9, 3) 14"
-        ),
-        (
-            Value::Builtin(Builtin::LEN),
-            "<built-in function len> 23",
-            "<built-in function len> 23"
-        ),
-        (
-            Value::Class(ClassId::KEY_ERROR),
-            "<class 'KeyError'> 18",
-            "<class 'KeyError'> 18"
-        ),
-    ]?;
-    for (value, repr, str) in rows.iter() {
-        let found = told(alloc, Call::Repr, value, &heap, FULL)?;
-        assert_eq!(rt; found.as_str(), *repr);
-        let found = told(alloc, Call::Str, value, &heap, FULL)?;
-        assert_eq!(rt; found.as_str(), *str);
+    for (written, repr, str) in &PLAIN {
+        let value = plain(alloc, written)?;
+        assert!(rt; are_told(alloc, &value, &heap, repr, str)?, "at {written}");
     }
     Ok(())
+}
+
+/// A node's number, its repr and its str, each with the steps that it takes.
+type Row = (u32, &'static str, &'static str);
+
+// Whether a node is told as its row says.
+fn holds(alloc: Global, heap: &Heap, row: &Row) -> Result<bool, AllocError> {
+    let (id, repr, str) = row;
+    are_told(alloc, &Value::Node(NodeId(*id)), heap, repr, str)
 }
 
 // Lists and tuples, among them such as hold themselves.
@@ -133,24 +159,25 @@ fn lists(alloc: Global, heap: &mut Heap) -> Result<(), AllocError>
     heap.make_all(vec![in alloc; list, tuple, empty, both, all]?)
 }
 
+const LISTS_AND_TUPLES: [Row; 5] = [
+    (0, "[[...]] 7", "[[...]] 7"),
+    (1, "((...),) 8", "((...),) 8"),
+    (2, "() 2", "() 2"),
+    (3, "((), 1) 7", "((), 1) 7"),
+    (
+        4,
+        "[((), 1), [[...]], ((), 1)] 27",
+        "[((), 1), [[...]], ((), 1)] 27",
+    ),
+];
+
 #[test]
 fn lists_and_tuples(rt: HostRuntime) -> Result<(), Fail> {
     let alloc = rt.alloc();
     let mut heap = Heap::new(alloc);
     lists(alloc, &mut heap)?;
-    for (id, want) in [
-        (0, "[[...]] 7"),
-        (1, "((...),) 8"),
-        (2, "() 2"),
-        (3, "((), 1) 7"),
-        (4, "[((), 1), [[...]], ((), 1)] 27"),
-    ] {
-        let value = Value::Node(NodeId(id));
-        assert_eq!(rt;
-            told(alloc, Call::Repr, &value, &heap, FULL)?.as_str(),
-            want
-        );
-        assert_eq!(rt; told(alloc, Call::Str, &value, &heap, FULL)?.as_str(), want);
+    for row in &LISTS_AND_TUPLES {
+        assert!(rt; holds(alloc, &heap, row)?, "node {}", row.0);
     }
     Ok(())
 }
@@ -172,24 +199,21 @@ fn exceptions(alloc: Global, heap: &mut Heap) -> Result<(), AllocError>
     heap.make_all(vec![in alloc; empty, one, two, key, around]?)
 }
 
+const EXCEPTIONS: [Row; 5] = [
+    (0, "ValueError() 12", " 0"),
+    (1, "ValueError('x') 15", "x 2"),
+    (2, "ValueError('x', 1) 18", "('x', 1) 8"),
+    (3, "KeyError('k') 13", "'k' 4"),
+    (4, "ValueError(KeyError('k')) 25", "'k' 5"),
+];
+
 #[test]
 fn exceptions_by_their_arguments(rt: HostRuntime) -> Result<(), Fail> {
     let alloc = rt.alloc();
     let mut heap = Heap::new(alloc);
     exceptions(alloc, &mut heap)?;
-    for (id, repr, str) in [
-        (0, "ValueError() 12", " 0"),
-        (1, "ValueError('x') 15", "x 2"),
-        (2, "ValueError('x', 1) 18", "('x', 1) 8"),
-        (3, "KeyError('k') 13", "'k' 4"),
-        (4, "ValueError(KeyError('k')) 25", "'k' 5"),
-    ] {
-        let value = Value::Node(NodeId(id));
-        assert_eq!(rt;
-            told(alloc, Call::Repr, &value, &heap, FULL)?.as_str(),
-            repr
-        );
-        assert_eq!(rt; told(alloc, Call::Str, &value, &heap, FULL)?.as_str(), str);
+    for row in &EXCEPTIONS {
+        assert!(rt; holds(alloc, &heap, row)?, "node {}", row.0);
     }
     Ok(())
 }
@@ -210,26 +234,23 @@ fn loops(alloc: Global, heap: &mut Heap) -> Result<(), AllocError>
     heap.make_all(vec![in alloc; list, inner, itself]?)
 }
 
+const IN_THEMSELVES: [Row; 3] = [
+    (0, "[ValueError([...])] 19", "[ValueError([...])] 19"),
+    (
+        1,
+        "ValueError([ValueError(...)]) 29",
+        "[ValueError([...])] 20",
+    ),
+    (2, "ValueError(ValueError(...)) 27", "Depth 1001"),
+];
+
 #[test]
 fn exceptions_that_hold_themselves(rt: HostRuntime) -> Result<(), Fail> {
     let alloc = rt.alloc();
     let mut heap = Heap::new(alloc);
     loops(alloc, &mut heap)?;
-    for (id, repr, str) in [
-        (0, "[ValueError([...])] 19", "[ValueError([...])] 19"),
-        (
-            1,
-            "ValueError([ValueError(...)]) 29",
-            "[ValueError([...])] 20",
-        ),
-        (2, "ValueError(ValueError(...)) 27", "Depth 1001"),
-    ] {
-        let value = Value::Node(NodeId(id));
-        assert_eq!(rt;
-            told(alloc, Call::Repr, &value, &heap, FULL)?.as_str(),
-            repr
-        );
-        assert_eq!(rt; told(alloc, Call::Str, &value, &heap, FULL)?.as_str(), str);
+    for row in &IN_THEMSELVES {
+        assert!(rt; holds(alloc, &heap, row)?, "node {}", row.0);
     }
     Ok(())
 }
@@ -264,6 +285,12 @@ fn lists_of(alloc: Global, heap: &mut Heap, function: FunctionNode) -> Result<()
     heap.make_all(vec![in alloc; Node::Function(function), one, both]?)
 }
 
+const FUNCTIONS: [Row; 3] = [
+    (0, "<function f> 12", "<function f> 12"),
+    (1, "[<function f>] 14", "[<function f>] 14"),
+    (2, "[<function f>, [...]] 21", "[<function f>, [...]] 21"),
+];
+
 #[test]
 fn functions(rt: HostRuntime) -> Result<(), Fail> {
     let alloc = rt.alloc();
@@ -271,58 +298,34 @@ fn functions(rt: HostRuntime) -> Result<(), Fail> {
     if let Some(function) = function_of(alloc, "def f(): pass")? {
         lists_of(alloc, &mut heap, function)?;
     }
-    for (id, want) in [
-        (0, "<function f> 12"),
-        (1, "[<function f>] 14"),
-        (2, "[<function f>, [...]] 21"),
-    ] {
-        let value = Value::Node(NodeId(id));
-        assert_eq!(rt;
-            told(alloc, Call::Repr, &value, &heap, FULL)?.as_str(),
-            want
-        );
-        assert_eq!(rt; told(alloc, Call::Str, &value, &heap, FULL)?.as_str(), want);
+    for row in &FUNCTIONS {
+        assert!(rt; holds(alloc, &heap, row)?, "node {}", row.0);
     }
     Ok(())
 }
 
-// An empty dict.
-fn new_dict(alloc: Global, heap: &mut Heap) -> Result<NodeId, AllocError> {
-    let entries = IndexMap::new(alloc);
-    if heap.len() < 4_000_000_000 {
-        heap.make(Node::Dict(entries))
-    } else {
-        Ok(NodeId(0))
-    }
-}
-
-// An object without attributes.
-fn new_object(alloc: Global, heap: &mut Heap) -> Result<NodeId, AllocError> {
-    let attributes = IndexMap::new(alloc);
-    if heap.len() < 4_000_000_000 {
-        heap.make(Node::Object(attributes))
-    } else {
-        Ok(NodeId(0))
-    }
-}
-
-fn put(heap: &mut Heap, id: NodeId, key: Key) -> Result<(), AllocError> {
+// Puts a dict into itself under a key.
+fn put(alloc: Global, heap: &mut Heap, id: NodeId, written: &str) -> Result<(), AllocError> {
+    let new = key(alloc, written)?;
     if id.0 < heap.len() {
-        heap.insert(id, key, Value::Node(id))
+        heap.insert(id, new, Value::Node(id))
     } else {
         Ok(())
     }
 }
 
-fn set(alloc: Global, heap: &mut Heap, id: NodeId, name: &str) -> Result<(), AllocError>
-    requires { IsTrue (is_name name.now) }
-{
-    let name = RcStr::from_str(alloc, name)?;
-    if id.0 < heap.len() {
-        heap.set_attr(id, name, Value::Node(id))
+// Puts an object into itself as this attribute.
+fn set(alloc: Global, heap: &mut Heap, id: NodeId, name: &str) -> Result<(), AllocError> {
+    if is_name(name) && id.0 < heap.len() {
+        heap.set_attr(id, RcStr::from_str(alloc, name)?, Value::Node(id))
     } else {
         Ok(())
     }
+}
+
+// Whether this is the repr and the str of a node, with the steps that it takes.
+fn is_told(alloc: Global, heap: &Heap, id: NodeId, want: &str) -> Result<bool, AllocError> {
+    are_told(alloc, &Value::Node(id), heap, want, want)
 }
 
 #[test]
@@ -330,48 +333,49 @@ fn dicts(rt: HostRuntime) -> Result<(), Fail> {
     let alloc = rt.alloc();
     let mut heap = Heap::new(alloc);
     let dict = new_dict(alloc, &mut heap)?;
-    let value = Value::Node(dict);
-    assert_eq!(rt;
-        told(alloc, Call::Repr, &value, &heap, FULL)?.as_str(),
-        "{} 2"
-    );
-    put(&mut heap, dict, Key::Text(RcStr::from_str(alloc, "k")?))?;
-    assert_eq!(rt;
-        told(alloc, Call::Repr, &value, &heap, FULL)?.as_str(),
-        "{'k': {...}} 12"
-    );
-    put(&mut heap, dict, Key::Tuple(Vec::new(alloc)))?;
-    put(&mut heap, dict, Key::Tuple(vec![in alloc; KeyPart::None]?))?;
-    put(
-        &mut heap,
-        dict,
-        Key::Tuple(vec![in alloc; KeyPart::Bool(true), KeyPart::Int(-2)]?),
-    )?;
-    assert_eq!(rt;
-        told(alloc, Call::Str, &value, &heap, FULL)?.as_str(),
-        "{'k': {...}, (): {...}, (None,): {...}, (True, -2): {...}} 58"
-    );
+    assert!(rt; is_told(alloc, &heap, dict, "{} 2")?);
+    put(alloc, &mut heap, dict, "'k")?;
+    assert!(rt; is_told(alloc, &heap, dict, "{'k': {...}} 12")?);
+    for written in &["tuple~", "tuple~None", "tuple~True~-2"] {
+        put(alloc, &mut heap, dict, written)?;
+    }
+    let want = "{'k': {...}, (): {...}, (None,): {...}, (True, -2): {...}} 58";
+    assert!(rt; is_told(alloc, &heap, dict, want)?);
     Ok(())
 }
 
 #[test]
-#[tactic(auto, unfolding(kishu_language::specs::tokens::Names::reserved_words))]
 fn objects(rt: HostRuntime) -> Result<(), Fail> {
     let alloc = rt.alloc();
     let mut heap = Heap::new(alloc);
     let object = new_object(alloc, &mut heap)?;
-    let value = Value::Node(object);
-    assert_eq!(rt;
-        told(alloc, Call::Repr, &value, &heap, FULL)?.as_str(),
-        "namespace() 11"
-    );
+    assert!(rt; is_told(alloc, &heap, object, "namespace() 11")?);
     set(alloc, &mut heap, object, "b")?;
     set(alloc, &mut heap, object, "a")?;
-    assert_eq!(rt;
-        told(alloc, Call::Repr, &value, &heap, FULL)?.as_str(),
-        "namespace(b=namespace(...), a=namespace(...)) 45"
-    );
+    let want = "namespace(b=namespace(...), a=namespace(...)) 45";
+    assert!(rt; is_told(alloc, &heap, object, want)?);
     Ok(())
+}
+
+/// The steps that may be taken, how deep the walk begins, and what is told of the tuple `((), 1)`.
+const BUDGETS: [(u64, u32, &str); 6] = [
+    (7, 0, "((), 1) 7"),
+    (6, 0, "Spent 6"),
+    (7, 998, "((), 1) 7"),
+    (7, 999, "((), 1) 7"),
+    (7, 1_000, "Depth 1"),
+    (0, 1_000, "Spent 0"),
+];
+
+// Whether this is told of a value's repr, of which some steps may be taken.
+fn is_within(alloc: Global, heap: &Heap, row: &(u64, u32, &str)) -> Result<bool, AllocError> {
+    let (left, depth, want) = row;
+    let start = Budget {
+        left: *left,
+        depth: *depth,
+    };
+    let tuple = Value::Node(NodeId(3));
+    Ok(told(alloc, Call::Repr, &tuple, heap, start)?.as_str() == *want)
 }
 
 #[test]
@@ -379,20 +383,8 @@ fn budgets(rt: HostRuntime) -> Result<(), Fail> {
     let alloc = rt.alloc();
     let mut heap = Heap::new(alloc);
     lists(alloc, &mut heap)?;
-    let value = Value::Node(NodeId(3));
-    for (left, depth, want) in [
-        (7, 0, "((), 1) 7"),
-        (6, 0, "Spent 6"),
-        (7, 998, "((), 1) 7"),
-        (7, 999, "((), 1) 7"),
-        (7, 1_000, "Depth 1"),
-        (0, 1_000, "Spent 0"),
-    ] {
-        let start = Budget { left, depth };
-        assert_eq!(rt;
-            told(alloc, Call::Repr, &value, &heap, start)?.as_str(),
-            want
-        );
+    for row in &BUDGETS {
+        assert!(rt; is_within(alloc, &heap, row)?, "at {}, {}", row.0, row.1);
     }
     Ok(())
 }

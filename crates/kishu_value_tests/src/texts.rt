@@ -12,15 +12,15 @@ use std::test::Fail;
 
 #[test]
 fn counts(rt: HostRuntime) {
-    for (text, want) in COUNTS {
-        assert_eq!(rt; count(text), want, "at {text}");
+    for (text, want) in &COUNTS {
+        assert!(rt; count(text) == *want, "at {text}");
     }
 }
 
 #[test]
 fn characters(rt: HostRuntime) {
-    for (text, i, want) in PLACES {
-        assert_eq!(rt; at(text, i), want, "at {text}, {i}");
+    for (text, i, want) in &PLACES {
+        assert!(rt; at(text, *i) == *want, "at {text}, {i}");
     }
 }
 
@@ -45,27 +45,28 @@ fn fits(size: usize, start: i128, step: i128, len: usize) -> bool
     true
 }
 
-fn sliced(
+// Whether the places of a slice lie in a text, and this is the slice.
+fn is_sliced(
     alloc: Global,
     text: &str,
     start: i128,
     step: i128,
     len: usize,
-) -> Result<String, AllocError> {
+    want: &str,
+) -> Result<bool, AllocError> {
     if fits(count(text), start, step, len) {
-        slice(alloc, text, start, step, len)
+        Ok(slice(alloc, text, start, step, len)?.as_str() == want)
     } else {
-        String::from_str(alloc, "outside")
+        Ok(false)
     }
 }
 
 #[test]
 fn slices(rt: HostRuntime) -> Result<(), Fail> {
     let alloc = rt.alloc();
-    for (text, start, step, len, want) in SLICES {
-        assert_eq!(rt;
-            sliced(alloc, text, start, step, len)?.as_str(),
-            want,
+    for (text, start, step, len, want) in &SLICES {
+        assert!(rt;
+            is_sliced(alloc, text, *start, *step, *len, want)?,
             "at {text}, {start}"
         );
     }
@@ -74,23 +75,20 @@ fn slices(rt: HostRuntime) -> Result<(), Fail> {
 
 #[test]
 fn finds(rt: HostRuntime) {
-    for (text, part, want) in FINDS {
-        assert_eq!(rt; find(text, part), want, "at {text}, {part}");
+    for (text, part, want) in &FINDS {
+        assert!(rt; find(text, part) == *want, "at {text}, {part}");
     }
 }
 
-fn times(text: &str, part: &str) -> Option<usize> {
-    if part.is_empty() {
-        None
-    } else {
-        Some(occurrences(text, part))
-    }
+// Whether there is a part, and it occurs so often.
+fn occurs(text: &str, part: &str, want: usize) -> bool {
+    !part.is_empty() && occurrences(text, part) == want
 }
 
 #[test]
 fn counts_of_a_part(rt: HostRuntime) {
-    for (text, part, want) in OCCURRENCES {
-        assert_eq!(rt; times(text, part), Some(want), "at {text}, {part}");
+    for (text, part, want) in &OCCURRENCES {
+        assert!(rt; occurs(text, part, *want), "at {text}, {part}");
     }
 }
 
@@ -105,51 +103,59 @@ fn shown(alloc: Global, pieces: &[String]) -> Result<String, AllocError> {
     Ok(shown)
 }
 
-fn cut(alloc: Global, text: &str, part: &str) -> Result<String, AllocError> {
+// Whether there is a part, and a text falls into these pieces at it.
+fn is_split(alloc: Global, text: &str, part: &str, want: &str) -> Result<bool, AllocError> {
     if part.is_empty() {
-        return String::from_str(alloc, "no part");
+        return Ok(false);
     }
     let pieces = split(alloc, text, part)?;
-    shown(alloc, &pieces)
+    Ok(shown(alloc, &pieces)?.as_str() == want)
 }
 
 #[test]
 fn splits(rt: HostRuntime) -> Result<(), Fail> {
     let alloc = rt.alloc();
-    for (text, part, want) in SPLITS {
-        assert_eq!(rt; cut(alloc, text, part)?.as_str(), want, "at {text}, {part}");
+    for (text, part, want) in &SPLITS {
+        assert!(rt; is_split(alloc, text, part, want)?, "at {text}, {part}");
     }
     Ok(())
 }
 
-fn cut_at_space(alloc: Global, text: &str) -> Result<String, AllocError> {
+// Whether a text has these words.
+fn has_words(alloc: Global, text: &str, want: &str) -> Result<bool, AllocError> {
     let words = split_space(alloc, text)?;
-    shown(alloc, &words)
+    Ok(shown(alloc, &words)?.as_str() == want)
 }
 
 #[test]
 fn words(rt: HostRuntime) -> Result<(), Fail> {
     let alloc = rt.alloc();
-    for (text, want) in WORDS {
-        assert_eq!(rt; cut_at_space(alloc, text)?.as_str(), want, "at {text}");
+    for (text, want) in &WORDS {
+        assert!(rt; has_words(alloc, text, want)?, "at {text}");
     }
     Ok(())
 }
 
-fn replaced(alloc: Global, text: &str, part: &str, by: &str) -> Result<String, AllocError> {
+// Whether there is a part, and this comes of a text with another in its place.
+fn is_replaced(
+    alloc: Global,
+    text: &str,
+    part: &str,
+    by: &str,
+    want: &str,
+) -> Result<bool, AllocError> {
     if part.is_empty() {
-        return String::from_str(alloc, "no part");
+        return Ok(false);
     }
-    replace(alloc, text, part, by)
+    Ok(replace(alloc, text, part, by)?.as_str() == want)
 }
 
 #[test]
 fn replaces(rt: HostRuntime) -> Result<(), Fail> {
     let alloc = rt.alloc();
-    for (text, part, by, want) in REPLACES {
-        assert_eq!(rt;
-            replaced(alloc, text, part, by)?.as_str(),
-            want,
+    for (text, part, by, want) in &REPLACES {
+        assert!(rt;
+            is_replaced(alloc, text, part, by, want)?,
             "at {text}, {part}, {by}"
         );
     }
@@ -158,16 +164,21 @@ fn replaces(rt: HostRuntime) -> Result<(), Fail> {
 
 #[test]
 fn strips(rt: HostRuntime) {
-    for (text, want) in STRIPS {
-        assert_eq!(rt; strip(text), want, "at {text}");
+    for (text, want) in &STRIPS {
+        assert!(rt; strip(text) == *want, "at {text}");
     }
+}
+
+// Whether this is a text's repr.
+fn is_quoted(alloc: Global, text: &str, want: &str) -> Result<bool, AllocError> {
+    Ok(quote(alloc, text)?.as_str() == want)
 }
 
 #[test]
 fn quotes(rt: HostRuntime) -> Result<(), Fail> {
     let alloc = rt.alloc();
-    for (text, want) in QUOTES {
-        assert_eq!(rt; quote(alloc, text)?.as_str(), want, "at {text}");
+    for (text, want) in &QUOTES {
+        assert!(rt; is_quoted(alloc, text, want)?, "at {text}");
     }
     Ok(())
 }
