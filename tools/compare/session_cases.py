@@ -37,6 +37,9 @@ WORDS = [
     [STORE, "checkout", "1", "2"], [STORE, "branch", "a", "main", "x"], ["-x", STORE, "log"], [STORE, "log", ""], [STORE, "status", "--together"],
     [STORE, "run", "x"], [STORE, "run", "--together", "--together"], ["--together", "run"], [STORE, "cell", "--together"], [STORE, "--togethe", "run"],
     [STORE, "run", "--together=true"], [STORE, "--together"], [STORE, "run", "--"], ["--together"],
+    [STORE, "gen"], [STORE, "gen", "7"], [STORE, "gen", "7", "1", "x"], [STORE, "gen", "07", "1"], [STORE, "gen", "7", "01"], [STORE, "gen", "+7", "1"],
+    [STORE, "gen", "2147483648", "1"], [STORE, "gen", "7", "100001"], [STORE, "gen", "7", "18446744073709551617"], [STORE, "gen", "0x7", "1"],
+    [STORE, "gen", "7", "1", "--together"], [STORE, "gen", "\u0667", "1"], [STORE, "gen", "7", ""],
     ["", "log"], [STORE, "checkout", "-1"], [STORE, "branch", "-a"], [STORE, "branch", "a", ""], [STORE, "Log"], ["--", STORE, "log"],
 ]
 BAD_LINES = [

@@ -5,6 +5,7 @@ import json
 import re
 
 import bound_rules
+import gen_rules
 import notebook_rules
 import picture_rules
 import python_cells
@@ -199,7 +200,8 @@ class Session:
 
 
 def form_of(words):
-    """The form of a command line: `session`, `cell`, `run`, `run together`, or the request that the words are. None: they have none."""
+    """The form of a command line: `session`, `cell`, `run`, `run together`, the two numbers of `gen`, or the request that the words are.
+    None: they have none."""
     if any(word == "" or word.startswith("-") and word != TOGETHER for word in words):
         return None
     together, plain = words.count(TOGETHER), [word for word in words if word != TOGETHER]
@@ -214,6 +216,8 @@ def form_of(words):
         return {"op": command}
     if command == "checkout" and len(more) == 1:
         return {"op": "checkout", "to": more[0]}
+    if command == "gen" and len(more) == 2:
+        return gen_rules.numbers_of(*more)
     if command == "branch" and len(more) in (1, 2):
         return {"op": "branch", "name": more[0]} | ({"at": more[1]} if len(more) == 2 else {})
     return None
@@ -250,6 +254,8 @@ def answered(session, form, data, notebook):
     try:
         if notebook is not None:
             return 0, b"", notebook_rules.pretty(notebook_rules.run(notebook, form == "run together", session.told))
+        if isinstance(form, tuple):
+            return 0, b"", answer_line(gen_rules.summed_up(session, *form))
         return 0, b"", session.answer(cell_of(data) if form == "cell" else form)
     except Damaged as damage:
         return *damaged(damage), b""

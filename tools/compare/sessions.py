@@ -6,7 +6,7 @@ Usage: tools/compare/sessions.py --program PROGRAM [--cases COUNT] [--seed SEED]
        tools/compare/sessions.py --program PROGRAM --full                             sessions on a store that is full or nearly
 
 PROGRAM is the built program, crates/kishu_cli/out/kishu_cli. A case is one store and some runs on it: of `session` with lines of
-requests, of `run` with a notebook, and of `cell`, `log`, `status`, `checkout` and `branch`. Lines are cells, several cells at once,
+requests, of `run` with a notebook, and of `cell`, `log`, `status`, `checkout` and `branch`; at the beginning some of `gen`, too. Lines are cells, several cells at once,
 checkouts by number and by branch, branches, `log` and `status`, some of them refused, and lines that are no request. Between runs a file may be harmed: cut, a byte changed or
 taken out, the gate at its end opened, a gate before it closed. Before the random cases come some that are always the same, about
 limits and ends of lines, and one session that gets each line when the line before is answered. Case K of a seed depends on these
@@ -31,6 +31,7 @@ import subprocess
 import sys
 import tempfile
 
+import gen_rules
 import python_cells
 import session_rules
 from session_cases import STORE, Case, Harm, Player, Run
@@ -89,6 +90,9 @@ def same_cases():
     yield Case(None, [Run([STORE, "session"], by_hand.steps[0].data, typed=True)], by_hand.known)
     yield session_case(CELL % LONG_CELL, CELL % (LONG_CELL + b"#"), STATUS, b"")
     yield session_case(CELLS % (b"1", LONG_CELL), CELLS % (b"1", LONG_CELL + b"#"), STATUS, b"")
+    made = {request["text"] for start in (7, 2**31 - 1) for request in gen_rules.requests(start, 60) if request["op"] == "cell"}
+    runs = [Run([STORE, "gen", *numbers], b"print(1)") for numbers in (("7", "0"), ("7", "60"), ("2147483647", "60"))]
+    yield Case(None, [*runs, Run([STORE, "session"], b"\n".join((LOG, STATUS)))], made)
     for spaces in (2**24 - 1 - len(STATUS), 2**24 - len(STATUS)):
         yield session_case(STATUS, b" " * spaces + STATUS, LOG)
     yield session_case(STATUS, b" " * 2**24)
