@@ -1,5 +1,5 @@
 #!/usr/bin/env python3
-"""Tries the edits that the gate leaves out: those of the crates of the language whose proof takes longest.
+"""Tries the edits that the gate leaves out: those of crates of the language.
 
     python3 tools/edits/try_edits.py [CRATE ..]
 
