@@ -1,4 +1,3 @@
 mod HistoryExamples
 mod PathExamples
 mod LocalityExamples
-mod AllNamesExamples

@@ -10,5 +10,4 @@ pub mod Checkout
 pub mod Live
 pub mod Stored
 pub mod Sizes
-pub mod AllNames
 pub mod Good

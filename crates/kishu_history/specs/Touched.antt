@@ -1,14 +1,15 @@
 -- What a cell changed, told among the names that it touched alone.
-use Rattle.std.specs.Prelude.{◌≡◌, ℕ, ◌⊎◌, Bool, false, not, ◌&&◌, ◌||◌, List, filter}
+use Rattle.std.specs.Prelude.{◌≡◌, ℕ, ◌+◌, ◌⊎◌, Bool, false, not, ◌&&◌, ◌||◌, List, filter}
 use Rattle.std.specs.List.{list_any}
 use Rattle.kishu_language.specs.tokens.Names.{is_among}
 use Rattle.kishu_meaning.specs.values.Values.{State}
 use Rattle.kishu_objects.specs.Picture.{picture, listed}
 use Rattle.kishu_objects.specs.Groups.{groups, groups_of}
 use Rattle.kishu_objects.specs.Lists.{In}
+use Rattle.kishu_objects.specs.Sizes.{size_among}
 use Rattle.kishu_history.specs.Alike.{is_state}
 use Rattle.kishu_history.specs.Changed.{Group, is_one_of}
-use Rattle.kishu_history.specs.Tables.{Table, groups_in, Change}
+use Rattle.kishu_history.specs.Tables.{Row, Table, groups_in, bytes_in, Change}
 
 -- whether the group holds one of these names
 abbrev pub holds_any : List (List ℕ) → Group → Bool
@@ -45,3 +46,13 @@ module _ (gs : List Group) (pic : Group → State) (accessed : List (List ℕ)) 
 -- what a cell that leads from s to u changes of a table, with these rows stored
 abbrev pub change_told : Table → State → List (List ℕ) → State → Table → Change
 change_told t s accessed u rows = record { dropped = dropped_among (groups_in t) (picture s) accessed u; stored = rows }
+
+-- ---- how much a state takes
+
+-- the rows that hold no accessed name
+abbrev pub untouched : Table → List (List ℕ) → Table
+untouched t accessed = filter (λ r. not (holds_any accessed r.group)) t
+
+-- the bytes that a state takes after cells, told by the table before them: those of these rows, and those of the pictures of the classes of the touched names
+abbrev pub size_told : Table → List (List ℕ) → State → ℕ
+size_told t accessed s = bytes_in (untouched t accessed) + size_among (classes (groups_in t) accessed s) s

@@ -1,4 +1,5 @@
 pub mod TouchLaws
+pub mod AccessLaws
 pub mod InsideLaws
 pub mod LeavesLaws
 pub mod JoinedLaws

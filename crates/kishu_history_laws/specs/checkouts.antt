@@ -2,3 +2,4 @@ pub mod CheckoutLaws
 pub mod PlanLaws
 pub mod PlaceLaws
 pub mod AnewLaws
+pub mod GivenLaws

@@ -4,4 +4,4 @@ pub mod NameLaws
 pub mod LoadLaws
 pub mod SameLaws
 pub mod SoundLaws
-pub mod WholeSize
+pub mod PictureSizes

@@ -1,5 +1,4 @@
 pub mod ReplayLaws
 pub mod StoreLaws
 pub mod AttachedLaws
-pub mod WholeStoreLaws
 pub mod BackLaws

@@ -2,4 +2,3 @@ pub mod TableLaws
 pub mod RecordLaws
 pub mod FileLaws
 pub mod SplitLaws
-pub mod AllNamesLaws

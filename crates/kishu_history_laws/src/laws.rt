@@ -26,7 +26,7 @@ ghost use Rattle.kishu_history.specs.Tables.{Row, Table, groups_in, first_name, 
 ghost use Rattle.kishu_history.specs.Paths.{stops_in, stops, ReplaysAreStates, table_in, table_at, with_change, change_of, AreRows};
 ghost use Rattle.kishu_store_laws.specs.HistoryLaws.{AreChanges};
 ghost use Rattle.kishu_store_laws.specs.PlaceLaws.{StayIn};
-ghost use Rattle.kishu_history.specs.Touched.{holds_any, classes, dropped_among, stored_among, IsKept, change_told};
+ghost use Rattle.kishu_history.specs.Touched.{holds_any, untouched, touched, classes, dropped_among, stored_among, IsKept, change_told, size_told};
 ghost use Rattle.kishu_history.specs.Cut.{IsCut};
 ghost use Rattle.kishu_objects.specs.Locality.{Reached, Leaves};
 ghost use Rattle.kishu_history.specs.Checkout.{to_keep, to_load, to_drop, carried};
@@ -34,8 +34,7 @@ ghost use Rattle.kishu_history.specs.Live.{IsLive, IsPictureOf};
 ghost use Rattle.kishu_history.specs.Stored.{bytes_at, Held, Stored, Keeps, KeepsRecords, joined, AreNewRows};
 ghost use Rattle.kishu_objects.specs.Sizes.{size_among, size, most_bytes};
 ghost use Rattle.kishu_history.specs.Sizes.{StaySmall};
-ghost use Rattle.kishu_history.specs.AllNames.{all_names, AreWhole};
-ghost use Rattle.kishu_history.specs.Good.{IsGoodStore, IsAttached, IsWholeStore, IsWholeAttached};
+ghost use Rattle.kishu_history.specs.Good.{IsGoodStore, IsAttached};
 
 /// The test of two states tells whether they are one, that of a group whether it is among others, and that of a group in a state whether it stands there with a picture. Where pictures fit into bytes, their bytes tell the first.
 pub fn tests_decide()
@@ -70,20 +69,22 @@ pub fn tables_are_right()
     ensures table { (ks : List Stop) (t : Table) → IsSoundState (at_end ks) → IsRight ks t → IsTable t }
 {}
 
-/// On every store: the rows of records have their commits' numbers and stand in order, where none are, and with those of a further commit. Each row of a table stands among those that its version's record stored, so tables of one graph are of one; and a record that fits leaves a table.
+/// On every store: the rows of records have their commits' numbers and stand in order, where none are, and with those of a further commit, which changes nothing at the root. Each row of a table stands among those that its version's record stored, so tables of one graph are of one; and a record that fits leaves a table.
 pub fn records_give_tables()
     ensures none { AreRows (λ c. no_change) }
     ensures further { (of : ℕ → Change) → AreRows of → (commit : ℕ) (c : Change) → ((r : Row) → In r c.stored → r.version ≡ commit) → Rise (map first_in c.stored) → AreRows (with_change of commit c) }
+    ensures root { (of : ℕ → Change) (commit : ℕ) (c : Change) → of 0 ≡ no_change → with_change of (suc commit) c 0 ≡ no_change }
     ensures recorded { (ks : List Commit) (of : ℕ → Change) → AreRows of → (c : ℕ) (r : Row) → In r (table_in ks of c) → In r (of r.version).stored × (r.version ≤ length ks) }
     ensures of_one { (ks : List Commit) (of : ℕ → Change) → AreRows of → (c d : ℕ) → AreOfOne (table_in ks of c) (table_in ks of d) }
     ensures fits { (c : Change) (t : Table) (commit : ℕ) → IsTable t → Rise (map first_in c.stored) → ((r : Row) → In r c.stored → In (first_in r) r.group) → ((r : Row) → In r c.stored → Rise r.group) → ((r : Row) → In r c.stored → r.version ≡ commit) → ((r : Row) → In r t → r.version < commit) → ((r q : Row) (x : List ℕ) → In r (after c t) → In q (after c t) → In x r.group → In x q.group → r ≡ q) → IsTable (after c t) }
 {}
 
-/// What a file's records change is what the laws above ask for: their rows have their commits' numbers and stand in order, each commit's table is one, and in a file that keeps the bytes at their places they are kept.
+/// What a file's records change is what the laws above ask for: their rows have their commits' numbers and stand in order, each commit's table is one, in a file that keeps the bytes at their places they are kept, and nothing changes at the root.
 pub fn files_give_tables()
     ensures rows { (g : Graph) (cs : List Change) (place : ℕ) → AreChanges g cs place → AreRows (change_of cs) }
     ensures tables { (g : Graph) (cs : List Change) (place : ℕ) → AreChanges g cs place → (c : ℕ) → IsTable (table_at g (change_of cs) c) }
     ensures stays { (file grown : List ℕ) (cs : List Change) (newest : ℕ) → StayIn file grown cs → KeepsRecords file grown newest (change_of cs) }
+    ensures root { (cs : List Change) → change_of cs 0 ≡ no_change }
 {}
 
 /// The rows of a record have its commit and its groups, and lie where its pictures lie. What a file holds at a row's place is one picture, it may be loaded for the row where it reads in order, and it stays in a file that begins alike.
@@ -114,6 +115,18 @@ pub fn detection_is_exact()
     ensures apart { (gs : List Group) (accessed : List (List ℕ)) (s : State) (same : Group → Bool) → IsSoundState s → Rise (map first_name gs) → ((g h : Group) (x : List ℕ) → In g gs → In h gs → In x g → In x h → g ≡ h) → (g : Group) → In g (filter (λ g. holds_any accessed g && (is_one_of g (classes gs accessed s) && same g)) gs) → In g (filter (λ g. not (is_one_of g gs && same g)) (classes gs accessed s)) → ⊥ }
 {}
 
+/// Only which names cells access counts: lists of the same names touch, drop and store the same groups, and tell the same size.
+pub fn accesses_are_sets()
+    ensures holds { (a b : List (List ℕ)) → ((x : List ℕ) → (In x a ↔ In x b)) → (g : Group) → holds_any a g ≡ holds_any b g }
+    ensures untouched { (a b : List (List ℕ)) → ((x : List ℕ) → (In x a ↔ In x b)) → (t : Table) → untouched t a ≡ untouched t b }
+    ensures touched { (a b : List (List ℕ)) → ((x : List ℕ) → (In x a ↔ In x b)) → (gs : List Group) (s : State) → touched gs a s ≡ touched gs b s }
+    ensures classes { (a b : List (List ℕ)) → ((x : List ℕ) → (In x a ↔ In x b)) → (gs : List Group) (s : State) → classes gs a s ≡ classes gs b s }
+    ensures dropped { (a b : List (List ℕ)) → ((x : List ℕ) → (In x a ↔ In x b)) → (gs : List Group) (pic : Group → State) (s : State) → dropped_among gs pic a s ≡ dropped_among gs pic b s }
+    ensures stored { (a b : List (List ℕ)) → ((x : List ℕ) → (In x a ↔ In x b)) → (gs : List Group) (pic : Group → State) (s : State) → stored_among gs pic a s ≡ stored_among gs pic b s }
+    ensures size { (a b : List (List ℕ)) → ((x : List ℕ) → (In x a ↔ In x b)) → (t : Table) (s : State) → size_told t a s ≡ size_told t b s }
+    ensures change { (a b : List (List ℕ)) → ((x : List ℕ) → (In x a ↔ In x b)) → (t : Table) (s u : State) (rows : Table) → change_told t s a u rows ≡ change_told t s b u rows }
+{}
+
 /// After a cell the groups are those of before that hold no accessed name, and the classes of the touched names. The others stand as they were, so what is told among the touched names is what changed.
 pub fn cells_are_told()
     ensures groups { (accessed : List (List ℕ)) (s t : State) → IsSoundState s → IsSoundState t → Leaves accessed s t → (g : Group) → (In g (groups_of t) ↔ ((In g (groups_of s) × (holds_any accessed g ≡ false)) ⊎ In g (classes (groups_of s) accessed t))) }
@@ -142,11 +155,10 @@ pub fn runs_leave()
     ensures both { (a b : List (List ℕ)) (s t u : State) → IsSoundState s → IsSoundState t → Leaves a s t → Leaves b t u → Leaves (a ++ b) s u }
 {}
 
-/// The groups of a state cut it, and so do those of a table that tells it, and all names as one group. States that the same groups cut, with one picture each, are the same; so is the state that a table tells to one that its groups cut, where the stored pictures are those there. What a file holds for a table gives one state, which takes at most 2^28 bytes where the table's rows do.
+/// The groups of a state cut it, and so do those of a table that tells it. States that the same groups cut, with one picture each, are the same; so is the state that a table tells to one that its groups cut, where the stored pictures are those there. What a file holds for a table gives one state, which takes at most 2^28 bytes where the table's rows do.
 pub fn groups_cut_states()
     ensures own { (s : State) → IsSoundState s → IsCut (groups_of s) s }
     ensures told { (file : Option (List ℕ)) (t : Table) (s : State) → IsTable t → IsLive (Stored file) t s → IsCut (groups_in t) s }
-    ensures all { (s : State) → IsCut (all_names s) s }
     ensures glued { (gs : List Group) (s t : State) → IsSoundState s → IsSoundState t → Rise (map first_name gs) → IsCut gs s → IsCut gs t → ((g : Group) → In g gs → picture s g ≡ picture t g) → Same s t }
     ensures same { (file : Option (List ℕ)) (t : Table) (s u : State) → IsTable t → IsLive (Stored file) t s → IsSoundState u → IsCut (groups_in t) u → ((r : Row) (p : State) → In r t → Stored file r p → p ≡ picture u r.group) → Same s u }
     ensures one { (file : List ℕ) (t : Table) (s u : State) → IsTable t → IsLive (Held file) t s → IsLive (Held file) t u → Same s u × (bytes_in t ≤ most_bytes → size_among (groups_in t) s ≤ most_bytes) }
@@ -202,16 +214,6 @@ pub fn sizes_are_told()
     ensures same { (s t : State) → IsSoundState s → IsSoundState t → Same s t → size s ≡ size t }
 {}
 
-/// Where a commit stores one group of all names: its table has that group alone, with this commit for its version, and is one; a state is the one that such a table tells where its picture is the stored one, and is the same as a state with that picture. The picture of all names takes at most what those of the groups take.
-pub fn commits_of_all_names()
-    ensures groups { (ks : List Stop) (cs : List Change) → AreWhole ks cs → groups_in (table_of cs) ≡ all_names (at_end ks) }
-    ensures version { (ks : List Stop) (cs : List Change) → AreWhole ks cs → (r : Row) → In r (table_of cs) → r.version ≡ end_number ks }
-    ensures table { (s : State) (t : Table) → IsSoundState s → groups_in t ≡ all_names s → IsTable t }
-    ensures live { (file : Option (List ℕ)) (t : Table) (s : State) → IsSoundState s → groups_in t ≡ all_names s → ((r : Row) → In r t → Stored file r (picture s r.group)) → IsLive (Stored file) t s }
-    ensures small { (s : State) → IsSoundState s → (x : List ℕ) → In x (listed s) → length (picture_bytes s (listed s)) ≤ size s }
-    ensures same { (file : Option (List ℕ)) (t : Table) (s u : State) → IsLive (Stored file) t s → IsSoundState u → groups_in t ≡ all_names u → ((r : Row) (p : State) → In r t → Stored file r p → p ≡ picture u r.group) → Same s u }
-{}
-
 /// A session on a new store is attached with the empty state, and on a good store with each sound state that is the same as the head's replay; and it stays attached: at opening, at a record that makes no commit, at a checkout, and at cells.
 pub fn sessions_stay_attached()
     ensures new { (file : List ℕ) → IsAttached file new_graph (λ c. no_change) empty }
@@ -220,16 +222,4 @@ pub fn sessions_stay_attached()
     ensures still { (file grown : List ℕ) (g : Graph) (of : ℕ → Change) → AreRows of → (s : State) → IsAttached file g of s → KeepsRecords file grown (newest g) of → (h : Graph) → h.commits ≡ g.commits → h.head.commit ≡ g.head.commit → IsAttached grown h of s }
     ensures moved { (file grown : List ℕ) (g : Graph) (of : ℕ → Change) → AreRows of → ReplaysAreStates g.commits → (s : State) → IsAttached file g of s → KeepsRecords file grown (newest g) of → (h : Graph) → h.commits ≡ g.commits → h.head.commit ≤ newest g → (ps : List State) → AllZip (IsPictureOf (Held file)) (to_load (table_at g of g.head.commit) (table_at g of h.head.commit)) ps → IsAttached grown h of (carried (to_drop (table_at g of g.head.commit) (table_at g of h.head.commit)) ps s) }
     ensures cells { (file grown : List ℕ) (g : Graph) (of : ℕ → Change) → AreRows of → ReplaysAreStates g.commits → (s : State) → IsAttached file g of s → KeepsRecords file grown (newest g) of → (profile : Profile) (cells : List (List ℕ)) (u : State) → IsSoundState u → IsSoundState (after_cells profile cells (replay g g.head.commit)) → Same u (after_cells profile cells (replay g g.head.commit)) → (accessed : List (List ℕ)) → Leaves accessed s u → (rows : Table) → AreNewRows grown (suc (newest g)) (table_at g of g.head.commit) s accessed u rows → StaySmall profile cells (replay g g.head.commit) → IsAttached grown (with_commit profile cells g) (with_change of (suc (newest g)) (change_told (table_at g of g.head.commit) s accessed u rows)) u }
-{}
-
-/// Where commits store one group of all names: a store without commits is good, on a good one each commit's table tells its replay and no state that isn't the same, and a session is attached after opening and with each sound state that is the same as the head's replay, and stays attached at a record that makes no commit, at a checkout, which loads the target's picture into the empty state, and at cells.
-pub fn stores_of_all_names()
-    ensures new { (file : List ℕ) → IsWholeStore file [] (λ c. no_change) }
-    ensures told { (file : List ℕ) (ks : List Commit) (of : ℕ → Change) → AreRows of → IsWholeStore file ks of → ReplaysAreStates ks → (c : ℕ) → c ≤ length ks → IsLive (Held file) (table_in ks of c) (at_end (stops_in ks c)) }
-    ensures same { (file : List ℕ) (ks : List Commit) (of : ℕ → Change) → AreRows of → IsWholeStore file ks of → ReplaysAreStates ks → (c : ℕ) → c ≤ length ks → (s : State) → IsLive (Held file) (table_in ks of c) s → Same s (at_end (stops_in ks c)) }
-    ensures opened { (file : List ℕ) (g : Graph) (of : ℕ → Change) → AreRows of → ReplaysAreStates g.commits → IsWholeStore file g.commits of → g.head.commit ≤ newest g → (ps : List State) → AllZip (IsPictureOf (Held file)) (table_at g of g.head.commit) ps → IsWholeAttached file g of (carried [] ps empty) }
-    ensures attached { (file : List ℕ) (g : Graph) (of : ℕ → Change) → AreRows of → ReplaysAreStates g.commits → IsWholeStore file g.commits of → g.head.commit ≤ newest g → (s : State) → IsSoundState s → Same s (replay g g.head.commit) → IsWholeAttached file g of s }
-    ensures still { (file grown : List ℕ) (g : Graph) (of : ℕ → Change) → AreRows of → (s : State) → IsWholeAttached file g of s → KeepsRecords file grown (newest g) of → (h : Graph) → h.commits ≡ g.commits → h.head.commit ≡ g.head.commit → IsWholeAttached grown h of s }
-    ensures moved { (file grown : List ℕ) (g : Graph) (of : ℕ → Change) → AreRows of → ReplaysAreStates g.commits → (s : State) → IsWholeAttached file g of s → KeepsRecords file grown (newest g) of → (h : Graph) → h.commits ≡ g.commits → h.head.commit ≤ newest g → (ps : List State) → AllZip (IsPictureOf (Held file)) (table_at g of h.head.commit) ps → IsWholeAttached grown h of (carried [] ps empty) }
-    ensures cells { (file grown : List ℕ) (g : Graph) (of : ℕ → Change) → AreRows of → ReplaysAreStates g.commits → (s : State) → IsWholeAttached file g of s → KeepsRecords file grown (newest g) of → (profile : Profile) (cells : List (List ℕ)) (u : State) → IsSoundState u → IsSoundState (after_cells profile cells (replay g g.head.commit)) → Same u (after_cells profile cells (replay g g.head.commit)) → (rows : Table) → groups_in rows ≡ all_names u → ((r : Row) → In r rows → r.version ≡ suc (newest g)) → ((r : Row) → In r rows → Held grown r (picture u r.group)) → StaySmall profile cells (replay g g.head.commit) → IsWholeAttached grown (with_commit profile cells g) (with_change of (suc (newest g)) (record { dropped = all_names s; stored = rows })) u }
 {}

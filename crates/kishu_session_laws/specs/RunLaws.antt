@@ -5,7 +5,7 @@ use Rattle.kishu_language.specs.declared.profile.Profile.{Profile}
 use Rattle.kishu_meaning.specs.values.Values.{State}
 use Rattle.kishu_store.specs.Graph.{Graph, newest, with_commit}
 use Rattle.kishu_replay.specs.Replay.{after_cells, replay}
-use Rattle.kishu_objects.specs.Picture.{picture, listed}
+use Rattle.kishu_objects.specs.Picture.{picture}
 use Rattle.kishu_objects.specs.Same.{Same}
 use Rattle.kishu_objects.specs.Lists.{In}
 use Rattle.kishu_objects.specs.States.{IsSoundState}
@@ -17,15 +17,12 @@ use Rattle.kishu_history.specs.Touched.{dropped_among, stored_among, change_told
 use Rattle.kishu_history.specs.Live.{IsLive}
 use Rattle.kishu_history.specs.Stored.{Held, Stored, KeepsRecords, AreNewRows}
 use Rattle.kishu_history.specs.Sizes.{StaySmall}
-use Rattle.kishu_history.specs.Good.{IsAttached, IsWholeAttached}
-use Rattle.kishu_history.specs.AllNames.{all_names}
+use Rattle.kishu_history.specs.Good.{IsAttached}
 use Rattle.kishu_history_laws.specs.versions.PathLaws.{below_in_commits, falls_in, end_replay, newest_path, rows_further}
 use Rattle.kishu_history_laws.specs.cells.LiveLaws.{live_after, table_after, stored_rise}
 use Rattle.kishu_history_laws.specs.stores.ReplayLaws.{cell_drops, cell_stores, good_table}
 use Rattle.kishu_history_laws.specs.stores.StoreLaws.{good_is_table, table_still}
 use Rattle.kishu_history_laws.specs.stores.AttachedLaws.{attached_cells}
-use Rattle.kishu_history_laws.specs.stores.WholeStoreLaws.{whole_attached_cells}
-use Rattle.kishu_history_laws.specs.tables.AllNamesLaws.{first_of_all}
 use Rattle.kishu_pairing_laws.specs.runs.CellsInRow.{same_after}
 use Rattle.kishu_session_laws.specs.CellLaws.{cells_keep, replays_are_states, replay_is_state, cells_leave, stay_small_alike}
 
@@ -112,19 +109,3 @@ module _ (file : List ℕ) (g : Graph) (of : ℕ → Change) (rows : AreRows of)
     pub rows_by_cells : AreRows (with_change of (suc (newest g)) (change_told (table_at g of g.head.commit) s (accessed_by profile cells s) (after_cells profile cells s) new))
     rows_by_cells = rows_further of rows (suc (newest g)) (change_told (table_at g of head) s accessed now new) news.version
         (stored_rise (Held grown) (table_at g of head) (good_is_table file g.commits of rows attached.good (replays_are_states g) head attached.head) s now still_live (cells_keep profile cells s here) accessed (cells_leave profile cells s here) new news.groups news.held)
-
--- ---- where commits store one group of all names
-
-module _ (file grown : List ℕ) (g : Graph) (of : ℕ → Change) (rows : AreRows of) (s : State) (attached : IsWholeAttached file g of s) (keeps : KeepsRecords file grown (newest g) of)
-    (profile : Profile) (cells : List (List ℕ)) (new : Table) (stores : groups_in new ≡ all_names (after_cells profile cells s)) (versions : (r : Row) → In r new → r.version ≡ suc (newest g)) where
-  pub whole_by_cells : ((r : Row) → In r new → Held grown r (picture (after_cells profile cells s) r.group)) → StaySmall profile cells s → IsWholeAttached grown (with_commit profile cells g) (with_change of (suc (newest g)) (record { dropped = all_names s; stored = new })) (after_cells profile cells s)
-  whole_by_cells held small =
-      let here = attached.told.state in
-      let before = replay g g.head.commit in
-      let there = replay_is_state g g.head.commit in
-      whole_attached_cells file grown g of rows (replays_are_states g) s attached keeps profile cells (after_cells profile cells s)
-      (cells_keep profile cells s here) (cells_keep profile cells before there) (same_after profile cells s before here there attached.same)
-      new stores versions held (stay_small_alike profile cells s before here there attached.same small)
-
-  pub whole_rows_by_cells : AreRows (with_change of (suc (newest g)) (record { dropped = all_names s; stored = new }))
-  whole_rows_by_cells = rows_further of rows (suc (newest g)) (record { dropped = all_names s; stored = new }) versions (first_of_all (listed (after_cells profile cells s)) new stores)

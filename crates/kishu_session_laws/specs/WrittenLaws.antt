@@ -22,19 +22,16 @@ use Rattle.kishu_state_laws.specs.HeldLaws.{AreTexts, held_texts, path_texts}
 use Rattle.kishu_state_laws.specs.Real.{state_is_real}
 use Rattle.kishu_state_laws.specs.Whole.{commits_keep}
 use Rattle.kishu_state_laws.specs.keeping.Running.{empty_is_state}
-use Rattle.kishu_history.specs.AllNames.{if_any, all_names, AreWhole}
 use Rattle.kishu_history.specs.Changed.{Group}
-use Rattle.kishu_history.specs.Good.{IsStoreOf, IsGoodStore, IsWrittenStore, IsWholeStore, IsGoodFileOf, IsWholeFileOf}
+use Rattle.kishu_history.specs.Good.{IsGoodStore, IsWrittenStore, IsGoodFileOf, IsWrittenFileOf}
 use Rattle.kishu_history.specs.Paths.{stops_in, changes_in, change_of}
 use Rattle.kishu_objects.specs.Sizes.{size, most_bytes}
 use Rattle.kishu_history.specs.Sizes.{StaySmall, AllStaySmall}
 use Rattle.kishu_history.specs.Tables.{Row, group_in, Change, AreRight}
 use Rattle.kishu_history.specs.Versions.{Stop, at_end, version}
 use Rattle.kishu_history_laws.specs.Choices.{in_map, not_told}
-use Rattle.kishu_history_laws.specs.states.WholeSize.{whole_is_small}
 use Rattle.kishu_history_laws.specs.tables.TableLaws.{class_rises}
 use Rattle.kishu_history_laws.specs.versions.PathLaws.{end_in}
-use Rattle.kishu_session_laws.specs.WrittenStores.{IsWrittenStoreOf, IsWrittenFileOf}
 
 -- ---- sizes
 
@@ -84,50 +81,40 @@ older_stops k ks c e = rw e refl
 older_changes : (k : Commit) (ks : List Commit) (of : ℕ → Change) (c : ℕ) → (c == suc (length ks)) ≡ false → changes_in (k ∷ ks) of c ≡ changes_in ks of c
 older_changes k ks of c e = rw e refl
 
--- What is asked of a commit's lists: each stored group is one of these groups of the commit's state.
-abbrev StoresIn : (State → List Group) → (List Stop → List Change → Type 0) → Type 0
-StoresIn groups lists = (k : Stop) (path : List Stop) (c : Change) (cs : List Change) → lists (k ∷ path) (c ∷ cs)
-    → (r : Row) → In r c.stored → In r.group (groups k.state)
-
-module _ (lists : List Stop → List Change → Type 0) (groups : State → List Group) (stores : StoresIn groups lists) where
-  -- such a group of the commit's replay
-  abbrev IsGroupAt : List Commit → ℕ → Group → Type 0
-  IsGroupAt ks c g = In g (groups (at_end (stops_in ks c)))
-
-  newest_group : (k : Commit) (ks : List Commit) (of : ℕ → Change) (c : ℕ) → (c == suc (length ks)) ≡ true
-      → lists (stops_in (k ∷ ks) c) (changes_in (k ∷ ks) of c) → (r : Row) → In r (of c).stored → IsGroupAt (k ∷ ks) c r.group
-  newest_group k ks of c e right r m =
-      let stop : Stop = record { commit = c; state = after_cells k.profile k.cells (at_end (stops_in ks k.parent)) } in
-      let path = stops_in ks k.parent in
-      let at_stop = subst (λ z. lists z (changes_in (k ∷ ks) of c)) (newest_stops k ks c e) right in
-      let here = subst (λ z. lists (stop ∷ path) z) (newest_changes k ks of c e) at_stop in
-      subst (λ p. In r.group (groups (at_end p))) (sym (newest_stops k ks c e)) (stores stop path (of c) (changes_in ks of k.parent) here r m)
-
-  stored_group : (of : ℕ → Change) (ks : List Commit) (c : ℕ) → c ≤ length ks → lists (stops_in ks c) (changes_in ks of c)
-      → (r : Row) → In r (of c).stored → (c ≡ 0) ⊎ IsGroupAt ks c r.group
-  stored_group of [] c l right r m = inl (omega (arith, l))
-  stored_group of (k ∷ ks) c l right r m = elim (cases_lt c (suc (length ks))) [
-    | inl b ↦ (
-        let e = not_told (c == suc (length ks)) (Decides-eqb c (suc (length ks))) (λ f. omega (arith, b, f)) in
-        let at_changes = subst (λ q. lists (stops_in (k ∷ ks) c) q) (older_changes k ks of c e) right in
-        let here = subst (λ p. lists p (changes_in ks of c)) (older_stops k ks c e) at_changes in
-        elim (stored_group of ks c (omega (arith, b)) here r m) [
-          | inl z ↦ inl z
-          | inr g ↦ inr (subst (λ p. In r.group (groups (at_end p))) (sym (older_stops k ks c e)) g)
-        ]
-        )
-    | inr b ↦ inr (newest_group k ks of c ((Decides-eqb c (suc (length ks))).1 (omega (arith, l, b))) right r m)
-  ]
-
--- each commit stores groups of its state
-right_stores : StoresIn groups_of AreRight
+-- Each commit stores groups of its state.
+right_stores : (k : Stop) (path : List Stop) (c : Change) (cs : List Change) → AreRight (k ∷ path) (c ∷ cs) → (r : Row) → In r c.stored → In r.group (groups_of k.state)
 right_stores k path c cs right r m =
     let there = subst (λ gs. In r.group gs) right.1 (in_map group_in c.stored r m) in
     (filter_in (λ g. version (k ∷ path) g == k.commit) (groups_of k.state) r.group there).0
 
--- each stores its one group of all names
-whole_stores : StoresIn all_names AreWhole
-whole_stores k path c cs whole r m = subst (λ gs. In r.group gs) whole.1 (in_map group_in c.stored r m)
+-- such a group of the commit's replay
+abbrev IsGroupAt : List Commit → ℕ → Group → Type 0
+IsGroupAt ks c g = In g (groups_of (at_end (stops_in ks c)))
+
+newest_group : (k : Commit) (ks : List Commit) (of : ℕ → Change) (c : ℕ) → (c == suc (length ks)) ≡ true
+    → AreRight (stops_in (k ∷ ks) c) (changes_in (k ∷ ks) of c) → (r : Row) → In r (of c).stored → IsGroupAt (k ∷ ks) c r.group
+newest_group k ks of c e right r m =
+    let stop : Stop = record { commit = c; state = after_cells k.profile k.cells (at_end (stops_in ks k.parent)) } in
+    let path = stops_in ks k.parent in
+    let at_stop = subst (λ z. AreRight z (changes_in (k ∷ ks) of c)) (newest_stops k ks c e) right in
+    let here = subst (λ z. AreRight (stop ∷ path) z) (newest_changes k ks of c e) at_stop in
+    subst (λ p. In r.group (groups_of (at_end p))) (sym (newest_stops k ks c e)) (right_stores stop path (of c) (changes_in ks of k.parent) here r m)
+
+stored_group : (of : ℕ → Change) (ks : List Commit) (c : ℕ) → c ≤ length ks → AreRight (stops_in ks c) (changes_in ks of c)
+    → (r : Row) → In r (of c).stored → (c ≡ 0) ⊎ IsGroupAt ks c r.group
+stored_group of [] c l right r m = inl (omega (arith, l))
+stored_group of (k ∷ ks) c l right r m = elim (cases_lt c (suc (length ks))) [
+  | inl b ↦ (
+      let e = not_told (c == suc (length ks)) (Decides-eqb c (suc (length ks))) (λ f. omega (arith, b, f)) in
+      let at_changes = subst (λ q. AreRight (stops_in (k ∷ ks) c) q) (older_changes k ks of c e) right in
+      let here = subst (λ p. AreRight p (changes_in ks of c)) (older_stops k ks c e) at_changes in
+      elim (stored_group of ks c (omega (arith, b)) here r m) [
+        | inl z ↦ inl z
+        | inr g ↦ inr (subst (λ p. In r.group (groups_of (at_end p))) (sym (older_stops k ks c e)) g)
+      ]
+      )
+  | inr b ↦ inr (newest_group k ks of c ((Decides-eqb c (suc (length ks))).1 (omega (arith, l, b))) right r m)
+]
 
 -- ---- replays
 
@@ -143,93 +130,53 @@ module _ (ks : List Commit) (cells : AreTexts ks) (c : ℕ) where
 
 -- ---- pictures of a state that isn't too large
 
--- The pictures of these groups can be written.
-abbrev AllFit : (State → List Group) → Type 0
-AllFit groups = (s : State) → IsState s → size s ≤ most_bytes → (g : Group) → In g (groups s) → StateFits (picture s g)
-
-groups_fit : AllFit groups_of
+-- The picture of each of its groups can be written.
+groups_fit : (s : State) → IsState s → size s ≤ most_bytes → (g : Group) → In g (groups_of s) → StateFits (picture s g)
 groups_fit s is small g m =
     let real = state_is_real s is in
     let a = one_of_sum (λ g. length (picture_bytes s g)) (groups_of s) g m in
     picture_fits s g is (class_rises s real.sound (listed s) real.rise g m) (omega (arith, a, small))
 
-one_of_all : (xs : List (List ℕ)) (g : Group) → In g (if_any xs) → (x : List ℕ) × In x xs × (g ≡ xs)
-one_of_all [] g m = absurd m
-one_of_all (x ∷ xs) g (inl e) = (x, inl refl, e)
-one_of_all (x ∷ xs) g (inr m) = absurd m
+-- ---- good stores
 
-all_names_fit : AllFit all_names
-all_names_fit s is small g m =
-    let real = state_is_real s is in
-    let one = one_of_all (listed s) g m in
-    let a = whole_is_small s real one.0 one.1 in
-    subst (λ z. StateFits (picture s z)) (sym one.2) (picture_fits s (listed s) is real.rise (omega (arith, a, small)))
+pub written_is_good : (file : List ℕ) (ks : List Commit) (of : ℕ → Change) → AreTexts ks → IsWrittenStore file ks of → IsGoodStore file ks of
+written_is_good file ks of cells store = record {
+  right = store.right;
+  pictures = λ c l r m. (let h = store.pictures c l r m in record {
+    bytes = h.bytes;
+    len = h.len;
+    fits = elim (stored_group of ks c l (store.right c l) r m) [
+      | inl z ↦ (
+          let root = ap (λ d. at_end (stops_in ks d)) z ∙ ap at_end (root_path ks) in
+          subst (λ s. StateFits (picture s r.group)) (sym root) (fits_at_root r.group)
+          )
+      | inr g ↦ groups_fit (at_end (stops_in ks c)) (is_state ks cells c) (is_small ks cells c (store.small c l)) r.group g
+    ];
+  });
+  small = store.small;
+}
 
--- ---- stores of any such lists
-
-module _ (lists : List Stop → List Change → Type 0) (groups : State → List Group) (stores : StoresIn groups lists) (fits : AllFit groups) where
-  written_is_store : (file : List ℕ) (ks : List Commit) (of : ℕ → Change) → AreTexts ks
-      → IsWrittenStoreOf lists file ks of → IsStoreOf lists file ks of
-  written_is_store file ks of cells store = record {
-    right = store.right;
-    pictures = λ c l r m. (let h = store.pictures c l r m in record {
-      bytes = h.bytes;
-      len = h.len;
-      fits = elim (stored_group lists groups stores of ks c l (store.right c l) r m) [
-        | inl z ↦ (
-            let root = ap (λ d. at_end (stops_in ks d)) z ∙ ap at_end (root_path ks) in
-            subst (λ s. StateFits (picture s r.group)) (sym root) (fits_at_root r.group)
-            )
-        | inr g ↦ fits (at_end (stops_in ks c)) (is_state ks cells c) (is_small ks cells c (store.small c l)) r.group g
-      ];
-    });
-    small = store.small;
-  }
-
-  written_is_file : (file : List ℕ) (g : Graph) → IsWrittenFileOf lists file g → IsGoodFileOf lists file g
-  written_is_file file g w = record {
-    changes = w.changes;
-    holds = w.holds;
-    gives = w.gives;
-    store = written_is_store file g.commits (change_of w.changes) (held_texts file g w.holds) w.store;
-  }
-
-store_is_written : (lists : List Stop → List Change → Type 0) (file : List ℕ) (ks : List Commit) (of : ℕ → Change)
-    → IsStoreOf lists file ks of → IsWrittenStoreOf lists file ks of
-store_is_written lists file ks of good = record {
+pub good_is_written : (file : List ℕ) (ks : List Commit) (of : ℕ → Change) → IsGoodStore file ks of → IsWrittenStore file ks of
+good_is_written file ks of good = record {
   right = good.right;
   pictures = λ c l r m. (let h = good.pictures c l r m in record { bytes = h.bytes; len = h.len });
   small = good.small;
 }
 
--- ---- good stores
+-- ---- good files
 
-pub written_is_good : (file : List ℕ) (ks : List Commit) (of : ℕ → Change) → AreTexts ks → IsWrittenStore file ks of → IsGoodStore file ks of
-written_is_good file ks of cells store =
-    let here : IsWrittenStoreOf AreRight file ks of = record { right = store.right; pictures = store.pictures; small = store.small } in
-    written_is_store AreRight groups_of right_stores groups_fit file ks of cells here
+pub written_is_file : (file : List ℕ) (g : Graph) → IsWrittenFileOf file g → IsGoodFileOf file g
+written_is_file file g w = record {
+  changes = w.changes;
+  holds = w.holds;
+  gives = w.gives;
+  store = written_is_good file g.commits (change_of w.changes) (held_texts file g w.holds) w.store;
+}
 
-pub good_is_written : (file : List ℕ) (ks : List Commit) (of : ℕ → Change) → IsGoodStore file ks of → IsWrittenStore file ks of
-good_is_written file ks of good =
-    let w = store_is_written AreRight file ks of good in
-    record { right = w.right; pictures = w.pictures; small = w.small }
-
--- ---- good stores of all names
-
-pub written_is_whole : (file : List ℕ) (ks : List Commit) (of : ℕ → Change) → AreTexts ks
-    → IsWrittenStoreOf AreWhole file ks of → IsWholeStore file ks of
-written_is_whole = written_is_store AreWhole all_names whole_stores all_names_fit
-
-pub whole_is_written : (file : List ℕ) (ks : List Commit) (of : ℕ → Change) → IsWholeStore file ks of → IsWrittenStoreOf AreWhole file ks of
-whole_is_written = store_is_written AreWhole
-
-pub written_is_whole_file : (file : List ℕ) (g : Graph) → IsWrittenFileOf AreWhole file g → IsWholeFileOf file g
-written_is_whole_file = written_is_file AreWhole all_names whole_stores all_names_fit
-
-pub whole_file_is_written : (file : List ℕ) (g : Graph) → IsWholeFileOf file g → IsWrittenFileOf AreWhole file g
-whole_file_is_written file g good = record {
+pub file_is_written : (file : List ℕ) (g : Graph) → IsGoodFileOf file g → IsWrittenFileOf file g
+file_is_written file g good = record {
   changes = good.changes;
   holds = good.holds;
   gives = good.gives;
-  store = whole_is_written file g.commits (change_of good.changes) good.store;
+  store = good_is_written file g.commits (change_of good.changes) good.store;
 }

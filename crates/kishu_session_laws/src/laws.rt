@@ -23,11 +23,9 @@ ghost use Rattle.kishu_history.specs.Live.{IsLive, IsPictureOf, IsStoredPicture}
 ghost use Rattle.kishu_history.specs.Stored.{Held, IsWritten, Stored, KeepsRecords, AreNewRows};
 ghost use Rattle.kishu_objects.specs.Sizes.{size_among, size};
 ghost use Rattle.kishu_history.specs.Sizes.{StaySmall};
-ghost use Rattle.kishu_history.specs.Good.{IsGoodStore, IsWrittenStore, IsAttached, IsWholeStore, IsWholeFileOf, IsWholeAttached};
+ghost use Rattle.kishu_history.specs.Good.{IsGoodStore, IsWrittenStore, IsGoodFileOf, IsWrittenFileOf, IsAttached};
 ghost use Rattle.kishu_objects.specs.Groups.{groups_of};
 ghost use Rattle.kishu_history.specs.Changed.{Group, changed};
-ghost use Rattle.kishu_history.specs.AllNames.{all_names, AreWhole};
-ghost use Rattle.kishu_session_laws.specs.WrittenStores.{IsWrittenStoreOf, IsWrittenFileOf};
 
 /// The state that each commit's replay leaves is one, and so is what cells leave of a state.
 pub fn replays_are_states()
@@ -61,16 +59,13 @@ pub fn commits_are_told()
     ensures stored { (file : List ℕ) (g : Graph) (of : ℕ → Change) → AreRows of → (s : State) → IsAttached file g of s → (profile : Profile) (cells : List (List ℕ)) → stored_among (groups_in (table_at g of g.head.commit)) (picture s) (accessed_by profile cells s) (after_cells profile cells s) ≡ stored (stops (with_commit profile cells g) (suc (newest g))) }
 {}
 
-/// Where the cells of all commits are texts, a store is good exactly where its records store and drop what they have to, the file has the bytes of the stored pictures, and no replay is too large: that these pictures can be written follows. The same where commits store one group of all names; and a file is then good exactly where it holds the graph and is such a store by its bytes, since the cells of each graph that a file holds are texts.
+/// Where the cells of all commits are texts, a store is good exactly where its records store and drop what they have to, the file has the bytes of the stored pictures, and no replay is too large: that these pictures can be written follows. A file is then good exactly where it holds the graph and is such a store by its bytes, since the cells of each graph that a file holds are texts.
 pub fn written_stores_are_good()
     ensures groups { (file : List ℕ) (ks : List Commit) (of : ℕ → Change)
         → AllByRecursion (λ (k : Commit). AllByRecursion IsCell k.cells) ks
         → (IsWrittenStore file ks of ↔ IsGoodStore file ks of) }
-    ensures whole { (file : List ℕ) (ks : List Commit) (of : ℕ → Change)
-        → AllByRecursion (λ (k : Commit). AllByRecursion IsCell k.cells) ks
-        → (IsWrittenStoreOf AreWhole file ks of ↔ IsWholeStore file ks of) }
     ensures file { (file : List ℕ) (g : Graph)
-        → (IsWrittenFileOf AreWhole file g ↔ IsWholeFileOf file g) }
+        → (IsWrittenFileOf file g ↔ IsGoodFileOf file g) }
 {}
 
 /// A checkout of states into a state leaves one. A state that reads in order and has just a row's names may be loaded for it where the file has its bytes there, and on a good store whose cells are texts the picture of each row is one that may be loaded for it: so what such a store stores is never refused as no picture.
@@ -96,13 +91,4 @@ pub fn sessions_stay_attached()
     ensures moved { (file grown : List ℕ) (g : Graph) (of : ℕ → Change) → AreRows of → (s : State) → IsAttached file g of s → KeepsRecords file grown (newest g) of → (h : Graph) → h.commits ≡ g.commits → h.head.commit ≤ newest g → (ps : List State) → AllZip (IsPictureOf (Held file)) (to_load (table_at g of g.head.commit) (table_at g of h.head.commit)) ps → IsAttached grown h of (carried (to_drop (table_at g of g.head.commit) (table_at g of h.head.commit)) ps s) }
     ensures cells { (file grown : List ℕ) (g : Graph) (of : ℕ → Change) → AreRows of → (s : State) → IsAttached file g of s → KeepsRecords file grown (newest g) of → (profile : Profile) (cells : List (List ℕ)) (rows : Table) → AreNewRows grown (suc (newest g)) (table_at g of g.head.commit) s (accessed_by profile cells s) (after_cells profile cells s) rows → StaySmall profile cells s → IsAttached grown (with_commit profile cells g) (with_change of (suc (newest g)) (change_told (table_at g of g.head.commit) s (accessed_by profile cells s) (after_cells profile cells s) rows)) (after_cells profile cells s) }
     ensures rows { (file grown : List ℕ) (g : Graph) (of : ℕ → Change) → AreRows of → (s : State) → IsAttached file g of s → KeepsRecords file grown (newest g) of → (profile : Profile) (cells : List (List ℕ)) (rows : Table) → AreNewRows grown (suc (newest g)) (table_at g of g.head.commit) s (accessed_by profile cells s) (after_cells profile cells s) rows → AreRows (with_change of (suc (newest g)) (change_told (table_at g of g.head.commit) s (accessed_by profile cells s) (after_cells profile cells s) rows)) }
-{}
-
-/// The same where commits store one group of all names.
-pub fn sessions_of_all_names()
-    ensures opened { (file : List ℕ) (g : Graph) (of : ℕ → Change) → AreRows of → IsWholeStore file g.commits of → g.head.commit ≤ newest g → (ps : List State) → AllZip (IsPictureOf (Held file)) (table_at g of g.head.commit) ps → IsWholeAttached file g of (carried [] ps empty) }
-    ensures same { (file : List ℕ) (g : Graph) (of : ℕ → Change) → AreRows of → IsWholeStore file g.commits of → g.head.commit ≤ newest g → (s : State) → IsSoundState s → Same s (replay g g.head.commit) → IsWholeAttached file g of s }
-    ensures moved { (file grown : List ℕ) (g : Graph) (of : ℕ → Change) → AreRows of → (s : State) → IsWholeAttached file g of s → KeepsRecords file grown (newest g) of → (h : Graph) → h.commits ≡ g.commits → h.head.commit ≤ newest g → (ps : List State) → AllZip (IsPictureOf (Held file)) (table_at g of h.head.commit) ps → IsWholeAttached grown h of (carried [] ps empty) }
-    ensures cells { (file grown : List ℕ) (g : Graph) (of : ℕ → Change) → AreRows of → (s : State) → IsWholeAttached file g of s → KeepsRecords file grown (newest g) of → (profile : Profile) (cells : List (List ℕ)) (rows : Table) → groups_in rows ≡ all_names (after_cells profile cells s) → ((r : Row) → In r rows → r.version ≡ suc (newest g)) → ((r : Row) → In r rows → Held grown r (picture (after_cells profile cells s) r.group)) → StaySmall profile cells s → IsWholeAttached grown (with_commit profile cells g) (with_change of (suc (newest g)) (record { dropped = all_names s; stored = rows })) (after_cells profile cells s) }
-    ensures rows { (file grown : List ℕ) (g : Graph) (of : ℕ → Change) → AreRows of → (s : State) → IsWholeAttached file g of s → KeepsRecords file grown (newest g) of → (profile : Profile) (cells : List (List ℕ)) (rows : Table) → groups_in rows ≡ all_names (after_cells profile cells s) → ((r : Row) → In r rows → r.version ≡ suc (newest g)) → AreRows (with_change of (suc (newest g)) (record { dropped = all_names s; stored = rows })) }
 {}

@@ -10,6 +10,6 @@ mod laws;
 
 pub use laws::{
     cells_are_told, cells_leave, cells_stay_live, checkouts_are_planned, commits_are_told,
-    replays_are_states, sessions_of_all_names, sessions_stay_attached, stored_pictures_are_states,
+    replays_are_states, sessions_stay_attached, stored_pictures_are_states,
     written_stores_are_good,
 };

@@ -139,7 +139,7 @@ onto_in q [] t m = inr m
 onto_in q (r ∷ rs) t m = elim (onto_in q rs (r ∷ t) m) [ inl n ↦ inl (inr n) | inr k ↦ elim k [ inl e ↦ inl (inl e) | inr n ↦ inr n ] ]
 
 -- no row stands twice
-abbrev Once : Table → Type 0
+abbrev pub Once : Table → Type 0
 Once [] = ⊤
 Once (r ∷ rs) = (In r rs → ⊥) × Once rs
 
@@ -168,7 +168,7 @@ live_rows at t u s to from live = record {
   pictures = λ r m. live.pictures r (from r m);
 }
 
-once_rows : (keep : Row → Bool) (t : Table) → Rise (map first_in t) → Once (filter keep t)
+pub once_rows : (keep : Row → Bool) (t : Table) → Rise (map first_in t) → Once (filter keep t)
 unfolding IsStrictlySortedBy
 once_rows keep [] r = tt
 once_rows keep (q ∷ t) r = elim (cases_Bool (keep q)) [

@@ -11,7 +11,7 @@ use Rattle.kishu_objects.specs.Picture.{picture}
 use Rattle.kishu_objects.specs.Lists.{In}
 use Rattle.kishu_objects_laws.specs.SameLaws.{same_self}
 use Rattle.kishu_objects.specs.States.{IsSoundState}
-use Rattle.kishu_history.specs.Versions.{at_end, Stop}
+use Rattle.kishu_history.specs.Versions.{at_end}
 use Rattle.kishu_history.specs.Tables.{Row, Table, groups_in, Change, no_change}
 use Rattle.kishu_history.specs.Paths.{stops, stops_in, table_in, AreRows, ReplaysAreStates}
 use Rattle.kishu_history.specs.Touched.{dropped_among, stored_among}
@@ -20,7 +20,7 @@ use Rattle.kishu_history.specs.Checkout.{to_load, to_drop, carried}
 use Rattle.kishu_history.specs.Live.{IsLive, IsPictureOf}
 use Rattle.kishu_history.specs.Stored.{Held, Keeps}
 use Rattle.kishu_history.specs.Sizes.{StaySmall}
-use Rattle.kishu_history.specs.Good.{IsGoodStore, IsAttached, IsStoreOf, IsAttachedTo}
+use Rattle.kishu_history.specs.Good.{IsGoodStore, IsAttached}
 use Rattle.kishu_history_laws.specs.versions.PathLaws.{end_replay, newest_path}
 use Rattle.kishu_history_laws.specs.stores.StoreLaws.{good_still, table_still, opened, checked_out, committed_good, committed_live, empty_live, new_good}
 
@@ -35,10 +35,10 @@ attached_opened file g of rows states good head ps zip =
     record { good = good; head = head; told = o.0; same = subst (λ s. Same (carried [] ps empty) s) (end_replay g g.head.commit) o.1 }
 
 -- a record that makes no commit and leaves the head's commit, as a branch's name
-pub attached_still : {lists : List Stop → List Change → Type 0} (file grown : List ℕ) (g : Graph) (of : ℕ → Change) → AreRows of → (s : State) → IsAttachedTo lists file g of s → ((c : ℕ) → c ≤ newest g → Keeps file grown (of c).stored)
-    → (next : Graph) → next.commits ≡ g.commits → next.head.commit ≡ g.head.commit → IsAttachedTo lists grown next of s
-attached_still {lists = lists} file grown g of rows s attached keeps next e h = record {
-  good = subst (λ ks. IsStoreOf lists grown ks of) (sym e) (good_still file grown g.commits of rows attached.good keeps);
+pub attached_still : (file grown : List ℕ) (g : Graph) (of : ℕ → Change) → AreRows of → (s : State) → IsAttached file g of s → ((c : ℕ) → c ≤ newest g → Keeps file grown (of c).stored)
+    → (next : Graph) → next.commits ≡ g.commits → next.head.commit ≡ g.head.commit → IsAttached grown next of s
+attached_still file grown g of rows s attached keeps next e h = record {
+  good = subst (λ ks. IsGoodStore grown ks of) (sym e) (good_still file grown g.commits of rows attached.good keeps);
   head = (let l = attached.head in let n = ap length e in omega (arith, l, n, h));
   told = subst (λ ks. IsLive (Held grown) (table_in ks of next.head.commit) s) (sym e) (subst (λ c. IsLive (Held grown) (table_in g.commits of c) s) (sym h) (table_still file grown g.commits of rows attached.good keeps g.head.commit s attached.told));
   same = subst (λ t. Same s t) (end_replay next next.head.commit) (subst (λ ks. Same s (at_end (stops_in ks next.head.commit))) (sym e) (subst (λ c. Same s (at_end (stops_in g.commits c))) (sym h) (subst (λ t. Same s t) (sym (end_replay g g.head.commit)) attached.same)));

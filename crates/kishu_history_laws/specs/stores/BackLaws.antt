@@ -15,13 +15,12 @@ use Rattle.kishu_history.specs.Paths.{stops_in, table_in, ReplaysAreStates, AreR
 use Rattle.kishu_history.specs.Live.{IsLive}
 use Rattle.kishu_history.specs.Stored.{Held}
 use Rattle.kishu_objects.specs.Sizes.{size_among, most_bytes}
-use Rattle.kishu_history.specs.Good.{IsGoodStore, IsAttached, IsWholeStore, IsWholeAttached}
+use Rattle.kishu_history.specs.Good.{IsGoodStore, IsAttached}
 use Rattle.kishu_history_laws.specs.states.SameLaws.{same_listed, same_pictures}
 use Rattle.kishu_history_laws.specs.versions.PathLaws.{end_replay}
 use Rattle.kishu_history_laws.specs.checkouts.CheckoutLaws.{live_cut, live_same}
 use Rattle.kishu_history_laws.specs.checkouts.PlaceLaws.{rows_take_theirs}
 use Rattle.kishu_history_laws.specs.stores.ReplayLaws.{held_one, replay_live}
-use Rattle.kishu_history_laws.specs.stores.WholeStoreLaws.{whole_told}
 
 -- ---- told by one table
 
@@ -58,13 +57,5 @@ module _ (file : List ℕ) (g : Graph) (of : ℕ → Change) (rows : AreRows of)
     good = good;
     head = head;
     told = same_live (Held file) (table_in g.commits of g.head.commit) s (at_end (stops_in g.commits g.head.commit)) here (replay_live file g.commits of rows good states g.head.commit head) same_end;
-    same = same;
-  }
-
-  pub whole_attached_same : IsWholeStore file g.commits of → IsWholeAttached file g of s
-  whole_attached_same good = record {
-    good = good;
-    head = head;
-    told = same_live (Held file) (table_in g.commits of g.head.commit) s (at_end (stops_in g.commits g.head.commit)) here (whole_told file g.commits of rows good states g.head.commit head) same_end;
     same = same;
   }

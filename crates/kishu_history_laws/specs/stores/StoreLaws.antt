@@ -14,7 +14,7 @@ use Rattle.kishu_objects.specs.Picture.{picture}
 use Rattle.kishu_objects.specs.Lists.{In}
 use Rattle.kishu_objects.specs.States.{IsSoundState}
 use Rattle.kishu_history.specs.Versions.{AreStates, Stop, at_end, Falls}
-use Rattle.kishu_history.specs.Tables.{AreOfOne, Row, Table, no_change, groups_in, Change, after, table_of, IsTable}
+use Rattle.kishu_history.specs.Tables.{AreOfOne, Row, Table, no_change, groups_in, Change, after, table_of, IsTable, AreRight}
 use Rattle.kishu_history.specs.Paths.{stops_in, changes_in, table_in, AreRows}
 use Rattle.kishu_history.specs.Touched.{dropped_among, stored_among}
 use Rattle.kishu_objects.specs.Locality.{Leaves}
@@ -22,7 +22,7 @@ use Rattle.kishu_history.specs.Checkout.{to_load, to_drop, carried}
 use Rattle.kishu_history.specs.Live.{IsLive, IsPictureOf}
 use Rattle.kishu_history.specs.Stored.{bytes_at, Held, Keeps}
 use Rattle.kishu_history.specs.Sizes.{StaySmall, AllStaySmall}
-use Rattle.kishu_history.specs.Good.{IsGoodStore, IsStoreOf}
+use Rattle.kishu_history.specs.Good.{IsGoodStore}
 use Rattle.kishu_history_laws.specs.Choices.{false_no, not_told}
 use Rattle.kishu_history_laws.specs.states.StateLaws.{empty_state, end_state}
 use Rattle.kishu_history_laws.specs.checkouts.CheckoutLaws.{carried_live}
@@ -77,9 +77,9 @@ live_still file grown t s keeps live = record {
   pictures = λ r m. held_still file grown r (picture s r.group) (keeps r m) (live.pictures r m);
 }
 
-module _ {lists : List Stop → List Change → Type 0} (file grown : List ℕ) (ks : List Commit) (of : ℕ → Change) (rows : AreRows of) (good : IsStoreOf lists file ks of)
+module _ (file grown : List ℕ) (ks : List Commit) (of : ℕ → Change) (rows : AreRows of) (good : IsGoodStore file ks of)
     (keeps : (c : ℕ) → c ≤ length ks → Keeps file grown (of c).stored) where
-  pub good_still : IsStoreOf lists grown ks of
+  pub good_still : IsGoodStore grown ks of
   good_still = record {
     right = good.right;
     pictures = λ c l r m. held_still file grown r (picture (at_end (stops_in ks c)) r.group) (keeps c l r m) (good.pictures c l r m);
@@ -119,21 +119,21 @@ module _ {lists : List Stop → List Change → Type 0} (file grown : List ℕ) 
         let e = (Decides-eqb (suc (length ks)) (suc (length ks))).1 refl in
         rw e (ap (λ cs. after change (table_of cs)) (old_changes h))
 
-    module _ (one : lists (stop ∷ stops_in ks h) (change ∷ changes_in ks of h))
+    module _ (one : AreRight (stop ∷ stops_in ks h) (change ∷ changes_in ks of h))
         (held : (r : Row) → In r change.stored → Held grown r (picture stop.state r.group))
         (fits : StaySmall profile cells (at_end (stops_in ks h))) where
       below : (c : ℕ) → c ≤ suc (length ks) → (c == suc (length ks)) ≡ false → c ≤ length ks
       below c l e = (let n = false_no (c == suc (length ks)) (Decides-eqb c (suc (length ks))) e in elim (cases_lt c (suc (length ks))) [ inl k ↦ omega arith | inr k ↦ absurd (n (omega arith)) ])
 
-      right_new : (c : ℕ) (d : Change) (ds : List Change) → c ≡ suc (length ks) → d ≡ change → ds ≡ changes_in ks of h → lists (record { commit = c; state = stop.state } ∷ stops_in ks h) (d ∷ ds)
+      right_new : (c : ℕ) (d : Change) (ds : List Change) → c ≡ suc (length ks) → d ≡ change → ds ≡ changes_in ks of h → AreRight (record { commit = c; state = stop.state } ∷ stops_in ks h) (d ∷ ds)
       right_new c d ds f p q =
           let k : record { commit = c; state = stop.state } ≡ stop = ap (λ n. record { commit = n; state = stop.state }) f in
-          subst (λ z. lists (z ∷ stops_in ks h) (d ∷ ds)) (sym k) (subst (λ z. lists (stop ∷ stops_in ks h) (z ∷ ds)) (sym p) (subst (λ z. lists (stop ∷ stops_in ks h) (change ∷ z)) (sym q) one))
+          subst (λ z. AreRight (z ∷ stops_in ks h) (d ∷ ds)) (sym k) (subst (λ z. AreRight (stop ∷ stops_in ks h) (z ∷ ds)) (sym p) (subst (λ z. AreRight (stop ∷ stops_in ks h) (change ∷ z)) (sym q) one))
 
-      right_more : (c : ℕ) → c ≤ suc (length ks) → lists (stops_in more c) (changes_in more with_change c)
+      right_more : (c : ℕ) → c ≤ suc (length ks) → AreRight (stops_in more c) (changes_in more with_change c)
       right_more c l = elim (cases_Bool (c == suc (length ks))) [
         | inl e ↦ rw e (right_new c change (changes_in ks with_change h) ((Decides-eqb c (suc (length ks))).0 e) refl (old_changes h))
-        | inr e ↦ rw e (subst (λ cs. lists (stops_in ks c) cs) (sym (old_changes c)) (good.right c (below c l e)))
+        | inr e ↦ rw e (subst (λ cs. AreRight (stops_in ks c) cs) (sym (old_changes c)) (good.right c (below c l e)))
       ]
 
       pictures_more : (c : ℕ) → c ≤ suc (length ks) → (b : Bool) → (c == suc (length ks)) ≡ b → (r : Row) → In r (if b then change else of c).stored → Held grown r (picture (at_end (stops_in more c)) r.group)
@@ -147,7 +147,7 @@ module _ {lists : List Stop → List Change → Type 0} (file grown : List ℕ) 
       ]
 
       -- The store is good with the commit, where it has the lists that have to be there, its pictures are those of its replay, and no cell leaves too much.
-      pub good_more : IsStoreOf lists grown more with_change
+      pub good_more : IsGoodStore grown more with_change
       good_more = record {
         right = right_more;
         pictures = λ c l r m. pictures_more c l (c == suc (length ks)) refl r m;

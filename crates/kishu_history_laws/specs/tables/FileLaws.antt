@@ -1,7 +1,8 @@
 -- What a file's records give is what the laws of tables ask for.
-use Rattle.std.specs.Prelude.{◌≡◌, ℕ, true, not, List, [], ◌∷◌, ◌++◌}
+use Rattle.std.specs.Prelude.{◌≡◌, ℕ, suc, ◌==◌, true, not, List, [], ◌∷◌, ◌++◌, length}
 use Rattle.std.specs.List.{AllByRecursion}
 use Rattle.std.proofs.Common.{refl, sym, ◌∙◌, subst, inl, inr, arith}
+use Rattle.std.proofs.lemmas.Bool.Decides.{Decides-eqb}
 use Rattle.kishu_language.specs.tokens.Names.{is_among}
 use Rattle.kishu_store.specs.Graph.{Graph}
 use Rattle.kishu_store.specs.Groups.{IsGroup}
@@ -12,10 +13,10 @@ use Rattle.kishu_store_laws.specs.TableLaws.{groups-rows, and_true, not_true, ap
 use Rattle.kishu_objects.specs.Lists.{In}
 use Rattle.kishu_objects_laws.specs.ListLaws.{in_right, in_flat}
 use Rattle.kishu_history.specs.Changed.{Group}
-use Rattle.kishu_history.specs.Tables.{Row, Table, group_in, Change, first_name, IsTable}
-use Rattle.kishu_history.specs.Paths.{table_at, change_of, AreRows}
+use Rattle.kishu_history.specs.Tables.{Row, Table, group_in, Change, no_change, first_name, IsTable}
+use Rattle.kishu_history.specs.Paths.{table_at, with_change, change_of, AreRows}
 use Rattle.kishu_history.specs.Stored.{bytes_at, KeepsRecords}
-use Rattle.kishu_history_laws.specs.Choices.{among_decides, false_no}
+use Rattle.kishu_history_laws.specs.Choices.{among_decides, false_no, not_told}
 
 pub all_in : {A : Type 0} (P : A → Type 0) (xs : List A) → AllByRecursion P xs → (x : A) → In x xs → P x
 all_in P [] h x m = absurd m
@@ -53,6 +54,14 @@ kept_is_table t k =
       ordered = λ r m. (all_in (λ (q : Row). IsGroup q.group) t each r m).rise;
       one = one_row t k.apart;
     }
+
+-- Nothing changes at the root, and it stays so with a further commit.
+pub root_further : (of : ℕ → Change) (commit : ℕ) (c : Change) → of 0 ≡ no_change → with_change of (suc commit) c 0 ≡ no_change
+root_further of commit c root = (let e = not_told (0 == suc commit) (Decides-eqb 0 (suc commit)) (λ f. omega (arith, f)) in rw e root)
+
+pub root_changes : (cs : List Change) → change_of cs 0 ≡ no_change
+root_changes [] = refl
+root_changes (c ∷ cs) = root_further (change_of cs) (length cs) c (root_changes cs)
 
 pub changes_are_rows : (g : Graph) (cs : List Change) (place : ℕ) → AreChanges g cs place → AreRows (change_of cs)
 changes_are_rows g cs place k = record {

@@ -69,10 +69,6 @@ version_stop k (j ∷ js) g m = elim (cases_Bool (stands g (picture k.state g) j
   | inr e ↦ (k, inl refl, sym (version_newest k (j ∷ js) g e), m, refl)
 ]
 
-in_end : (h : List Stop) (g : Group) → In g (groups_of (at_end h)) → (k : Stop) × (ks : List Stop) × (h ≡ k ∷ ks)
-in_end [] g m = absurd m
-in_end (k ∷ ks) g m = (k, ks, refl)
-
 -- Groups of two commits with one version have one picture.
 pub one_version : (h c : List Stop) (g : Group) → Agree h c → In g (groups_of (at_end h)) → In g (groups_of (at_end c)) → version h g ≡ version c g → picture (at_end h) g ≡ picture (at_end c) g
 one_version [] c g a m n e = absurd m

@@ -1,4 +1,4 @@
-use Rattle.kishu_history_laws.specs.tables.FileLaws.{changes_are_rows, changes_are_tables, stay_keeps}
+use Rattle.kishu_history_laws.specs.tables.FileLaws.{root_changes, changes_are_rows, changes_are_tables, stay_keeps}
 use Rattle.kishu_history_laws.proofs.laws.files_give_tables.Goals as goal
 
 pub returns-clause-rows : goal.returns-clause-rows
@@ -9,3 +9,6 @@ returns-clause-tables c = changes_are_tables
 
 pub returns-clause-stays : goal.returns-clause-stays
 returns-clause-stays c = stay_keeps
+
+pub returns-clause-root : goal.returns-clause-root
+returns-clause-root c = root_changes

@@ -2,7 +2,6 @@ use Rattle.kishu_history_laws.specs.stores.BackLaws.{live_one}
 use Rattle.kishu_history.specs.Stored.{Stored}
 use Rattle.kishu_history_laws.specs.cells.LeavesLaws.{groups_are_cut}
 use Rattle.kishu_history_laws.specs.checkouts.CheckoutLaws.{live_cut, same_by_parts, live_same}
-use Rattle.kishu_history_laws.specs.tables.AllNamesLaws.{all_cut}
 use Rattle.kishu_history_laws.proofs.laws.groups_cut_states.Goals as goal
 
 pub returns-clause-own : goal.returns-clause-own
@@ -10,9 +9,6 @@ returns-clause-own c = λ s is. groups_are_cut s is.sound
 
 pub returns-clause-told : goal.returns-clause-told
 returns-clause-told c = λ file. live_cut (Stored file)
-
-pub returns-clause-all : goal.returns-clause-all
-returns-clause-all c = all_cut
 
 pub returns-clause-glued : goal.returns-clause-glued
 returns-clause-glued c = same_by_parts

@@ -1,3 +1,4 @@
+use Rattle.kishu_history_laws.specs.tables.FileLaws.{root_further}
 use Rattle.kishu_history_laws.specs.checkouts.PlanLaws.{fitting_table}
 use Rattle.kishu_history_laws.specs.stores.StoreLaws.{tables_of_one}
 use Rattle.kishu_history_laws.proofs.laws.records_give_tables.Goals as goal
@@ -17,3 +18,6 @@ returns-clause-of_one c = tables_of_one
 
 pub returns-clause-fits : goal.returns-clause-fits
 returns-clause-fits c = fitting_table
+
+pub returns-clause-root : goal.returns-clause-root
+returns-clause-root c = root_further

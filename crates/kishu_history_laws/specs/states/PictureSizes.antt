@@ -1,22 +1,15 @@
--- The picture of all names takes at most what the pictures of the groups take: each name and each node is in one of them.
-use Rattle.std.specs.Prelude.{◌≡◌, ◌<◌, ◌≤◌, ℕ, ◌+◌, ◌*◌, List, [], ◌∷◌, length, map, flat_map}
+-- How many bytes a picture takes: those of its names and those of its nodes, whatever numbers they have.
+use Rattle.std.specs.Prelude.{◌≡◌, ◌≤◌, ℕ, ◌+◌, List, [], ◌∷◌, length, map, flat_map}
 use Rattle.std.specs.List.{sum_by}
 use Rattle.std.proofs.Common.{refl, ap, sym, ◌∙◌, subst, inl, inr, arith, length-append}
-use Rattle.std.proofs.lemmas.List.Sums.{sum_by-cons, sum_by-append}
+use Rattle.std.proofs.lemmas.List.Sums.{sum_by-cons}
 use Rattle.kishu_meaning.specs.values.Keys.{Key}
 use Rattle.kishu_meaning.specs.values.Values.{Value, none, bool, integer, text, range, builtin, class, node, Node, list, tuple, dict, object, function, exception, State, find}
 use Rattle.kishu_objects.specs.Bytes.{in_four, many, value_bytes, key_bytes, entry_bytes, name_bytes, row_bytes, picture_bytes, long, short}
-use Rattle.kishu_objects.specs.Groups.{groups_of}
 use Rattle.kishu_objects.specs.Lists.{In, AllDiffer}
-use Rattle.kishu_objects.specs.Picture.{renumbered, named, bound, with_value, order, place, listed}
+use Rattle.kishu_objects.specs.Picture.{renumbered, named, bound, with_value, order, place}
 use Rattle.kishu_objects.specs.Shape.{each_child, node_at}
-use Rattle.kishu_objects.specs.Sizes.{size}
-use Rattle.kishu_objects.specs.States.{IsSoundState}
-use Rattle.kishu_objects_laws.specs.GroupLaws.{group_of}
-use Rattle.kishu_objects_laws.specs.ListLaws.{flat_append, in_flat}
-use Rattle.kishu_objects_laws.specs.OrderLaws.{order_reached, reached_order, order_distinct}
-use Rattle.kishu_history.specs.Changed.{Group}
-use Rattle.kishu_history_laws.specs.tables.TableLaws.{rise_differ}
+use Rattle.kishu_objects_laws.specs.ListLaws.{flat_append}
 
 -- ---- sums
 
@@ -156,34 +149,3 @@ module _ (s : State) where
       let e = bound-length names in
       let g = rows-length (place is) is in
       omega (arith, a, b, c, d, e, g)
-
-  -- what groups take together
-  groups-length : (gs : List Group) → sum_by (λ g. length (picture_bytes s g)) gs ≡ 8 * length gs + (sum_by name_takes (flat_map (λ g. g) gs) + sum_by node_takes (flat_map (order s) gs))
-  groups-length [] = refl
-  groups-length (g ∷ gs) =
-      let a = sum_by-cons (λ (h : Group). length (picture_bytes s h)) g gs in
-      let b = picture-length g in
-      let c = groups-length gs in
-      let d = sum_by-append name_takes g (flat_map (λ h. h) gs) in
-      let e = sum_by-append node_takes (order s g) (flat_map (order s) gs) in
-      omega (arith, a, b, c, d, e)
-
-some_in : (gs : List Group) (g : Group) → In g gs → 0 < length gs
-some_in [] g m = absurd m
-some_in (h ∷ gs) g m = omega arith
-
--- Where there is a name.
-pub whole_is_small : (s : State) → IsSoundState s → (x : List ℕ) → In x (listed s) → length (picture_bytes s (listed s)) ≤ size s
-whole_is_small s is x m =
-    let gs = groups_of s in
-    let names = sum_inside (name_takes s) (listed s) (flat_map (λ g. g) gs) (rise_differ (listed s) is.rise)
-    (λ y n. let k = group_of s is.sound (listed s) y n in in_flat (λ g. g) y k.0 gs k.1 k.2) in
-    let nodes = sum_inside (node_takes s) (order s (listed s)) (flat_map (order s) gs) (order_distinct s (listed s))
-    (λ i n.
-    let r = order_reached s (listed s) i n in
-    let k = group_of s is.sound (listed s) r.0 r.1 in
-    in_flat (order s) i k.0 gs k.1 (reached_order s is.sound k.0 r.0 k.2 r.2.0 i r.2.1)) in
-    let some = some_in gs (group_of s is.sound (listed s) x m).0 (group_of s is.sound (listed s) x m).1 in
-    let a = picture-length s (listed s) in
-    let b = groups-length s gs in
-    omega (arith, names, nodes, some, a, b)
