@@ -1,5 +1,5 @@
 -- Texts that are put behind others.
-use Rattle.std.proofs.Common.{◌≡◌, ◌+◌, ◌<◌, ℕ, zero, suc, List, [], ◌∷◌, ◌++◌, length, drop, get_or, sym, ap, ◌∙◌, arith, append_assoc, Some}
+use Rattle.std.proofs.Common.{◌≡◌, ◌+◌, ℕ, zero, suc, List, [], ◌∷◌, ◌++◌, drop, sym, ap, ◌∙◌, arith, append_assoc, Some}
 use Rattle.std.specs.Prelude.{slice_get}
 use Rattle.std.specs.Rc.{rc_str_bytes}
 use Rattle.std.specs.declared.alloc.Global.{Global}
@@ -25,11 +25,3 @@ rest_at (y ∷ ys) zero x e = (let f : y ≡ x = cc in ap (λ z. z ∷ ys) f)
 rest_at (y ∷ ys) (suc i) x e =
     let f : suc i + 1 ≡ suc (i + 1) = omega arith in
     rest_at ys i x e ∙ ap (λ j. x ∷ drop j (y ∷ ys)) (sym f)
-
-pub rest_here : {A : Type 0} (xs : List A) (i : ℕ) (x : A) → i < length xs → x ≡ get_or xs i x → drop i xs ≡ x ∷ drop (i + 1) xs
-rest_here [] i x l e = absurd (omega arith)
-rest_here (y ∷ ys) zero x l e = ap (λ z. z ∷ ys) (sym e)
-rest_here (y ∷ ys) (suc i) x l e =
-    let k = rest_here ys i x (omega arith) e in
-    let f : suc i + 1 ≡ suc (i + 1) = omega arith in
-    k ∙ ap (λ j. x ∷ drop j (y ∷ ys)) (sym f)

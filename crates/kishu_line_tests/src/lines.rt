@@ -28,6 +28,7 @@ fn told(alloc: Global, request: &Request) -> Result<String, AllocError> {
         Request::Log => String::from_str(alloc, "log"),
         Request::Status => String::from_str(alloc, "status"),
         Request::Inspect => String::from_str(alloc, "inspect"),
+        Request::Stored { of } => format!(in alloc; "stored {}", of.as_str()),
     }
 }
 
@@ -44,8 +45,8 @@ fn reads_none(alloc: Global, line: &[u8]) -> Result<bool, AllocError> {
     Ok(read_request(alloc, line)?.is_none())
 }
 
-/// Lines that are requests. The first eight are the examples of docs/LINES.md.
-const REQUESTS: [(&str, &str); 26] = [
+/// Lines that are requests. The first nine are the examples of docs/LINES.md.
+const REQUESTS: [(&str, &str); 28] = [
     (
         "{\"op\":\"cell\",\"text\":\"a = [1]; b = a\"}",
         "cell a = [1]; b = a",
@@ -63,9 +64,11 @@ const REQUESTS: [(&str, &str); 26] = [
     ("{\"op\":\"log\"}", "log"),
     ("{\"op\":\"status\"}", "status"),
     ("{\"op\":\"inspect\"}", "inspect"),
+    ("{\"op\":\"stored\",\"of\":\"1\"}", "stored 1"),
     // in another order, with white space around and between
     ("{\"text\":\"x\",\"op\":\"cell\"}", "cell x"),
     (" \t\r{ \"op\" :\t\"log\"\r} ", "log"),
+    ("{ \"of\" : \"main\", \"op\" : \"stored\" }", "stored main"),
     // texts of any kind, which are looked at only when the request is done
     ("{\"op\":\"cell\",\"text\":\"\"}", "cell "),
     (
@@ -121,7 +124,7 @@ fn reads_requests(rt: HostRuntime) -> Result<(), Fail> {
 }
 
 /// Lines that are no request.
-const NO_REQUESTS: [&str; 49] = [
+const NO_REQUESTS: [&str; 53] = [
     // no JSON, or none that is one value
     "",
     " \t\r",
@@ -162,8 +165,12 @@ const NO_REQUESTS: [&str; 49] = [
     "{\"op\":\"log\",\"text\":\"x\"}",
     "{\"op\":\"cell\",\"text\":\"x\",\"at\":\"main\"}",
     "{\"op\":\"branch\",\"name\":\"try\",\"to\":\"main\"}",
+    "{\"op\":\"stored\"}",
+    "{\"op\":\"stored\",\"to\":\"1\"}",
+    "{\"op\":\"stored\",\"of\":\"1\",\"to\":\"1\"}",
     // another kind of value
     "{\"op\":\"checkout\",\"to\":1}",
+    "{\"op\":\"stored\",\"of\":1}",
     "{\"op\":\"cell\",\"text\":null}",
     "{\"op\":\"cell\",\"text\":\"b\",\"text\":[\"b\"]}",
     "{\"op\":\"branch\",\"name\":\"try\",\"at\":null}",
@@ -253,6 +260,81 @@ fn writes_what_a_cell_shows(rt: HostRuntime) -> Result<(), Fail> {
     let line =
         "{\"answer\":\"cell\",\"commit\":4294967295,\"count\":12,\"outcome\":\"ok\",\"outputs\":[{\"data\":{\"text/plain\":\"'a\\\"\\\\\\u0001\\t\u{e9}'\"},\"execution_count\":12,\"metadata\":{},\"output_type\":\"execute_result\"}]}\n";
     assert!(rt; shows(rt.alloc(), "'a\"\\\u{1}\t\u{e9}'", line)?);
+    Ok(())
+}
+
+/// What commits drop and store, with the lines that tell it: in groups of names.
+const STORED: [(u32, &[&[&str]], &[&[&str]], &str); 4] = [
+    (
+        1,
+        &[],
+        &[&["x", "y"], &["z"]],
+        "{\"answer\":\"stored\",\"commit\":1,\"dropped\":[],\"stored\":[[\"x\",\"y\"],[\"z\"]]}\n",
+    ),
+    (
+        2,
+        &[&["x", "y"]],
+        &[&["x"], &["y"]],
+        "{\"answer\":\"stored\",\"commit\":2,\"dropped\":[[\"x\",\"y\"]],\"stored\":[[\"x\"],[\"y\"]]}\n",
+    ),
+    // the root, and what no commit has: a group without names, and a name that is escaped
+    (
+        0,
+        &[],
+        &[],
+        "{\"answer\":\"stored\",\"commit\":0,\"dropped\":[],\"stored\":[]}\n",
+    ),
+    (
+        u32::MAX,
+        &[&[]],
+        &[&["\"\u{e9}"]],
+        "{\"answer\":\"stored\",\"commit\":4294967295,\"dropped\":[[]],\"stored\":[[\"\\\"\u{e9}\"]]}\n",
+    ),
+];
+
+/// Groups of names.
+fn groups_of(alloc: Global, groups: &[&[&str]]) -> Result<Vec<Vec<RcStr>>, AllocError> {
+    let mut made = Vec::new(alloc);
+    for names in groups {
+        made.push(names_of(alloc, names)?)?;
+    }
+    Ok(made)
+}
+
+/// Names.
+fn names_of(alloc: Global, names: &[&str]) -> Result<Vec<RcStr>, AllocError> {
+    let mut made = Vec::new(alloc);
+    for name in names {
+        made.push(RcStr::from_str(alloc, name)?)?;
+    }
+    Ok(made)
+}
+
+/// Whether this line tells what a commit drops and stores.
+fn tells_stored(
+    alloc: Global,
+    commit: u32,
+    dropped: &[&[&str]],
+    stored: &[&[&str]],
+    want: &str,
+) -> Result<bool, AllocError> {
+    let answer = Answer::Stored {
+        commit,
+        dropped: groups_of(alloc, dropped)?,
+        stored: groups_of(alloc, stored)?,
+    };
+    Ok(write_answer(alloc, &answer)?.as_slice() == want.as_bytes())
+}
+
+#[test]
+fn writes_what_commits_stored(rt: HostRuntime) -> Result<(), Fail> {
+    let alloc = rt.alloc();
+    for (commit, dropped, stored, want) in &STORED {
+        assert!(rt;
+            tells_stored(alloc, *commit, dropped, stored, want)?,
+            "{want}"
+        );
+    }
     Ok(())
 }
 

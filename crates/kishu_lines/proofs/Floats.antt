@@ -6,7 +6,7 @@ use Rattle.std.specs.Ordering.{match_ordering}
 use Rattle.serde_json.specs.Data.{Data, string, Members, no_members, member, put}
 use Rattle.serde_json.specs.View.{items_of}
 use Rattle.serde_json.specs.Written.{has_float, items_have_float, members_have_float}
-use Rattle.kishu_model.specs.Answers.{Refusal, bad_request, no_such_ref, bad_name, name_taken, store_full, cell_too_long, state_too_large, Counted, PathRow, Answer, ran_cell, ran_cells, checked_out, branched, logged, told_status, inspected, refused, answer_data, counted_data, branch_data, entry_data, row_data, node_data, with_texts, output_data}
+use Rattle.kishu_model.specs.Answers.{Refusal, bad_request, no_such_ref, bad_name, name_taken, store_full, cell_too_long, state_too_large, Counted, PathRow, Answer, ran_cell, ran_cells, checked_out, branched, logged, told_status, inspected, told_stored, refused, answer_data, counted_data, branch_data, entry_data, row_data, node_data, with_texts, output_data}
 use Rattle.kishu_meaning.specs.values.Values.{Output, stream, shown, fault}
 
 outputs_no_float : (count : ℕ) (outputs : List Output) → items_have_float (items_of (map (output_data count) outputs)) ≡ false
@@ -35,9 +35,9 @@ texts_no_float : (texts : List (List ℕ)) → items_have_float (items_of (map s
 texts_no_float [] = refl
 texts_no_float (text ∷ texts) = texts_no_float texts
 
-nodes_no_float : (nodes : List (List (List ℕ))) → items_have_float (items_of (map node_data nodes)) ≡ false
-nodes_no_float [] = refl
-nodes_no_float (texts ∷ nodes) = rw (texts_no_float texts) (nodes_no_float nodes)
+lists_no_float : (lists : List (List (List ℕ))) → items_have_float (items_of (map node_data lists)) ≡ false
+lists_no_float [] = refl
+lists_no_float (texts ∷ lists) = rw (texts_no_float texts) (lists_no_float lists)
 
 neither : (a b : Bool) → (a || b) ≡ false → (a ≡ false) × (b ≡ false)
 neither true b is = absurd (true≢false is)
@@ -74,5 +74,6 @@ no_float (checked_out commit branch) = rw (branch_no_float branch) refl
 no_float (branched commit name) = refl
 no_float (logged branches path) = rw (entries_no_float branches, rows_no_float path) refl
 no_float (told_status s) = rw (branch_no_float s.branch, texts_no_float s.names) refl
-no_float (inspected commit names nodes) = rw (names_no_float names no_members refl, nodes_no_float nodes) refl
+no_float (inspected commit names nodes) = rw (names_no_float names no_members refl, lists_no_float nodes) refl
+no_float (told_stored commit dropped stored) = rw (lists_no_float dropped, lists_no_float stored) refl
 no_float (refused r) = refusal_no_float r

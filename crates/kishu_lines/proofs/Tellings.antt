@@ -9,8 +9,8 @@ use Rattle.serde_json.specs.Events.{members_len}
 use Rattle.serde_json.specs.Find.{get_member, as_str, as_array}
 use Rattle.serde_json.specs.Read.{read}
 use Rattle.serde_json.specs.View.{items_of}
-use Rattle.kishu_model.specs.Reading.{Tells, tells_cell, tells_cells, tells_checkout, tells_branch, tells_branch_at, tells_log, tells_status, tells_inspect, Reads, has_members, text_at, cell_in, texts_in, texts_at, cells_of_texts, cells_in, checkout_in, branch_at_in, branch_named_in, branch_in, alone_in, asked_in, request_in, reading}
-use Rattle.kishu_model.specs.Request.{Request, cell, cells, checkout, branch, log, status, inspect}
+use Rattle.kishu_model.specs.Reading.{Tells, tells_cell, tells_cells, tells_checkout, tells_branch, tells_branch_at, tells_log, tells_status, tells_inspect, tells_stored, Reads, has_members, text_at, cell_in, texts_in, texts_at, cells_of_texts, cells_in, checkout_in, stored_in, branch_at_in, branch_named_in, branch_in, alone_in, asked_in, request_in, reading}
+use Rattle.kishu_model.specs.Request.{Request, cell, cells, checkout, branch, log, status, inspect, stored}
 use Rattle.kishu_lines.proofs.Members.{Ascends, AscendsIn, ascends_read, one_member, two_members, three_members}
 
 all_texts : (texts : List (List ℕ)) → texts_in (items_of (map string texts)) ≡ Some texts
@@ -27,6 +27,7 @@ told_is_read (tells_branch_at name at) = refl
 told_is_read tells_log = refl
 told_is_read tells_status = refl
 told_is_read tells_inspect = refl
+told_is_read (tells_stored of) = refl
 
 -- ---- the other way
 
@@ -125,6 +126,12 @@ read_branch ms q ascends op is =
     option_and_then_some (λ name. branch_named_in name (object ms)) (text_at (codes "name") (object ms)) q is
     (λ name text rest. read_branch_named (has_members 2 (object ms)) ms name q refl ascends op (found_text (codes "name") ms name text) rest)
 
+read_stored : (ms : Members) (q : Request) → Ascends ms → get_member (codes "op") ms ≡ Some (string (codes "stored")) → stored_in (object ms) ≡ Some q → Tells (object ms) q
+read_stored ms q ascends op is =
+    let parts = tested (has_members 2 (object ms)) _ q is in
+    mapped stored _ q parts.1 (λ t text asked.
+    moved _ (object ms) (stored t) q (ap object (two_members (codes "of") (codes "op") _ _ ms ascends (sized 2 ms parts.0) refl (found_text (codes "of") ms t text) op)) asked (tells_stored t))
+
 read_alone : (ms : Members) (op : List ℕ) (asked q : Request) → Tells (object (member (codes "op") (string op) no_members)) asked → get_member (codes "op") ms ≡ Some (string op)
     → alone_in asked (object ms) ≡ Some q → Tells (object ms) q
 read_alone ms op asked q tells found is =
@@ -134,64 +141,74 @@ read_alone ms op asked q tells found is =
 same_op : (op word : List ℕ) (ms : Members) → bytes_eq op word ≡ true → get_member (codes "op") ms ≡ Some (string op) → get_member (codes "op") ms ≡ Some (string word)
 same_op op word ms is found = found ∙ ap (λ (w : List ℕ). Some (string w)) ((bytes_eq-Decides op word).0 is)
 
-read_inspect : (b : Bool) (ms : Members) (op : List ℕ) (q : Request) → bytes_eq op (codes "inspect") ≡ b → get_member (codes "op") ms ≡ Some (string op)
-    → cond b (alone_in inspect (object ms)) None ≡ Some q → Tells (object ms) q
-read_inspect true ms op q word found is = read_alone ms (codes "inspect") inspect q tells_inspect (same_op op (codes "inspect") ms word found) is
-read_inspect false ms op q word found is = absurd (none-some q is)
+-- ---- the words, of which each is tried in its turn: what is asked from one of them on
 
-abbrev very_last_in : List ℕ → Data → Option Request
-very_last_in op d = cond (bytes_eq op (codes "inspect")) (alone_in inspect d) None
+read_from_stored : (b : Bool) (ms : Members) (op : List ℕ) (q : Request) → bytes_eq op (codes "stored") ≡ b → Ascends ms → get_member (codes "op") ms ≡ Some (string op)
+    → cond b (stored_in (object ms)) None ≡ Some q → Tells (object ms) q
+read_from_stored true ms op q word ascends found is = read_stored ms q ascends (same_op op (codes "stored") ms word found) is
+read_from_stored false ms op q word ascends found is = absurd (none-some q is)
 
-read_status : (b : Bool) (ms : Members) (op : List ℕ) (q : Request) → bytes_eq op (codes "status") ≡ b → get_member (codes "op") ms ≡ Some (string op)
-    → cond b (alone_in status (object ms)) (very_last_in op (object ms)) ≡ Some q → Tells (object ms) q
-read_status true ms op q word found is = read_alone ms (codes "status") status q tells_status (same_op op (codes "status") ms word found) is
-read_status false ms op q word found is = read_inspect (bytes_eq op (codes "inspect")) ms op q refl found is
+abbrev from_stored : List ℕ → Data → Option Request
+from_stored op d = cond (bytes_eq op (codes "stored")) (stored_in d) None
 
-abbrev last_in : List ℕ → Data → Option Request
-last_in op d = cond (bytes_eq op (codes "status")) (alone_in status d) (very_last_in op d)
+read_from_inspect : (b : Bool) (ms : Members) (op : List ℕ) (q : Request) → bytes_eq op (codes "inspect") ≡ b → Ascends ms → get_member (codes "op") ms ≡ Some (string op)
+    → cond b (alone_in inspect (object ms)) (from_stored op (object ms)) ≡ Some q → Tells (object ms) q
+read_from_inspect true ms op q word ascends found is = read_alone ms (codes "inspect") inspect q tells_inspect (same_op op (codes "inspect") ms word found) is
+read_from_inspect false ms op q word ascends found is = read_from_stored (bytes_eq op (codes "stored")) ms op q refl ascends found is
 
-read_log : (b : Bool) (ms : Members) (op : List ℕ) (q : Request) → bytes_eq op (codes "log") ≡ b → get_member (codes "op") ms ≡ Some (string op)
-    → cond b (alone_in log (object ms)) (last_in op (object ms)) ≡ Some q → Tells (object ms) q
-read_log true ms op q word found is = read_alone ms (codes "log") log q tells_log (same_op op (codes "log") ms word found) is
-read_log false ms op q word found is = read_status (bytes_eq op (codes "status")) ms op q refl found is
+abbrev from_inspect : List ℕ → Data → Option Request
+from_inspect op d = cond (bytes_eq op (codes "inspect")) (alone_in inspect d) (from_stored op d)
 
-abbrev alone_at : List ℕ → Data → Option Request
-alone_at op d = cond (bytes_eq op (codes "log")) (alone_in log d) (last_in op d)
+read_from_status : (b : Bool) (ms : Members) (op : List ℕ) (q : Request) → bytes_eq op (codes "status") ≡ b → Ascends ms → get_member (codes "op") ms ≡ Some (string op)
+    → cond b (alone_in status (object ms)) (from_inspect op (object ms)) ≡ Some q → Tells (object ms) q
+read_from_status true ms op q word ascends found is = read_alone ms (codes "status") status q tells_status (same_op op (codes "status") ms word found) is
+read_from_status false ms op q word ascends found is = read_from_inspect (bytes_eq op (codes "inspect")) ms op q refl ascends found is
 
-read_third : (b : Bool) (ms : Members) (op : List ℕ) (q : Request) → bytes_eq op (codes "branch") ≡ b → Ascends ms → get_member (codes "op") ms ≡ Some (string op)
-    → cond b (branch_in (object ms)) (alone_at op (object ms)) ≡ Some q → Tells (object ms) q
-read_third true ms op q word ascends found is = read_branch ms q ascends (same_op op (codes "branch") ms word found) is
-read_third false ms op q word ascends found is = read_log (bytes_eq op (codes "log")) ms op q refl found is
+abbrev from_status : List ℕ → Data → Option Request
+from_status op d = cond (bytes_eq op (codes "status")) (alone_in status d) (from_inspect op d)
 
-abbrev third_in : List ℕ → Data → Option Request
-third_in op d = cond (bytes_eq op (codes "branch")) (branch_in d) (alone_at op d)
+read_from_log : (b : Bool) (ms : Members) (op : List ℕ) (q : Request) → bytes_eq op (codes "log") ≡ b → Ascends ms → get_member (codes "op") ms ≡ Some (string op)
+    → cond b (alone_in log (object ms)) (from_status op (object ms)) ≡ Some q → Tells (object ms) q
+read_from_log true ms op q word ascends found is = read_alone ms (codes "log") log q tells_log (same_op op (codes "log") ms word found) is
+read_from_log false ms op q word ascends found is = read_from_status (bytes_eq op (codes "status")) ms op q refl ascends found is
 
-read_second : (b : Bool) (ms : Members) (op : List ℕ) (q : Request) → bytes_eq op (codes "checkout") ≡ b → Ascends ms → get_member (codes "op") ms ≡ Some (string op)
-    → cond b (checkout_in (object ms)) (third_in op (object ms)) ≡ Some q → Tells (object ms) q
-read_second true ms op q word ascends found is = read_checkout ms q ascends (same_op op (codes "checkout") ms word found) is
-read_second false ms op q word ascends found is = read_third (bytes_eq op (codes "branch")) ms op q refl ascends found is
+abbrev from_log : List ℕ → Data → Option Request
+from_log op d = cond (bytes_eq op (codes "log")) (alone_in log d) (from_status op d)
 
-abbrev second_in : List ℕ → Data → Option Request
-second_in op d = cond (bytes_eq op (codes "checkout")) (checkout_in d) (third_in op d)
+read_from_branch : (b : Bool) (ms : Members) (op : List ℕ) (q : Request) → bytes_eq op (codes "branch") ≡ b → Ascends ms → get_member (codes "op") ms ≡ Some (string op)
+    → cond b (branch_in (object ms)) (from_log op (object ms)) ≡ Some q → Tells (object ms) q
+read_from_branch true ms op q word ascends found is = read_branch ms q ascends (same_op op (codes "branch") ms word found) is
+read_from_branch false ms op q word ascends found is = read_from_log (bytes_eq op (codes "log")) ms op q refl ascends found is
 
-read_several : (b : Bool) (ms : Members) (op : List ℕ) (q : Request) → bytes_eq op (codes "cells") ≡ b → Ascends ms → get_member (codes "op") ms ≡ Some (string op)
-    → cond b (cells_in (object ms)) (second_in op (object ms)) ≡ Some q → Tells (object ms) q
-read_several true ms op q word ascends found is = read_cells ms q ascends (same_op op (codes "cells") ms word found) is
-read_several false ms op q word ascends found is = read_second (bytes_eq op (codes "checkout")) ms op q refl ascends found is
+abbrev from_branch : List ℕ → Data → Option Request
+from_branch op d = cond (bytes_eq op (codes "branch")) (branch_in d) (from_log op d)
 
-abbrev several_in : List ℕ → Data → Option Request
-several_in op d = cond (bytes_eq op (codes "cells")) (cells_in d) (second_in op d)
+read_from_checkout : (b : Bool) (ms : Members) (op : List ℕ) (q : Request) → bytes_eq op (codes "checkout") ≡ b → Ascends ms → get_member (codes "op") ms ≡ Some (string op)
+    → cond b (checkout_in (object ms)) (from_branch op (object ms)) ≡ Some q → Tells (object ms) q
+read_from_checkout true ms op q word ascends found is = read_checkout ms q ascends (same_op op (codes "checkout") ms word found) is
+read_from_checkout false ms op q word ascends found is = read_from_branch (bytes_eq op (codes "branch")) ms op q refl ascends found is
 
-read_first : (b : Bool) (ms : Members) (op : List ℕ) (q : Request) → bytes_eq op (codes "cell") ≡ b → Ascends ms → get_member (codes "op") ms ≡ Some (string op)
-    → cond b (cell_in (object ms)) (several_in op (object ms)) ≡ Some q → Tells (object ms) q
-read_first true ms op q word ascends found is = read_cell ms q ascends (same_op op (codes "cell") ms word found) is
-read_first false ms op q word ascends found is = read_several (bytes_eq op (codes "cells")) ms op q refl ascends found is
+abbrev from_checkout : List ℕ → Data → Option Request
+from_checkout op d = cond (bytes_eq op (codes "checkout")) (checkout_in d) (from_branch op d)
+
+read_from_cells : (b : Bool) (ms : Members) (op : List ℕ) (q : Request) → bytes_eq op (codes "cells") ≡ b → Ascends ms → get_member (codes "op") ms ≡ Some (string op)
+    → cond b (cells_in (object ms)) (from_checkout op (object ms)) ≡ Some q → Tells (object ms) q
+read_from_cells true ms op q word ascends found is = read_cells ms q ascends (same_op op (codes "cells") ms word found) is
+read_from_cells false ms op q word ascends found is = read_from_checkout (bytes_eq op (codes "checkout")) ms op q refl ascends found is
+
+abbrev from_cells : List ℕ → Data → Option Request
+from_cells op d = cond (bytes_eq op (codes "cells")) (cells_in d) (from_checkout op d)
+
+read_from_cell : (b : Bool) (ms : Members) (op : List ℕ) (q : Request) → bytes_eq op (codes "cell") ≡ b → Ascends ms → get_member (codes "op") ms ≡ Some (string op)
+    → cond b (cell_in (object ms)) (from_cells op (object ms)) ≡ Some q → Tells (object ms) q
+read_from_cell true ms op q word ascends found is = read_cell ms q ascends (same_op op (codes "cell") ms word found) is
+read_from_cell false ms op q word ascends found is = read_from_cells (bytes_eq op (codes "cells")) ms op q refl ascends found is
 
 read_object : (ms : Members) (q : Request) → Ascends ms → request_in (object ms) ≡ Some q → Tells (object ms) q
 unfolding request_in
 read_object ms q ascends is =
     option_and_then_some (λ op. asked_in op (object ms)) (text_at (codes "op") (object ms)) q is
-    (λ op text rest. read_first (bytes_eq op (codes "cell")) ms op q refl ascends (found_text (codes "op") ms op text) rest)
+    (λ op text rest. read_from_cell (bytes_eq op (codes "cell")) ms op q refl ascends (found_text (codes "op") ms op text) rest)
 
 -- no other value tells anything
 read_is_told : (d : Data) (q : Request) → AscendsIn d → request_in d ≡ Some q → Tells d q

@@ -3,7 +3,7 @@ ghost use Rattle.std.specs.Rc.{rc_str_bytes};
 ghost use Rattle.serde_json.specs.Data.{array, no_members, object, string};
 ghost use Rattle.serde_json.specs.View.{items_of, view};
 ghost use Rattle.kishu_model.specs.Answers as spec;
-ghost use Rattle.kishu_model.specs.Answers.{answer_data, branch_data, entry_data, row_data, ran_cell, ran_cells, counted_data, checked_out, branched, logged, told_status, inspected, node_data, with_texts, refused};
+ghost use Rattle.kishu_model.specs.Answers.{answer_data, branch_data, entry_data, row_data, ran_cell, ran_cells, counted_data, checked_out, branched, logged, told_status, inspected, told_stored, node_data, groups_data, with_texts, refused};
 ghost use Rattle.kishu_meaning.specs.values.Values.{report_of};
 ghost use Rattle.kishu_model.specs.Values.{counted_of, entry_of, named_of, numbered, refusal_of, row_of, texts_of};
 
@@ -232,7 +232,7 @@ pub(crate) fn inspect_json(
         (λ v. view v ≡ answer_data (inspected commit (map named_of names.now) (map texts_of nodes.now))) }
 {
     let names = named_json(alloc, names)?;
-    let nodes = nodes_json(alloc, nodes)?;
+    let nodes = lists_json(alloc, nodes)?;
     json!(in alloc; {"answer": "inspect", "commit": commit, "names": names, "nodes": nodes})
 }
 
@@ -250,17 +250,31 @@ fn named_json(alloc: Global, names: &[(RcStr, RcStr)]) -> Result<Value, AllocErr
     Ok(Value::Object(members))
 }
 
-/// Nodes, each as its texts.
-fn nodes_json(alloc: Global, nodes: &[Vec<RcStr>]) -> Result<Value, AllocError>
-    ensures { IfOk result
-        (λ v. view v ≡ array (items_of (map node_data (map texts_of nodes.now)))) }
+/// Nodes, each as its texts, or groups, each as its names.
+fn lists_json(alloc: Global, lists: &[Vec<RcStr>]) -> Result<Value, AllocError>
+    ensures { IfOk result (λ v. view v ≡ groups_data (map texts_of lists.now)) }
 {
     let mut items = Vec::new(alloc);
-    for node in nodes {
-        let item = texts_json(alloc, node)?;
+    for list in lists {
+        let item = texts_json(alloc, list)?;
         items.push(item)?;
     }
     Ok(Value::Array(items))
+}
+
+/// What the record of a commit drops and stores.
+pub(crate) fn stored_json(
+    alloc: Global,
+    commit: u32,
+    dropped: &[Vec<RcStr>],
+    stored: &[Vec<RcStr>],
+) -> Result<Value, AllocError>
+    ensures { IfOk result (λ v. view v
+        ≡ answer_data (told_stored commit (map texts_of dropped.now) (map texts_of stored.now))) }
+{
+    let dropped = lists_json(alloc, dropped)?;
+    let stored = lists_json(alloc, stored)?;
+    json!(in alloc; {"answer": "stored", "commit": commit, "dropped": dropped, "stored": stored})
 }
 
 /// The request was refused.

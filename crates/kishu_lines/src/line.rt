@@ -5,7 +5,7 @@ ghost use Rattle.kishu_model.specs.Values.{answer_of};
 
 use crate::answers::{
     branch_json, cell_json, cells_json, checkout_json, inspect_json, log_json, refused_json,
-    status_json,
+    status_json, stored_json,
 };
 use kishu_model::Answer;
 use serde_json::Value;
@@ -55,6 +55,11 @@ fn answer_json(alloc: Global, answer: &Answer) -> Result<Value, AllocError>
             names,
             nodes,
         } => inspect_json(alloc, *commit, names, nodes),
+        Answer::Stored {
+            commit,
+            dropped,
+            stored,
+        } => stored_json(alloc, *commit, dropped, stored),
         Answer::Refused { number, bytes } => refused_json(alloc, *number, *bytes),
     }
 }

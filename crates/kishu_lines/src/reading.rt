@@ -65,6 +65,7 @@ fn asked_in(alloc: Global, op: &str, value: &Value) -> Result<Option<Request>, A
         "log" => Ok(alone_in(Request::Log, value)),
         "status" => Ok(alone_in(Request::Status, value)),
         "inspect" => Ok(alone_in(Request::Inspect, value)),
+        "stored" => stored_in(alloc, value),
         _ => Ok(None),
     }
 }
@@ -155,6 +156,21 @@ fn checkout_in(alloc: Global, value: &Value) -> Result<Option<Request>, AllocErr
         Some(to) => {
             let to = RcStr::from_str(alloc, to)?;
             Ok(Some(Request::Checkout { to }))
+        }
+        None => Ok(None),
+    }
+}
+
+fn stored_in(alloc: Global, value: &Value) -> Result<Option<Request>, AllocError>
+    ensures { IfOk result (λ o. option_map request_of o ≡ spec.stored_in (view value.now)) }
+{
+    if !has_members(value, 2) {
+        return Ok(None);
+    }
+    match text_at(value, "of") {
+        Some(of) => {
+            let of = RcStr::from_str(alloc, of)?;
+            Ok(Some(Request::Stored { of }))
         }
         None => Ok(None),
     }

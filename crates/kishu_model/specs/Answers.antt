@@ -53,6 +53,8 @@ pub data Answer : Type 0 where
   told_status : Standing → Answer
   -- the commit on which the head stands, each name with the text of its value, and the texts of each node that the names reach
   inspected : (commit : ℕ) → (names : List (List ℕ × List ℕ)) → (nodes : List (List (List ℕ))) → Answer
+  -- the commit, the groups that its record drops, and those that it stores, as names
+  told_stored : (commit : ℕ) → (dropped stored : List (List (List ℕ))) → Answer
   refused : Refusal → Answer
 
 abbrev pub refusal_number : Refusal → ℕ
@@ -123,9 +125,13 @@ abbrev pub with_texts : List (List ℕ × List ℕ) → Members → Members
 with_texts [] ms = ms
 with_texts (b ∷ bs) ms = with_texts bs (put b.0 (string b.1) ms)
 
--- the texts of a node
+-- the texts of a node, or the names of a group
 abbrev pub node_data : List (List ℕ) → Data
 node_data texts = array (items_of (map string texts))
+
+-- the names of groups
+abbrev pub groups_data : List (List (List ℕ)) → Data
+groups_data gs = array (items_of (map node_data gs))
 
 -- a state that is too large is told with its bytes
 abbrev pub refusal_bytes : Refusal → Option ℕ
@@ -170,6 +176,12 @@ answer_data (inspected commit names nodes) =
     member (codes "answer") (string (codes "inspect"))
     (member (codes "commit") (number (unsigned commit))
     (member (codes "names") (object (with_texts names no_members)) (member (codes "nodes") (array (items_of (map node_data nodes))) no_members)))
+    )
+answer_data (told_stored commit dropped stored) =
+    object (
+    member (codes "answer") (string (codes "stored"))
+    (member (codes "commit") (number (unsigned commit))
+    (member (codes "dropped") (groups_data dropped) (member (codes "stored") (groups_data stored) no_members)))
     )
 answer_data (refused r) =
     object (

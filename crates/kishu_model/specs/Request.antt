@@ -11,6 +11,7 @@ pub data Request : Type 0 where
   log : Request
   status : Request
   inspect : Request
+  stored : (of : List ℕ) → Request
   -- what has no reading as a request
   unreadable : Request
 

@@ -6,3 +6,4 @@ pub mod Branch
 pub mod Log
 pub mod Status
 pub mod Inspect
+pub mod Stored

@@ -70,6 +70,13 @@ pub enum Answer {
         names: Vec<(RcStr, RcStr)>,
         nodes: Vec<Vec<RcStr>>,
     },
+    /// The groups that a commit's record drops, and those that it stores, by their first names, each as its
+    /// names, in byte order.
+    Stored {
+        commit: u32,
+        dropped: Vec<Vec<RcStr>>,
+        stored: Vec<Vec<RcStr>>,
+    },
     /// The request was refused: the number of the refusal, and where the state is too large its bytes.
     Refused {
         number: u8,
@@ -94,6 +101,7 @@ impl Answer {
             Answer::Log { .. } => false,
             Answer::Status { .. } => false,
             Answer::Inspect { .. } => false,
+            Answer::Stored { .. } => false,
             Answer::Refused { .. } => false,
         }
     }

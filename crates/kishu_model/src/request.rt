@@ -19,4 +19,6 @@ pub enum Request {
     Status,
     /// To tell the names that are bound at the head's commit, and the nodes that they reach.
     Inspect,
+    /// To tell which groups of names the record of the commit drops and stores that this reference names.
+    Stored { of: RcStr },
 }

@@ -182,6 +182,7 @@ impl Notebook {
             Answer::Log { .. } => Ok(()),
             Answer::Status { .. } => Ok(()),
             Answer::Inspect { .. } => Ok(()),
+            Answer::Stored { .. } => Ok(()),
         }
     }
 

@@ -6,4 +6,5 @@ mod Bound
 mod Inputs
 mod Notebooks
 mod Files
+mod Stored
 mod Generated
