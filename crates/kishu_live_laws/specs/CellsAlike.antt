@@ -9,7 +9,7 @@ use Rattle.kishu_objects.specs.Same.{Same}
 use Rattle.kishu_objects.specs.Sizes.{most_bytes}
 use Rattle.kishu_objects.specs.States.{IsSoundState}
 use Rattle.kishu_objects_laws.specs.WholeLaws.{same_whole}
-use Rattle.kishu_pairing_laws.specs.runs.CellsInRow.{same_after, cells_are_state}
+use Rattle.kishu_pairing_laws.specs.runs.CellsInRow.{same_after}
 use Rattle.kishu_pairing_laws.specs.runs.PairedRuns.{same_runs}
 use Rattle.kishu_pairing_laws.specs.runs.SoundRuns.{run_is_state}
 use Rattle.kishu_history_laws.specs.cells.GroupsAfter.{same_size}
@@ -26,9 +26,6 @@ use Rattle.kishu_model.specs.requests.TooLarge.{is_too_large, most_told, too_lar
 module _ (s t : State) (here : IsSoundState s) (there : IsSoundState t) (same : Same s t) where
   pub large_alike : is_too_large s ≡ is_too_large t
   large_alike = ap (nat_lt most_bytes) (same_size s t here there same)
-
-  pub refusal_alike : too_large s ≡ too_large t
-  refusal_alike = ap (λ n. state_too_large (min n most_told)) (same_size s t here there same)
 
   -- the refusal of a state, where it is too large
   pub refused_alike : (if is_too_large s then Some (too_large s) else None) ≡ (if is_too_large t then Some (too_large t) else None)
@@ -96,15 +93,6 @@ module _ (profile : Profile) (texts : List (List ℕ)) (s t : State) (here : IsS
   pub ran_left_alike : Same (after_cells profile (cells_run profile texts s) s) (after_cells profile (cells_run profile texts t) t)
   ran_left_alike = subst (λ (l : List (List ℕ)). Same (after_cells profile (cells_run profile texts s) s) (after_cells profile l t)) ran
       (same_after profile (cells_run profile texts s) s t here there same)
-
-  pub ran_left_sound : IsSoundState (after_cells profile (cells_run profile texts s) s)
-  ran_left_sound = cells_are_state profile (cells_run profile texts s) s here
-
-  pub ran_shown_alike : (count : ℕ) → results_from count profile (cells_run profile texts s) s ≡ results_from count profile (cells_run profile texts t) t
-  ran_shown_alike count = ap (λ (l : List (List ℕ)). results_from count profile l s) ran ∙ shown_alike count profile (cells_run profile texts t) s t here there same
-
-  pub ran_charge_alike : charge_in profile (cells_run profile texts s) s ≡ charge_in profile (cells_run profile texts t) t
-  ran_charge_alike = ap (λ (l : List (List ℕ)). charge_in profile l s) ran ∙ charge_alike profile (cells_run profile texts t) s t here there same
 
 -- ---- how many nodes there are
 

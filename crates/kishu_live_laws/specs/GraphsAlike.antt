@@ -3,16 +3,16 @@ use Rattle.std.specs.Prelude.{◌≡◌, ℕ, not, nat_le, nat_lt, Bool, true, f
 use Rattle.std.specs.List.{list_any}
 use Rattle.std.proofs.Common.{ap, sym, ◌∙◌}
 use Rattle.kishu_language.specs.Limits.{longest_text}
-use Rattle.kishu_replay.specs.Replay.{replay}
 use Rattle.kishu_store.specs.Branches.{Branches, commit_of, is_branch_name}
 use Rattle.kishu_store.specs.Graph.{Graph, Target, newest, with_branch}
 use Rattle.kishu_store.specs.Limits.{most_records}
 use Rattle.kishu_store.specs.References.{is_decimal, number_from, resolve}
 use Rattle.kishu_model.specs.Answers.{branched, Refusal, bad_request, cell_too_long, no_such_ref, bad_name, name_taken, store_full}
-use Rattle.kishu_model.specs.Request.{Request, cell, cells, checkout, branch, log, status, inspect, unreadable, Stepped, refused_with}
+use Rattle.kishu_model.specs.Request.{Request, cell, cells, checkout, branch, log, status, inspect, stored, unreadable, Stepped, refused_with}
 use Rattle.kishu_model.specs.requests.Branch.{branch_at, start_of}
 use Rattle.kishu_model.specs.requests.Cells.{is_too_long}
 use Rattle.kishu_model.specs.requests.Checkout.{checkout_to, went_to}
+use Rattle.kishu_model.specs.requests.Stored.{stored_of}
 use Rattle.kishu_model.specs.Step.{step}
 use Rattle.kishu_live_laws.specs.Refusals.{refusal_in}
 use Rattle.kishu_live_laws.specs.RefusalLaws.{cell_tests, cells_tests}
@@ -21,6 +21,11 @@ use Rattle.kishu_live_laws.specs.RefusalLaws.{cell_tests, cells_tests}
 abbrev found_for : {A : Type 0} → ℕ → Option A → Option Refusal
 found_for records None = Some no_such_ref
 found_for records (Some a) = if nat_le most_records records then Some store_full else None
+
+-- what has to be found alone
+abbrev named_by : {A : Type 0} → Option A → Option Refusal
+named_by None = Some no_such_ref
+named_by (Some a) = None
 
 -- cells, of which one is too long or none
 abbrev room_for : ℕ → Bool → Option Refusal
@@ -46,6 +51,7 @@ refused_by bs head n records (branch title at) = if not (is_branch_name title) t
 refused_by bs head n records log = None
 refused_by bs head n records status = None
 refused_by bs head n records inspect = None
+refused_by bs head n records (stored of) = named_by (target_in bs n of)
 
 module _ (g : Graph) where
   chosen : (b : Bool) (x y : Stepped) (q r : Option Refusal) → refusal_in x.answer ≡ q → refusal_in y.answer ≡ r → refusal_in (if b then x else y).answer ≡ (if b then q else r)
@@ -68,15 +74,19 @@ module _ (g : Graph) where
       full true = refl
       full false = refl
 
+  stored_told : (o : Option Target) → refusal_in (stored_of o g).answer ≡ named_by o
+  stored_told None = refl
+  stored_told (Some t) = refl
+
   start_told : (at : Option (List ℕ)) → start_of at g ≡ start_in g.branches (newest g) g.head at
   start_told None = refl
   start_told (Some at) = refl
 
   told : (q : Request) → refusal_in (step g q).answer ≡ refused_by g.branches g.head (newest g) g.records q
   told unreadable = refl
-  told (cell text) = cell_tests g (replay g g.head.commit) text
+  told (cell text) = cell_tests g text
   told (cells []) = refl
-  told (cells (text ∷ texts)) = cells_tests g (replay g g.head.commit) text texts
+  told (cells (text ∷ texts)) = cells_tests g text texts
   told (checkout to) = to_told (resolve g to)
   told (branch title at) =
       chosen (not (is_branch_name title)) (refused_with bad_name g) (if is_some (commit_of title g.branches) then refused_with name_taken g else branch_at title (start_of at g) g)
@@ -86,6 +96,7 @@ module _ (g : Graph) where
   told log = refl
   told status = refl
   told inspect = refl
+  told (stored to) = stored_told (resolve g to)
 
 pub graphs_refuse_alike : (g h : Graph) → g.branches ≡ h.branches → g.head ≡ h.head → newest g ≡ newest h → g.records ≡ h.records → (q : Request) → refusal_in (step g q).answer ≡ refusal_in (step h q).answer
 graphs_refuse_alike g h branches head commits records q =

@@ -1,10 +1,13 @@
 pub mod Alike
 pub mod OnStates
+pub mod Filling
 pub mod Refusals
 pub mod Replays
 pub mod Outcomes
 pub mod Small
 pub mod CellsAlike
+pub mod Told
+pub mod StoredAlike
 pub mod RequestsAlike
 pub mod RefusalLaws
 pub mod GraphsAlike

@@ -1,4 +1,4 @@
--- What is refused: the graph alone decides all but the size of a state, what is refused changes nothing, and a state is refused for its size only where the request's cells left it.
+-- What is refused: the graph alone decides all but how much cells leave, what is refused changes nothing, and that is refused only where the request's cells left so much.
 use Rattle.std.specs.Prelude.{◌≡◌, ℕ, min, not, nat_le, nat_lt, Bool, true, false, if◌then◌else◌, List, [], ◌∷◌, length, Option, Some, None, is_some, refl}
 use Rattle.std.specs.List.{list_any}
 use Rattle.std.proofs.Common.{ap, sym, ◌∙◌, arith}
@@ -11,59 +11,84 @@ use Rattle.kishu_store.specs.Branches.{commit_of, is_branch_name}
 use Rattle.kishu_store.specs.Graph.{Graph, Target, with_branch}
 use Rattle.kishu_store.specs.Limits.{most_records}
 use Rattle.kishu_store.specs.References.{resolve}
-use Rattle.kishu_model.specs.Answers.{Answer, Refusal, ran_cell, ran_cells, checked_out, branched, logged, told_status, inspected, refused, bad_request, cell_too_long, no_such_ref, bad_name, name_taken, store_full, state_too_large}
-use Rattle.kishu_model.specs.Request.{Request, cell, cells, checkout, branch, log, status, inspect, unreadable, Stepped, refused_with}
+use Rattle.kishu_store.specs.Tables.{Table, Change}
+use Rattle.kishu_model.specs.Answers.{Answer, Refusal, ran_cell, ran_cells, checked_out, branched, logged, told_status, inspected, told_stored, refused, bad_request, cell_too_long, no_such_ref, bad_name, name_taken, store_full, state_too_large}
+use Rattle.kishu_model.specs.Request.{Request, cell, cells, checkout, branch, log, status, inspect, stored, unreadable, Stepped, refused_with}
 use Rattle.kishu_model.specs.requests.Branch.{branch_at, start_of}
-use Rattle.kishu_model.specs.requests.Cells.{is_too_long}
+use Rattle.kishu_model.specs.requests.Cell.{committed}
+use Rattle.kishu_model.specs.requests.Cells.{cells_committed, is_too_long}
 use Rattle.kishu_model.specs.requests.Checkout.{checkout_to, went_to}
-use Rattle.kishu_model.specs.requests.TooLarge.{is_too_large, most_told, too_large}
+use Rattle.kishu_model.specs.requests.Stored.{stored_of}
+use Rattle.kishu_model.specs.requests.TooLarge.{is_too_large, most_told}
 use Rattle.kishu_model.specs.Step.{step}
-use Rattle.kishu_live_laws.specs.OnStates.{left_by, left_by_cells, cell_kept, cells_kept, answer_on, after_on}
+use Rattle.kishu_live_laws.specs.OnStates.{left_size, leave_too_large, told_too_large, head_rows, run_of, cell_kept, cells_kept, stored_to, answer_on, after_on}
+use Rattle.kishu_live_laws.specs.Outcomes.{by_tests}
 use Rattle.kishu_live_laws.specs.Refusals.{refusal_in, TellsSize, LeavesTooLarge}
-use Rattle.kishu_live_laws.specs.Replays.{step_replay}
+use Rattle.kishu_live_laws.specs.Replays.{left_in}
 
 module _ (g : Graph) where
-  -- ---- by the tests of cells: whether a text is too long, whether the store is full, and whether the state that is left is too large
-
-  abbrev by_tests : (long full large : Bool) → State → Stepped → Stepped
-  by_tests long full large left kept =
-      if long then refused_with cell_too_long g
-      else if full then refused_with store_full g
-      else if large then refused_with (too_large left) g
-      else kept
+  -- ---- by the tests of cells
 
   -- the refusal by the first two
   abbrev by_first : (long full : Bool) → Option Refusal
   by_first long full = if long then Some cell_too_long else if full then Some store_full else None
 
-  first_tests : (long full large : Bool) (left : State) (kept : Stepped) → refusal_in kept.answer ≡ None → refusal_in (by_tests long full large left kept).answer ≡ by_first long full
-  first_tests true full large left kept none = refl
-  first_tests false true large left kept none = refl
-  first_tests false false true left kept none = refl
-  first_tests false false false left kept none = none
+  -- Only the size is told by the third.
+  first_tests : (long full large : Bool) (bytes : ℕ) (kept : Stepped) → refusal_in kept.answer ≡ None → refusal_in (by_tests g long full large (state_too_large bytes) kept).answer ≡ by_first long full
+  first_tests true full large bytes kept none = refl
+  first_tests false true large bytes kept none = refl
+  first_tests false false true bytes kept none = refl
+  first_tests false false false bytes kept none = none
 
-  module _ (s : State) where
-    pub cell_tests : (text : List ℕ) → refusal_in (answer_on s g (cell text)) ≡ by_first (nat_lt longest_text (length text)) (nat_le most_records g.records)
-    cell_tests text = first_tests (nat_lt longest_text (length text)) (nat_le most_records g.records) (is_too_large (left_by text s)) (left_by text s) (cell_kept s g text) refl
+  -- the steps of the machine
+  abbrev head : State
+  head = replay g g.head.commit
 
-    pub cells_tests : (text : List ℕ) (texts : List (List ℕ)) → refusal_in (answer_on s g (cells (text ∷ texts))) ≡ by_first (list_any is_too_long (text ∷ texts)) (nat_le most_records g.records)
-    cells_tests text texts =
+  pub cell_tests : (text : List ℕ) → refusal_in (step g (cell text)).answer ≡ by_first (nat_lt longest_text (length text)) (nat_le most_records g.records)
+  cell_tests text =
+      let left = left_in (cell text) head in
+      first_tests (nat_lt longest_text (length text)) (nat_le most_records g.records) (is_too_large left) (min (size left) most_told) (committed text g) refl
+
+  pub cells_tests : (text : List ℕ) (texts : List (List ℕ)) → refusal_in (step g (cells (text ∷ texts))).answer ≡ by_first (list_any is_too_long (text ∷ texts)) (nat_le most_records g.records)
+  cells_tests text texts =
+      let ts = text ∷ texts in
+      let left = left_in (cells ts) head in
+      first_tests (list_any is_too_long ts) (nat_le most_records g.records) (is_too_large left) (min (size left) most_told) (cells_committed ts g) refl
+
+  -- those on a state
+  module _ (of : ℕ → Change) (s : State) where
+    abbrev table : Table
+    table = head_rows of g
+
+    cell_on_tests : (text : List ℕ) → refusal_in (answer_on of s g (cell text)) ≡ by_first (nat_lt longest_text (length text)) (nat_le most_records g.records)
+    cell_on_tests text =
+        let ran = text ∷ [] in
+        first_tests (nat_lt longest_text (length text)) (nat_le most_records g.records) (leave_too_large table ran s) (min (left_size table ran s) most_told) (cell_kept of s g text) refl
+
+    cells_on_tests : (text : List ℕ) (texts : List (List ℕ)) → refusal_in (answer_on of s g (cells (text ∷ texts))) ≡ by_first (list_any is_too_long (text ∷ texts)) (nat_le most_records g.records)
+    cells_on_tests text texts =
         let ts = text ∷ texts in
-        first_tests (list_any is_too_long ts) (nat_le most_records g.records) (is_too_large (left_by_cells ts s)) (left_by_cells ts s) (cells_kept s g ts) refl
+        let ran = run_of table ts s in
+        first_tests (list_any is_too_long ts) (nat_le most_records g.records) (leave_too_large table ran s) (min (left_size table ran s) most_told) (cells_kept of s g ts) refl
 
-  pub refuses_alike : (s t : State) (q : Request) → refusal_in (answer_on s g q) ≡ refusal_in (answer_on t g q)
-  refuses_alike s t unreadable = refl
-  refuses_alike s t (cell text) = cell_tests s text ∙ sym (cell_tests t text)
-  refuses_alike s t (cells []) = refl
-  refuses_alike s t (cells (text ∷ texts)) = cells_tests s text texts ∙ sym (cells_tests t text texts)
-  refuses_alike s t (checkout to) = refl
-  refuses_alike s t (branch name at) = refl
-  refuses_alike s t log = refl
-  refuses_alike s t status = refl
-  refuses_alike s t inspect = refl
+    stored_tests : (o : Option Target) → refusal_in (stored_to of o g).answer ≡ refusal_in (stored_of o g).answer
+    stored_tests None = refl
+    stored_tests (Some t) = refl
 
-  pub refuses_as_step : (s : State) (q : Request) → refusal_in (answer_on s g q) ≡ refusal_in (step g q).answer
-  refuses_as_step s q = refuses_alike s (replay g g.head.commit) q ∙ ap (λ (x : Stepped). refusal_in x.answer) (step_replay g q)
+    pub refuses_as_step : (q : Request) → refusal_in (answer_on of s g q) ≡ refusal_in (step g q).answer
+    refuses_as_step unreadable = refl
+    refuses_as_step (cell text) = cell_on_tests text ∙ sym (cell_tests text)
+    refuses_as_step (cells []) = refl
+    refuses_as_step (cells (text ∷ texts)) = cells_on_tests text texts ∙ sym (cells_tests text texts)
+    refuses_as_step (checkout to) = refl
+    refuses_as_step (branch name at) = refl
+    refuses_as_step log = refl
+    refuses_as_step status = refl
+    refuses_as_step inspect = refl
+    refuses_as_step (stored to) = stored_tests (resolve g to)
+
+  pub refuses_alike : (of other : ℕ → Change) (s t : State) (q : Request) → refusal_in (answer_on of s g q) ≡ refusal_in (answer_on other t g q)
+  refuses_alike of other s t q = refuses_as_step of s q ∙ sym (refuses_as_step other t q)
 
   -- ---- what is refused changes nothing
 
@@ -86,37 +111,46 @@ module _ (g : Graph) where
   at_stays title (Some c) =
       chosen (nat_le most_records g.records) (refused_with store_full g) (record { graph = with_branch title c g; answer = branched c title }) (refusing store_full) (λ r is. absurd (cc (is)))
 
-  tests_stay : (long full large : Bool) (left : State) (kept : Stepped) → Stays kept → Stays (by_tests long full large left kept)
-  tests_stay true full large left kept stays = refusing cell_too_long
-  tests_stay false true large left kept stays = refusing store_full
-  tests_stay false false true left kept stays = refusing (too_large left)
-  tests_stay false false false left kept stays = stays
+  tests_stay : (long full large : Bool) (r : Refusal) (kept : Stepped) → Stays kept → Stays (by_tests g long full large r kept)
+  tests_stay true full large r kept stays = refusing cell_too_long
+  tests_stay false true large r kept stays = refusing store_full
+  tests_stay false false true r kept stays = refusing r
+  tests_stay false false false r kept stays = stays
 
-  pub refused_stays : (s : State) (q : Request) (r : Refusal) → answer_on s g q ≡ refused r → after_on s g q ≡ g
-  refused_stays s unreadable = refusing bad_request
-  refused_stays s (cell text) = tests_stay (nat_lt longest_text (length text)) (nat_le most_records g.records) (is_too_large (left_by text s)) (left_by text s) (cell_kept s g text) (λ r is. absurd (cc (is)))
-  refused_stays s (cells []) = refusing bad_request
-  refused_stays s (cells (text ∷ texts)) =
+  stored_stays : (of : ℕ → Change) (o : Option Target) → Stays (stored_to of o g)
+  stored_stays of None = refusing no_such_ref
+  stored_stays of (Some t) = λ r is. refl
+
+  pub refused_stays : (of : ℕ → Change) (s : State) (q : Request) (r : Refusal) → answer_on of s g q ≡ refused r → after_on of s g q ≡ g
+  refused_stays of s unreadable = refusing bad_request
+  refused_stays of s (cell text) =
+      let t = head_rows of g in
+      tests_stay (nat_lt longest_text (length text)) (nat_le most_records g.records) (leave_too_large t (text ∷ []) s) (told_too_large t (text ∷ []) s) (cell_kept of s g text) (λ r is. absurd (cc (is)))
+  refused_stays of s (cells []) = refusing bad_request
+  refused_stays of s (cells (text ∷ texts)) =
+      let t = head_rows of g in
       let ts = text ∷ texts in
-      tests_stay (list_any is_too_long ts) (nat_le most_records g.records) (is_too_large (left_by_cells ts s)) (left_by_cells ts s) (cells_kept s g ts) (λ r is. absurd (cc (is)))
-  refused_stays s (checkout to) = to_stays (resolve g to)
-  refused_stays s (branch title at) =
+      let ran = run_of t ts s in
+      tests_stay (list_any is_too_long ts) (nat_le most_records g.records) (leave_too_large t ran s) (told_too_large t ran s) (cells_kept of s g ts) (λ r is. absurd (cc (is)))
+  refused_stays of s (checkout to) = to_stays (resolve g to)
+  refused_stays of s (branch title at) =
       chosen (not (is_branch_name title)) (refused_with bad_name g) (if is_some (commit_of title g.branches) then refused_with name_taken g else branch_at title (start_of at g) g) (refusing bad_name)
       (chosen (is_some (commit_of title g.branches)) (refused_with name_taken g) (branch_at title (start_of at g) g) (refusing name_taken) (at_stays title (start_of at g)))
-  refused_stays s log = λ r is. refl
-  refused_stays s status = λ r is. refl
-  refused_stays s inspect = λ r is. refl
+  refused_stays of s log = λ r is. refl
+  refused_stays of s status = λ r is. refl
+  refused_stays of s inspect = λ r is. refl
+  refused_stays of s (stored to) = stored_stays of (resolve g to)
 
-  -- ---- states that are refused for their size
+  -- ---- cells that are refused for what they leave
 
   abbrev Sized : (P : ℕ → Type 0) → Stepped → Type 0
   Sized P x = (bytes : ℕ) → x.answer ≡ refused (state_too_large bytes) → P bytes
 
-  sized_tests : (P : ℕ → Type 0) (long full large : Bool) (left : State) (kept : Stepped) → Sized P kept → (large ≡ true → Sized P (refused_with (too_large left) g)) → Sized P (by_tests long full large left kept)
-  sized_tests P true full large left kept none is = λ bytes e. absurd (cc (e))
-  sized_tests P false true large left kept none is = λ bytes e. absurd (cc (e))
-  sized_tests P false false true left kept none is = is refl
-  sized_tests P false false false left kept none is = none
+  sized_tests : (P : ℕ → Type 0) (long full large : Bool) (r : Refusal) (kept : Stepped) → Sized P kept → (large ≡ true → Sized P (refused_with r g)) → Sized P (by_tests g long full large r kept)
+  sized_tests P true full large r kept none is = λ bytes e. absurd (cc (e))
+  sized_tests P false true large r kept none is = λ bytes e. absurd (cc (e))
+  sized_tests P false false true r kept none is = is refl
+  sized_tests P false false false r kept none is = none
 
   bytes_of : Refusal → ℕ
   bytes_of (state_too_large bytes) = bytes
@@ -126,10 +160,10 @@ module _ (g : Graph) where
   refusal_of (refused r) = r
   refusal_of a = bad_request
 
-  tells : (left : State) → is_too_large left ≡ true → Sized (TellsSize left) (refused_with (too_large left) g)
+  tells : (t : Table) (ran : List (List ℕ)) (s : State) → leave_too_large t ran s ≡ true → Sized (TellsSize t ran s) (refused_with (told_too_large t ran s) g)
   unfolding bytes_of refusal_of
-  tells left large bytes e =
-      let told : min (size left) most_told ≡ bytes = ap (λ a. bytes_of (refusal_of a)) e in
+  tells t ran s large bytes e =
+      let told : min (left_size t ran s) most_told ≡ bytes = ap (λ a. bytes_of (refusal_of a)) e in
       (grind (arith, nat_tests), sym told)
 
   abbrev NoSize : Stepped → Type 0
@@ -148,23 +182,30 @@ module _ (g : Graph) where
   at_large title (Some c) =
       large_chosen (nat_le most_records g.records) (refused_with store_full g) (record { graph = with_branch title c g; answer = branched c title }) (λ n is. cc (is)) (λ n is. cc (is))
 
-  pub refused_large : (s : State) (q : Request) (bytes : ℕ) → answer_on s g q ≡ refused (state_too_large bytes) → LeavesTooLarge s q bytes
-  refused_large s unreadable bytes e = absurd (cc (e))
-  refused_large s (cell text) bytes e =
-      let left = left_by text s in
-      sized_tests (TellsSize left) (nat_lt longest_text (length text)) (nat_le most_records g.records) (is_too_large left) left (cell_kept s g text) (λ n is. absurd (cc (is))) (tells left) bytes e
-  refused_large s (cells []) bytes e = absurd (cc (e))
-  refused_large s (cells (text ∷ texts)) bytes e =
+  stored_large : (of : ℕ → Change) (o : Option Target) → NoSize (stored_to of o g)
+  stored_large of None = λ n is. cc (is)
+  stored_large of (Some t) = λ n is. cc (is)
+
+  pub refused_large : (of : ℕ → Change) (s : State) (q : Request) (bytes : ℕ) → answer_on of s g q ≡ refused (state_too_large bytes) → LeavesTooLarge (head_rows of g) s q bytes
+  refused_large of s unreadable bytes e = absurd (cc (e))
+  refused_large of s (cell text) bytes e =
+      let t = head_rows of g in
+      let ran = text ∷ [] in
+      sized_tests (TellsSize t ran s) (nat_lt longest_text (length text)) (nat_le most_records g.records) (leave_too_large t ran s) (told_too_large t ran s) (cell_kept of s g text) (λ n is. absurd (cc (is))) (tells t ran s) bytes e
+  refused_large of s (cells []) bytes e = absurd (cc (e))
+  refused_large of s (cells (text ∷ texts)) bytes e =
+      let t = head_rows of g in
       let ts = text ∷ texts in
-      let left = left_by_cells ts s in
-      sized_tests (TellsSize left) (list_any is_too_long ts) (nat_le most_records g.records) (is_too_large left) left (cells_kept s g ts) (λ n is. absurd (cc (is))) (tells left) bytes e
-  refused_large s (checkout to) bytes e = to_large (resolve g to) bytes e
-  refused_large s (branch title at) bytes e =
+      let ran = run_of t ts s in
+      sized_tests (TellsSize t ran s) (list_any is_too_long ts) (nat_le most_records g.records) (leave_too_large t ran s) (told_too_large t ran s) (cells_kept of s g ts) (λ n is. absurd (cc (is))) (tells t ran s) bytes e
+  refused_large of s (checkout to) bytes e = to_large (resolve g to) bytes e
+  refused_large of s (branch title at) bytes e =
       large_chosen (not (is_branch_name title)) (refused_with bad_name g) (if is_some (commit_of title g.branches) then refused_with name_taken g else branch_at title (start_of at g) g) (λ n is. cc (is))
       (large_chosen (is_some (commit_of title g.branches)) (refused_with name_taken g) (branch_at title (start_of at g) g) (λ n is. cc (is)) (at_large title (start_of at g))) bytes e
-  refused_large s log bytes e = absurd (cc (e))
-  refused_large s status bytes e = absurd (cc (e))
-  refused_large s inspect bytes e = absurd (cc (e))
+  refused_large of s log bytes e = absurd (cc (e))
+  refused_large of s status bytes e = absurd (cc (e))
+  refused_large of s inspect bytes e = absurd (cc (e))
+  refused_large of s (stored to) bytes e = stored_large of (resolve g to) bytes e
 
 -- ---- an answer that the graph alone refuses
 
@@ -177,6 +218,7 @@ refusing_what (branched commit title) r is = absurd (cc (is))
 refusing_what (logged branches path) r is = absurd (cc (is))
 refusing_what (told_status s) r is = absurd (cc (is))
 refusing_what (inspected commit names nodes) r is = absurd (cc (is))
+refusing_what (told_stored commit dropped new) r is = absurd (cc (is))
 
-pub graph_refusal_stays : (g : Graph) (s : State) (q : Request) (r : Refusal) → refusal_in (answer_on s g q) ≡ Some r → after_on s g q ≡ g
-graph_refusal_stays g s q r is = (let what = refusing_what (answer_on s g q) r is in refused_stays g s q what.0 what.1)
+pub graph_refusal_stays : (g : Graph) (of : ℕ → Change) (s : State) (q : Request) (r : Refusal) → refusal_in (answer_on of s g q) ≡ Some r → after_on of s g q ≡ g
+graph_refusal_stays g of s q r is = (let what = refusing_what (answer_on of s g q) r is in refused_stays g of s q what.0 what.1)

@@ -1,11 +1,12 @@
 -- Which refusal of an answer the graph alone decides, and when cells leave a state that is too large.
-use Rattle.std.specs.Prelude.{◌≡◌, ◌<◌, ℕ, min, Option, Some, None}
+use Rattle.std.specs.Prelude.{◌≡◌, ◌<◌, ℕ, min, List, [], ◌∷◌, Option, Some, None}
 use Rattle.kishu_meaning.specs.values.Values.{State}
-use Rattle.kishu_objects.specs.Sizes.{size, most_bytes}
-use Rattle.kishu_model.specs.Answers.{Answer, ran_cell, ran_cells, checked_out, branched, logged, told_status, inspected, refused, Refusal, bad_request, cell_too_long, no_such_ref, bad_name, name_taken, store_full, state_too_large}
-use Rattle.kishu_model.specs.Request.{Request, cell, cells, checkout, branch, log, status, inspect, unreadable}
+use Rattle.kishu_objects.specs.Sizes.{most_bytes}
+use Rattle.kishu_store.specs.Tables.{Table}
+use Rattle.kishu_model.specs.Answers.{Answer, ran_cell, ran_cells, checked_out, branched, logged, told_status, inspected, told_stored, refused, Refusal, bad_request, cell_too_long, no_such_ref, bad_name, name_taken, store_full, state_too_large}
+use Rattle.kishu_model.specs.Request.{Request, cell, cells, checkout, branch, log, status, inspect, stored, unreadable}
 use Rattle.kishu_model.specs.requests.TooLarge.{most_told}
-use Rattle.kishu_live_laws.specs.OnStates.{left_by, left_by_cells}
+use Rattle.kishu_live_laws.specs.OnStates.{left_size, run_of}
 
 -- each but that for a state's size
 abbrev pub by_graph : Refusal → Option Refusal
@@ -26,19 +27,21 @@ refusal_in (branched commit title) = None
 refusal_in (logged branches path) = None
 refusal_in (told_status s) = None
 refusal_in (inspected commit names nodes) = None
+refusal_in (told_stored commit dropped new) = None
 refusal_in (refused r) = by_graph r
 
--- It is too large, and so many bytes are told of it.
-abbrev pub TellsSize : State → ℕ → Type 0
-TellsSize left bytes = (most_bytes < size left) × (bytes ≡ min (size left) most_told)
+-- What these cells leave is too large, and so many bytes are told of it.
+abbrev pub TellsSize : Table → List (List ℕ) → State → ℕ → Type 0
+TellsSize t texts s bytes = (most_bytes < left_size t texts s) × (bytes ≡ min (left_size t texts s) most_told)
 
--- The cells of the request leave such a state of this one.
-abbrev pub LeavesTooLarge : State → Request → ℕ → Type 0
-LeavesTooLarge s unreadable bytes = ⊥
-LeavesTooLarge s (cell text) bytes = TellsSize (left_by text s) bytes
-LeavesTooLarge s (cells texts) bytes = TellsSize (left_by_cells texts s) bytes
-LeavesTooLarge s (checkout to) bytes = ⊥
-LeavesTooLarge s (branch name at) bytes = ⊥
-LeavesTooLarge s log bytes = ⊥
-LeavesTooLarge s status bytes = ⊥
-LeavesTooLarge s inspect bytes = ⊥
+-- The cells of the request leave so much of this state, told by this table: its own one, or those of its own that were run.
+abbrev pub LeavesTooLarge : Table → State → Request → ℕ → Type 0
+LeavesTooLarge t s unreadable bytes = ⊥
+LeavesTooLarge t s (cell text) bytes = TellsSize t (text ∷ []) s bytes
+LeavesTooLarge t s (cells texts) bytes = TellsSize t (run_of t texts s) s bytes
+LeavesTooLarge t s (checkout to) bytes = ⊥
+LeavesTooLarge t s (branch name at) bytes = ⊥
+LeavesTooLarge t s log bytes = ⊥
+LeavesTooLarge t s status bytes = ⊥
+LeavesTooLarge t s inspect bytes = ⊥
+LeavesTooLarge t s (stored of) bytes = ⊥

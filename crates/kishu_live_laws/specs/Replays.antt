@@ -1,29 +1,21 @@
--- On the replay of the head a request gives just what one step of the machine gives that replays each commit from empty.
-use Rattle.std.specs.Prelude.{◌≡◌, [], ◌∷◌, refl}
-use Rattle.kishu_replay.specs.Replay.{replay}
-use Rattle.kishu_store.specs.Graph.{Graph}
-use Rattle.kishu_model.specs.Request.{Request, cell, cells, checkout, branch, log, status, inspect, unreadable}
-use Rattle.kishu_model.specs.Step.{step, charge_of}
-use Rattle.kishu_live_laws.specs.OnStates.{step_on, charge_on}
+-- The cells of a request that are run on a state, and what they leave, where states are measured themselves: what the machine does on the replay of the head.
+use Rattle.std.specs.Prelude.{ℕ, List, [], ◌∷◌}
+use Rattle.kishu_meaning.specs.values.Values.{State}
+use Rattle.kishu_replay.specs.Replay.{after_cells}
+use Rattle.kishu_store.specs.Limits.{newest_profile}
+use Rattle.kishu_model.specs.Request.{Request, cell, cells, checkout, branch, log, status, inspect, stored, unreadable}
+use Rattle.kishu_model.specs.requests.Cells.{cells_run}
 
-pub step_replay : (g : Graph) (q : Request) → step_on (replay g g.head.commit) g q ≡ step g q
-step_replay g unreadable = refl
-step_replay g (cell text) = refl
-step_replay g (cells []) = refl
-step_replay g (cells (text ∷ texts)) = refl
-step_replay g (checkout to) = refl
-step_replay g (branch name at) = refl
-step_replay g log = refl
-step_replay g status = refl
-step_replay g inspect = refl
+abbrev pub ran_in : Request → State → List (List ℕ)
+ran_in unreadable s = []
+ran_in (cell text) s = text ∷ []
+ran_in (cells texts) s = cells_run newest_profile texts s
+ran_in (checkout to) s = []
+ran_in (branch name at) s = []
+ran_in log s = []
+ran_in status s = []
+ran_in inspect s = []
+ran_in (stored of) s = []
 
-pub charge_replay : (g : Graph) (q : Request) → charge_on (replay g g.head.commit) g q ≡ charge_of g q
-charge_replay g unreadable = refl
-charge_replay g (cell text) = refl
-charge_replay g (cells []) = refl
-charge_replay g (cells (text ∷ texts)) = refl
-charge_replay g (checkout to) = refl
-charge_replay g (branch name at) = refl
-charge_replay g log = refl
-charge_replay g status = refl
-charge_replay g inspect = refl
+abbrev pub left_in : Request → State → State
+left_in q s = after_cells newest_profile (ran_in q s) s

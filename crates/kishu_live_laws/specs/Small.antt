@@ -1,8 +1,9 @@
--- Where the cells of a request are committed, no state after one of them is too large; so where no replay of a graph is, none is after a request.
+-- Where the cells of a request are committed, no state after one of them is too large, or told to be; so where no replay of a graph is, none is after a request.
 use Rattle.std.specs.Prelude.{◌≡◌, ◌≤◌, ◌<◌, ℕ, suc, ◌==◌, ◌&&◌, not, Bool, true, false, if◌then◌else◌, List, [], ◌∷◌, ◌++◌, length, refl}
 use Rattle.std.proofs.Common.{ap, sym, ◌∙◌, subst, arith, inl, inr}
-use Rattle.std.proofs.lemmas.Bool.{false≢true, cases_lt}
+use Rattle.std.proofs.lemmas.Bool.{cases_Bool, false≢true, cases_lt}
 use Rattle.std.proofs.lemmas.Bool.Decides.{nat_tests}
+use Rattle.std.proofs.lemmas.List.{append_assoc}
 use Rattle.kishu_language.specs.declared.profile.Profile.{Profile}
 use Rattle.kishu_meaning.specs.cells.Meaning.{run}
 use Rattle.kishu_meaning.specs.values.Values.{State, empty}
@@ -10,14 +11,15 @@ use Rattle.kishu_objects.specs.Sizes.{size, most_bytes}
 use Rattle.kishu_history.specs.Sizes.{StaySmall, AllStaySmall, StaysSmall}
 use Rattle.kishu_store.specs.Graph.{Commit, Graph, newest, path, path_in, with_commit}
 use Rattle.kishu_store.specs.Limits.{newest_profile}
+use Rattle.kishu_store.specs.Tables.{Table}
 use Rattle.kishu_replay.specs.Replay.{after_cells, after_commits, replay}
-use Rattle.kishu_model.specs.Request.{Request, cell, cells, checkout, branch, log, status, inspect, unreadable, Stepped}
+use Rattle.kishu_model.specs.Request.{Request, cell, cells, checkout, branch, log, status, inspect, stored, unreadable}
 use Rattle.kishu_model.specs.requests.Cells.{is_ok, is_followed, cells_run}
 use Rattle.kishu_model.specs.requests.TooLarge.{is_too_large}
 use Rattle.kishu_model.specs.Serve.{after}
-use Rattle.kishu_live_laws.specs.OnStates.{ran_by, left_of, after_on}
-use Rattle.kishu_live_laws.specs.Outcomes.{IsStill, IsCommitted, goes}
-use Rattle.kishu_live_laws.specs.Replays.{step_replay}
+use Rattle.kishu_live_laws.specs.OnStates.{left_size, leave_too_large, go_on, run_behind, ran_by, StayTold}
+use Rattle.kishu_live_laws.specs.Outcomes.{IsStill, IsCommitted, machine_goes}
+use Rattle.kishu_live_laws.specs.Replays.{ran_in, left_in}
 
 -- ---- cells
 
@@ -50,7 +52,7 @@ cells_small profile (t ∷ ts) s is =
     followed profile t ts s (is_followed r) (both (is_ok r.report.outcome) (is_too_large r.state)) (cells_small profile ts r.state) is
 
 -- So it is with those of a request.
-pub ran_small : (q : Request) (s : State) → is_too_large (left_of q s) ≡ false → StaySmall newest_profile (ran_by q s) s
+pub ran_small : (q : Request) (s : State) → is_too_large (left_in q s) ≡ false → StaySmall newest_profile (ran_in q s) s
 ran_small unreadable s is = tt
 ran_small (cell text) s is = (fits (run newest_profile text s).state is, tt)
 ran_small (cells texts) s is = cells_small newest_profile texts s is
@@ -59,6 +61,69 @@ ran_small (branch name at) s is = tt
 ran_small log s is = tt
 ran_small status s is = tt
 ran_small inspect s is = tt
+ran_small (stored of) s is = tt
+
+-- ---- told by a table
+
+module _ (t : Table) (s : State) where
+  told_fits : (ran : List (List ℕ)) → leave_too_large t ran s ≡ false → left_size t ran s ≤ most_bytes
+  told_fits ran is = grind (arith, nat_tests)
+
+  -- after each of these cells, behind cells that were run
+  abbrev StayBehind : (before ran : List (List ℕ)) → Type 0
+  StayBehind before ran = (b : List (List ℕ)) (text : List ℕ) (rest : List (List ℕ)) → b ++ text ∷ rest ≡ ran → left_size t (before ++ (b ++ text ∷ [])) s ≤ most_bytes
+
+  none_behind : (before : List (List ℕ)) → StayBehind before []
+  none_behind before = λ b text rest e. absurd (none b text rest e)
+    where
+      none : (b : List (List ℕ)) (text : List ℕ) (rest : List (List ℕ)) → b ++ text ∷ rest ≡ [] → ⊥
+      none [] text rest e = cc (e)
+      none (c ∷ b) text rest e = cc (e)
+
+  module _ (before : List (List ℕ)) (text : List ℕ) (ran : List (List ℕ)) (fits : left_size t (before ++ text ∷ []) s ≤ most_bytes) (later : StayBehind (before ++ text ∷ []) ran) where
+    each_behind : (b : List (List ℕ)) (x : List ℕ) (rest : List (List ℕ)) → b ++ x ∷ rest ≡ text ∷ ran → left_size t (before ++ (b ++ x ∷ [])) s ≤ most_bytes
+    each_behind [] x rest e =
+        let same : x ≡ text = cc (e) in
+        subst (λ (y : List ℕ). left_size t (before ++ y ∷ []) s ≤ most_bytes) (sym same) fits
+    each_behind (c ∷ b) x rest e =
+        let same : c ≡ text = cc (e) in
+        let others : b ++ x ∷ rest ≡ ran = cc (e) in
+        subst (λ (y : List ℕ). left_size t (before ++ (y ∷ (b ++ x ∷ []))) s ≤ most_bytes) (sym same)
+        (subst (λ (l : List (List ℕ)). left_size t l s ≤ most_bytes) (append_assoc before (text ∷ []) (b ++ x ∷ [])) (later b x rest others))
+
+    one_behind : StayBehind before (text ∷ ran)
+    one_behind = λ b x rest e. each_behind b x rest e
+
+  behind_small : (before texts : List (List ℕ)) → leave_too_large t (before ++ run_behind t before texts s) s ≡ false → StayBehind before (run_behind t before texts s)
+  behind_small before [] = λ is. none_behind before
+  behind_small before (text ∷ texts) = λ is. elim (cases_Bool (go_on t before text s)) [
+    | inl going ↦ (
+        let upto = before ++ text ∷ [] in
+        let ran = run_behind t upto texts s in
+        let all : run_behind t before (text ∷ texts) s ≡ text ∷ ran = ap (λ (b : Bool). text ∷ (if b then ran else [])) going in
+        let here : leave_too_large t upto s ≡ false = both (is_ok (run newest_profile text (after_cells newest_profile before s)).report.outcome) (leave_too_large t upto s) going in
+        let last : leave_too_large t (upto ++ ran) s ≡ false = ap (λ (l : List (List ℕ)). leave_too_large t l s) (append_assoc before (text ∷ []) ran ∙ ap (λ (l : List (List ℕ)). before ++ l) (sym all)) ∙ is in
+        subst (λ (l : List (List ℕ)). StayBehind before l) (sym all) (one_behind before text ran (told_fits upto here) (behind_small upto texts last))
+        )
+    | inr ends ↦ (
+        let upto = before ++ text ∷ [] in
+        let all : run_behind t before (text ∷ texts) s ≡ text ∷ [] = ap (λ (b : Bool). text ∷ (if b then run_behind t upto texts s else [])) ends in
+        let last : leave_too_large t upto s ≡ false = ap (λ (l : List (List ℕ)). leave_too_large t (before ++ l) s) (sym all) ∙ is in
+        subst (λ (l : List (List ℕ)). StayBehind before l) (sym all) (one_behind before text [] (told_fits upto last) (none_behind upto))
+        )
+  ]
+
+  -- Where the cells of a request don't leave too much, none of them does.
+  pub told_small : (q : Request) → leave_too_large t (ran_by t q s) s ≡ false → StayTold t (ran_by t q s) s
+  told_small unreadable = λ is. none_behind []
+  told_small (cell text) = λ is. one_behind [] text [] (told_fits (text ∷ []) is) (none_behind (text ∷ []))
+  told_small (cells texts) = λ is. behind_small [] texts is
+  told_small (checkout to) = λ is. none_behind []
+  told_small (branch name at) = λ is. none_behind []
+  told_small log = λ is. none_behind []
+  told_small status = λ is. none_behind []
+  told_small inspect = λ is. none_behind []
+  told_small (stored of) = λ is. none_behind []
 
 -- ---- a commit more
 
@@ -84,17 +149,14 @@ module _ (g : Graph) (all : StaysSmall g) where
     abbrev head : State
     head = replay g g.head.commit
 
-    on_head : after_on head g q ≡ after g q
-    on_head = ap (λ (x : Stepped). x.graph) (step_replay g q)
-
-    still_small : IsStill head g q (after_on head g q) → StaysSmall (after_on head g q)
+    still_small : IsStill g q (after g q) → StaysSmall (after g q)
     still_small still = subst (λ (ks : List Commit). (c : ℕ) → AllStaySmall (path_in ks c) empty) (sym still.commits) all
 
-    more_small : IsCommitted head g q (after_on head g q) → StaysSmall (after_on head g q)
-    more_small is = subst StaysSmall (sym is.graph) (commit_small (ran_by q head) (ran_small q head is.small))
+    more_small : IsCommitted g (ran_in q head) (is_too_large (left_in q head)) (after g q) → StaysSmall (after g q)
+    more_small is = subst StaysSmall (sym is.graph) (commit_small (ran_in q head) (ran_small q head is.small))
 
     pub small_after : StaysSmall (after g q)
-    small_after = subst StaysSmall on_head (elim (goes head g q) [ inl still ↦ still_small still | inr is ↦ more_small is ])
+    small_after = elim (machine_goes g q) [ inl still ↦ still_small still | inr is ↦ more_small is ]
 
 -- ---- told of the commits that are there alone
 
