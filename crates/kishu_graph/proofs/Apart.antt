@@ -123,7 +123,7 @@ row_by r q t Greater a =
     (alike_behind q.group (names_in (put_row r t)) (r.group ++ names_in t) a)
     (alike_fronts r.group q.group (names_in t))
 
-row_names : (r : Row) (t : Table) → AreAlike (names_in (put_row r t)) (r.group ++ names_in t)
+pub row_names : (r : Row) (t : Table) → AreAlike (names_in (put_row r t)) (r.group ++ names_in t)
 row_names r [] = alike_is (names_in (r ∷ [])) (r.group ++ []) refl
 row_names r (q ∷ t) = row_by r q t (slice_cmp nat_cmp (first_in r) (first_in q)) (row_names r t)
 

@@ -60,10 +60,10 @@ counts-made items bs t records notes roomy noted bare parent k kept same stay mo
 
 -- ---- the newest commit's change
 
-last-taken : {A : Type 0} (xs : List A) (n : ℕ) (d : A) → length xs ≡ suc n → xs ≡ take n xs ++ (get_or xs n d ∷ [])
+pub last-taken : {A : Type 0} (xs : List A) (n : ℕ) (d : A) → length xs ≡ suc n → xs ≡ take n xs ++ (get_or xs n d ∷ [])
 last-taken xs n d is = sym (take_all (n + 1) xs (omega (arith, is))) ∙ take_more xs n d (omega (arith, is))
 
-last-set : {A : Type 0} (xs : List A) (n : ℕ) (a : A) → length xs ≡ suc n → set xs n a ≡ take n xs ++ (a ∷ [])
+pub last-set : {A : Type 0} (xs : List A) (n : ℕ) (a : A) → length xs ≡ suc n → set xs n a ≡ take n xs ++ (a ∷ [])
 last-set xs n a is = sym (take_all (n + 1) (set xs n a) (omega (arith, is, length-set xs n a))) ∙ take_more_set xs n a (omega (arith, is))
 
 -- Where nothing is noted of the newest commit, no change is noted there.

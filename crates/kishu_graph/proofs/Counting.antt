@@ -141,13 +141,13 @@ no_firsts : (gs : List Group) → [] ≡ map first_name gs → gs ≡ []
 no_firsts [] e = refl
 no_firsts (g ∷ gs) e = absurd (let n = ap length e in omega (arith, n))
 
-bare : (d : Change) → noted_of no_change ≡ noted_of d → d ≡ no_change
+pub bare : (d : Change) → noted_of no_change ≡ noted_of d → d ≡ no_change
 bare d e =
     let dropped : d.dropped ≡ [] = no_firsts d.dropped (ap (λ (n : Noted). n.dropped) e) in
     let stored : d.stored ≡ [] = sym (ap (λ (n : Noted). n.stored) e) in
     ap (λ (gs : List Group). record { dropped = gs; stored = d.stored }) dropped ∙ ap (λ (t : Table). record { dropped = []; stored = t }) stored
 
-same_bare : (d : Change) (t : Table) → d ≡ no_change → after d t ≡ t
+pub same_bare : (d : Change) (t : Table) → d ≡ no_change → after d t ≡ t
 same_bare d t e = ap (λ (x : Change). after x t) e ∙ bare-after t
 
 module _ (os : List Outline) (ns : List Noted) (counts : List (Option ℕ)) (k : Outline) (noted : length ns ≡ length os) (counted : length counts ≡ length ns) (there : k.parent < length os) (h : CountsRows os ns counts) where

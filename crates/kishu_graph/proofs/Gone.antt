@@ -30,7 +30,7 @@ left_same xs ys s (r ∷ t) =
       | inr e ↦ (let f : is_among (first_in r) ys ≡ false = sym here ∙ e in rw (e, f) (ap (λ (l : Table). r ∷ l) rest))
     ]
 
-append_same : (zs xs ys : List (List ℕ)) → HaveSame xs ys → HaveSame (zs ++ xs) (zs ++ ys)
+pub append_same : (zs xs ys : List (List ℕ)) → HaveSame xs ys → HaveSame (zs ++ xs) (zs ++ ys)
 append_same [] xs ys s = s
 append_same (z ∷ zs) xs ys s = λ x. ap (λ (b : Bool). bytes_eq x z || b) (append_same zs xs ys s x)
 

@@ -17,3 +17,7 @@ pub mod WayBack
 pub mod Stays
 pub mod Apart
 pub mod TablesThatFit
+pub mod GroupsThere
+pub mod RowsLeft
+pub mod HeadsKept
+pub mod HeldFits

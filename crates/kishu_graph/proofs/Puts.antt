@@ -18,16 +18,16 @@ compared r q = slice_cmp nat_cmp (first_in r) (first_in q)
 
 -- ---- where a row comes to stand
 
-put_less : (r p : Row) (t : Table) → compared r p ≡ Less → put_row r (p ∷ t) ≡ r ∷ p ∷ t
+pub put_less : (r p : Row) (t : Table) → compared r p ≡ Less → put_row r (p ∷ t) ≡ r ∷ p ∷ t
 put_less r p t e = ap (λ (o : Ordering). match_ordering o (r ∷ p ∷ t) (r ∷ p ∷ t) (p ∷ put_row r t)) e
 
 put_equal : (r p : Row) (t : Table) → compared r p ≡ Equal → put_row r (p ∷ t) ≡ r ∷ p ∷ t
 put_equal r p t e = ap (λ (o : Ordering). match_ordering o (r ∷ p ∷ t) (r ∷ p ∷ t) (p ∷ put_row r t)) e
 
-put_greater : (r p : Row) (t : Table) → compared r p ≡ Greater → put_row r (p ∷ t) ≡ p ∷ put_row r t
+pub put_greater : (r p : Row) (t : Table) → compared r p ≡ Greater → put_row r (p ∷ t) ≡ p ∷ put_row r t
 put_greater r p t e = ap (λ (o : Ordering). match_ordering o (r ∷ p ∷ t) (r ∷ p ∷ t) (p ∷ put_row r t)) e
 
-turned : (r q : Row) (o : Ordering) → compared r q ≡ o → compared q r ≡ ordering_reverse o
+pub turned : (r q : Row) (o : Ordering) → compared r q ≡ o → compared q r ≡ ordering_reverse o
 turned r q o e = nat_list_cmp_total.antisymm (first_in q) (first_in r) ∙ ap ordering_reverse e
 
 -- ---- two rows in either order
@@ -136,7 +136,7 @@ all-found [] found whole e n = e
 all-found (r ∷ rs) found whole e n = absurd (let m : length (put_rows (r ∷ rs) found) ≡ length whole = ap length e in omega (arith, m, n, length_puts (r ∷ rs) found))
 
 -- rows in order
-puts_own : (rs : Table) → Rise (map first_in rs) → put_rows rs [] ≡ rs
+pub puts_own : (rs : Table) → Rise (map first_in rs) → put_rows rs [] ≡ rs
 unfolding IsStrictlySortedBy
 puts_own [] h = refl
 puts_own (r ∷ []) h = refl

@@ -27,14 +27,14 @@ AreThere ds t = list_all (λ d. is_one_of d (groups_in t)) ds ≡ true
 
 -- ---- groups of rows that stand behind
 
-not_less : (x y : List ℕ) → x ≡ y → slice_cmp nat_cmp x y ≡ Less → ⊥
+pub not_less : (x y : List ℕ) → x ≡ y → slice_cmp nat_cmp x y ≡ Less → ⊥
 not_less x y e l = (let m : slice_cmp nat_cmp x x ≡ Less = subst (λ z. slice_cmp nat_cmp x z ≡ Less) (sym e) l in both_ways x x m m)
 
 further_behind : (x y : List ℕ) (zs : List (List ℕ)) → slice_cmp nat_cmp x y ≡ Less → AllBehind y zs → AllBehind x zs
 further_behind x y [] l h = tt
 further_behind x y (z ∷ zs) l h = (nat_list_cmp_total.trans x y z l h.0, further_behind x y zs l h.1)
 
-one_behind : (x : List ℕ) (d : Group) (t : Table) → AllBehind x (map first_in t) → is_one_of d (groups_in t) ≡ true → slice_cmp nat_cmp x (first_name d) ≡ Less
+pub one_behind : (x : List ℕ) (d : Group) (t : Table) → AllBehind x (map first_in t) → is_one_of d (groups_in t) ≡ true → slice_cmp nat_cmp x (first_name d) ≡ Less
 one_behind x d [] h e = absurd (false≢true e)
 one_behind x d (q ∷ t) h e = elim (cases_Bool (is_group d q.group)) [
   | inl k ↦ subst (λ (g : Group). slice_cmp nat_cmp x (first_name g) ≡ Less) (sym ((same-group d q.group).0 k)) h.0
@@ -169,7 +169,7 @@ all_left : (t : Table) → left_of t (groups_in t) ≡ record { rows = []; rest 
 all_left [] = refl
 all_left (r ∷ t) = (let same : is_group r.group r.group ≡ true = (same-group r.group r.group).1 refl in rw same (all_left t))
 
-groups_at : (rows : List rust_row.TableRow) → groups_in (rows_of rows) ≡ map names_at rows
+pub groups_at : (rows : List rust_row.TableRow) → groups_in (rows_of rows) ≡ map names_at rows
 groups_at [] = refl
 groups_at (r ∷ rows) = ap (λ (l : List Group). names_at r ∷ l) (groups_at rows)
 

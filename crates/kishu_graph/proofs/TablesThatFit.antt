@@ -26,11 +26,11 @@ bytes_by r q t Less e = sum_by-cons len_in r (q ∷ t)
 bytes_by r q t Equal e = sum_by-cons len_in r (q ∷ t)
 bytes_by r q t Greater e = omega (arith, sum_by-cons len_in q (put_row r t), e, sum_by-cons len_in q t)
 
-row_bytes : (r : Row) (t : Table) → bytes_in (put_row r t) ≡ r.len + bytes_in t
+pub row_bytes : (r : Row) (t : Table) → bytes_in (put_row r t) ≡ r.len + bytes_in t
 row_bytes r [] = sum_by-cons len_in r []
 row_bytes r (q ∷ t) = bytes_by r q t (slice_cmp nat_cmp (first_in r) (first_in q)) (row_bytes r t)
 
-bytes_put : (rs t : Table) → bytes_in (put_rows rs t) ≡ bytes_in rs + bytes_in t
+pub bytes_put : (rs t : Table) → bytes_in (put_rows rs t) ≡ bytes_in rs + bytes_in t
 bytes_put [] t = omega arith
 bytes_put (r ∷ rs) t = omega (arith, row_bytes r (put_rows rs t), bytes_put rs t, sum_by-cons len_in r rs)
 

@@ -5,13 +5,15 @@ use Rattle.std.proofs.Common.{zero, sym, ◌∙◌, ap, subst, inl, inr, arith}
 use Rattle.std.proofs.lemmas.Bool.Decides.{eqb_tells}
 use Rattle.std.proofs.lemmas.List.{get_or_append_left, get_or-map, length-map, nil_from_length}
 use Rattle.std.proofs.Math.Seq.{get_or-append_seam}
-use Rattle.kishu_store.specs.Graph.{Commit, Numbered}
+use Rattle.kishu_store.specs.Graph.{Commit, Graph, Numbered}
 use Rattle.kishu_store.specs.Groups.{first_name, IsGroup, Rise}
-use Rattle.kishu_store.specs.Tables.{Table, Change, groups_in, first_in, put_rows, changes_in, table_in, table_at, change_of}
+use Rattle.kishu_store.specs.Tables.{Table, Change, groups_in, first_in, put_rows, changes_in, table_in, table_at, change_of, FitsTable}
+use Rattle.kishu_store_laws.specs.HistoryLaws.{AreChanges}
+use Rattle.kishu_store_laws.specs.TableLaws.{AreFit}
 use Rattle.kishu_store_laws.specs.WalkLaws.{rows_left, rows_back, found-back}
 use Rattle.kishu_graph.specs.declared.commits.Commit as rust
 use Rattle.kishu_graph.specs.declared.tables.Noted as rust_noted
-use Rattle.kishu_graph.specs.Kept.{Noted, HaveParents, CountsRows, count_of, outline, noted_of, noted_in, texts_of, row_of, note}
+use Rattle.kishu_graph.specs.Kept.{Noted, HaveParents, CountsRows, count_of, outline, outlines, parents_of, noted_of, noted_in, texts_of, row_of, note}
 use Rattle.kishu_graph.specs.ChangeLaws.{length-noted}
 use Rattle.kishu_graph.specs.Laws.{back_numbers, back-root}
 use Rattle.kishu_graph.specs.Walks.{HaveSame, HaveFound, InEachNoted, IsTableThere}
@@ -34,6 +36,10 @@ each_change P (k ∷ ks) of h c = elim (eqb_tells c (suc (length ks))) [
   | inl p ↦ rw p.0 (h c, each_change P ks of h k.parent)
   | inr p ↦ rw p.0 (each_change P ks of h c)
 ]
+
+-- none on that to the root
+pub no-changes : (ks : List Commit) (of : ℕ → Change) → changes_in ks of 0 ≡ []
+no-changes ks of = changes_numbers ks of 0 ∙ ap (λ (l : List Numbered). map of (map (λ n. n.number) l)) (back-root ks)
 
 -- What is noted of a commit is what it changes.
 noted_at : (cs : List Change) (c : ℕ) (d : Noted) → c < suc (length cs) → get_or (noted_in cs) c d ≡ noted_of (change_of cs c)
@@ -90,7 +96,7 @@ lead-first commits noted commit g cs place parents notes k =
 -- none left at the root
 pub lead-root : (commits : List rust.Commit) (noted : List rust_noted.Noted) (gone : List (List ℕ)) (at commit : ℕ) (found : Table) → at ≡ 0 → LeadTo commits noted gone at commit found → IsTableThere commits noted commit found
 lead-root commits noted gone at commit found root lead g cs place parents notes k =
-    let none : changes_in g.commits (change_of cs) at ≡ [] = ap (changes_in g.commits (change_of cs)) root ∙ changes_numbers g.commits (change_of cs) 0 ∙ ap (λ (l : List Numbered). map (change_of cs) (map (λ n. n.number) l)) (back-root g.commits) in
+    let none : changes_in g.commits (change_of cs) at ≡ [] = ap (changes_in g.commits (change_of cs)) root ∙ no-changes g.commits (change_of cs) in
     ap (λ (l : List Change). put_rows (rows_back gone l) found) (sym none) ∙ lead g cs place parents notes k
 
 -- none left where all are found
@@ -116,3 +122,15 @@ module _ (commits : List rust.Commit) (noted : List rust_noted.Noted) (at commit
       ap (λ (t : Table). put_rows (rows_left gone t ++ rest) old) stored ∙ ap (λ (l : List Change). put_rows (rows_back gone l) old) (sym path) ∙ lead g cs place parents notes k in
       let alike : HaveSame more (map first_name (of at).dropped ++ gone) = subst (λ (l : List (List ℕ)). HaveSame more (l ++ gone)) dropped same in
       ap (λ (t : Table). put_rows t new) (back_same further more (map first_name (of at).dropped ++ gone) alike) ∙ found rest (table_at g of commit) (k.tables commit).rise left
+
+-- ---- the change of a commit
+
+-- It fits its parent's table.
+pub fits-there : (commits : List rust.Commit) (c : ℕ) (d : rust.Commit) → HaveParents (map outline commits) → 0 < c → c < length commits → (g : Graph) (cs : List Change) (place : ℕ) → parents_of (map outline commits) ≡ parents_of (outlines g.commits) → AreChanges g cs place
+    → FitsTable (table_at g (change_of cs) (get_or commits c d).parent) (change_of cs c)
+fits-there commits c d haves some inside g cs place parents k =
+    let of = change_of cs in
+    let further = changes_in g.commits of (get_or commits c d).parent in
+    let path : changes_in g.commits of c ≡ of c ∷ further =
+    changes_numbers g.commits of c ∙ ap (map of) (steps-back commits g.commits parents c d haves some inside) ∙ ap (λ (l : List Change). of c ∷ l) (sym (changes_numbers g.commits of (get_or commits c d).parent)) in
+    (subst AreFit path (k.fit c)).0

@@ -41,6 +41,11 @@ nothing-changes : (number most : ℕ) → IsChange number most no_change
 unfolding IsStrictlySortedBy
 nothing-changes number most = record { version = tt; rise = tt; groups = tt; inside = tt }
 
+-- the root changes nothing
+pub change-root : (ds : List Change) → change_of ds 0 ≡ no_change
+change-root [] = refl
+change-root (d ∷ ds) = other 0 (suc (length ds)) d (change_of ds 0) (λ e. omega (arith, e)) ∙ change-root ds
+
 -- there are none past the newest commit
 past_change : (ds : List Change) (c : ℕ) → length ds < c → change_of ds c ≡ no_change
 past_change [] c l = refl

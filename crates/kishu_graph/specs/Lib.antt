@@ -7,3 +7,5 @@ pub mod PathLaws
 pub mod ChangeLaws
 pub mod Walks
 pub mod Fits
+pub mod Heads
+pub mod Leaves

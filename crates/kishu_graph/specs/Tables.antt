@@ -5,7 +5,7 @@ use Rattle.std.specs.declared.rc.RcStr.{RcStr}
 use Rattle.std.specs.declared.vec.Vec.{Vec}
 use Rattle.kishu_store.specs.Graph.{Graph}
 use Rattle.kishu_store.specs.Groups.{Group, first_name, Rise}
-use Rattle.kishu_store.specs.Tables.{Table, Change, rows_from, table_at, change_of, FitsTable}
+use Rattle.kishu_store.specs.Tables.{Table, Change, groups_in, rows_from, table_at, change_of, FitsTable}
 use Rattle.kishu_store_laws.specs.HistoryLaws.{AreChanges}
 use Rattle.kishu_graph.specs.declared.tables.Group as rust_group
 use Rattle.kishu_graph.specs.declared.tables.Table as rust_table
@@ -16,6 +16,10 @@ use Rattle.kishu_graph.specs.Kept.{Kept, HasShapeOf, TellsChanges, texts_of, row
 
 abbrev pub group_of : rust_group.Group → Group
 group_of g = texts_of g.names
+
+-- groups by their names
+abbrev pub named : Vec (Vec (RcStr Global) Global) Global → List Group
+named v = map texts_of v.items
 
 abbrev pub table_of_rows : rust_table.Table → Table
 table_of_rows t = map row_of t.rows.items
@@ -41,6 +45,10 @@ InEach kept holds = (g : Graph) (cs : List Change) (place : ℕ) → HasShapeOf 
 -- the table is the commit's
 abbrev pub IsTableOf : Kept → ℕ → Table → Type 0
 IsTableOf kept c t = InEach kept (λ g cs. t ≡ table_at g (change_of cs) c)
+
+-- the commit drops these groups of its parent's table, and stores these
+abbrev pub IsChangeOf : Kept → ℕ → (dropped stored : List Group) → Type 0
+IsChangeOf kept c dropped stored = InEach kept (λ g cs. (dropped ≡ (change_of cs c).dropped) × (stored ≡ groups_in (change_of cs c).stored))
 
 -- the change fits the table of that commit's parent
 abbrev pub FitsParent : Kept → ℕ → Change → Type 0

@@ -62,6 +62,7 @@ impl Graph {
         };
         push_in_room(&mut self.commits, commit);
         push_in_room(&mut self.noted, bare);
+        self.head_rows.go_on(self.head.commit, number);
         self.head.commit = number;
         self.records += 1;
         Ok(number)

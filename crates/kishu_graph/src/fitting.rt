@@ -17,7 +17,7 @@ use std::collections::BTreeSet;
 use std::rc::RcStr;
 
 /// The most bytes that the pictures of a commit's table take.
-const MOST_PICTURED: u64 = 268_435_456;
+pub(crate) const MOST_PICTURED: u64 = 268_435_456;
 
 impl Graph {
     /// Whether a commit of the head may drop these groups and store these, each with the length of its
@@ -42,6 +42,9 @@ impl Graph {
         }
         if drops_all(&self.noted[self.head.commit as usize], dropped) {
             return fits_rows(self.alloc, &Vec::new(self.alloc), stored);
+        }
+        if self.head_rows.commit == self.head.commit {
+            return self.head_rows.fit(dropped, stored);
         }
         let table = self.table(self.head.commit)?;
         fits_table(self.alloc, table, dropped, stored)
@@ -140,7 +143,7 @@ fn is_next(groups: &[Vec<RcStr>], at: usize, names: &[RcStr]) -> bool
 }
 
 /// Whether two groups have the same names.
-fn are_same(a: &[RcStr], b: &[RcStr]) -> bool
+pub(crate) fn are_same(a: &[RcStr], b: &[RcStr]) -> bool
     ensures { result ≡ is_group (map rc_str_bytes a.now) (map rc_str_bytes b.now) }
 {
     a == b
@@ -158,7 +161,7 @@ fn take_few_bytes(left: &[TableRow], stored: &[(Vec<RcStr>, u64)]) -> bool
 }
 
 /// How many of these bytes are left behind the pictures of rows, where there is room for them.
-fn room_behind_rows(most: u64, rows: &[TableRow]) -> Option<u64>
+pub(crate) fn room_behind_rows(most: u64, rows: &[TableRow]) -> Option<u64>
     ensures { MatchOption result (most < bytes_of rows.now) (λ n. n + bytes_of rows.now ≡ most) }
 {
     let mut room = most;
@@ -172,7 +175,7 @@ fn room_behind_rows(most: u64, rows: &[TableRow]) -> Option<u64>
 }
 
 /// The same of the pictures of groups.
-fn room_behind_groups(most: u64, stored: &[(Vec<RcStr>, u64)]) -> Option<u64>
+pub(crate) fn room_behind_groups(most: u64, stored: &[(Vec<RcStr>, u64)]) -> Option<u64>
     ensures { MatchOption result (most < lengths_in stored.now) (λ n. n + lengths_in stored.now ≡ most) }
 {
     let mut room = most;
@@ -206,7 +209,10 @@ fn stand_apart(
 }
 
 /// Puts the names of groups among others, and tells whether none of these stands there twice.
-fn add_groups(names: &mut BTreeSet<RcStr>, stored: &[(Vec<RcStr>, u64)]) -> Result<bool, AllocError>
+pub(crate) fn add_groups(
+    names: &mut BTreeSet<RcStr>,
+    stored: &[(Vec<RcStr>, u64)],
+) -> Result<bool, AllocError>
     ensures { IfOk result (λ b. AddsNames (names_of stored.now) names.old.keys names.new.keys b) }
 {
     for (group, _) in stored {

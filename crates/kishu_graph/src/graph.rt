@@ -13,6 +13,7 @@ ghost use Rattle.kishu_graph.specs.Refusals.{start_of};
 
 use crate::branches;
 use crate::commits::{Commit, path_to};
+use crate::heads::HeadRows;
 use crate::references::{is_decimal, number_of};
 use crate::tables::Noted;
 use kishu_language::Profile;
@@ -35,16 +36,21 @@ pub struct Graph {
     pub(crate) noted: Vec<Noted>,
     /// Each name that a noted row has, once: its text is shared.
     pub(crate) texts: BTreeSet<RcStr>,
+    /// The rows of one commit's table: of the one whose groups were noted last, or of a commit behind it that
+    /// changes none.
+    pub(crate) head_rows: HeadRows,
 }
 
 impl Model for Graph {
-    ghost use Rattle.kishu_graph.specs.Kept.{Kept, kept_in, AreKept};
+    ghost use Rattle.kishu_graph.specs.Heads.{AreAllKept};
+    ghost use Rattle.kishu_graph.specs.Kept.{Kept, kept_in};
 
     ghost Value = { Kept };
 
     ghost view = { λ g. kept_in g.commits.items g.branches.entries g.head g.records g.noted.items };
 
-    ghost invariant = { λ g. AreKept g.commits.items g.branches.entries g.head g.records g.noted.items };
+    ghost invariant = { λ g.
+        AreAllKept g.commits.items g.branches.entries g.head g.records g.noted.items g.head_rows };
 }
 
 impl Graph {
@@ -76,6 +82,7 @@ impl Graph {
             records: 0,
             noted,
             texts: BTreeSet::new(alloc),
+            head_rows: HeadRows::of_root(alloc),
         })
     }
 

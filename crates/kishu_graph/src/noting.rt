@@ -7,6 +7,7 @@ ghost use Rattle.kishu_graph.specs.Kept.{noted_of, note, texts_of, row_of};
 ghost use Rattle.kishu_graph.specs.Tables.{change_with, CountsAfter, FitsParent, HasNoted, KeepsAllBut};
 
 use crate::Graph;
+use crate::heads::take_rows;
 use crate::order::names_rise;
 use crate::tables::{Group, Noted, TableRow};
 use std::alloc::{AllocError, Global};
@@ -39,7 +40,16 @@ impl Graph {
         }
         let rows = self.noted[parent as usize].rows;
         let noted = noted_of(self.alloc, &mut self.texts, rows, dropped, stored)?;
+        let mut head_rows = take_rows(
+            self.alloc,
+            &mut self.head_rows,
+            &self.commits,
+            &self.noted,
+            commit,
+        )?;
+        head_rows.change(&noted)?;
         self.noted[commit as usize] = noted;
+        self.head_rows = head_rows;
         Ok(())
     }
 }

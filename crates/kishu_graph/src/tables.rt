@@ -1,5 +1,5 @@
 // Tables of commits, and what is kept of them.
-ghost use Rattle.std.specs.Prelude.{◌≡◌};
+ghost use Rattle.std.specs.Prelude.{◌≡◌, []};
 ghost use Rattle.kishu_store.specs.Tables.{no_change};
 ghost use Rattle.kishu_graph.specs.Kept.{noted_of, note};
 
@@ -26,6 +26,27 @@ pub struct TableRow {
 #[derive(Debug, Drop)]
 pub struct Table {
     pub rows: Vec<TableRow>,
+}
+
+/// What a commit changed of its parent's table: the groups that it dropped, and those that it stored, each
+/// by its names.
+#[derive(Debug, Drop)]
+pub struct Changed {
+    pub dropped: Vec<Vec<RcStr>>,
+    pub stored: Vec<Vec<RcStr>>,
+}
+
+impl Changed {
+    /// Of a commit that changed nothing.
+    pub(crate) fn nothing(alloc: Global) -> Changed
+        ensures dropped { result.dropped.items ≡ [] }
+        ensures stored { result.stored.items ≡ [] }
+    {
+        Changed {
+            dropped: Vec::new(alloc),
+            stored: Vec::new(alloc),
+        }
+    }
 }
 
 /// What is kept of what a commit changes of its parent's table.

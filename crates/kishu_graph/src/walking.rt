@@ -4,7 +4,7 @@ ghost use Rattle.std.specs.Rc.{rc_str_bytes};
 ghost use Rattle.kishu_store.specs.Groups.{first_name};
 ghost use Rattle.kishu_graph.specs.Kept.{HaveParents, CountsRows, count_of, outline, note, row_of, texts_of};
 ghost use Rattle.kishu_graph.specs.Tables.{table_of_rows, IsTableOf};
-ghost use Rattle.kishu_graph.specs.Walks.{rows_in, StandAtFirst, FindRows, AreGone, IsTableThere};
+ghost use Rattle.kishu_graph.specs.Walks.{rows_in, StandAtFirst, FindRows, ArePut, IsTableThere};
 
 use crate::Graph;
 use crate::commits::Commit;
@@ -21,6 +21,9 @@ impl Graph {
         requires there { commit < length self.now.commits }
         ensures { IfOk result (λ t. IsTableOf self.now commit (table_of_rows t)) }
     {
+        if self.head_rows.commit == commit {
+            return self.head_rows.table();
+        }
         let found = rows_to(self.alloc, &self.commits, &self.noted, commit)?;
         in_order(self.alloc, found)
     }
@@ -29,7 +32,7 @@ impl Graph {
 /// The rows of a commit's table, by their first names.
 ///
 /// The way back from the commit ends where as many rows are found as its table has, and at the root else.
-fn rows_to(
+pub(crate) fn rows_to(
     alloc: Global,
     commits: &[Commit],
     noted: &[Noted],
@@ -39,7 +42,8 @@ fn rows_to(
     requires parents { HaveParents (map outline commits.now) }
     requires noted { length noted.now ≡ length commits.now }
     requires counts { CountsRows (map outline commits.now) (map note noted.now) (map count_of noted.now) }
-    ensures { IfOk result (λ found. IsTableThere commits.now noted.now commit (rows_in found.entries)) }
+    ensures stand { IfOk result (λ found. StandAtFirst found.entries) }
+    ensures table { IfOk result (λ found. IsTableThere commits.now noted.now commit (rows_in found.entries)) }
 {
     let mut found = BTreeMap::new(alloc);
     let mut gone = BTreeSet::new(alloc);
@@ -49,7 +53,7 @@ fn rows_to(
             return Ok(found);
         }
         find_rows(alloc, &mut found, &gone, &noted[at as usize].stored)?;
-        drop_names(&mut gone, &noted[at as usize].dropped)?;
+        put_names(&mut gone, &noted[at as usize].dropped)?;
         at = commits[at as usize].parent;
     }
     Ok(found)
@@ -66,7 +70,7 @@ pub(crate) fn are_all(noted: &Noted, rows: usize) -> bool
 }
 
 /// Puts those of a commit's rows among the rows found whose first names aren't gone.
-fn find_rows(
+pub(crate) fn find_rows(
     alloc: Global,
     found: &mut BTreeMap<RcStr, TableRow>,
     gone: &BTreeSet<RcStr>,
@@ -102,7 +106,7 @@ fn find_row(
 }
 
 /// A group's first name.
-fn first_name(alloc: Global, names: &[RcStr]) -> Result<RcStr, AllocError>
+pub(crate) fn first_name(alloc: Global, names: &[RcStr]) -> Result<RcStr, AllocError>
     ensures { IfOk result (λ name. rc_str_bytes name ≡ first_name (map rc_str_bytes names.now)) }
 {
     match names.first() {
@@ -112,7 +116,7 @@ fn first_name(alloc: Global, names: &[RcStr]) -> Result<RcStr, AllocError>
 }
 
 /// The same row. Its names share their texts.
-fn copied(alloc: Global, row: &TableRow) -> Result<TableRow, AllocError>
+pub(crate) fn copied(alloc: Global, row: &TableRow) -> Result<TableRow, AllocError>
     ensures { IfOk result (λ copy. row_of copy ≡ row_of row.now) }
 {
     let names = all_copied(alloc, &row.group.names)?;
@@ -125,7 +129,7 @@ fn copied(alloc: Global, row: &TableRow) -> Result<TableRow, AllocError>
 }
 
 /// The same names. They share their texts.
-fn all_copied(alloc: Global, names: &[RcStr]) -> Result<Vec<RcStr>, AllocError>
+pub(crate) fn all_copied(alloc: Global, names: &[RcStr]) -> Result<Vec<RcStr>, AllocError>
     ensures { IfOk result (λ copies. texts_of copies ≡ map rc_str_bytes names.now) }
 {
     let mut copies = Vec::with_capacity(alloc, names.len())?;
@@ -135,18 +139,18 @@ fn all_copied(alloc: Global, names: &[RcStr]) -> Result<Vec<RcStr>, AllocError>
     Ok(copies)
 }
 
-/// Puts names among those that are gone.
-fn drop_names(gone: &mut BTreeSet<RcStr>, names: &[RcStr]) -> Result<(), AllocError>
-    ensures { OnOk result (AreGone names.now gone.old.keys gone.new.keys) }
+/// Puts names among others.
+pub(crate) fn put_names(among: &mut BTreeSet<RcStr>, names: &[RcStr]) -> Result<(), AllocError>
+    ensures { OnOk result (ArePut names.now among.old.keys among.new.keys) }
 {
     for name in names {
-        gone.insert(name.clone()?)?;
+        among.insert(name.clone()?)?;
     }
     Ok(())
 }
 
 /// The rows that were found, in the order of their first names.
-fn in_order(alloc: Global, found: BTreeMap<RcStr, TableRow>) -> Result<Table, AllocError>
+pub(crate) fn in_order(alloc: Global, found: BTreeMap<RcStr, TableRow>) -> Result<Table, AllocError>
     ensures { IfOk result (λ t. table_of_rows t ≡ rows_in found.entries) }
 {
     let mut rows = Vec::with_capacity(alloc, found.len())?;

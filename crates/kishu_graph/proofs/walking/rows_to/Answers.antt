@@ -20,8 +20,8 @@ loop-at-init c =
           (subst (λ es. LeadTo commits noted [] commit commit (rows_in es)) (sym c.new-found.ensures.empty) (lead-first commits noted commit));
     }
 
-pub returns-then-are_all : goal.returns-then-are_all
-returns-then-are_all c =
+pub returns-then-are_all-clause-table : goal.returns-then-are_all-clause-table
+returns-then-are_all-clause-table c =
     let commits = c.args.commits.now in
     let noted = c.args.noted.now in
     let commit = c.args.commit in
@@ -47,9 +47,9 @@ loop-at-preserved c =
           lead-back commits noted at c.args.commit c.index-commits-at.result c.index-noted-at.result c.index-noted-at-in-loop-at.result (map row_of c.deref.result.now) (map rc_str_bytes c.deref-in-loop-at.result.now)
           c.requires.parents (omega arith) c.loop-at.invariant.there c.requires.noted
           (ap (map row_of) c.deref.ensures.value) (ap (map rc_str_bytes) c.deref-in-loop-at.ensures.value)
-          (all_texts c.loop-at.gone.keys) (all_texts c.drop_names.new.gone.keys) (rows_in c.loop-at.found.entries) (rows_in c.find_rows.new.found.entries)
-          c.in_ok-find_rows.ensures.found c.in_ok-drop_names.ensures c.loop-at.invariant.lead;
+          (all_texts c.loop-at.gone.keys) (all_texts c.put_names.new.among.keys) (rows_in c.loop-at.found.entries) (rows_in c.find_rows.new.found.entries)
+          c.in_ok-find_rows.ensures.found c.in_ok-put_names.ensures c.loop-at.invariant.lead;
     }
 
-pub returns : goal.returns
-returns c = lead-root c.args.commits.now c.args.noted.now (all_texts c.loop-at.gone.keys) c.loop-at.at c.args.commit (rows_in c.loop-at.found.entries) (omega arith) c.loop-at.invariant.lead
+pub returns-clause-table : goal.returns-clause-table
+returns-clause-table c = lead-root c.args.commits.now c.args.noted.now (all_texts c.loop-at.gone.keys) c.loop-at.at c.args.commit (rows_in c.loop-at.found.entries) (omega arith) c.loop-at.invariant.lead

@@ -10,4 +10,4 @@ returns-clause-newest c g s =
     omega (arith, c.len.ensures, c.self.inside.commits.ok.0, length-map c.self.inside.commits.items outline, count-shape _ g inside)
 
 pub returns-clause-shape : goal.returns-clause-shape
-returns-clause-shape c = bare-shape c.args.self.now (subst IsSound c.self.view_is c.self.invariant.0)
+returns-clause-shape c = bare-shape c.args.self.now (subst IsSound c.self.view_is c.self.invariant.0.0)

@@ -23,6 +23,6 @@ pub returns-else-is_decimal-clause-there : goal.returns-else-is_decimal-clause-t
 returns-else-is_decimal-clause-there c =
     let to = c.args.to.now in
     let branches = branches_of c.self.inside.branches.entries in
-    let found = finds_below (length (map outline c.self.inside.commits.items)) to branches c.self.invariant.0.branches in
+    let found = finds_below (length (map outline c.self.inside.commits.items)) to branches c.self.invariant.0.0.branches in
     let there = subst (λ (k : Kept). IfSome (commit_of to branches) (λ x. x < length k.commits)) c.self.view_is found in
     subst (λ (o : Option ℕ). IfSome o (λ x. x < length c.args.self.now.commits)) (sym c.commit_of.ensures) there

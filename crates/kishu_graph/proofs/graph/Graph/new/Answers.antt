@@ -1,11 +1,12 @@
-use Rattle.std.proofs.Common.{◌∷◌, ◌++◌, [], ◌∙◌, List, Some, ap, refl, sym, subst, arith}
+use Rattle.std.proofs.Common.{◌∷◌, ◌++◌, [], ◌∙◌, List, Some, map, ap, refl, sym, subst, arith}
 use Rattle.std.specs.Rc.{rc_str_bytes}
 use Rattle.kishu_language.specs.declared.profile.Profile.TheVariants.{One}
 use Rattle.kishu_store.specs.declared.target.Target as rust_target
-use Rattle.kishu_graph.specs.Kept.{AreBelow, branches_of}
+use Rattle.kishu_graph.specs.Kept.{AreBelow, branches_of, outline, note}
 use Rattle.kishu_graph.specs.declared.commits.Commit as rust
 use Rattle.kishu_graph.specs.declared.tables.Noted as rust_noted
 use Rattle.kishu_graph.proofs.Counted.{new-kept}
+use Rattle.kishu_graph.proofs.HeadsKept.{root-head}
 use Rattle.kishu_graph.proofs.Soundness.{stay_below}
 use Rattle.kishu_graph.proofs.graph.Graph.new.Goals as goal
 
@@ -17,4 +18,5 @@ invariant_of-result c =
     let none = subst (λ es. AreBelow 1 (branches_of es)) (sym c.new-branches.ensures.empty) tt in
     let main = subst (AreBelow 1) (sym c.in_ok-put.ensures.ok) (stay_below 1 (rc_str_bytes c.in_ok-clone.field-0) 0 (branches_of c.new-branches.result.entries) (omega arith) none) in
     let head : rust_target.Target = record { commit = 0; branch = Some c.in_ok-main.main } in
-    new-kept c.push.new.self.items c.put.new.branches.entries head c.push-2.new.self.items k c.bare.result commits (ap (λ l. record { parent = 0; profile = One; cells = 0; line = l }) c.in_ok-from_str.ensures.ok) refl main noted c.bare.ensures.rows
+    let kept = new-kept c.push.new.self.items c.put.new.branches.entries head c.push-2.new.self.items k c.bare.result commits (ap (λ l. record { parent = 0; profile = One; cells = 0; line = l }) c.in_ok-from_str.ensures.ok) refl main noted c.bare.ensures.rows in
+    (kept, root-head (map outline c.push.new.self.items) (map note c.push-2.new.self.items) c.of_root.result (let some = kept.0.head in omega (arith, some)) c.of_root.ensures.commit c.of_root.ensures.stand c.of_root.ensures.holds)

@@ -16,4 +16,4 @@ pub returns-clause-older : goal.returns-clause-older
 returns-clause-older c =
     let commits = c.self.inside.commits.items in
     let there : c.args.commit < length commits = omega (arith, c.requires.there, ap (λ (k : Kept). length k.commits) c.self.view_is, length-map commits outline) in
-    subst (λ (k : rust.Commit). k.parent < c.args.commit) (sym c.index.ensures) (parent-below commits c.args.commit c.index.result.now c.self.invariant.0.parents c.requires.not_root there)
+    subst (λ (k : rust.Commit). k.parent < c.args.commit) (sym c.index.ensures) (parent-below commits c.args.commit c.index.result.now c.self.invariant.0.0.parents c.requires.not_root there)

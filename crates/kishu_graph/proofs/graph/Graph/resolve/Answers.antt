@@ -30,6 +30,6 @@ pub returns-clause-there : goal.returns-clause-there
 returns-clause-there c =
     let to = c.args.to.now in
     let branches = branches_of c.self.inside.branches.entries in
-    let found = finds_below (length (map outline c.self.inside.commits.items)) to branches c.self.invariant.0.branches in
+    let found = finds_below (length (map outline c.self.inside.commits.items)) to branches c.self.invariant.0.0.branches in
     let there = subst (λ (k : Kept). IfSome (commit_of to branches) (λ x. x < length k.commits)) c.self.view_is found in
     ok-below (length c.args.self.now.commits) (Some to) c.target_of.result (commit_of to branches) c.target_of.ensures there

@@ -5,12 +5,13 @@ use Rattle.kishu_graph.specs.declared.tables.Noted as rust_noted
 use Rattle.kishu_graph.specs.Kept.{Kept, CountsRows, count_of, noted_in, note, outline, outlines, parents_of}
 use Rattle.kishu_graph.specs.Tables.{table_of_rows, IsTableOf}
 use Rattle.kishu_graph.specs.Walks.{rows_in}
+use Rattle.kishu_graph.proofs.HeadsKept.{at-hand}
 use Rattle.kishu_graph.proofs.graph.Graph.table.Goals as goal
 
 pub rows_to-requires-clause-counts : goal.rows_to-requires-clause-counts
 rows_to-requires-clause-counts c =
     subst (λ (l : List rust.Commit). CountsRows (map outline l) (map note c.deref-2.result.now) (map count_of c.deref-2.result.now)) (sym c.deref.ensures.value)
-    (subst (λ (l : List rust_noted.Noted). CountsRows (map outline c.self.inside.commits.items) (map note l) (map count_of l)) (sym c.deref-2.ensures.value) c.self.invariant.1)
+    (subst (λ (l : List rust_noted.Noted). CountsRows (map outline c.self.inside.commits.items) (map note l) (map count_of l)) (sym c.deref-2.ensures.value) c.self.invariant.0.1)
 
 pub returns : goal.returns
 returns c =
@@ -20,5 +21,15 @@ returns c =
     (let parents : parents_of (map outline c.deref.result.now) ≡ parents_of (outlines g.commits) =
     ap (λ (l : List rust.Commit). parents_of (map outline l)) c.deref.ensures.value ∙ ap (λ (kept : Kept). parents_of kept.commits) c.self.view_is ∙ shape.parents in
     let notes : map note c.deref-2.result.now ≡ noted_in cs = ap (map note) c.deref-2.ensures.value ∙ ap (λ (kept : Kept). kept.noted) c.self.view_is ∙ tells in
-    same ∙ c.in_ok-found.ensures g cs place parents notes k))
+    same ∙ c.in_ok-found.ensures.table g cs place parents notes k))
     c.in_order.ensures
+
+pub returns-then-self-commit : goal.returns-then-self-commit
+returns-then-self-commit c =
+    let h = c.self.inside.head_rows in
+    IfOk-weaker c.table.result (λ t. table_of_rows t ≡ rows_in h.rows.entries) (λ t. IsTableOf c.args.self.now c.args.commit (table_of_rows t))
+    (λ t same g cs place shape tells k.
+    same
+    ∙ (at-hand c.args.self.now (map outline c.self.inside.commits.items) (map note c.self.inside.noted.items) h c.args.commit (ap (λ (kept : Kept). kept.commits) c.self.view_is) (ap (λ (kept : Kept). kept.noted) c.self.view_is)
+    c.self.invariant.1 c.if-self-commit.true g cs place shape tells k).rows)
+    c.table.ensures
