@@ -1,6 +1,9 @@
-pub mod Whole
+pub mod Told
 pub mod LengthLaws
+pub mod RowLaws
+pub mod ApartLaws
+pub mod WritingLaws
 pub mod FitLaws
 pub mod LiveLaws
-pub mod AttachedLaws
 pub mod RecordedLaws
+pub mod AttachedLaws

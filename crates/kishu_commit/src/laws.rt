@@ -1,87 +1,117 @@
-// What holds of commits that drop all groups of their parent's table, and store one group of all names.
-ghost use Rattle.std.specs.Prelude.{◌≡◌, ◌<◌, ◌≤◌, ◌^◌, ℕ, List, [], ◌∷◌, ◌++◌, Option, Some, None};
+// What holds of commits that store just what changed, told among the names that their cells accessed.
+ghost use Rattle.std.specs.Prelude.{◌≡◌, ◌↔◌, ◌<◌, ◌≤◌, ◌^◌, ℕ, List, [], ◌∷◌, ◌++◌, map, Option, Some, None};
 ghost use Rattle.std.specs.List.{AllByRecursion, AllZip};
 ghost use Rattle.kishu_meaning.specs.values.Values.{State};
-ghost use Rattle.kishu_objects.specs.Picture.{listed};
-ghost use Rattle.kishu_objects.specs.Same.{Same};
-ghost use Rattle.kishu_objects.specs.Sizes.{size, most_bytes};
+ghost use Rattle.kishu_objects.specs.Bytes.{picture_bytes};
+ghost use Rattle.kishu_objects.specs.Fits.{StateFits};
+ghost use Rattle.kishu_objects.specs.Lists.{In};
+ghost use Rattle.kishu_objects.specs.Locality.{Leaves};
+ghost use Rattle.kishu_objects.specs.Picture.{picture, listed};
+ghost use Rattle.kishu_objects.specs.Sizes.{most_bytes};
 ghost use Rattle.kishu_objects.specs.States.{IsSoundState};
-ghost use Rattle.kishu_replay.specs.Replay.{after_cells, replay};
+ghost use Rattle.kishu_replay.specs.Replay.{after_cells};
 ghost use Rattle.kishu_store.specs.Entries.{Record};
 ghost use Rattle.kishu_store.specs.Graph.{newest};
-ghost use Rattle.kishu_store.specs.Groups.{IsName};
+ghost use Rattle.kishu_store.specs.Groups.{Group, IsName};
 ghost use Rattle.kishu_store.specs.Histories.{History, head_table, led, Follows};
 ghost use Rattle.kishu_store.specs.Holds.{HasRecords, history_by};
 ghost use Rattle.kishu_store.specs.Limits.{most_records, most_pictured, newest_profile};
 ghost use Rattle.kishu_store.specs.Rules.{IsRecord};
-ghost use Rattle.kishu_store.specs.Tables.{Table, bytes_in, bytes_at, groups_in, rows_from, change_of, FitsTable, IsKeptTable};
+ghost use Rattle.kishu_store.specs.Tables.{Table, groups_in, rows_from, after, bytes_in, bytes_at, change_of, FitsTable, IsKeptTable};
 ghost use Rattle.kishu_store_laws.specs.HistoryLaws.{IsHistory};
-ghost use Rattle.kishu_history.specs.AllNames.{all_names};
-ghost use Rattle.kishu_history.specs.Good.{IsWholeAttached};
+ghost use Rattle.kishu_history.specs.Accessed.{accessed_by};
+ghost use Rattle.kishu_history.specs.Good.{IsAttached};
 ghost use Rattle.kishu_history.specs.Live.{IsLive};
-ghost use Rattle.kishu_history.specs.Paths.{ReplaysAreStates};
 ghost use Rattle.kishu_history.specs.Sizes.{StaySmall};
-ghost use Rattle.kishu_history.specs.Stored.{Stored, KeepsRecords};
-ghost use Rattle.kishu_commit.specs.Whole.{stored_whole, pictures_whole, whole_record, next_entry, next_record, next_rows, MayBeCommitted, CanBeStored, HasShortNames};
+ghost use Rattle.kishu_history.specs.Stored.{Stored, Keeps, KeepsRecords};
+ghost use Rattle.kishu_history.specs.Tables.{IsTable};
+ghost use Rattle.kishu_history.specs.Touched.{classes, change_told, size_told};
+ghost use Rattle.kishu_commit.specs.Told.{dropped_told, groups_told, stored_told, pictures_told, record_with, told_record, next_entry, next_record, next_rows, CanBeStored, MayBeCommitted, HasShortNames};
 
-/// Such a commit fits the table of its parent, whatever its number and wherever its picture lies, and the
-/// records before it. Its record may be written where the names of the groups that it drops are short; so
-/// they are where the parent's table tells a state, on every store.
-pub fn commits_of_all_names_fit()
-    ensures table { (t : Table) (s : State) (number place : ℕ) → IsSoundState s → size s ≤ most_bytes
-        → FitsTable t (record { dropped = groups_in t; stored = rows_from number place (stored_whole s) }) }
-    ensures follows { (h : History) (cells : List (List ℕ)) (s : State) → h.graph.records < most_records
-        → IsSoundState s → size s ≤ most_bytes
-        → Follows h (next_entry h cells s) }
-    ensures rules { (parent : ℕ) (cells : List (List ℕ)) (t : Table) (s : State) → parent < 2 ^ 32
-        → MayBeCommitted cells → IsKeptTable t → HasShortNames t → IsSoundState s
-        → AllByRecursion IsName (listed s) → size s ≤ most_bytes → IsRecord (whole_record parent cells t s) }
+/// On every store a commit of what is told fits the table of its parent, whatever its number and wherever its
+/// pictures lie, and the records before it, where what is told to be its state's size isn't too large. Its
+/// record may be written where the names of the table's groups are short; so they are where the table tells a
+/// state. The pictures that it stores are among those of the classes of the touched names.
+pub fn commits_fit()
+    ensures table { (t : Table) → IsTable t → (s u : State) (accessed : List (List ℕ))
+        → IsLive (Stored None) t s → IsSoundState u → Leaves accessed s u → CanBeStored t s accessed u
+        → size_told t accessed u ≤ most_bytes → (number place : ℕ)
+        → FitsTable t (change_told t s accessed u (rows_from number place (stored_told t s accessed u))) }
+    ensures follows { (h : History) → IsHistory h → (cells : List (List ℕ)) (s u : State)
+        (accessed : List (List ℕ)) → IsLive (Stored None) (head_table h) s → IsSoundState u
+        → Leaves accessed s u → CanBeStored (head_table h) s accessed u
+        → size_told (head_table h) accessed u ≤ most_bytes → h.graph.records < most_records
+        → Follows h (next_entry h cells s accessed u) }
+    ensures rules { (parent : ℕ) (cells : List (List ℕ)) (t : Table) (s u : State) (accessed : List (List ℕ))
+        → parent < 2 ^ 32 → MayBeCommitted cells → IsKeptTable t → HasShortNames t → IsSoundState u
+        → AllByRecursion IsName (listed u) → size_told t accessed u ≤ most_bytes
+        → IsRecord (told_record parent cells t s accessed u) }
     ensures names { (file : Option (List ℕ)) (t : Table) (s : State) → IsLive (Stored file) t s
         → bytes_in t ≤ most_pictured → HasShortNames t }
+    ensures stored { (t : Table) (s u : State) (accessed : List (List ℕ))
+        → ((g : Group) → In g (classes (groups_in t) accessed u) → StateFits (picture u g))
+        → CanBeStored t s accessed u }
 {}
 
-/// The table of such a commit is what it stores. It tells the state that the commit's cells left: by the
-/// length of its picture, and by the picture itself where that lies in the file at its row's place, as it
-/// does in a file that ends with the commit's record.
-pub fn commits_of_all_names_tell_states()
-    ensures table { (h : History) → IsHistory h → (cells : List (List ℕ)) (s : State)
-        → head_table (led h (next_entry h cells s)) ≡ next_rows h cells s }
-    ensures untold { (s : State) (number place : ℕ) → CanBeStored s → IsSoundState s
-        → IsLive (Stored None) (rows_from number place (stored_whole s)) s }
-    ensures told { (s : State) (number place : ℕ) → CanBeStored s → (file : List ℕ) → IsSoundState s
-        → AllZip (λ r p. bytes_at file r ≡ p) (rows_from number place (stored_whole s)) (pictures_whole s)
-        → IsLive (Stored (Some file)) (rows_from number place (stored_whole s)) s }
-    ensures recorded { (rs : List Record) (cells : List (List ℕ)) (u : State) → IsSoundState u → CanBeStored u
-        → (grown : List ℕ) → HasRecords grown (rs ++ (next_record (history_by rs) cells u ∷ []))
+/// A record of the groups that are told, and of the pictures of those that it stores, is that of the commit.
+/// On every store the commit's table is its parent's with what is told, and tells the state that the commit's
+/// cells left: by the lengths of its pictures, and by the pictures themselves where the new ones lie in the
+/// file at their rows' places and the old ones stay there, as they do in a file that ends with the commit's
+/// record.
+pub fn commits_tell_states()
+    ensures record { (parent : ℕ) (cells : List (List ℕ)) (t : Table) (s u : State)
+        (accessed : List (List ℕ)) (dropped stored : List Group)
+        → dropped ≡ dropped_told t s accessed u → stored ≡ groups_told t s accessed u
+        → record_with parent cells dropped stored (map (picture_bytes u) stored)
+        ≡ told_record parent cells t s accessed u }
+    ensures table { (h : History) → IsHistory h → (cells : List (List ℕ)) (s u : State)
+        (accessed : List (List ℕ)) → head_table (led h (next_entry h cells s accessed u))
+        ≡ after (change_told (head_table h) s accessed u (next_rows h cells s accessed u)) (head_table h) }
+    ensures untold { (h : History) → IsHistory h → (cells : List (List ℕ)) (s u : State)
+        (accessed : List (List ℕ)) → IsLive (Stored None) (head_table h) s → IsSoundState u
+        → Leaves accessed s u → CanBeStored (head_table h) s accessed u
+        → IsLive (Stored None) (head_table (led h (next_entry h cells s accessed u))) u }
+    ensures told { (h : History) → IsHistory h → (cells : List (List ℕ)) (s u : State)
+        (accessed : List (List ℕ)) (file grown : List ℕ) → IsLive (Stored (Some file)) (head_table h) s
+        → IsSoundState u → Leaves accessed s u → CanBeStored (head_table h) s accessed u
+        → Keeps file grown (head_table h)
+        → AllZip (λ r p. bytes_at grown r ≡ p) (next_rows h cells s accessed u)
+        (pictures_told (head_table h) s accessed u)
+        → IsLive (Stored (Some grown)) (head_table (led h (next_entry h cells s accessed u))) u }
+    ensures recorded { (rs : List Record) (cells : List (List ℕ)) (s u : State) (accessed : List (List ℕ))
+        → (file : List ℕ) → HasRecords file rs → IsLive (Stored (Some file)) (head_table (history_by rs)) s
+        → IsSoundState u → Leaves accessed s u → CanBeStored (head_table (history_by rs)) s accessed u
+        → (grown : List ℕ) → HasRecords grown (rs ++ (next_record (history_by rs) cells s accessed u ∷ []))
         → IsLive (Stored (Some grown))
-        (head_table (history_by (rs ++ (next_record (history_by rs) cells u ∷ [])))) u }
+        (head_table (history_by (rs ++ (next_record (history_by rs) cells s accessed u ∷ [])))) u }
 {}
 
-/// Of a session that is attached to a store of such commits the head's table has the group of all names of
-/// the live state, and it stays attached with one commit more, whose picture lies in the new file at its
-/// row's place, as it does in a file that ends with the commit's record.
+/// A session that is attached to a good store stays attached with one commit more of the cells that it ran,
+/// where the state after each isn't too large, and the new pictures lie in the file at their rows' places and
+/// the old ones stay there, as they do in a file that ends with the commit's record. What is told is told
+/// among the names that the cells accessed, however often each is among them.
 pub fn sessions_stay_attached()
-    ensures groups { (file : List ℕ) (h : History) → ReplaysAreStates h.graph.commits → (s : State)
-        → IsWholeAttached file h.graph (change_of h.changes) s → groups_in (head_table h) ≡ all_names s }
-    ensures cells { (file grown : List ℕ) (h : History) → IsHistory h → ReplaysAreStates h.graph.commits
-        → (s : State) → IsWholeAttached file h.graph (change_of h.changes) s
-        → KeepsRecords file grown (newest h.graph) (change_of h.changes) → (cells : List (List ℕ)) (u : State)
-        → IsSoundState u
-        → IsSoundState (after_cells newest_profile cells (replay h.graph h.graph.head.commit))
-        → Same u (after_cells newest_profile cells (replay h.graph h.graph.head.commit)) → CanBeStored u
-        → StaySmall newest_profile cells (replay h.graph h.graph.head.commit)
-        → AllZip (λ r p. bytes_at grown r ≡ p) (next_rows h cells u) (pictures_whole u)
-        → IsWholeAttached grown (led h (next_entry h cells u)).graph
-        (change_of (led h (next_entry h cells u)).changes) u }
-    ensures recorded { (rs : List Record) (cells : List (List ℕ)) (u : State) → IsSoundState u → CanBeStored u
-        → (grown : List ℕ) → HasRecords grown (rs ++ (next_record (history_by rs) cells u ∷ []))
-        → (file : List ℕ) → HasRecords file rs → ReplaysAreStates (history_by rs).graph.commits → (s : State)
-        → IsWholeAttached file (history_by rs).graph (change_of (history_by rs).changes) s
-        → IsSoundState (after_cells newest_profile cells
-        (replay (history_by rs).graph (history_by rs).graph.head.commit))
-        → Same u (after_cells newest_profile cells
-        (replay (history_by rs).graph (history_by rs).graph.head.commit))
-        → StaySmall newest_profile cells (replay (history_by rs).graph (history_by rs).graph.head.commit)
-        → IsWholeAttached grown (history_by (rs ++ (next_record (history_by rs) cells u ∷ []))).graph
-        (change_of (history_by (rs ++ (next_record (history_by rs) cells u ∷ []))).changes) u }
+    ensures leaves { (cells : List (List ℕ)) (s : State) → IsSoundState s → (accessed : List (List ℕ))
+        → ((x : List ℕ) → (In x accessed ↔ In x (accessed_by newest_profile cells s)))
+        → Leaves accessed s (after_cells newest_profile cells s) }
+    ensures cells { (file grown : List ℕ) (h : History) → IsHistory h → (s : State)
+        → IsAttached file h.graph (change_of h.changes) s
+        → KeepsRecords file grown (newest h.graph) (change_of h.changes)
+        → (cells : List (List ℕ)) (u : State) → u ≡ after_cells newest_profile cells s
+        → (accessed : List (List ℕ))
+        → ((x : List ℕ) → (In x accessed ↔ In x (accessed_by newest_profile cells s)))
+        → CanBeStored (head_table h) s accessed u → StaySmall newest_profile cells s
+        → AllZip (λ r p. bytes_at grown r ≡ p) (next_rows h cells s accessed u)
+        (pictures_told (head_table h) s accessed u)
+        → IsAttached grown (led h (next_entry h cells s accessed u)).graph
+        (change_of (led h (next_entry h cells s accessed u)).changes) u }
+    ensures recorded { (rs : List Record) (file : List ℕ) → HasRecords file rs → (s : State)
+        → IsAttached file (history_by rs).graph (change_of (history_by rs).changes) s
+        → (cells : List (List ℕ)) (u : State) → u ≡ after_cells newest_profile cells s
+        → (accessed : List (List ℕ))
+        → ((x : List ℕ) → (In x accessed ↔ In x (accessed_by newest_profile cells s)))
+        → CanBeStored (head_table (history_by rs)) s accessed u → StaySmall newest_profile cells s
+        → (grown : List ℕ) → HasRecords grown (rs ++ (next_record (history_by rs) cells s accessed u ∷ []))
+        → IsAttached grown (history_by (rs ++ (next_record (history_by rs) cells s accessed u ∷ []))).graph
+        (change_of (history_by (rs ++ (next_record (history_by rs) cells s accessed u ∷ []))).changes) u }
 {}

@@ -1,14 +1,12 @@
 //! The record of a commit: what it says of the state that its cells left, and its pictures.
 //!
-//! `commit` drops all groups of the table of the commit's parent, and stores one group of all names with
-//! its picture, or none where no name is bound.
+//! `commit` drops and stores the groups that are told to have changed, each stored one with its picture.
+//! The laws say that such a record fits behind those before it, that the table which it leaves tells the
+//! state, and that a session which is attached to a good store stays attached.
 #![tactic(auto)]
 
 mod committing;
 mod laws;
-mod stored;
 
 pub use committing::{Record, commit};
-pub use laws::{
-    commits_of_all_names_fit, commits_of_all_names_tell_states, sessions_stay_attached,
-};
+pub use laws::{commits_fit, commits_tell_states, sessions_stay_attached};
