@@ -1,12 +1,11 @@
 -- Calls that only read, one after another.
-use Rattle.std.specs.Prelude.{◌≡◌, ◌≤◌, ℕ, ◌+◌, Bool, if◌then◌else◌, List, Option, Some, None}
-use Rattle.std.proofs.Common.{ap, subst, ◌∙◌, arith}
+use Rattle.std.specs.Prelude.{◌≡◌, ◌≤◌, ℕ, ◌+◌, Option, Some, None}
+use Rattle.std.proofs.Common.{◌∙◌, arith}
 use Rattle.kishu_host.specs.Host.{State, Now, ReadsMore}
 use Rattle.kishu_host.specs.Going.{goes_on}
-use Rattle.kishu_objects.specs.Lists.{In}
-use Rattle.kishu_store.specs.Tables.{Row, Table}
+use Rattle.kishu_store.specs.Tables.{Table}
 use Rattle.kishu_journal.specs.Going.{IsQuiet, ReadsAtMost}
-use Rattle.kishu_checkout.specs.Pictures.{told_file, HasNone, LacksRow, LacksAt, LacksSome}
+use Rattle.kishu_checkout.specs.Pictures.{LacksAt, LacksSome}
 
 pub quiet_on : (a b c : State) → IsQuiet a b → IsQuiet b c → IsQuiet a c
 quiet_on a b c p q = record {
@@ -30,19 +29,7 @@ reads_more a (Some y) (Some z) m n all p q e =
     let same : y ≡ q.0 = cc (q.1) in
     (p.0, p.1, omega (arith, p.2, q.2, same, e))
 
--- ---- what was read stays
-
-pub told_still : (a b : State) → IsQuiet a b → told_file b ≡ told_file a
-told_still a b q =
-    ap (λ (t : Bool). if t then Some b.file else None) q.time.tells ∙ ap (λ (f : List ℕ). if a.tells then Some f else None) q.keeps.file
-
-pub lacks_at : (a b : State) (t : Table) (r : Row) (at : ℕ) → IsQuiet a b → In r t → LacksRow b r at → LacksAt a t at
-lacks_at a b t r at q there l = record {
-  row = r;
-  there = there;
-  place = l.place;
-  none = λ told. subst (λ (f : List ℕ). HasNone f r) q.keeps.file (l.none (q.time.tells ∙ told));
-}
+-- ---- damage
 
 pub lacks_some : (a : State) (t : Table) (at : ℕ) → LacksAt a t at → LacksSome a t
 lacks_some a t at l told each = (let k = each l.row l.there in l.none told k.0 k.1)

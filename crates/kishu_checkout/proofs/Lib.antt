@@ -1,5 +1,11 @@
 pub mod Binds
 pub mod Calls
 pub mod Same
-pub mod Stored
-pub mod Rows
+pub mod Bytes
+pub mod Nodes
+pub mod RowsRead
+pub mod RowsLeft
+pub mod Tables
+pub mod Unbound
+pub mod Indexed
+pub mod Within

@@ -24,11 +24,6 @@ HasNone file r = (p : State) → CanBeLoaded file r p → ⊥
 abbrev pub HasEach : List ℕ → Table → Type 0
 HasEach file t = (r : Row) → In r t → (p : State) × CanBeLoaded file r p
 
--- This is the row's place; where the host tells its file, there is none.
-pub record LacksRow (s : host.State) (r : Row) (at : ℕ) : Type 0 where
-  pub place : at ≡ r.place
-  pub none : host.Told s (HasNone s.file r)
-
 -- At this place a row of the table has its picture; where the host tells its file, there is none.
 pub record LacksAt (s : host.State) (t : Table) (at : ℕ) : Type 0 where
   pub row : Row

@@ -1,5 +1,5 @@
 // Faults.
-use std::alloc::AllocError;
+use std::alloc::{AllocError, AllocFailed};
 use thiserror::Error;
 
 /// Why a table isn't loaded.
@@ -23,6 +23,17 @@ impl From<AllocError> for CheckoutFault {
     ghost from_gives = { λ _ fault. fault ≡ NoMemory };
 
     fn from(_error: AllocError) -> CheckoutFault {
+        CheckoutFault::NoMemory
+    }
+}
+
+impl<T: Drop> From<AllocFailed<T>> for CheckoutFault {
+    ghost use Rattle.std.specs.Prelude.{◌≡◌};
+    ghost use Rattle.kishu_checkout.specs.declared.fault.CheckoutFault.TheVariants.{NoMemory};
+
+    ghost from_gives = { λ _ fault. fault ≡ NoMemory };
+
+    fn from(_error: AllocFailed<T>) -> CheckoutFault {
         CheckoutFault::NoMemory
     }
 }

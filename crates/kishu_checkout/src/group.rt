@@ -1,9 +1,10 @@
 // The loading of one group.
-ghost use Rattle.std.specs.Prelude.{◌≡◌, ◌+◌, ◌<◌, ◌^◌, [], true, false, IfOk, OnOk, MatchOption, length, map};
+ghost use Rattle.std.specs.Prelude.{◌≡◌, ◌≤◌, ◌+◌, ◌<◌, ◌^◌, ℕ, [], true, false, IsTrue, IfOk, IfSome, OnOk, MatchOption, length, map};
 ghost use Rattle.std.specs.Bool.{Decides};
+ghost use Rattle.kishu_meaning.specs.values.Sound.{are_sound_names};
 ghost use Rattle.kishu_names.specs.Record.{Rises, texts_of};
 ghost use Rattle.kishu_objects.specs.Loading.{bind_all};
-ghost use Rattle.kishu_loading.specs.Loaded.{held, IsLoaded};
+ghost use Rattle.kishu_loading.specs.Loaded.{held, IsLoaded, LeadsWithin};
 ghost use Rattle.kishu_checkout.specs.Groups.{titles, IsLoadedAs, IsAlone, IsNoPicture, IsNoneOf};
 
 use kishu_heap::Heap;
@@ -18,6 +19,8 @@ fn load_alone(alloc: Global, bytes: &[u8], heap: &mut Heap) -> Result<Option<Nam
     requires room { length heap.old + length bytes.now + 1 < 2 ^ 32 }
     ensures loaded { IfOk result (λ o. MatchOption o (IsNoPicture bytes.now)
         (λ own. IsAlone bytes.now heap.old (held heap.new own))) }
+    ensures sound { IfOk result (λ o. IfSome o (λ own. LeadsWithin (held heap.new own))) }
+    ensures grown { length heap.old ≤ length heap.new }
 {
     let mut own = Names::new(alloc);
     match load(alloc, bytes, heap, &mut own) {
@@ -42,6 +45,8 @@ fn bind_as(names: &mut Names, own: &Names, group: &[RcStr]) -> Result<(), AllocE
     requires order { Rises (titles own.now.bound) }
     ensures bound { OnOk result (names.new.bound ≡ bind_all own.now.bound names.old.bound) }
     ensures accessed { names.new.accessed ≡ names.old.accessed }
+    ensures sound { (n : ℕ) → IsTrue (are_sound_names n own.now.bound)
+        → IsTrue (are_sound_names n names.old.bound) → IsTrue (are_sound_names n names.new.bound) }
 {
     for name in group {
         let Some(value) = own.peek(name.as_str()) else {
@@ -66,6 +71,7 @@ pub(crate) fn load_group(
         (held heap.old names.old) (held heap.new names.new)) }
     ensures none { IfOk result (λ b. b ≡ false → IsNoneOf (texts_of group.now) bytes.now) }
     ensures accessed { names.new.accessed ≡ names.old.accessed }
+    ensures sound { LeadsWithin (held heap.old names.old) → LeadsWithin (held heap.new names.new) }
 {
     let Some(own) = load_alone(alloc, bytes, heap)? else {
         return Ok(false);

@@ -1,8 +1,12 @@
 // The loading of a table.
-ghost use Rattle.std.specs.Prelude.{◌≡◌, ◌≤◌, ℕ, [], IsTrue, IfOk, OnOk, IsErrOf, length};
+ghost use Rattle.std.specs.Prelude.{◌≡◌, ◌≤◌, ℕ, [], IsTrue, IfOk, OnOk, IsErrOf, length, map};
 ghost use Rattle.kishu_meaning.specs.values.Sound.{are_sound_names};
 ghost use Rattle.kishu_host.specs.Host.{ReadsMore};
-ghost use Rattle.kishu_store.specs.Tables.{bytes_in, IsKeptTable};
+ghost use Rattle.kishu_objects.specs.Bytes.{picture_bytes};
+ghost use Rattle.kishu_objects.specs.Fits.{StateFits};
+ghost use Rattle.kishu_objects.specs.Lists.{In};
+ghost use Rattle.kishu_objects.specs.Picture.{picture};
+ghost use Rattle.kishu_store.specs.Tables.{Row, bytes_in, IsKeptTable};
 ghost use Rattle.kishu_graph.specs.Tables.{table_of_rows};
 ghost use Rattle.kishu_journal.specs.Facts.{DiskRises};
 ghost use Rattle.kishu_journal.specs.Going.{IsQuiet, ReadsAtMost};
@@ -11,7 +15,8 @@ ghost use Rattle.kishu_checkout.specs.Loads.{state_restored, HasLoaded, IsLiveIn
 ghost use Rattle.kishu_checkout.specs.declared.fault.CheckoutFault.TheVariants.{Damaged, DiskFault};
 
 use crate::fault::CheckoutFault;
-use crate::row::load_row;
+use crate::fetching::fetch_rows;
+use crate::placing::place_rows;
 use kishu_graph::Table;
 use kishu_heap::Heap;
 use kishu_host::Host;
@@ -19,11 +24,12 @@ use kishu_journal::Journal;
 use kishu_names::Names;
 use std::alloc::Global;
 
-/// The nodes and the names that were loaded.
+/// The nodes and the names that were loaded, and the picture of each group, in the table's order.
 #[derive(Drop)]
 pub struct Restored {
     pub heap: Heap,
     pub names: Names,
+    pub pictures: Vec<Vec<u8>>,
 }
 
 /// Loads the pictures of a table's groups into an empty heap and empty names, in the table's order. Just
@@ -50,6 +56,12 @@ pub fn restore<H: Host>(
     ensures few { IfOk result (λ r. length r.heap ≤ bytes_in (table_of_rows table.now)) }
     ensures accessed { IfOk result (λ r. r.names.accessed ≡ []) }
 
+    // The bytes that were read for a row are those of its group's picture in the state, which they can tell.
+    ensures pictures { IfOk result (λ r. map (λ p. p.items) r.pictures.items
+        ≡ map (λ row. picture_bytes (state_restored r) row.group) (table_of_rows table.now)) }
+    ensures fits { IfOk result (λ r. (row : Row) → In row (table_of_rows table.now)
+        → StateFits (picture (state_restored r) row.group)) }
+
     // The host is only read, and no byte but those of the pictures.
     ensures quiet { IsQuiet (H.state host.old) (H.state host.new) }
     ensures exact { OnOk result (ReadsMore (H.state host.old).reads (H.state host.new).reads
@@ -65,12 +77,15 @@ pub fn restore<H: Host>(
         → LacksSome (H.state host.old) (table_of_rows table.now) }
     ensures disk_fault { IsErrOf result DiskFault → DiskRises (H.state host.old) (H.state host.new) }
 {
+    let pictures = fetch_rows(alloc, host, journal, &table.rows)?;
     let mut heap = Heap::new(alloc);
     let mut names = Names::new(alloc);
-    for row in &table.rows {
-        load_row(alloc, journal, host, row, &mut heap, &mut names)?;
-    }
+    place_rows(alloc, &table.rows, &pictures, &mut heap, &mut names)?;
     // By the names that were accessed a namespace also tells that what it binds are names.
     let _accessed = names.accessed();
-    Ok(Restored { heap, names })
+    Ok(Restored {
+        heap,
+        names,
+        pictures,
+    })
 }

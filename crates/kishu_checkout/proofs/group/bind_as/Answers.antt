@@ -6,6 +6,7 @@ use Rattle.kishu_meaning.specs.values.Sound.{is_valid}
 use Rattle.kishu_meaning.specs.values.Values.{value_of, find, bind}
 use Rattle.kishu_objects.specs.Loading.{bind_all}
 use Rattle.kishu_checkout.proofs.Binds.{at_place, found_there, kept_found, titles_long}
+use Rattle.kishu_checkout.proofs.Within.{found_bound}
 use Rattle.kishu_checkout.proofs.group.bind_as.Goals as goal
 
 pub unreachable-requires : goal.unreachable-requires
@@ -50,6 +51,7 @@ loop-name-preserved c =
       left = c.loop-name.invariant.left ∙ ap (λ ns. bind_all ns before) here.1 ∙ ap (bind_all (drop (suc i) own)) (sym bound)
           ∙ ap (λ k. bind_all (drop k own) after) next;
       accessed = c.in_ok-restore.ensures.accessed ∙ c.loop-name.invariant.accessed;
+      sound = λ n h k. found_bound n (rc_str_bytes name) here.0 own before after found bound h (c.loop-name.invariant.sound n h k);
     }
 
 pub returns-clause-bound : goal.returns-clause-bound

@@ -1,6 +1,7 @@
-use Rattle.std.proofs.Common.{subst}
-use Rattle.kishu_loading.specs.Loaded.{held, IsLoaded}
-use Rattle.kishu_checkout.proofs.Stored.{alone, no_picture, are_bytes}
+use Rattle.std.proofs.Common.{refl, sym, subst}
+use Rattle.kishu_loading.specs.Loaded.{held, IsLoaded, LeadsWithin}
+use Rattle.kishu_checkout.proofs.Bytes.{alone, no_picture, are_bytes}
+use Rattle.kishu_checkout.proofs.Nodes.{nodes_kept}
 use Rattle.kishu_checkout.proofs.group.load_alone.Goals as goal
 
 pub returns-in-Ok : goal.returns-in-Ok
@@ -9,9 +10,18 @@ returns-in-Ok c =
     let heap = c.args.heap.now in
     let after = held c.load.new.heap c.load.new.names in
     let loaded = subst (λ n. IsLoaded bytes (held heap n) after) c.new-own.ensures c.in-Ok.ensures.loaded in
-    record { loaded = alone bytes heap after (are_bytes bytes c.type_inv.bytes) loaded }
+    let none = subst (λ n. LeadsWithin (held heap n)) (sym c.new-own.ensures) refl in
+    record {
+      loaded = alone bytes heap after (are_bytes bytes c.type_inv.bytes) loaded;
+      sound = c.in-Ok.ensures.sound none;
+      grown = nodes_kept heap c.load.new.heap c.in-Ok.ensures.nodes;
+    }
 
 pub returns-in-Err-Picture : goal.returns-in-Err-Picture
 returns-in-Err-Picture c =
     let fault = rw c.in-Err-Picture.field-0-is at c.in-Err-Picture.ensures.fault in
-    record { loaded = no_picture c.args.bytes.now c.in-Err-Picture.field-0-0 fault }
+    record {
+      loaded = no_picture c.args.bytes.now c.in-Err-Picture.field-0-0 fault;
+      sound = tt;
+      grown = nodes_kept c.args.heap.now c.load.new.heap c.in-Err-Picture.ensures.nodes;
+    }

@@ -1,0 +1,10 @@
+use Rattle.std.proofs.Common.{◌≡◌, not, take, map, filter}
+use Rattle.kishu_store.specs.Tables.{group_in}
+use Rattle.kishu_graph.specs.Kept.{row_of}
+use Rattle.kishu_graph.specs.Tables.{group_of}
+use Rattle.kishu_checkout.specs.Versioned.{is_there}
+use Rattle.kishu_checkout.proofs.planning.groups_elsewhere.Given as goal
+
+abbrev pub invariant-loop-row : goal.invariant-loop-row
+invariant-loop-row l =
+    map group_of l.groups.items ≡ map group_in (filter (λ r. not (is_there l.versions.keys r)) (map row_of (take l.row-index l.rows)))
