@@ -6,24 +6,22 @@ use Rattle.kishu_host.specs.Host as host
 use Rattle.kishu_host.specs.Host.{Elapses, Now, Only}
 use Rattle.kishu_host.specs.Going.{goes_on, weaker}
 use Rattle.kishu_meaning.specs.values.Values as values
-use Rattle.kishu_objects.specs.Same.{Same}
-use Rattle.kishu_objects.specs.States.{IsSoundState}
-use Rattle.kishu_replay.specs.Replay.{after_cells, replay}
+use Rattle.kishu_replay.specs.Replay.{after_cells}
 use Rattle.kishu_store.specs.Entries.{Record, entries_in}
 use Rattle.kishu_store.specs.Graph.{Commit, Graph, newest, with_commit}
 use Rattle.kishu_store.specs.Histories.{History}
-use Rattle.kishu_store.specs.Holds.{HasRecords, Holds, history_by, changes_by}
+use Rattle.kishu_store.specs.Holds.{Gives, HasRecords, Holds, history_by, changes_by}
 use Rattle.kishu_store.specs.Limits.{newest_profile}
-use Rattle.kishu_store.specs.Tables.{Change}
+use Rattle.kishu_store.specs.Tables.{Change, change_of}
 use Rattle.kishu_store_laws.specs.Laws.{history-graph, ends-gives, ends-holds, ends-records, has-holds, one_changes}
 use Rattle.kishu_graph.specs.Kept.{StandsFor, TellsChanges, KeepsHistory}
-use Rattle.kishu_history.specs.Good.{IsWholeFileOf}
+use Rattle.kishu_history.specs.Good as good
+use Rattle.kishu_history.specs.Good.{IsGoodFileOf}
 use Rattle.kishu_history.specs.Sizes.{StaySmall}
-use Rattle.kishu_session_laws.specs.CellLaws.{replay_is_state}
-use Rattle.kishu_live_laws.specs.AtHead.{after_here, replay_stays_small}
-use Rattle.kishu_live_laws.specs.OnStates.{after_on, ran_by, left_of, state_on}
+use Rattle.kishu_history.specs.Paths.{AreRows}
+use Rattle.kishu_live_laws.specs.AtHead.{after_here, stays_small}
+use Rattle.kishu_live_laws.specs.OnStates.{after_on, head_rows, ran_by, state_on}
 use Rattle.kishu_live_laws.specs.Outcomes.{when_more, more_state}
-use Rattle.kishu_live_laws.specs.RequestsAlike.{ran_by_alike, left_of_alike}
 use Rattle.kishu_model.specs.Request.{Request}
 use Rattle.kishu_model.specs.Serve.{after}
 use Rattle.kishu_journal.specs.Going.{IsQuiet}
@@ -34,13 +32,13 @@ use Rattle.kishu_session.specs.Head.{CountsPath, IsKnown}
 use Rattle.kishu_session.specs.Journals.{BeforeOrAfter, GoodBeforeOrAfter}
 use Rattle.kishu_session.specs.Known.{IsHistoryOf}
 use Rattle.kishu_session.specs.Lives.{state_of}
-use Rattle.kishu_session.specs.Prepared.{LeadsTo, LeadsOn, led_with, record_in}
+use Rattle.kishu_session.specs.Prepared.{LeadsTo, LeadsOn, led_with, record_in, after_by}
 use Rattle.kishu_session.specs.Recording.{IsJournalAt, MayGoOn, WithOrWithout, LeavesOne, with_new}
 use Rattle.kishu_session.specs.Written.{IsRecorded}
 use Rattle.kishu_session.specs.declared.head.Head.{Head}
 use Rattle.kishu_session.specs.declared.prepared.Prepared.{Prepared}
 use Rattle.kishu_session.specs.declared.session.Session.{Session}
-use Rattle.kishu_session.proofs.Grown.{led-is, lives-led, RunsAlike}
+use Rattle.kishu_session.proofs.Grown.{held-led, led-is, lives-led}
 use Rattle.kishu_session.proofs.RecordKinds.{Kind, kind-of, led-graph, led-kept}
 
 -- ---- what a session stands behind
@@ -61,38 +59,28 @@ behind-at-end session s rs g at keeps same = record {
 
 -- ---- a request whose cells are committed
 
-module _ (s : values.State) (g : Graph) (q : Request) (cells : List (List ℕ)) (is : after_on s g q ≡ with_commit newest_profile cells g) where
+module _ (of : ℕ → Change) (s : values.State) (g : Graph) (q : Request) (cells : List (List ℕ)) (is : after_on of s g q ≡ with_commit newest_profile cells g) where
   abbrev first_cells : List Commit → List (List ℕ)
   first_cells [] = []
   first_cells (k ∷ ks) = k.cells
 
-  more-commits : newest g < newest (after_on s g q)
-  more-commits = (let e : newest (after_on s g q) ≡ suc (newest g) = ap newest is in omega (arith, e))
+  more-commits : newest g < newest (after_on of s g q)
+  more-commits = (let e : newest (after_on of s g q) ≡ suc (newest g) = ap newest is in omega (arith, e))
 
   -- Those of the commit are the request's, which left the state after it.
-  cells-are : ran_by q s ≡ cells
-  cells-are = ap (λ (x : Graph). first_cells x.commits) (sym (when_more s g q more-commits).graph ∙ is)
+  cells-are : ran_by (head_rows of g) q s ≡ cells
+  cells-are = ap (λ (x : Graph). first_cells x.commits) (sym (when_more of s g q more-commits).graph ∙ is)
 
-  pub left-on : after_cells newest_profile cells s ≡ state_on s g q
+  pub left-on : after_cells newest_profile cells s ≡ state_on of s g q
   left-on =
-      ap (λ (cs : List (List ℕ)). after_cells newest_profile cs s) (sym cells-are) ∙ sym (more_state s g q (when_more s g q more-commits))
+      ap (λ (cs : List (List ℕ)). after_cells newest_profile cs s) (sym cells-are) ∙ sym (more_state of s g q (when_more of s g q more-commits))
 
-  -- They leave of the head's replay, where the state is the same, what they leave of the state.
-  module _ (here : IsSoundState s) (same : Same s (replay g g.head.commit)) where
-    abbrev there : values.State
-    there = replay g g.head.commit
-
-    pub ran-alike : RunsAlike s there cells
-    ran-alike =
-        let state = replay_is_state g g.head.commit in
-        let now : newest g < newest (after g q) = subst (λ (x : Graph). newest g < newest x) (after_here s g here same q) more-commits in
-        record {
-          same =
-              subst (λ (cs : List (List ℕ)). Same (after_cells newest_profile cs s) (after_cells newest_profile cs there)) cells-are
-              (subst (λ (cs : List (List ℕ)). Same (left_of q s) (after_cells newest_profile cs there))
-              (sym (ran_by_alike s there here state same g q)) (left_of_alike s there here state same g q));
-          small = subst (λ (cs : List (List ℕ)). StaySmall newest_profile cs there) cells-are (replay_stays_small s g here same q now);
-        }
+  -- On a good store no state after one of them is too large.
+  module _ (file : List ℕ) (rows : AreRows of) (attached : good.IsAttached file g of s) where
+    pub small-on : StaySmall newest_profile cells s
+    small-on =
+        let now : newest g < newest (after g q) = subst (λ (x : Graph). newest g < newest x) (after_here file of s g rows attached q) more-commits in
+        subst (λ (cs : List (List ℕ)). StaySmall newest_profile cs s) cells-are (stays_small file of s g rows attached q now)
 
 -- ---- the host is only read
 
@@ -118,21 +106,29 @@ module _ (old : Session) (new : Head) (s s1 : host.State) (q : Request) (p : Pre
   abbrev live : values.State
   live = state_of old.head.live
 
-  abbrev After : Graph → Graph
-  After g = after_on live g q
+  abbrev After : History → Graph
+  After h = after_by h live q
 
   module _ (h : History) (kept : IsHistoryOf old.head.graph h) (place : h.place ≡ old.journal.place) where
-    pub leads-to : LeadsTo h r (After h.graph)
+    pub leads-to : LeadsTo h r (After h)
     leads-to = (leads.prepares h kept place).leads
 
     pub kept-now : IsHistoryOf new.graph (led_with h r)
-    kept-now = led-kept new.graph h (After h.graph) r leads-to (leads.prepares h kept place).keeps kept.good
+    kept-now = led-kept new.graph h (After h) r leads-to (leads.prepares h kept place).keeps kept.good
 
     pub kind-now : Kind (told_file s) old.head new h r (led_with h r)
-    kind-now = kind-of (told_file s) old.head new h (After h.graph) kept r leads-to leads.tells
+    kind-now = kind-of (told_file s) old.head new h (After h) kept r leads-to leads.tells
 
-    pub graph-now : (led_with h r).graph ≡ After h.graph
-    graph-now = led-graph h (After h.graph) r leads-to
+    pub graph-now : (led_with h r).graph ≡ After h
+    graph-now = led-graph h (After h) r leads-to
+
+  -- The file's records change what the history's do.
+  pub after-at : (g : Graph) (cs : List Change) (e : IsAtEnd old s g) → Gives s.file cs → After (history_by (at-end-behind old s g e).found) ≡ after_on (change_of cs) live g q
+  after-at g cs e gives =
+      let b = at-end-behind old s g e in
+      let h = history_by b.found in
+      let changes : h.changes ≡ cs = one_changes s.file h.changes cs (ends-gives s.file b.found b.at.ends) gives in
+      ap (λ (ds : List Change). after_on (change_of ds) live h.graph q) changes ∙ ap (λ (x : Graph). after_on (change_of cs) live x q) b.graph
 
   -- There is a history that is kept then.
   pub known-after : (place : ℕ) → IsKnown old.head old.journal.place
@@ -149,6 +145,7 @@ module _ (old : Session) (new : Head) (s s1 : host.State) (q : Request) (p : Pre
           place_is = moves h is.place_is;
           count = subst (λ (g : Graph). CountsPath new g) (sym (graph-now h is.kept is.place_is)) (leads.answers h is.kept is.count).count;
           lives = lives-led (told_file s) old.head new h is.kept.good is.lives r (kept-now h is.kept is.place_is) (kind-now h is.kept is.place_is);
+          held = held-led (told_file s) old.head new h is.held r (kept-now h is.kept is.place_is) (kind-now h is.kept is.place_is);
         },
       ) ∣₁)
 
@@ -157,7 +154,7 @@ module _ (old : Session) (new : Head) (s s1 : host.State) (q : Request) (p : Pre
   may-go-on told g e told1 =
       let b = at-end-behind old s g e in (
         b.found,
-        After (history_by b.found).graph,
+        After (history_by b.found),
         subst (λ (f : List ℕ). IsJournalAt old.journal f b.found) (sym quiet.keeps.file) b.at,
         leads-to
             (history_by b.found) b.kept b.place,
@@ -176,14 +173,15 @@ module _ (old : Session) (new : Head) (s s1 : host.State) (q : Request) (p : Pre
         (subst (λ (f : List ℕ). IsJournalAt old.journal f rs) (sym quiet.keeps.file) at) to in
         goes_on s s1 t P (WithOrWithout s1 rs r) before later (λ f o w. (w.0 ∙ quiet.keeps.out, w.1))
 
-    pub stop-here : (g : Graph) → IsAtEnd old s g → Elapses s t (BeforeOrAfter s g (After g))
-    stop-here g e =
+    pub stop-here : (g : Graph) (cs : List Change) → IsAtEnd old s g → Gives s.file cs → Elapses s t (BeforeOrAfter s g (after_on (change_of cs) live g q))
+    stop-here g cs e gives =
         let b = at-end-behind old s g e in
         let rs = b.found in
         let h = history_by rs in
-        let now : (history_by (with_new rs r)).graph ≡ After g = ap (λ (x : History). x.graph) (sym (led-is rs r)) ∙ graph-now h b.kept b.place
-        ∙ ap After b.graph in
-        weaker s t (BeforeOrAfter s g (After g)) (WithOrWithout s rs r) (left-one rs (After h.graph) b.at (leads-to h b.kept b.place))
+        let After = after_on (change_of cs) live g q in
+        let now : (history_by (with_new rs r)).graph ≡ After = ap (λ (x : History). x.graph) (sym (led-is rs r)) ∙ graph-now h b.kept b.place
+        ∙ after-at g cs e gives in
+        weaker s t (BeforeOrAfter s g After) (WithOrWithout s rs r) (left-one rs (after_by h live q) b.at (leads-to h b.kept b.place))
         (λ f o w. (
           w.0,
           ⊎_elim (λ (k : HasRecords f rs). inl (subst (λ (x : Graph). Holds f x) (sym (history-graph rs) ∙ b.graph) (has-holds f rs k)))
@@ -206,6 +204,6 @@ module _ (old : Session) (s s1 : host.State) (quiet : IsQuiet s s1) (only : Only
 
   pub quiet-good : (now : Graph) → IsAttached old s g → Elapses s s1 (GoodBeforeOrAfter s g now)
   quiet-good now a =
-      let good : IsWholeFileOf s.file g = record { changes = a.changes; holds = at-end-holds a.at_end; gives = a.gives; store = a.states.good } in
+      let is_good : IsGoodFileOf s.file g = record { changes = a.changes; holds = at-end-holds a.at_end; gives = a.gives; store = a.states.good } in
       weaker s s1 (GoodBeforeOrAfter s g now) (Now s) quiet.time
-      (λ f o l. (l.1, inl (subst (λ (x : List ℕ). IsWholeFileOf x g) (sym (only f l.0)) good)))
+      (λ f o l. (l.1, inl (subst (λ (x : List ℕ). IsGoodFileOf x g) (sym (only f l.0)) is_good)))

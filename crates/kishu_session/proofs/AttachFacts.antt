@@ -11,11 +11,12 @@ use Rattle.kishu_store_laws.specs.GraphLaws.{IsGraph, held-graph}
 use Rattle.kishu_store_laws.specs.Laws.{one_changes}
 use Rattle.kishu_store_laws.specs.PlaceLaws.{held-changes}
 use Rattle.kishu_replay.specs.Replay.{replay}
-use Rattle.kishu_history.specs.Good.{IsWholeAttached, IsWholeFileOf}
+use Rattle.kishu_history.specs.Good as good
+use Rattle.kishu_history.specs.Good.{IsGoodFileOf}
 use Rattle.kishu_history.specs.Live.{IsLive}
 use Rattle.kishu_history.specs.Paths.{AreRows}
 use Rattle.kishu_history.specs.Stored.{Held, Stored}
-use Rattle.kishu_history_laws.specs.stores.WholeStoreLaws.{whole_replay}
+use Rattle.kishu_history_laws.specs.stores.ReplayLaws.{live_replay}
 use Rattle.kishu_history_laws.specs.tables.FileLaws.{changes_are_rows}
 use Rattle.kishu_history_laws.specs.versions.PathLaws.{end_replay}
 use Rattle.kishu_session_laws.specs.CellLaws.{replays_are_states}
@@ -31,32 +32,32 @@ use Rattle.kishu_session.specs.declared.session.Session.{Session}
 
 -- ---- a good file
 
-module _ (file : List ℕ) (g : Graph) (good : IsWholeFileOf file g) where
+module _ (file : List ℕ) (g : Graph) (is : IsGoodFileOf file g) where
   abbrev of : ℕ → Change
-  of = change_of good.changes
+  of = change_of is.changes
 
   abbrev t : Table
   t = table_at g of g.head.commit
 
   pub good-graph : IsGraph g
-  good-graph = held-graph file g good.holds
+  good-graph = held-graph file g is.holds
 
   pub good-rows : AreRows of
-  good-rows = (let k = held-changes file g good.changes good.holds good.gives in changes_are_rows g good.changes k.0 k.1)
+  good-rows = (let k = held-changes file g is.changes is.holds is.gives in changes_are_rows g is.changes k.0 k.1)
 
   -- a state that the head's table tells
   module _ (live : values.State) (told : IsLive (Held file) t live) where
     pub told-same : Same live (replay g g.head.commit)
-    told-same = subst (λ (s : values.State). Same live s) (end_replay g g.head.commit) (whole_replay file g.commits of good-rows good.store (replays_are_states g) g.head.commit good-graph.head.there live told)
+    told-same = subst (λ (s : values.State). Same live s) (end_replay g g.head.commit) (live_replay file g.commits of good-rows is.store (replays_are_states g) g.head.commit good-graph.head.there live told)
 
-    pub told-attached : IsWholeAttached file g of live
-    told-attached = record { good = good.store; head = good-graph.head.there; told = told; same = told-same }
+    pub told-attached : good.IsAttached file g of live
+    told-attached = record { good = is.store; head = good-graph.head.there; told = told; same = told-same }
 
   -- the state that its pictures give
   pub loaded-few : (live : values.State) → IsLoadedFrom file t live → length live.nodes ≤ length (replay g g.head.commit).nodes
   loaded-few live from =
       subst (λ (s : values.State). length s.nodes ≤ length (replay g g.head.commit).nodes) (sym from.is)
-      (opened_few file g of good-rows good.store g.head.commit good-graph.head.there from.pictures from.each)
+      (opened_few file g of good-rows is.store g.head.commit good-graph.head.there from.pictures from.each)
 
 -- ---- what the host tells
 
@@ -68,7 +69,7 @@ head-table-of h g cs same gives = ap (λ (x : Graph). table_at x (change_of h.ch
 
 -- ---- the session
 
-module _ (session : Session) (s : State) (told : s.tells ≡ true) (g : Graph) (good : IsWholeFileOf s.file g) (at_end : IsAtEnd session s g) where
+module _ (session : Session) (s : State) (told : s.tells ≡ true) (g : Graph) (is : IsGoodFileOf s.file g) (at_end : IsAtEnd session s g) where
   abbrev head : Head
   head = session.head
 
@@ -78,16 +79,16 @@ module _ (session : Session) (s : State) (told : s.tells ≡ true) (g : Graph) (
   abbrev h : History
   h = in_file.history
 
-  table-here : head_table h ≡ table_at g (change_of good.changes) g.head.commit
-  table-here = head-table-of h g good.changes in_file.graph (one_changes s.file h.changes good.changes in_file.gives good.gives)
+  table-here : head_table h ≡ table_at g (change_of is.changes) g.head.commit
+  table-here = head-table-of h g is.changes in_file.graph (one_changes s.file h.changes is.changes in_file.gives is.gives)
 
   module _ (loaded : IsLoaded (told_file s) head) where
-    lives-here : IsLive (Held s.file) (table_at g (change_of good.changes) g.head.commit) (state_of head.live)
+    lives-here : IsLive (Held s.file) (table_at g (change_of is.changes) g.head.commit) (state_of head.live)
     lives-here =
         subst (λ (t : Table). IsLive (Held s.file) t (state_of head.live)) table-here
         (subst (λ (o : Option (List ℕ)). IsLive (Stored o) (head_table h) (state_of head.live)) (told-some s told) (loaded h in_file.kept).lives)
 
-    given-here : IsLoadedFrom s.file (table_at g (change_of good.changes) g.head.commit) (state_of head.live)
+    given-here : IsLoadedFrom s.file (table_at g (change_of is.changes) g.head.commit) (state_of head.live)
     given-here =
         subst (λ (t : Table). IsLoadedFrom s.file t (state_of head.live)) table-here
         (subst (λ (o : Option (List ℕ)). IsGiven o head h) (told-some s told) (loaded h in_file.kept).given)
@@ -98,8 +99,8 @@ module _ (session : Session) (s : State) (told : s.tells ≡ true) (g : Graph) (
       durable = durable;
       at_end = at_end;
       count = subst (CountsPath head) in_file.graph (counts h in_file.kept);
-      changes = good.changes;
-      gives = good.gives;
-      states = told-attached s.file g good (state_of head.live) lives-here;
-      few = loaded-few s.file g good (state_of head.live) given-here;
+      changes = is.changes;
+      gives = is.gives;
+      states = told-attached s.file g is (state_of head.live) lives-here;
+      few = loaded-few s.file g is (state_of head.live) given-here;
     }

@@ -23,7 +23,7 @@ use Rattle.kishu_model.specs.Values.{answer_of}
 use Rattle.kishu_session.specs.Branching.{BranchesAt, IsCause}
 use Rattle.kishu_session.specs.Head.{CountsPath}
 use Rattle.kishu_session.specs.Known.{HasHistory, IsHistoryOf}
-use Rattle.kishu_session.specs.Prepared.{LeadsTo, Leads, led_with, record_in, IsPrepared, IsAnswered, Tells, MayBeRecorded, LeadsAlone}
+use Rattle.kishu_session.specs.Prepared.{LeadsTo, Leads, led_with, record_in, IsPrepared, IsAnswered, KeepsState, Tells, MayBeRecorded, LeadsAlone}
 use Rattle.kishu_session.specs.Refusing.{refusal_by, RefusesAs}
 use Rattle.kishu_session.specs.declared.head.Head.{Head}
 use Rattle.kishu_session.specs.declared.prepared.Prepared.{Prepared}
@@ -52,7 +52,7 @@ module _ (g : Graph) (title : List ℕ) (at : Option (List ℕ)) (c : ℕ) (old 
   named = (branch-accepted g title at c b.start_is b.accepted).form_is
 
 module _ (old new : Head) (title : List ℕ) (at : Option (List ℕ)) (c : ℕ) (lt : c < 2 ^ 32) (branches : BranchesAt old.graph new.graph title at c)
-    (same : new.live ≡ old.live) (counted : new.cells ≡ old.cells)
+    (same : KeepsState old new) (counted : new.cells ≡ old.cells)
     (p : Prepared) (answer : answer_of p.answer ≡ Some (branched c title)) (recorded : record_in p.recorded ≡ Some (plain (name title c))) where
   abbrev r : Record
   r = plain (name title c)
@@ -81,7 +81,7 @@ module _ (old new : Head) (title : List ℕ) (at : Option (List ℕ)) (c : ℕ) 
           keeps = subst (λ (o : Option Record). KeepsHistory new.graph (led_with h o)) (sym recorded) keeps;
         }
 
-    answered : (h : History) → IsHistoryOf old.graph h → CountsPath old h.graph → IsAnswered h.graph (branch title at) old new p
+    answered : (h : History) → IsHistoryOf old.graph h → CountsPath old h.graph → IsAnswered h (branch title at) old new p
     answered h k count =
         let b = branches h.graph k.keeps.graph.shape in
         record {

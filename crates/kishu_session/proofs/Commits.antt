@@ -1,99 +1,273 @@
 -- The commit of cells that were run, on each history that is kept.
-use Rattle.std.proofs.Common.{◌≡◌, ◌<◌, ◌≤◌, ◌+◌, ◌^◌, ℕ, suc, List, length, None, refl, sym, ◌∙◌, ap, subst, arith}
+use Rattle.std.proofs.Common.{◌≡◌, ◌<◌, ◌≤◌, ◌+◌, ◌^◌, ℕ, suc, Bool, if◌then◌else◌, List, length, map, Some, None, sym, ◌∙◌, ap, subst, arith}
 use Rattle.std.proofs.Math.Logic.{∥∥₁_elim}
+use Rattle.std.proofs.Props.{props}
 use Rattle.std.specs.Coded.{le_prop}
+use Rattle.std.specs.List.{AllByRecursion}
 use Rattle.kishu_meaning.specs.values.Values.{State}
-use Rattle.kishu_objects.specs.Sizes.{size, most_bytes}
+use Rattle.kishu_objects.specs.Bytes.{picture_bytes}
+use Rattle.kishu_objects.specs.Fits.{StateFits}
+use Rattle.kishu_objects.specs.Lists.{In}
+use Rattle.kishu_objects.specs.Locality.{Leaves}
+use Rattle.kishu_objects.specs.Picture.{listed, picture}
+use Rattle.kishu_objects.specs.Sizes.{size_among, most_bytes}
 use Rattle.kishu_objects.specs.States.{IsSoundState}
 use Rattle.kishu_store.specs.Entries.{Record}
 use Rattle.kishu_store.specs.Fitting.{changed}
-use Rattle.kishu_store.specs.Graph.{newest}
-use Rattle.kishu_store.specs.Histories.{History, before_body, before_pictures, head_table, FollowsAt, led_at}
-use Rattle.kishu_store.specs.Limits.{most_records}
-use Rattle.kishu_store.specs.Tables.{Table}
+use Rattle.kishu_store.specs.Graph.{Target, newest}
+use Rattle.kishu_store.specs.Groups.{Group, IsName}
+use Rattle.kishu_store.specs.Histories.{History, before_body, before_pictures, head_table, led, FollowsAt, led_at}
+use Rattle.kishu_store.specs.Limits.{most_records, newest_profile}
+use Rattle.kishu_store.specs.Rules.{IsRecord}
+use Rattle.kishu_store.specs.Tables.{Row, Table, Change, after, groups_in, IsKeptTable}
+use Rattle.kishu_store_laws.specs.HistoryLaws.{led-history}
 use Rattle.kishu_graph.specs.Kept.{Kept, KeepsHistory}
-use Rattle.kishu_graph.specs.Tables.{IsTableOf}
+use Rattle.kishu_graph.specs.Laws.{count-shape}
+use Rattle.kishu_graph.specs.Tables.{IsTableOf, table_of_rows}
+use Rattle.kishu_history.specs.Accessed.{accessed_by}
+use Rattle.kishu_history.specs.Live.{IsLive}
+use Rattle.kishu_history.specs.Stored.{Stored}
+use Rattle.kishu_history.specs.Tables.{IsTable}
+use Rattle.kishu_history.specs.Touched.{classes, dropped_among, stored_among, change_told, size_told}
+use Rattle.kishu_history_laws.specs.Choices.{in_map, one_of_decides}
+use Rattle.kishu_history_laws.specs.cells.AccessLaws.{change_same, classes_same, dropped_same, stored_same}
+use Rattle.kishu_history_laws.specs.tables.FileLaws.{kept_is_table}
+use Rattle.kishu_session_laws.specs.CellLaws.{cells_keep}
 use Rattle.kishu_journal.specs.Following.{IsKept, GoesOn}
-use Rattle.kishu_commit.specs.FitLaws.{whole-fits}
+use Rattle.kishu_delta.specs.Kept.{KeepsPictures, KeepsJust, kept_of}
+use Rattle.kishu_commit.specs.AttachedLaws.{accesses-leave}
+use Rattle.kishu_commit.specs.FitLaws.{told-follows-at}
 use Rattle.kishu_commit.specs.LengthLaws.{live-names}
-use Rattle.kishu_commit.specs.Whole.{whole_record, next_entry, next_record, HasShortNames, MayBeCommitted}
-use Rattle.kishu_session.specs.Committing.{HasShortHead, IsCommit}
-use Rattle.kishu_session.specs.Head.{CountsPath, IsKnown}
+use Rattle.kishu_commit.specs.LiveLaws.{record-told, told-table}
+use Rattle.kishu_commit.specs.RowLaws.{rows-groups, rows-untold}
+use Rattle.kishu_commit.specs.Told.{told_record, record_with, next_entry, next_record, next_rows, groups_told, CanBeStored, MayBeCommitted}
+use Rattle.kishu_commit.specs.WritingLaws.{told-fit, told-record}
+use Rattle.kishu_session.specs.Committing.{HasRun, HasTable, IsCommit, IsNextNumber}
+use Rattle.kishu_session.specs.Head.{CountsPath, IsKnown, KeepsTable}
 use Rattle.kishu_session.specs.Known.{IsHistoryOf, HasHistory}
 use Rattle.kishu_session.specs.Lives.{state_of}
 use Rattle.kishu_session.specs.declared.head.Head.{Head}
 use Rattle.kishu_session.proofs.AddFacts.{counts-more}
-use Rattle.kishu_session.proofs.LoadFacts.{head-is, head-table-is}
+use Rattle.kishu_session.proofs.LoadFacts.{head-is, head-table-is, kept-prop}
 use Rattle.kishu_session.proofs.LongTexts.{size-few}
+use Rattle.kishu_session.proofs.OneTable.{one-head-table}
+use Rattle.kishu_session.proofs.Sizes.{sizes-are}
+use Rattle.kishu_session.proofs.Untold.{keeps-prop, live-there, pictures-there}
 
 -- ---- what is known of a head
-
-pub has-history : (kept : Kept) → HasShortHead kept → HasHistory kept
-has-history kept known = ∥∥₁_elim known squash₁ (λ k. ∣ (k.0, k.1) ∣₁)
 
 pub known-history : (head : Head) (place : ℕ) → IsKnown head place → HasHistory head.graph
 known-history head place known = ∥∥₁_elim known squash₁ (λ k. ∣ (k.0, k.1.kept) ∣₁)
 
-pub known-short : (head : Head) (place : ℕ) → IsKnown head place → HasShortHead head.graph
-known-short head place known =
-    ∥∥₁_elim known squash₁
-    (λ k.
-    let h = k.0 in
-    let kept : IsHistoryOf head.graph h = k.1.kept in
-    ∣ (h, kept, live-names None (head_table h) (state_of head.live) k.1.lives (kept.good.changes.tables h.graph.head.commit).small) ∣₁)
+-- Its table tells its live state, and the pictures are kept.
+module _ (head : Head) (place : ℕ) (known : IsKnown head place) where
+  abbrev t : Table
+  t = table_of_rows head.table
 
-pub short-names : (kept : Kept) (c : ℕ) (t : Table) → HasShortHead kept → c ≡ kept.head.commit → IsTableOf kept c t → HasShortNames t
-short-names kept c t known at is = ∥∥₁_elim known le_prop (λ k. subst HasShortNames (sym (head-table-is kept c t at is k.0 k.1)) k.2)
+  pub known-table : HasTable head place
+  known-table = ∥∥₁_elim known squash₁ (λ k. ∣ (k.0, k.1.kept, k.1.place_is, k.1.held.table) ∣₁)
 
--- ---- the record, in each history
+  pub known-told : IsLive (Stored None) t (state_of head.live)
+  known-told = live-there t (state_of head.live)
+      (∥∥₁_elim known squash₁ (λ k. ∣ subst (λ (x : Table). IsLive (Stored None) x (state_of head.live)) (sym k.1.held.table) k.1.lives ∣₁))
+
+  pub known-pictures : KeepsJust head.kept (groups_in t) (state_of head.live)
+  known-pictures = pictures-there head.kept (groups_in t) (state_of head.live)
+      (∥∥₁_elim known squash₁ (λ k. ∣ subst (λ (x : Table). KeepsJust head.kept (groups_in x) (state_of head.live)) (sym k.1.held.table) k.1.held.pictures ∣₁))
 
 ⊥-prop : IsProp ⊥
 ⊥-prop a b = absurd a
 
-module _ (kept : Kept) (h : History) (k : IsHistoryOf kept h) where
-  pub is-kept : IsKept kept h
-  is-kept = record { keeps = k.keeps; most = h.place; changes = k.good.changes }
-
-  -- The record is that of the history's next commit.
-  pub is-next : (parent : ℕ) (t : Table) (cells : List (List ℕ)) (s : State) (r : Record) → parent ≡ kept.head.commit → IsTableOf kept parent t → r ≡ whole_record parent cells t s → r ≡ next_record h cells s
-  is-next parent t cells s r is table made =
-      made
-      ∙ ap (λ (n : ℕ). whole_record n cells t s) (head-is kept parent is h k)
-      ∙ ap (λ (x : Table). whole_record h.graph.head.commit cells x s) (head-table-is kept parent t is table h k)
-
-  -- It fits, wherever its body stands.
-  pub next-follows : (body : ℕ) (cells : List (List ℕ)) (s : State) → IsSoundState s → size s ≤ most_bytes → kept.records < most_records → FollowsAt body h (next_entry h cells s)
-  next-follows body cells s sound small room = record {
-    graph = record { room = subst (λ (n : ℕ). n < most_records) k.keeps.graph.shape.records room; goes_on = refl };
-    table = (whole-fits (head_table h) s (suc (newest h.graph)) (body + before_pictures (next_entry h cells s)) sound small, tt);
-  }
+table-set : IsSet Table
+table-set = hlevel props
 
 -- A commit has fewer than 2^24 cells.
 pub few-cells : (cells : List (List ℕ)) → MayBeCommitted cells → length cells ≤ 2 ^ 24
 few-cells cells may = omega (arith, may.size, size-few cells)
 
-module _ (old : Head) (cells : List (List ℕ)) (r : Record) (parent : ℕ) (t : Table) (sound : IsSoundState (state_of old.live)) (small : size (state_of old.live) ≤ most_bytes) (room : old.graph.records < most_records)
-    (at : parent ≡ old.graph.head.commit) (table : IsTableOf old.graph parent t) (made : r ≡ whole_record parent cells t (state_of old.live)) where
-  follows : (h : History) → IsHistoryOf old.graph h → (body : ℕ) → FollowsAt body h r.entry
-  follows h k body =
-      subst (λ (x : Record). FollowsAt body h x.entry) (sym (is-next old.graph h k parent t cells (state_of old.live) r at table made))
-      (next-follows old.graph h k body cells (state_of old.live) sound small room)
+-- ---- cells that were run
 
-  -- So the record isn't one that doesn't fit.
-  pub fits-some : HasShortHead old.graph → (body : ℕ) → ((h : History) → IsKept old.graph h → FollowsAt body h r.entry → ⊥) → ⊥
-  fits-some known body none = ∥∥₁_elim known ⊥-prop (λ k. none k.0 (is-kept old.graph k.0 k.1) (follows k.0 k.1 body))
+module _ (place : ℕ) (before : State) (old : Head) (cells : List (List ℕ)) (ran : HasRun place before old cells) where
+  abbrev rows : Table
+  rows = table_of_rows old.table
 
-  pub commit-is : (new : Head) → length cells ≤ 2 ^ 24 → (old.cells + length cells < 2 ^ 64 → new.cells ≡ old.cells + length cells) → (h : History) → IsHistoryOf old.graph h → IsCommit h old new cells r
-  commit-is new few grows h k =
-      let is = is-next old.graph h k parent t cells (state_of old.live) r at table made in
-      record {
-        is = is;
-        fits = follows h k (h.place + before_body);
-        count = λ n. subst (λ (x : Record). CountsPath new (changed h.graph x.entry)) (sym is) (counts-more old new h.graph cells k.good.graph few grows n);
-      }
+  abbrev u : State
+  u = state_of old.live
 
-  pub commit-keeps : (new : Kept) (body place : ℕ) → body ≡ place + before_body → ((h : History) → IsKept old.graph h → GoesOn body h r.entry new) → (h : History) → IsHistoryOf old.graph h → h.place ≡ place
-      → KeepsHistory new (led_at (h.place + before_body) h r.entry)
-  commit-keeps new body place is goes h k here =
-      let same : body ≡ h.place + before_body = omega (arith, is, here) in
-      subst (λ (b : ℕ). KeepsHistory new (led_at b h r.entry)) same (goes h (is-kept old.graph h k)).keeps
+  -- the names that they accessed, as they are told and as they are recorded
+  abbrev own : List (List ℕ)
+  own = accessed_by newest_profile cells before
+
+  abbrev noted : List (List ℕ)
+  noted = old.live.names.accessed
+
+  kept-table : IsKeptTable rows
+  kept-table = ∥∥₁_elim ran.known (kept-prop rows) (λ k. subst IsKeptTable (sym k.3) (k.1.good.changes.tables k.0.graph.head.commit))
+
+  -- the picture of each row was kept
+  pub kept-before : KeepsPictures old.kept rows before
+  kept-before = record { bytes = λ r m. of-one r.group (in_map (λ (q : Row). q.group) rows r m); fit = λ r m. ran.pictures.fit r.group (in_map (λ (q : Row). q.group) rows r m) }
+    where
+      of-one : (g : Group) → In g (groups_in rows) → kept_of old.kept g ≡ Some (picture_bytes before g)
+      of-one g m = ran.pictures.bytes g ∙ ap (λ (b : Bool). if b then Some (picture_bytes before g) else None) ((one_of_decides g (groups_in rows)).1 m)
+
+  pub is-table : IsTable rows
+  is-table = kept_is_table rows kept-table
+
+  table-here : (h : History) → IsHistoryOf old.graph h → rows ≡ head_table h
+  table-here h kept = ∥∥₁_elim ran.known (table-set rows (head_table h)) (λ k. k.3 ∙ one-head-table old.graph k.0 h k.1 kept)
+
+  pub sound-now : IsSoundState u
+  sound-now = subst IsSoundState (sym ran.left) (cells_keep newest_profile cells before ran.told.state)
+
+  leaves-own : Leaves own before u
+  leaves-own = subst (λ (x : State). Leaves own before x) (sym ran.left) (accesses-leave cells before ran.told.state own (λ x. (λ m. m, λ m. m)))
+
+  pub leaves-noted : Leaves noted before u
+  leaves-noted = subst (λ (x : State). Leaves noted before x) (sym ran.left) (accesses-leave cells before ran.told.state noted ran.accessed)
+
+  size-own : size_told rows own u ≤ most_bytes
+  size-own = subst (λ (x : State). size_told rows own x ≤ most_bytes) (sym ran.left) ran.small
+
+  size-noted : size_told rows noted u ≤ most_bytes
+  size-noted = (let is = sizes-are rows cells before u noted ran.left ran.accessed in subst (λ (n : ℕ). n ≤ most_bytes) (sym is) ran.small)
+
+  pub classes-small : size_among (classes (groups_in rows) noted u) u ≤ most_bytes
+  classes-small = omega (arith, size-noted)
+
+  -- ---- what changed
+
+  module _ (dropped stored : List Group) (pictures : List (List ℕ)) (drops : dropped ≡ dropped_among (groups_in rows) (picture before) noted u)
+      (stores : stored ≡ stored_among (groups_in rows) (picture before) noted u) (pictured : pictures ≡ map (picture_bytes u) stored)
+      (fits : (g : Group) → In g (classes (groups_in rows) noted u) → StateFits (picture u g)) where
+    can : CanBeStored rows before own u
+    can = told-fit rows before own u (λ g m. fits g (subst (λ (gs : List Group). In g gs) (sym (classes_same noted own ran.accessed (groups_in rows) u)) m))
+
+    module _ (parent : ℕ) (r : Record) (made : r ≡ record_with parent cells dropped stored pictures) where
+      made-is : r ≡ told_record parent cells rows before own u
+      made-is =
+          made
+          ∙ ap (λ (ps : List (List ℕ)). record_with parent cells dropped stored ps) pictured
+          ∙ record-told parent cells rows before u own dropped stored
+          (drops ∙ dropped_same noted own ran.accessed (groups_in rows) (picture before) u) (stores ∙ stored_same noted own ran.accessed (groups_in rows) (picture before) u)
+
+      module _ (at : parent ≡ old.graph.head.commit) where
+        -- a commit that is there has a number of four bytes
+        parent-few : parent < 2 ^ 32
+        parent-few =
+            ∥∥₁_elim ran.known le_prop
+            (λ k.
+            let is : parent ≡ k.0.graph.head.commit = head-is old.graph parent at k.0 k.1 in
+            let graph = k.1.good.graph in
+            omega (arith, is, graph.head.there, graph.counted, graph.few))
+
+        pub rules : MayBeCommitted cells → AllByRecursion IsName (listed u) → IsRecord r
+        rules may names =
+            subst IsRecord (sym made-is)
+            (told-record parent cells rows before u own parent-few may kept-table (live-names None rows before ran.told kept-table.small) sound-now names size-own)
+
+        -- The record is that of the history's next commit.
+        next-is : (h : History) → IsHistoryOf old.graph h → r ≡ next_record h cells before own u
+        next-is h k =
+            made-is
+            ∙ ap (λ (n : ℕ). told_record n cells rows before own u) (head-is old.graph parent at h k)
+            ∙ ap (λ (x : Table). told_record h.graph.head.commit cells x before own u) (table-here h k)
+
+        can-here : (h : History) → IsHistoryOf old.graph h → CanBeStored (head_table h) before own u
+        can-here h k = subst (λ (x : Table). CanBeStored x before own u) (table-here h k) can
+
+        module _ (room : old.graph.records < most_records) where
+          -- It fits, wherever its body stands.
+          follows : (h : History) → IsHistoryOf old.graph h → (body : ℕ) → FollowsAt body h r.entry
+          follows h k body =
+              let here = table-here h k in
+              subst (λ (x : Record). FollowsAt body h x.entry) (sym (next-is h k))
+              (told-follows-at body h k.good cells before u own (subst (λ (x : Table). IsLive (Stored None) x before) here ran.told) sound-now leaves-own (can-here h k)
+              (subst (λ (x : Table). size_told x own u ≤ most_bytes) here size-own) (subst (λ (n : ℕ). n < most_records) k.keeps.graph.shape.records room))
+
+          is-kept : (h : History) → IsHistoryOf old.graph h → IsKept old.graph h
+          is-kept h k = record { keeps = k.keeps; most = h.place; changes = k.good.changes }
+
+          -- So the record isn't one that doesn't fit.
+          pub fits-some : (body : ℕ) → ((h : History) → IsKept old.graph h → FollowsAt body h r.entry → ⊥) → ⊥
+          fits-some body none = ∥∥₁_elim ran.known ⊥-prop (λ k. none k.0 (is-kept k.0 k.1) (follows k.0 k.1 body))
+
+          pub commit-is : (new : Head) → length cells ≤ 2 ^ 24 → (old.cells + length cells < 2 ^ 64 → new.cells ≡ old.cells + length cells) → (h : History) → IsHistoryOf old.graph h
+              → IsCommit h before old new cells r
+          commit-is new few grows h k =
+              let is = next-is h k in
+              record {
+                is = is;
+                fits = follows h k (h.place + before_body);
+                can = can-here h k;
+                count = λ n. subst (λ (x : Record). CountsPath new (changed h.graph x.entry)) (sym is) (counts-more old new h.graph cells k.good.graph few grows n);
+              }
+
+          -- ---- what is kept then
+
+          module _ (new : Kept) (body : ℕ) (body_is : body ≡ place + before_body) (goes : (h : History) → IsKept old.graph h → GoesOn body h r.entry new) where
+            pub commit-keeps : (h : History) → IsHistoryOf old.graph h → h.place ≡ place → KeepsHistory new (led h r.entry)
+            commit-keeps h k here =
+                let same : body ≡ h.place + before_body = omega (arith, body_is, here) in
+                subst (λ (b : ℕ). KeepsHistory new (led_at b h r.entry)) same (goes h (is-kept h k)).keeps
+
+            module _ (number : ℕ) (number_is : IsNextNumber old.graph number) where
+              -- It is the number of the commit on which the head stands.
+              head-there : (h : History) → IsHistoryOf old.graph h → h.place ≡ place → number ≡ new.head.commit
+              head-there h k here =
+                  number_is h.graph k.keeps.graph.shape
+                  ∙ ap (λ (x : Record). (led h x.entry).graph.head.commit) (sym (next-is h k))
+                  ∙ ap (λ (t : Target). t.commit) (sym (commit-keeps h k here).graph.shape.head)
+
+              pub number-there : number < length new.commits
+              number-there =
+                  ∥∥₁_elim ran.known le_prop
+                  (λ k.
+                  let shape = commit-keeps k.0 k.1 k.2 in
+                  let is : number ≡ newest (led k.0 r.entry).graph =
+                  number_is k.0.graph k.1.keeps.graph.shape ∙ ap (λ (x : Record). newest (led k.0 x.entry).graph) (sym (next-is k.0 k.1)) in
+                  omega (arith, is, count-shape new (led k.0 r.entry).graph shape.graph.shape))
+
+              -- The new head keeps the table of that commit, and the pictures that follow what changed.
+              module _ (written : IsRecord r) (head : Head) (graph : head.graph ≡ new) (live : head.live ≡ old.live) (table : IsTableOf new number (table_of_rows head.table))
+                  (pictures_are : (stored_rows : Table) → groups_in stored_rows ≡ stored_among (groups_in rows) (picture before) noted u
+                  → ((x : Row) → In x stored_rows → Stored None x (picture u x.group)) → KeepsJust head.kept (groups_in (after (change_told rows before noted u stored_rows) rows)) u) where
+                module _ (h : History) (k : IsHistoryOf old.graph h) (here : h.place ≡ place) where
+                  abbrev more : Table
+                  more = next_rows h cells before own u
+
+                  now-kept : IsHistoryOf new (led h r.entry)
+                  now-kept = record { keeps = commit-keeps h k here; good = led-history h r.entry k.good written.rules (follows h k (h.place + before_body)) }
+
+                  table-now : table_of_rows head.table ≡ head_table (led h r.entry)
+                  table-now = head-table-is new number (table_of_rows head.table) (head-there h k here) table (led h r.entry) now-kept
+
+                  more-groups : groups_in more ≡ stored_among (groups_in rows) (picture before) noted u
+                  more-groups =
+                      rows-groups u (suc (newest h.graph)) (h.place + before_body + before_pictures (next_entry h cells before own u)) (groups_told (head_table h) before own u)
+                      ∙ ap (λ (x : Table). groups_told x before own u) (sym (table-here h k))
+                      ∙ sym (stored_same noted own ran.accessed (groups_in rows) (picture before) u)
+
+                  pictures-now : KeepsJust head.kept (groups_in (head_table (led h r.entry))) u
+                  pictures-now =
+                      let first = pictures_are more more-groups
+                      (rows-untold u (suc (newest h.graph)) (h.place + before_body + before_pictures (next_entry h cells before own u)) (groups_told (head_table h) before own u) (can-here h k)) in
+                      let second = subst (λ (c : Change). KeepsJust head.kept (groups_in (after c rows)) u) (change_same noted own ran.accessed rows before u more) first in
+                      let third = subst (λ (x : Table). KeepsJust head.kept (groups_in (after (change_told x before own u more) x)) u) (table-here h k) second in
+                      let fourth = subst (λ (x : Table). KeepsJust head.kept (groups_in x) u) (sym (told-table h k.good cells before u own)) third in
+                      subst (λ (x : Record). KeepsJust head.kept (groups_in (head_table (led h x.entry))) u) (sym (next-is h k)) fourth
+
+                  held-by : (j : History) → IsHistoryOf new j → KeepsTable head j
+                  held-by j other =
+                      let one = one-head-table new (led h r.entry) j now-kept other in
+                      record {
+                        table = table-now ∙ one;
+                        pictures =
+                            subst (λ (x : State). KeepsJust head.kept (groups_in (head_table j)) x) (sym (ap state_of live))
+                            (subst (λ (x : Table). KeepsJust head.kept (groups_in x) u) one pictures-now);
+                      }
+
+                pub commit-held : (j : History) → IsHistoryOf head.graph j → KeepsTable head j
+                commit-held j other =
+                    let there = subst (λ (x : Kept). IsHistoryOf x j) graph other in
+                    ∥∥₁_elim ran.known (keeps-prop head j) (λ k. held-by k.0 k.1 k.2 j there)

@@ -5,19 +5,19 @@ use Rattle.std.specs.List.{AllZip}
 use Rattle.std.specs.Prelude.{Option, Some, None}
 use Rattle.kishu_meaning.specs.values.Values as values
 use Rattle.kishu_meaning.specs.values.Values.{empty}
-use Rattle.kishu_objects.specs.Same.{Same}
-use Rattle.kishu_replay.specs.Replay.{after_cells, after_commits, replay}
+use Rattle.kishu_objects.specs.States.{IsSoundState}
+use Rattle.kishu_replay.specs.Replay.{after_commits, replay}
 use Rattle.kishu_store.specs.Entries.{Record}
 use Rattle.kishu_store.specs.Graph.{Commit, Graph, newest, path_in, with_commit}
 use Rattle.kishu_store.specs.Histories.{History, head_table}
 use Rattle.kishu_store.specs.Holds.{HasRecords, Holds, history_by}
 use Rattle.kishu_store.specs.Limits.{newest_profile}
-use Rattle.kishu_store.specs.Tables.{Table, Change, table_in, change_of}
+use Rattle.kishu_store.specs.Tables.{Table, Change, change_of, groups_in, table_in}
 use Rattle.kishu_store_laws.specs.HistoryLaws.{IsHistory}
 use Rattle.kishu_store_laws.specs.Laws.{has-holds, has-gives, history-graph, history-push}
 use Rattle.kishu_store_laws.specs.PlaceLaws.{pictures-stay, has-history}
-use Rattle.kishu_history.specs.AllNames.{AreWhole}
-use Rattle.kishu_history.specs.Good.{IsStoreOf, IsWholeAttached, IsWholeFileOf, IsWholeStore}
+use Rattle.kishu_history.specs.Accessed.{accessed_by}
+use Rattle.kishu_history.specs.Good.{IsAttached, IsGoodFileOf, IsGoodStore}
 use Rattle.kishu_history.specs.Live.{IsLive, IsPictureOf}
 use Rattle.kishu_history.specs.Paths.{AreRows}
 use Rattle.kishu_history.specs.Sizes.{StaySmall}
@@ -26,14 +26,18 @@ use Rattle.kishu_history_laws.specs.stores.AttachedLaws.{attached_still}
 use Rattle.kishu_history_laws.specs.stores.StoreLaws.{live_still}
 use Rattle.kishu_history_laws.specs.tables.FileLaws.{changes_are_rows, stay_keeps}
 use Rattle.kishu_history_laws.specs.versions.PathLaws.{rows_recorded}
-use Rattle.kishu_session_laws.specs.CellLaws.{cells_keep, replay_is_state, replays_are_states}
+use Rattle.kishu_session_laws.specs.CellLaws.{replay_is_state}
 use Rattle.kishu_live_laws.specs.AtHead.{replay_more}
 use Rattle.kishu_live_laws.specs.CellsAlike.{cells_few}
 use Rattle.kishu_live_laws.specs.Fewer.{opened_few}
-use Rattle.kishu_commit.specs.LiveLaws.{whole-table, live-untold}
-use Rattle.kishu_commit.specs.RecordedLaws.{recorded-live, recorded-attached}
-use Rattle.kishu_commit.specs.Whole.{next_record, next_rows}
-use Rattle.kishu_session.specs.Head.{LivesAt}
+use Rattle.kishu_objects.specs.Locality.{Leaves}
+use Rattle.kishu_graph.specs.Tables.{table_of_rows}
+use Rattle.kishu_delta.specs.Kept.{Pictures, KeepsJust}
+use Rattle.kishu_commit.specs.AttachedLaws.{accesses-leave, recorded-attached}
+use Rattle.kishu_commit.specs.LiveLaws.{live-untold}
+use Rattle.kishu_commit.specs.RecordedLaws.{recorded-live}
+use Rattle.kishu_commit.specs.Told.{next_record}
+use Rattle.kishu_session.specs.Head.{LivesAt, KeepsTable}
 use Rattle.kishu_session.specs.Known.{IsHistoryOf}
 use Rattle.kishu_session.specs.Lives.{state_of}
 use Rattle.kishu_session.specs.Prepared.{led_with}
@@ -41,6 +45,38 @@ use Rattle.kishu_session.specs.Recording.{with_new}
 use Rattle.kishu_session.specs.declared.head.Head.{Head}
 use Rattle.kishu_session.proofs.RecordKinds.{IsSameStore, IsStill, IsMoved, IsCommitted, Kind, same-table, same-head-table}
 use Rattle.kishu_session.proofs.LoadFacts.{lives-untold}
+
+-- ---- cells that were committed
+
+module _ (old new : Head) (h : History) (r : Option Record) (k : IsCommitted old new h r) where
+  -- the names that they accessed
+  abbrev pub own : List (List ℕ)
+  own = accessed_by newest_profile k.cells (state_of old.live)
+
+  pub own-leave : IsSoundState (state_of old.live) → Leaves own (state_of old.live) (state_of new.live)
+  own-leave sound =
+      subst (λ (x : values.State). Leaves own (state_of old.live) x) (sym k.ran)
+      (accesses-leave k.cells (state_of old.live) sound own (λ x. (λ m. m, λ m. m)))
+
+-- ---- what is kept of the head's table
+
+module _ (file : Option (List ℕ)) (old new : Head) (h : History) (held : KeepsTable old h) where
+  still-held : (n : History) → IsStill old new h n → KeepsTable new n
+  still-held n k =
+      let same = sym (same-head-table h n k.same k.head) in
+      record {
+        table = ap table_of_rows k.table ∙ held.table ∙ same;
+        pictures =
+            subst (λ (t : Table). KeepsJust new.kept (groups_in t) (state_of new.live)) same
+            (subst (λ (p : Pictures). KeepsJust p (groups_in (head_table h)) (state_of new.live)) (sym k.kept)
+            (subst (λ (s : values.State). KeepsJust old.kept (groups_in (head_table h)) s) (sym k.live) held.pictures));
+      }
+
+  pub held-led : (r : Option Record) → IsHistoryOf new.graph (led_with h r) → Kind file old new h r (led_with h r) → KeepsTable new (led_with h r)
+  held-led r kept kind =
+      ⊎_elim (still-held (led_with h r))
+      (⊎_elim (λ (k : IsMoved file new h (led_with h r)). (k.loaded (led_with h r) kept).held)
+      (λ (k : IsCommitted old new h r). k.held (led_with h r) kept)) kind
 
 -- ---- whatever the host tells
 
@@ -53,10 +89,9 @@ module _ (file : Option (List ℕ)) (old new : Head) (h : History) (good : IsHis
 
   committed-untold : (r : Option Record) → IsCommitted old new h r → LivesAt None new (led_with h r)
   committed-untold r k =
-      let u = state_of new.live in
-      let rows : IsLive (Stored None) (next_rows h k.cells u) u = live-untold u _ _ k.fits k.sound in
+      let s = state_of old.live in
       subst (λ (o : Option Record). LivesAt None new (led_with h o)) (sym k.is)
-      (subst (λ (t : Table). IsLive (Stored None) t u) (sym (whole-table h good k.cells u)) rows)
+      (live-untold h good k.cells s (state_of new.live) (own old new h r k) k.sound (own-leave old new h r k lives.state) k.fits lives)
 
   pub lives-led : (r : Option Record) → IsHistoryOf new.graph (led_with h r) → Kind file old new h r (led_with h r) → LivesAt None new (led_with h r)
   lives-led r kept kind =
@@ -69,11 +104,6 @@ module _ (file : Option (List ℕ)) (old new : Head) (h : History) (good : IsHis
 keeps-table : (file grown : List ℕ) (ks : List Commit) (of : ℕ → Change) → AreRows of → KeepsRecords file grown (length ks) of → (c : ℕ)
     → Keeps file grown (table_in ks of c)
 keeps-table file grown ks of rows keeps c r m = (let q = rows_recorded ks of rows c r m in keeps r.version q.1 r q.0)
-
--- What cells leave of a replay is the same as what they leave of the state, and isn't too large.
-pub record RunsAlike (s t : values.State) (cells : List (List ℕ)) : Type 0 where
-  pub same : Same (after_cells newest_profile cells s) (after_cells newest_profile cells t)
-  pub small : StaySmall newest_profile cells t
 
 -- ---- records behind those of a file
 
@@ -118,12 +148,6 @@ module _ (file grown : List ℕ) (rs : List Record) (r : Option Record) (has : H
         (stays-there n.graph.head.commit (state_of new.live)
         (subst (λ (t : Table). IsLive (Stored (Some file)) t (state_of new.live)) table (k.loaded n kept).lives))
 
-    committed-grown : IsCommitted old new h r → LivesAt (Some grown) new n
-    committed-grown k =
-        let u = state_of new.live in
-        subst (λ (o : Option Record). LivesAt (Some grown) new (history_by (with_new rs o))) (sym k.is)
-        (recorded-live rs k.cells u k.sound k.fits grown (subst (λ (o : Option Record). HasRecords grown (with_new rs o)) k.is has_grown))
-
     module _ (lives : LivesAt (Some file) old h) where
       still-grown : IsStill old new h n → LivesAt (Some grown) new n
       still-grown k =
@@ -131,19 +155,26 @@ module _ (file grown : List ℕ) (rs : List Record) (r : Option Record) (has : H
           (subst (λ (s : values.State). IsLive (Stored (Some grown)) (head_table h) s) (sym k.live)
           (stays-there h.graph.head.commit (state_of old.live) lives))
 
+      committed-grown : IsCommitted old new h r → LivesAt (Some grown) new n
+      committed-grown k =
+          let s = state_of old.live in
+          subst (λ (o : Option Record). LivesAt (Some grown) new (history_by (with_new rs o))) (sym k.is)
+          (recorded-live rs k.cells s (state_of new.live) (own old new h r k) file has grown (subst (λ (o : Option Record). HasRecords grown (with_new rs o)) k.is has_grown)
+          lives k.sound (own-leave old new h r k lives.state) k.fits)
+
       pub lives-grown : IsHistoryOf new.graph n → Kind (Some file) old new h r n → LivesAt (Some grown) new n
       lives-grown kept kind = ⊎_elim still-grown (⊎_elim (moved-grown kept) committed-grown) kind
 
     -- ---- a good file
 
-    module _ (attached : IsWholeAttached file h.graph of (state_of old.live)) where
+    module _ (attached : IsAttached file h.graph of (state_of old.live)) where
       abbrev s : values.State
       s = state_of old.live
 
       abbrev replayed : values.State
       replayed = replay h.graph h.graph.head.commit
 
-      good-by : IsStoreOf AreWhole grown n.graph.commits (change_of n.changes) → IsWholeFileOf grown n.graph
+      good-by : IsGoodStore grown n.graph.commits (change_of n.changes) → IsGoodFileOf grown n.graph
       good-by store = record {
         changes = n.changes;
         holds = subst (λ (g : Graph). Holds grown g) (sym (history-graph (with_new rs r))) (has-holds grown (with_new rs r) has_grown);
@@ -151,30 +182,24 @@ module _ (file grown : List ℕ) (rs : List Record) (r : Option Record) (has : H
         store = store;
       }
 
-      same-good : IsSameStore h n → IsWholeFileOf grown n.graph
+      same-good : IsSameStore h n → IsGoodFileOf grown n.graph
       same-good same =
           let here = (attached_still file grown h.graph of rows s attached keeps h.graph refl refl).good in
           good-by
-          (subst (λ (ks : List Commit). IsWholeStore grown ks (change_of n.changes)) (sym same.commits)
-          (subst (λ (cs : List Change). IsWholeStore grown h.graph.commits (change_of cs)) (sym same.changes) here))
+          (subst (λ (ks : List Commit). IsGoodStore grown ks (change_of n.changes)) (sym same.commits)
+          (subst (λ (cs : List Change). IsGoodStore grown h.graph.commits (change_of cs)) (sym same.changes) here))
 
-      committed-good : (k : IsCommitted old new h r) → RunsAlike s replayed k.cells → IsWholeFileOf grown n.graph
-      committed-good k alike =
-          let u = state_of new.live in
-          let there = replay_is_state h.graph h.graph.head.commit in
-          let same : Same u (after_cells newest_profile k.cells replayed) = subst
-          (λ (x : values.State). Same x (after_cells newest_profile k.cells replayed)) (sym k.ran) alike.same in
-          let next : HasRecords grown (rs ++ (next_record h k.cells u ∷ [])) = subst (λ (o : Option Record). HasRecords grown (with_new rs o))
-          k.is has_grown in
-          let after = recorded-attached rs k.cells u k.sound k.fits grown next file has (replays_are_states h.graph) s attached
-          (cells_keep newest_profile k.cells replayed there) same alike.small in
-          good-by (subst (λ (o : Option Record). IsWholeStore grown (history_by (with_new rs o)).graph.commits
+      committed-good : (k : IsCommitted old new h r) → StaySmall newest_profile k.cells s → IsGoodFileOf grown n.graph
+      committed-good k small =
+          let next = subst (λ (o : Option Record). HasRecords grown (with_new rs o)) k.is has_grown in
+          let after = recorded-attached rs file has s attached k.cells (state_of new.live) k.ran (own old new h r k) (λ x. (λ m. m, λ m. m)) k.fits small grown next in
+          good-by (subst (λ (o : Option Record). IsGoodStore grown (history_by (with_new rs o)).graph.commits
           (change_of (history_by (with_new rs o)).changes)) (sym k.is) after.good)
 
-      pub good-grown : Kind (Some file) old new h r n → ((k : IsCommitted old new h r) → RunsAlike s replayed k.cells) → IsWholeFileOf grown n.graph
-      good-grown kind alike =
+      pub good-grown : Kind (Some file) old new h r n → ((k : IsCommitted old new h r) → StaySmall newest_profile k.cells s) → IsGoodFileOf grown n.graph
+      good-grown kind small =
           ⊎_elim (λ (k : IsStill old new h n). same-good k.same)
-          (⊎_elim (λ (k : IsMoved (Some file) new h n). same-good k.same) (λ (k : IsCommitted old new h r). committed-good k (alike k))) kind
+          (⊎_elim (λ (k : IsMoved (Some file) new h n). same-good k.same) (λ (k : IsCommitted old new h r). committed-good k (small k))) kind
 
       -- ---- how many nodes there are
 
@@ -202,6 +227,7 @@ module _ (file grown : List ℕ) (rs : List Record) (r : Option Record) (has : H
         committed-few : IsCommitted old new h r → IsFew n.graph (state_of new.live)
         committed-few k =
             let u = state_of new.live in
+            let own_names = own old new h r k in
             let fewer = cells_few newest_profile k.cells s replayed attached.told.state (replay_is_state h.graph h.graph.head.commit)
             attached.same few in
             let now : IsFew (with_commit newest_profile k.cells h.graph) u =
@@ -212,7 +238,7 @@ module _ (file grown : List ℕ) (rs : List Record) (r : Option Record) (has : H
               ap (λ (x : values.State). length x.nodes) (replay_more newest_profile k.cells h.graph),
             ) in
             subst (λ (o : Option Record). IsFew (history_by (with_new rs o)).graph u) (sym k.is)
-            (subst (λ (x : History). IsFew x.graph u) (led-is rs (Some (next_record h k.cells u))) now)
+            (subst (λ (x : History). IsFew x.graph u) (led-is rs (Some (next_record h k.cells s own_names u))) now)
 
         pub few-grown : IsHistoryOf new.graph n → Kind (Some file) old new h r n → IsFew n.graph (state_of new.live)
         few-grown kept kind = ⊎_elim still-few (⊎_elim (moved-few kept) committed-few) kind

@@ -9,9 +9,9 @@ use Rattle.kishu_store.specs.Entries.{Record}
 use Rattle.kishu_store.specs.Graph.{Graph, newest}
 use Rattle.kishu_store.specs.Histories.{History}
 use Rattle.kishu_store.specs.Holds.{Holds, Gives, history_by}
-use Rattle.kishu_store.specs.Tables.{Table}
-use Rattle.kishu_store_laws.specs.Laws.{ends-gives, one_graph}
-use Rattle.kishu_live_laws.specs.OnStates.{after_on, answer_on}
+use Rattle.kishu_store.specs.Tables.{Table, Change, change_of}
+use Rattle.kishu_store_laws.specs.Laws.{ends-gives, one_changes, one_graph}
+use Rattle.kishu_live_laws.specs.OnStates.{answer_on}
 use Rattle.kishu_live_laws.specs.Outcomes.{still_state, when_none}
 use Rattle.kishu_model.specs.Request.{Request}
 use Rattle.kishu_model.specs.Values.{answer_of}
@@ -20,11 +20,11 @@ use Rattle.kishu_checkout.specs.Loads.{IsLoadedFrom}
 use Rattle.kishu_checkout.specs.Pictures.{told_file}
 use Rattle.kishu_session.specs.Attached.{IsAtEnd, StandsAtEnd}
 use Rattle.kishu_session.specs.Becoming.{IsHeadLoaded, IsNextState}
-use Rattle.kishu_session.specs.Ends.{at-end-behind, at-end-history}
+use Rattle.kishu_session.specs.Ends.{IsBehind, at-end-behind, at-end-history}
 use Rattle.kishu_session.specs.Head.{CountsPath, IsGiven, IsKnown, IsLoaded}
 use Rattle.kishu_session.specs.Known.{IsHistoryOf}
 use Rattle.kishu_session.specs.Lives.{state_of}
-use Rattle.kishu_session.specs.Prepared.{LeadsOn, led_with, record_in}
+use Rattle.kishu_session.specs.Prepared.{LeadsOn, after_by, led_with, record_in}
 use Rattle.kishu_session.specs.declared.head.Head.{Head}
 use Rattle.kishu_session.specs.declared.prepared.Prepared.{Prepared}
 use Rattle.kishu_session.specs.declared.session.Session.{Session}
@@ -54,7 +54,10 @@ head-loaded session s told stands loaded g holds =
 
 -- From a history that is kept, whose changes a file gives, to the one with the request's record.
 module _ (file : List ℕ) (old new : Head) (h : History) (q : Request) (r : Option Record) (gives : Gives file h.changes)
-    (after : (led_with h r).graph ≡ after_on (state_of old.live) h.graph q) where
+    (after : (led_with h r).graph ≡ after_by h (state_of old.live) q) where
+  abbrev of : ℕ → Change
+  of = change_of h.changes
+
   abbrev u : values.State
   u = state_of old.live
 
@@ -62,7 +65,7 @@ module _ (file : List ℕ) (old new : Head) (h : History) (q : Request) (r : Opt
   v = state_of new.live
 
   abbrev now : Graph
-  now = after_on u h.graph q
+  now = after_by h u q
 
   -- where the commits stay, the request makes none
   none-made : IsSameStore h (led_with h r) → newest now ≤ newest h.graph
@@ -70,10 +73,10 @@ module _ (file : List ℕ) (old new : Head) (h : History) (q : Request) (r : Opt
       let same : newest (led_with h r).graph ≡ newest h.graph = ap length k.commits in
       omega (arith, same, ap newest after)
 
-  still-next : IsStill old new h (led_with h r) → IsNextState file h.graph u q v
-  still-next k = inl (k.live ∙ sym (still_state u h.graph q (when_none u h.graph q (none-made k.same))))
+  still-next : IsStill old new h (led_with h r) → IsNextState file of h.graph u q v
+  still-next k = inl (k.live ∙ sym (still_state of u h.graph q (when_none of u h.graph q (none-made k.same))))
 
-  moved-next : IsHistoryOf new.graph (led_with h r) → IsMoved (Some file) new h (led_with h r) → IsNextState file h.graph u q v
+  moved-next : IsHistoryOf new.graph (led_with h r) → IsMoved (Some file) new h (led_with h r) → IsNextState file of h.graph u q v
   moved-next kept k =
       inr (
         none-made k.same,
@@ -86,11 +89,11 @@ module _ (file : List ℕ) (old new : Head) (h : History) (q : Request) (r : Opt
         },
       )
 
-  committed-next : IsCommitted old new h r → IsNextState file h.graph u q v
+  committed-next : IsCommitted old new h r → IsNextState file of h.graph u q v
   committed-next k =
-      inl (k.ran ∙ left-on u h.graph q k.cells (sym after ∙ ap (λ (o : Option Record). (led_with h o).graph) k.is))
+      inl (k.ran ∙ left-on of u h.graph q k.cells (sym after ∙ ap (λ (o : Option Record). (led_with h o).graph) k.is))
 
-  next-state : IsHistoryOf new.graph (led_with h r) → Kind (Some file) old new h r (led_with h r) → IsNextState file h.graph u q v
+  next-state : IsHistoryOf new.graph (led_with h r) → Kind (Some file) old new h r (led_with h r) → IsNextState file of h.graph u q v
   next-state kept kind = ⊎_elim still-next (⊎_elim (moved-next kept) committed-next) kind
 
 -- The cells that a session counts are those on the path to the head of each history that is kept.
@@ -108,20 +111,28 @@ module _ (old : Session) (new : Head) (s : host.State) (q : Request) (p : Prepar
   abbrev r : Option Record
   r = record_in p.recorded
 
-  pub answer-on-live : IsKnown old.head old.journal.place → (g : Graph) → IsAtEnd old s g → answer_of p.answer ≡ Some (answer_on live g q)
-  answer-on-live known g e =
-      let b = at-end-behind old s g e in
-      let h = history_by b.found in
-      let count = counts-known old.head old.journal.place h b.kept known in
-      subst (λ (x : Graph). answer_of p.answer ≡ Some (answer_on live x q)) b.graph (leads.answers h b.kept count).answer
+  -- of the history that it stands behind, and so of what the file holds and its records change
+  module _ (g : Graph) (cs : List Change) (e : IsAtEnd old s g) (gives : Gives s.file cs) where
+    abbrev behind : IsBehind old s.file g
+    behind = at-end-behind old s g e
 
-  pub goes-on-live : (s1 : host.State) → IsQuiet s s1 → s.tells ≡ true → (g : Graph) → IsAtEnd old s g
-      → IsNextState s.file g live q (state_of new.live)
-  goes-on-live s1 quiet told g e =
-      let b = at-end-behind old s g e in
-      let h = history_by b.found in
-      let kind = subst (λ (o : Option (List ℕ)). Kind o old.head new h r (led_with h r)) (told-some s told)
-      (kind-now old new s s1 q p leads quiet h b.kept b.place) in
-      subst (λ (x : Graph). IsNextState s.file x live q (state_of new.live)) b.graph
-      (next-state s.file old.head new h q r (ends-gives s.file b.found b.at.ends) (graph-now old new s s1 q p leads quiet h b.kept b.place)
-      (kept-now old new s s1 q p leads quiet h b.kept b.place) kind)
+    abbrev found : History
+    found = history_by behind.found
+
+    changes-are : found.changes ≡ cs
+    changes-are = one_changes s.file found.changes cs (ends-gives s.file behind.found behind.at.ends) gives
+
+    pub answer-on-live : IsKnown old.head old.journal.place → answer_of p.answer ≡ Some (answer_on (change_of cs) live g q)
+    answer-on-live known =
+        let count = counts-known old.head old.journal.place found behind.kept known in
+        subst (λ (x : Graph). answer_of p.answer ≡ Some (answer_on (change_of cs) live x q)) behind.graph
+        (subst (λ (ds : List Change). answer_of p.answer ≡ Some (answer_on (change_of ds) live found.graph q)) changes-are (leads.answers found behind.kept count).answer)
+
+    pub goes-on-live : (s1 : host.State) → IsQuiet s s1 → s.tells ≡ true → IsNextState s.file (change_of cs) g live q (state_of new.live)
+    goes-on-live s1 quiet told =
+        let kind = subst (λ (o : Option (List ℕ)). Kind o old.head new found r (led_with found r)) (told-some s told)
+        (kind-now old new s s1 q p leads quiet found behind.kept behind.place) in
+        subst (λ (x : Graph). IsNextState s.file (change_of cs) x live q (state_of new.live)) behind.graph
+        (subst (λ (ds : List Change). IsNextState s.file (change_of ds) found.graph live q (state_of new.live)) changes-are
+        (next-state s.file old.head new found q r (ends-gives s.file behind.found behind.at.ends) (graph-now old new s s1 q p leads quiet found behind.kept behind.place)
+        (kept-now old new s s1 q p leads quiet found behind.kept behind.place) kind))

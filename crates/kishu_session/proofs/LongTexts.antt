@@ -11,7 +11,7 @@ use Rattle.std.specs.declared.rc.RcStr.{RcStr}
 use Rattle.kishu_language.specs.Limits.{longest_text}
 use Rattle.kishu_model.specs.requests.Cells.{is_too_long, texts_size, largest_texts}
 use Rattle.kishu_store.specs.Rules.{AreCells}
-use Rattle.kishu_commit.specs.Whole.{MayBeCommitted}
+use Rattle.kishu_commit.specs.Told.{MayBeCommitted}
 use Rattle.kishu_session.specs.TextLists.{texts_of, are_short, AreShort}
 use Rattle.kishu_session.proofs.TextFacts.{short-first, short-rest, short-more, text-utf8}
 

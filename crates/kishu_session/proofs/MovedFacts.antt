@@ -152,7 +152,7 @@ module _ (file : Option (List ℕ)) (place : ℕ) (old new : Head) (kept : Kept)
         keeps = subst (λ (o : Option Record). KeepsHistory new.graph (led_with h o)) (sym is.recorded) (moved-keeps h to c old.graph new.graph m k.keeps);
       }
 
-  answered-here : (h : History) → IsHistoryOf old.graph h → IsAnswered h.graph (checkout to) old new p
+  answered-here : (h : History) → IsHistoryOf old.graph h → IsAnswered h (checkout to) old new p
   answered-here h k =
       let m = moves-here h.graph k.keeps.graph.shape in
       record {
@@ -195,4 +195,4 @@ checkout-fault g to kept fault r by cause shape =
 pub refused-moved : (head : Head) (to : List ℕ) (fault : GraphFault) (r : Refusal) → refusal_by fault ≡ Some r
     → (fault ≡ NoMemory) ⊎ ((h : Graph) → HasShapeOf head.graph h → unless_there (resolve h to) h ≡ Some fault) → (p : Prepared) → answer_of p.answer ≡ Some (refused r) → p.recorded ≡ None → LeadsAlone head head (checkout to) p
 refused-moved head to fault r by cause p answer none =
-    refused-leads head (checkout to) r p (fault-by-graph fault r by) answer none (λ g s. checkout-fault g to head.graph fault r by cause s.shape)
+    refused-leads head (checkout to) r p (fault-by-graph fault r by) answer none (λ of g s. checkout-fault g to head.graph fault r by cause s.shape)

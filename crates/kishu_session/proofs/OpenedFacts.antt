@@ -12,9 +12,9 @@ use Rattle.kishu_store.specs.Tables.{Table, Change, change_of, table_at}
 use Rattle.kishu_store_laws.specs.HistoryLaws.{records-history}
 use Rattle.kishu_store_laws.specs.Laws.{history-graph, ends-holds, ends-gives, one_graph, one_changes}
 use Rattle.kishu_graph.specs.Kept.{Kept, StandsFor, TellsChanges}
-use Rattle.kishu_history.specs.Good.{IsWholeFile, IsWholeFileOf}
+use Rattle.kishu_history.specs.Good.{IsGoodFile, IsGoodFileOf}
 use Rattle.kishu_objects.specs.Lists.{In}
-use Rattle.kishu_live_laws.specs.Loads.{whole_loads}
+use Rattle.kishu_live_laws.specs.Loads.{good_loads}
 use Rattle.kishu_journal.specs.Facts.{IsOfHistory}
 use Rattle.kishu_journal.specs.Found.{entries_of}
 use Rattle.kishu_journal.specs.Stands.{JournalState, Stands}
@@ -40,14 +40,14 @@ head-known kept place file head same known loaded counts =
     ∥∥₁_elim known squash₁
     (λ k.
     let of : IsHistoryOf head.graph k.0 = subst (λ (x : Kept). IsHistoryOf x k.0) (sym same) (record { keeps = k.1; good = k.2 }) in
-    ∣ (k.0, record { kept = of; place_is = k.3; count = counts k.0 of; lives = lives-untold file (head_table k.0) _ (loaded k.0 of).lives }) ∣₁)
+    ∣ (k.0, record { kept = of; place_is = k.3; count = counts k.0 of; lives = lives-untold file (head_table k.0) _ (loaded k.0 of).lives; held = (loaded k.0 of).held }) ∣₁)
 
 -- ---- where it tells its file
 
 -- A good file has a picture for each row of its head's table.
-pub good-each : (file : List ℕ) (g : Graph) (good : IsWholeFileOf file g) → HasEach file (table_at g (change_of good.changes) g.head.commit)
+pub good-each : (file : List ℕ) (g : Graph) (good : IsGoodFileOf file g) → HasEach file (table_at g (change_of good.changes) g.head.commit)
 good-each file g good r m =
-    let loads = whole_loads file g (change_of good.changes) (good-rows file g good) good.store good.holds g.head.commit (good-graph file g good).head.there r m in
+    let loads = good_loads file g (change_of good.changes) (good-rows file g good) good.store good.holds g.head.commit (good-graph file g good).head.there r m in
     (_, loads)
 
 module _ (old new : State) (store : OpenStore) (o : Opens old new store) (told : old.tells ≡ true) where
@@ -104,10 +104,10 @@ module _ (old new : State) (store : OpenStore) (o : Opens old new store) (told :
           holds = subst (λ (f : List ℕ). Holds f opened-history.graph) e opened-holds;
           gives = subst (λ (f : List ℕ). Gives f opened-history.changes) e opened-gives;
           lacks = record { row = l.lacks.row; there = l.lacks.there; place = l.lacks.place; none = λ _. subst (λ (f : List ℕ). HasNone f l.lacks.row) e (l.lacks.none now) };
-          bad = λ good. bad-none (subst IsWholeFile (sym e) good);
+          bad = λ good. bad-none (subst IsGoodFile (sym e) good);
         }
       where
-        bad-none : IsWholeFile new.file → ⊥
+        bad-none : IsGoodFile new.file → ⊥
         bad-none good =
             let graph : opened-history.graph ≡ good.0 = one_graph new.file opened-history.graph good.0 opened-holds good.1.holds in
             let changes : opened-history.changes ≡ good.1.changes = one_changes new.file opened-history.changes good.1.changes opened-gives good.1.gives in

@@ -9,8 +9,8 @@ use Rattle.kishu_store.specs.Graph.{Graph, new_graph}
 use Rattle.kishu_store.specs.Holds.{Holds, Gives}
 use Rattle.kishu_store.specs.Tables.{Change, change_of}
 use Rattle.kishu_store_laws.specs.Laws.{one_graph, one_changes}
-use Rattle.kishu_history.specs.Good.{IsWholeStore, IsWholeFileOf}
-use Rattle.kishu_history_laws.specs.stores.WholeStoreLaws.{new_whole}
+use Rattle.kishu_history.specs.Good.{IsGoodStore, IsGoodFileOf}
+use Rattle.kishu_history_laws.specs.stores.StoreLaws.{new_good}
 use Rattle.kishu_journal.specs.Bytes.{fresh}
 use Rattle.kishu_journal.specs.Facts.{KeepsLong, StaysShort, Settles, StopsAtOpening}
 use Rattle.kishu_journal.specs.Going.{IsQuiet, LeavesShort}
@@ -31,12 +31,12 @@ begun-is old new kept anew =
 -- ---- what files hold
 
 -- a short file is a good one
-pub short-good : (file : List ℕ) (g : Graph) → length file ≤ 17 → g ≡ new_graph → IsWholeFileOf file g
+pub short-good : (file : List ℕ) (g : Graph) → length file ≤ 17 → g ≡ new_graph → IsGoodFileOf file g
 short-good file g l is = record {
   changes = [];
   holds = inl (l, is);
   gives = inl (l, refl);
-  store = subst (λ (x : Graph). IsWholeStore file x.commits (change_of [])) (sym is) (new_whole file);
+  store = subst (λ (x : Graph). IsGoodStore file x.commits (change_of [])) (sym is) (new_good file);
 }
 
 module _ (old new : List ℕ) (kept : 17 < length old → new ≡ old) (short : length old ≤ 17 → length new ≤ 17) where
@@ -56,10 +56,10 @@ module _ (old new : List ℕ) (kept : 17 < length old → new ≡ old) (short : 
       (λ (l : length old ≤ 17). inl (l, one_changes new cs [] gives (inl (short l, refl))))
       (cases_lt 17 (length old))
 
-  pub kept-good : (g : Graph) → IsWholeFileOf old g → IsWholeFileOf new g
+  pub kept-good : (g : Graph) → IsGoodFileOf old g → IsGoodFileOf new g
   kept-good g good =
       ⊎_elim
-      (λ (long : 17 < length old). subst (λ (f : List ℕ). IsWholeFileOf f g) (sym (kept long)) good)
+      (λ (long : 17 < length old). subst (λ (f : List ℕ). IsGoodFileOf f g) (sym (kept long)) good)
       (λ (l : length old ≤ 17). short-good new g (short l) (one_graph old g new_graph good.holds (inl (l, refl))))
       (cases_lt 17 (length old))
 
@@ -97,7 +97,7 @@ module _ (Failed : Type 0) (s t : State) (o : IsOpening Failed s t) where
   pub opening-settled-good : SettlesGood Failed s t
   opening-settled-good told g good = elim (o.settled told) [
     | inl unsynced ↦ inl unsynced
-    | inr (inl only) ↦ inr (λ c now. subst (λ (f : List ℕ). IsWholeFileOf f g) (sym (only c now)) (opening-held-good told g good))
+    | inr (inl only) ↦ inr (λ c now. subst (λ (f : List ℕ). IsGoodFileOf f g) (sym (only c now)) (opening-held-good told g good))
     | inr (inr anew) ↦ inr (λ c now. short-good c g (anew.1 c now) (one_graph s.file g new_graph good.holds (inl (anew.0, refl))))
   ]
 
@@ -111,7 +111,7 @@ module _ (Failed : Type 0) (s t : State) (o : IsOpening Failed s t) where
 
   pub opening-stop-good : LeavesGood s t
   opening-stop-good told g good =
-      weaker s t (λ c o. Now s c o ⊎ (IsWholeFileOf c g × (o ≡ s.out))) (λ c o. Now s c o ⊎ ((length s.file ≤ 17) × LeavesShort s c o)) (o.stop told)
+      weaker s t (λ c o. Now s c o ⊎ (IsGoodFileOf c g × (o ≡ s.out))) (λ c o. Now s c o ⊎ ((length s.file ≤ 17) × LeavesShort s c o)) (o.stop told)
       (λ f out w. elim w [
         | inl now ↦ inl now
         | inr anew ↦ inr (short-good f g anew.1.1 (one_graph s.file g new_graph good.holds (inl (anew.0, refl))), anew.1.0)

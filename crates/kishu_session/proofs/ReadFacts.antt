@@ -14,13 +14,13 @@ use Rattle.kishu_store_laws.specs.GraphLaws.{IsGraph, changed-graph}
 use Rattle.kishu_store_laws.specs.Laws.{ends-gives, ends-holds, history-graph, one_changes}
 use Rattle.kishu_replay.specs.Replay.{replay}
 use Rattle.kishu_objects.specs.Picture.{picture}
-use Rattle.kishu_history.specs.Good.{IsWholeStore}
+use Rattle.kishu_history.specs.Good.{IsGoodStore}
 use Rattle.kishu_history_laws.specs.tables.FileLaws.{changes_are_rows}
-use Rattle.kishu_live_laws.specs.Loads.{whole_loads}
+use Rattle.kishu_live_laws.specs.Loads.{good_loads}
 use Rattle.kishu_model.specs.declared.request.Request as rust
 use Rattle.kishu_model.specs.Answers.{store_full}
 use Rattle.kishu_model.specs.Values.{request_of}
-use Rattle.kishu_model.specs.Request.{Request, cell, cells, checkout, branch, log, status, inspect, unreadable, refused_with}
+use Rattle.kishu_model.specs.Request.{Request, cell, cells, checkout, branch, log, status, inspect, stored, unreadable, refused_with}
 use Rattle.kishu_model.specs.requests.Checkout.{checkout_to, went_to}
 use Rattle.kishu_checkout.specs.Pictures.{HasEach}
 use Rattle.kishu_session.specs.Applying.{LacksHere}
@@ -61,6 +61,7 @@ module _ (g : Graph) (good : IsGraph g) where
   reads-there log = good.head.there
   reads-there status = good.head.there
   reads-there inspect = good.head.there
+  reads-there (stored of) = good.head.there
 
 -- ---- no picture is lacking where a session is attached
 
@@ -75,13 +76,13 @@ module _ (session : Session) (s : host.State) (ask : rust.Request) (at : ℕ) (l
       let c = reads_at h.graph q in
       let rows = changes_are_rows h.graph h.changes h.place b.kept.good.changes in
       let changes : a.changes ≡ h.changes = one_changes s.file a.changes h.changes a.gives (ends-gives s.file b.found b.at.ends) in
-      let store : IsWholeStore s.file h.graph.commits (change_of h.changes) =
-      subst (λ (x : Graph). IsWholeStore s.file x.commits (change_of h.changes)) (sym b.graph)
-      (subst (λ (cs : List Change). IsWholeStore s.file g.commits (change_of cs)) changes a.states.good) in
+      let store : IsGoodStore s.file h.graph.commits (change_of h.changes) =
+      subst (λ (x : Graph). IsGoodStore s.file x.commits (change_of h.changes)) (sym b.graph)
+      (subst (λ (cs : List Change). IsGoodStore s.file g.commits (change_of cs)) changes a.states.good) in
       let holds : Holds s.file h.graph = subst (λ (x : Graph). Holds s.file x) (sym (history-graph b.found)) (ends-holds s.file b.found b.at.ends) in
       let each : HasEach s.file (table_to h c) = λ row m. (
         picture (replay h.graph c) row.group,
-        whole_loads s.file h.graph (change_of h.changes) rows store holds c
+        good_loads s.file h.graph (change_of h.changes) rows store holds c
             (reads-there h.graph b.kept.good.graph q) row m,
       ) in
       (lacks h b.kept).1.some told each

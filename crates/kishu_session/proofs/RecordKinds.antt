@@ -10,10 +10,11 @@ use Rattle.kishu_store.specs.Graph.{Commit, Graph}
 use Rattle.kishu_store.specs.Histories.{History, head_table, led}
 use Rattle.kishu_store.specs.Limits.{newest_profile}
 use Rattle.kishu_store.specs.Tables.{Change, table_in, change_of}
+use Rattle.kishu_history.specs.Accessed.{accessed_by}
 use Rattle.kishu_store_laws.specs.HistoryLaws.{IsHistory, led-history}
 use Rattle.kishu_graph.specs.Kept.{Kept, KeepsHistory}
-use Rattle.kishu_commit.specs.Whole.{next_record, whole_record, CanBeStored}
-use Rattle.kishu_session.specs.Head.{IsLoaded}
+use Rattle.kishu_commit.specs.Told.{next_record, told_record, CanBeStored}
+use Rattle.kishu_session.specs.Head.{IsLoaded, KeepsTable}
 use Rattle.kishu_session.specs.Known.{IsHistoryOf}
 use Rattle.kishu_session.specs.Lives.{state_of}
 use Rattle.kishu_session.specs.Prepared.{Leads, LeadsTo, led_with, Tells, TellsBy}
@@ -41,24 +42,27 @@ pub record IsSameStore (h n : History) : Type 0 where
   pub commits : n.graph.commits ≡ h.graph.commits
   pub changes : n.changes ≡ h.changes
 
--- They do, and so do the head's commit and the live state.
+-- They do, and so do the head's commit, the live state, and what is kept of the head's table.
 pub record IsStill (old new : Head) (h n : History) : Type 0 where
   pub same : IsSameStore h n
   pub head : n.graph.head.commit ≡ h.graph.head.commit
   pub live : state_of new.live ≡ state_of old.live
+  pub table : new.table ≡ old.table
+  pub kept : new.kept ≡ old.kept
 
 -- They do, and the live state was loaded.
 pub record IsMoved (file : Option (List ℕ)) (new : Head) (h n : History) : Type 0 where
   pub same : IsSameStore h n
   pub loaded : IsLoaded file new
 
--- The record is the commit of these cells, which left the live state.
+-- The record is the commit of these cells, which left the live state, as the head's table tells it among the names that they accessed.
 pub record IsCommitted (old new : Head) (h : History) (r : Option Record) : Type 0 where
   pub cells : List (List ℕ)
-  pub is : r ≡ Some (next_record h cells (state_of new.live))
+  pub is : r ≡ Some (next_record h cells (state_of old.live) (accessed_by newest_profile cells (state_of old.live)) (state_of new.live))
   pub ran : state_of new.live ≡ after_cells newest_profile cells (state_of old.live)
   pub sound : IsSoundState (state_of new.live)
-  pub fits : CanBeStored (state_of new.live)
+  pub fits : CanBeStored (head_table h) (state_of old.live) (accessed_by newest_profile cells (state_of old.live)) (state_of new.live)
+  pub held : (j : History) → IsHistoryOf new.graph j → KeepsTable new j
 
 abbrev pub Kind : Option (List ℕ) → (old new : Head) → History → Option Record → History → Type 0
 Kind file old new h r n = IsStill old new h n ⊎ IsMoved file new h n ⊎ IsCommitted old new h r
@@ -77,10 +81,13 @@ module _ (file : Option (List ℕ)) (old new : Head) (h : History) (now : Graph)
       let parent : p ≡ h.graph.head.commit = subst (λ (e : Entry). GoesOn h.graph e) is leads.fits.graph.goes_on in
       inr (inr (record {
         cells = cells;
-        is = ap (λ (x : Record). Some x) (tells.is h kept ∙ ap (λ (n : ℕ). whole_record n cells (head_table h) (state_of new.live)) parent);
+        is = ap (λ (x : Record). Some x)
+            (tells.is h kept
+            ∙ ap (λ (n : ℕ). told_record n cells (head_table h) (state_of old.live) (accessed_by newest_profile cells (state_of old.live)) (state_of new.live)) parent);
         ran = tells.ran;
         sound = tells.sound;
-        fits = tells.fits;
+        fits = tells.fits h kept;
+        held = tells.held;
       }))
   by-entry r (move to) is leads tells =
       inr (inl (record { same = subst (λ (e : Entry). IsSameStore h (led h e)) (sym is) (moved-same h to); loaded = tells }))
@@ -88,12 +95,20 @@ module _ (file : Option (List ℕ)) (old new : Head) (h : History) (now : Graph)
       inl (record {
         same = subst (λ (e : Entry). IsSameStore h (led h e)) (sym is) (record { commits = refl; changes = refl });
         head = subst (λ (e : Entry). (led h e).graph.head.commit ≡ h.graph.head.commit) (sym is) refl;
-        live = ap state_of tells;
+        live = ap state_of tells.live;
+        table = tells.table;
+        kept = tells.kept;
       })
 
   pub kind-of : (r : Option Record) → LeadsTo h r now → Tells file old new r → Kind file old new h r (led_with h r)
   kind-of None leads (inl same) =
-      inl (record { same = record { commits = refl; changes = refl }; head = refl; live = ap (λ (x : Head). state_of x.live) same })
+      inl (record {
+        same = record { commits = refl; changes = refl };
+        head = refl;
+        live = ap (λ (x : Head). state_of x.live) same;
+        table = ap (λ (x : Head). x.table) same;
+        kept = ap (λ (x : Head). x.kept) same;
+      })
   kind-of None leads (inr back) = inr (inl (record { same = record { commits = refl; changes = refl }; loaded = back.loaded }))
   kind-of (Some r) leads tells = by-entry r r.entry refl leads tells
 

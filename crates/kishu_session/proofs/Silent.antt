@@ -8,7 +8,7 @@ use Rattle.kishu_store.specs.Graph.{Graph}
 use Rattle.kishu_store.specs.Histories.{History}
 use Rattle.kishu_store_laws.specs.GraphLaws.{changed-counted}
 use Rattle.kishu_commit.specs.declared.committing.Record as rust
-use Rattle.kishu_live_laws.specs.OnStates.{after_on}
+use Rattle.kishu_store.specs.Tables.{change_of}
 use Rattle.kishu_live_laws.specs.RefusalLaws.{refuses_as_step, graph_refusal_stays}
 use Rattle.kishu_live_laws.specs.Refusals.{refusal_in}
 use Rattle.kishu_model.specs.declared.answer.Answer as rust_answer
@@ -19,7 +19,7 @@ use Rattle.kishu_model.specs.Values.{answer_of}
 use Rattle.kishu_session.specs.Committing.{record_of}
 use Rattle.kishu_session.specs.Head.{IsHeadOf, IsKnown}
 use Rattle.kishu_session.specs.Lives.{state_of}
-use Rattle.kishu_session.specs.Prepared.{Leads, LeadsTo, Prepares, RefusesFor, record_in}
+use Rattle.kishu_session.specs.Prepared.{Leads, LeadsTo, Prepares, RefusesFor, after_by, record_in}
 use Rattle.kishu_session.specs.Refusing.{IsRefusal, RefusesAs}
 use Rattle.kishu_session.specs.declared.head.Head.{Head}
 use Rattle.kishu_session.specs.declared.prepared.Prepared.{Prepared}
@@ -37,15 +37,15 @@ refused-in a b r alike is = (let both : Some (refusal_in b) ≡ Some (Some r) = 
 module _ (place : ℕ) (old new : Head) (q : Request) (p : Prepared) (r : Refusal) (is : option_map refusal_in (answer_of p.answer) ≡ Some (Some r))
     (prepares : Prepares place old new q p) (alike : RefusesFor old.graph q p.answer) where
   -- the graph stays
-  stays : (h : History) → IsHeadOf old place h → after_on (state_of old.live) h.graph q ≡ h.graph
+  stays : (h : History) → IsHeadOf old place h → after_by h (state_of old.live) q ≡ h.graph
   stays h k =
       let s = state_of old.live in
-      graph_refusal_stays h.graph s q r (refuses_as_step h.graph s q ∙ refused-in (answer_of p.answer) (step h.graph q).answer r
+      graph_refusal_stays h.graph (change_of h.changes) s q r (refuses_as_step h.graph (change_of h.changes) s q ∙ refused-in (answer_of p.answer) (step h.graph q).answer r
       (alike h.graph k.kept.keeps.graph) is)
 
   no-record : (x : rust.Record) → p.recorded ≡ Some x → (h : History) → IsHeadOf old place h → ⊥
   no-record x some h k =
-      let now = after_on (state_of old.live) h.graph q in
+      let now = after_by h (state_of old.live) q in
       never-same h (record_of x) now (subst (λ (o : Option rust.Record). LeadsTo h (record_in o) now) some (prepares h k.kept k.place_is).leads)
       (stays h k)
 

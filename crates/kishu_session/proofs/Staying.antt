@@ -11,15 +11,19 @@ use Rattle.kishu_replay.specs.Replay.{replay}
 use Rattle.kishu_store.specs.Entries.{Record}
 use Rattle.kishu_store.specs.Graph.{Graph}
 use Rattle.kishu_store.specs.Histories.{History, head_table}
-use Rattle.kishu_store.specs.Holds.{HasRecords, history_by}
+use Rattle.kishu_store.specs.Holds.{Gives, HasRecords, Holds, history_by}
+use Rattle.kishu_store.specs.Limits.{newest_profile}
 use Rattle.kishu_store.specs.Tables.{Table, Change, change_of, table_at}
-use Rattle.kishu_store_laws.specs.Laws.{ends-gives, ends-records, one_changes}
+use Rattle.kishu_store_laws.specs.Laws.{ends-gives, ends-holds, ends-records, history-graph, one_changes}
 use Rattle.kishu_graph.specs.Kept.{Kept, KeepsHistory}
-use Rattle.kishu_history.specs.Good.{IsWholeAttached, IsWholeFileOf}
+use Rattle.kishu_history.specs.Good as good
+use Rattle.kishu_history.specs.Good.{IsGoodFileOf}
 use Rattle.kishu_history.specs.Live.{IsLive}
 use Rattle.kishu_history.specs.Stored.{Held, Stored}
 use Rattle.kishu_history_laws.specs.stores.BackLaws.{live_one}
-use Rattle.kishu_history_laws.specs.tables.FileLaws.{changes_are_tables}
+use Rattle.kishu_history.specs.Paths.{AreRows}
+use Rattle.kishu_history.specs.Sizes.{StaySmall}
+use Rattle.kishu_history_laws.specs.tables.FileLaws.{changes_are_rows, changes_are_tables, root_changes}
 use Rattle.kishu_live_laws.specs.AtHead.{answer_here, after_here, charge_here}
 use Rattle.kishu_live_laws.specs.OnStates.{after_on}
 use Rattle.kishu_model.specs.Answers.{Answer}
@@ -31,19 +35,19 @@ use Rattle.kishu_journal.specs.Going.{IsQuiet}
 use Rattle.kishu_journal.specs.Stands.{JournalState}
 use Rattle.kishu_checkout.specs.Pictures.{told_file}
 use Rattle.kishu_session.specs.Attached.{IsAtEnd, IsAttached, StandsAtEnd, LivesIn}
-use Rattle.kishu_session.specs.Ends.{at-end-behind}
+use Rattle.kishu_session.specs.Ends.{IsBehind, at-end-behind}
 use Rattle.kishu_session.specs.Head.{CountsPath, IsKnown, Lives, LivesAt}
 use Rattle.kishu_session.specs.Journals.{GoodBeforeOrAfter}
 use Rattle.kishu_session.specs.Known.{IsHistoryOf}
 use Rattle.kishu_session.specs.Lives.{state_of}
-use Rattle.kishu_session.specs.Prepared.{CountsOn, IsBack, LeadsOn, led_with, record_in}
+use Rattle.kishu_session.specs.Prepared.{CountsOn, IsBack, LeadsOn, after_by, led_with, record_in}
 use Rattle.kishu_session.specs.Recording.{IsJournalAt, GoesOn, LeavesOne, WithOrWithout, with_new}
 use Rattle.kishu_session.specs.declared.head.Head.{Head}
 use Rattle.kishu_session.specs.declared.prepared.Prepared.{Prepared}
 use Rattle.kishu_session.specs.declared.session.Session.{Session}
-use Rattle.kishu_session.proofs.Applied.{behind-at-end, graph-now, kept-now, kind-now, leads-to, left-one, ran-alike}
+use Rattle.kishu_session.proofs.Applied.{after-at, behind-at-end, graph-now, kept-now, kind-now, leads-to, left-one, small-on}
 use Rattle.kishu_session.proofs.AttachFacts.{told-attached, told-some}
-use Rattle.kishu_session.proofs.Grown.{RunsAlike, led-is, lives-grown, good-grown, few-grown}
+use Rattle.kishu_session.proofs.Grown.{led-is, lives-grown, good-grown, few-grown}
 use Rattle.kishu_session.proofs.RecordKinds.{Kind, IsCommitted}
 use Rattle.kishu_session.proofs.OneTable.{one-head-table}
 use Rattle.kishu_session.proofs.Untold.{live-there}
@@ -56,8 +60,8 @@ module _ (old : Session) (new : Head) (s s1 : host.State) (q : Request) (p : Pre
   abbrev live : values.State
   live = state_of old.head.live
 
-  abbrev After : Graph → Graph
-  After g = after_on live g q
+  abbrev After : History → Graph
+  After h = after_by h live q
 
   -- ---- behind these records
 
@@ -81,7 +85,7 @@ module _ (old : Session) (new : Head) (s s1 : host.State) (q : Request) (p : Pre
     kept-new : IsHistoryOf new.graph n
     kept-new = subst (λ (x : History). IsHistoryOf new.graph x) (led-is rs r) (kept-now old new s s1 q p leads quiet h kept place)
 
-    graph-new : n.graph ≡ After h.graph
+    graph-new : n.graph ≡ After h
     graph-new = ap (λ (x : History). x.graph) (sym (led-is rs r)) ∙ graph-now old new s s1 q p leads quiet h kept place
 
     -- The file that was appended to has the new head's pictures.
@@ -89,37 +93,40 @@ module _ (old : Session) (new : Head) (s s1 : host.State) (q : Request) (p : Pre
     lives-new grown has lives = lives-grown s.file grown rs r here has old.head new lives kept-new kind
 
     module _ (a : IsAttached old s h.graph) where
-      states : IsWholeAttached s.file h.graph (change_of h.changes) live
+      states : good.IsAttached s.file h.graph (change_of h.changes) live
       states =
-          subst (λ (cs : List Change). IsWholeAttached s.file h.graph (change_of cs) live)
+          subst (λ (cs : List Change). good.IsAttached s.file h.graph (change_of cs) live)
           (one_changes s.file a.changes h.changes a.gives (ends-gives s.file rs at.ends)) a.states
 
-      after-is : After h.graph ≡ after h.graph q
-      after-is = after_here live h.graph states.told.state states.same q
+      rows : AreRows (change_of h.changes)
+      rows = changes_are_rows h.graph h.changes h.place kept.good.changes
 
-      alike : (k : IsCommitted old.head new h r) → RunsAlike live (replay h.graph h.graph.head.commit) k.cells
-      alike k =
-          ran-alike live h.graph q k.cells
+      after-is : After h ≡ after h.graph q
+      after-is = after_here s.file (change_of h.changes) live h.graph rows states q
+
+      small : (k : IsCommitted old.head new h r) → StaySmall newest_profile k.cells live
+      small k =
+          small-on (change_of h.changes) live h.graph q k.cells
           (sym (graph-now old new s s1 q p leads quiet h kept place) ∙ ap (λ (o : Option Record). (led_with h o).graph) k.is)
-          states.told.state states.same
+          s.file rows states
 
-      good-new : (grown : List ℕ) → HasRecords grown (with_new rs r) → IsWholeFileOf grown n.graph
-      good-new grown has = good-grown s.file grown rs r here has old.head new states kind alike
+      good-new : (grown : List ℕ) → HasRecords grown (with_new rs r) → IsGoodFileOf grown n.graph
+      good-new grown has = good-grown s.file grown rs r here has old.head new states kind small
 
       -- a file with the records of before
-      good-old : (grown : List ℕ) → HasRecords grown rs → IsWholeFileOf grown h.graph
+      good-old : (grown : List ℕ) → HasRecords grown rs → IsGoodFileOf grown h.graph
       good-old grown has =
           good-grown s.file grown rs None here has old.head old.head states
-          (inl (record { same = record { commits = refl; changes = refl }; head = refl; live = refl })) (λ k. absurd (cc (k.is)))
+          (inl (record { same = record { commits = refl; changes = refl }; head = refl; live = refl; table = refl; kept = refl })) (λ k. absurd (cc (k.is)))
 
       stop-new : (t : host.State) → LeavesOne old.journal s1 t r → Elapses s t (GoodBeforeOrAfter s h.graph (after h.graph q))
       stop-new t leaves =
           weaker s t (GoodBeforeOrAfter s h.graph (after h.graph q)) (WithOrWithout s rs r)
-          (left-one old new s s1 q p leads quiet t leaves told a.durable rs (After h.graph) at (leads-to old new s s1 q p leads quiet h kept place))
+          (left-one old new s s1 q p leads quiet t leaves told a.durable rs (After h) at (leads-to old new s s1 q p leads quiet h kept place))
           (λ f o w. (
             w.0,
             ⊎_elim (λ (k : HasRecords f rs). inl (good-old f k))
-                (λ (k : HasRecords f (with_new rs r)). inr (subst (λ (g : Graph). IsWholeFileOf f g) (graph-new ∙ after-is) (good-new f k))) w.1,
+                (λ (k : HasRecords f (with_new rs r)). inr (subst (λ (g : Graph). IsGoodFileOf f g) (graph-new ∙ after-is) (good-new f k))) w.1,
           ))
 
       -- the session that goes on
@@ -128,13 +135,13 @@ module _ (old : Session) (new : Head) (s s1 : host.State) (q : Request) (p : Pre
         has : HasRecords t.file (with_new rs r)
         has = ends-records t.file (with_new rs r) goes.ends
 
-        good : IsWholeFileOf t.file n.graph
-        good = good-new t.file has
+        now_good : IsGoodFileOf t.file n.graph
+        now_good = good-new t.file has
 
-        told-new : IsLive (Held t.file) (table_at n.graph (change_of good.changes) n.graph.head.commit) (state_of new.live)
+        told-new : IsLive (Held t.file) (table_at n.graph (change_of now_good.changes) n.graph.head.commit) (state_of new.live)
         told-new =
             subst (λ (cs : List Change). IsLive (Held t.file) (table_at n.graph (change_of cs) n.graph.head.commit) (state_of new.live))
-            (one_changes t.file n.changes good.changes (ends-gives t.file (with_new rs r) goes.ends) good.gives)
+            (one_changes t.file n.changes now_good.changes (ends-gives t.file (with_new rs r) goes.ends) now_good.gives)
             (lives-new t.file has states.told)
 
         attached-here : IsAttached next t n.graph
@@ -144,10 +151,10 @@ module _ (old : Session) (new : Head) (s s1 : host.State) (q : Request) (p : Pre
           at_end = behind-at-end next t (with_new rs r) n.graph goes (subst (λ (x : Head). KeepsHistory x.graph n) (sym is) kept-new.keeps) refl;
           count = subst (λ (x : Head). CountsPath x n.graph) (sym is)
               (subst (λ (g : Graph). CountsPath new g) (sym graph-new) (leads.answers h kept a.count).count);
-          changes = good.changes;
-          gives = good.gives;
-          states = subst (λ (x : Head). IsWholeAttached t.file n.graph (change_of good.changes) (state_of x.live)) (sym is)
-              (told-attached t.file n.graph good (state_of new.live) told-new);
+          changes = now_good.changes;
+          gives = now_good.gives;
+          states = subst (λ (x : Head). good.IsAttached t.file n.graph (change_of now_good.changes) (state_of x.live)) (sym is)
+              (told-attached t.file n.graph now_good (state_of new.live) told-new);
           few =
               subst (λ (x : Head). length (state_of x.live).nodes ≤ length (replay n.graph n.graph.head.commit).nodes) (sym is)
               (few-grown s.file t.file rs r here has old.head new states a.few kept-new kind);
@@ -168,19 +175,40 @@ module _ (old : Session) (new : Head) (s s1 : host.State) (q : Request) (p : Pre
       let at1 = subst (λ (f : List ℕ). IsJournalAt old.journal f rs) (sym quiet.keeps.file) b.at in
       subst (λ (x : Graph). IsAttached next t (after x q)) b.graph
       (attached-new told rs b.at b.kept b.place (subst (λ (x : Graph). IsAttached old s x) (sym b.graph) a) next is going t
-      (goes (quiet.time.tells ∙ told) rs (After (history_by rs).graph) at1 to) durable)
+      (goes (quiet.time.tells ∙ told) rs (After (history_by rs)) at1 to) durable)
 
-  pub answer-after : (g : Graph) → IsAttached old s g → answer_of p.answer ≡ Some (step g q).answer
-  answer-after g a =
-      let b = at-end-behind old s g a.at_end in
-      let h = history_by b.found in
-      let a' = subst (λ (x : Graph). IsAttached old s x) (sym b.graph) a in
-      subst (λ (x : Graph). answer_of p.answer ≡ Some (step x q).answer) b.graph
-      ((leads.answers h b.kept a'.count).answer ∙ ap (λ (x : Answer). Some x) (answer_here live h.graph a'.states.told.state a'.states.same q))
+  -- the facts of an attached session, of the history that it stands behind
+  module _ (g : Graph) (a : IsAttached old s g) where
+    abbrev behind : IsBehind old s.file g
+    behind = at-end-behind old s g a.at_end
 
-  pub counts-after : (before now : ℕ) → CountsOn old.head q before now → (g : Graph) → IsAttached old s g → before + charge_of g q ≤ now
-  counts-after before now counts g a =
-      subst (λ (n : ℕ). before + n ≤ now) (charge_here live g a.states.told.state a.states.same q) (counts g a.at_end.graph)
+    abbrev found : History
+    found = history_by behind.found
+
+    found-gives : Gives s.file found.changes
+    found-gives = ends-gives s.file behind.found behind.at.ends
+
+    found-states : good.IsAttached s.file found.graph (change_of found.changes) live
+    found-states =
+        subst (λ (x : Graph). good.IsAttached s.file x (change_of found.changes) live) (sym behind.graph)
+        (subst (λ (cs : List Change). good.IsAttached s.file g (change_of cs) live) (one_changes s.file a.changes found.changes a.gives found-gives) a.states)
+
+    found-rows : AreRows (change_of found.changes)
+    found-rows = changes_are_rows found.graph found.changes found.place behind.kept.good.changes
+
+    found-holds : Holds s.file found.graph
+    found-holds = subst (λ (x : Graph). Holds s.file x) (sym (history-graph behind.found)) (ends-holds s.file behind.found behind.at.ends)
+
+    pub answer-after : answer_of p.answer ≡ Some (step g q).answer
+    answer-after =
+        subst (λ (x : Graph). answer_of p.answer ≡ Some (step x q).answer) behind.graph
+        ((leads.answers found behind.kept (subst (λ (x : Graph). CountsPath old.head x) (sym behind.graph) a.count)).answer
+        ∙ ap (λ (x : Answer). Some x) (answer_here s.file (change_of found.changes) live found.graph found-rows found-states found-holds (root_changes found.changes) q))
+
+    pub counts-after : (before now : ℕ) → CountsOn old.head q before now → before + charge_of g q ≤ now
+    counts-after before now counts =
+        subst (λ (x : Graph). before + charge_of x q ≤ now) behind.graph
+        (subst (λ (n : ℕ). before + n ≤ now) (charge_here s.file (change_of found.changes) live found.graph found-rows found-states q) (counts found behind.kept))
 
   pub stop-after : s.tells ≡ true → (t : host.State) → LeavesOne old.journal s1 t r → (g : Graph) → IsAttached old s g
       → Elapses s t (GoodBeforeOrAfter s g (after g q))
@@ -191,19 +219,19 @@ module _ (old : Session) (new : Head) (s s1 : host.State) (q : Request) (p : Pre
 
   -- ---- from one at the file's end
 
-  pub at-end-after : s.tells ≡ true → (next : Session) → next.head ≡ new → (t : host.State) → GoesOn old.journal next.journal s1 t r → (g : Graph)
-      → IsAtEnd old s g → IsAtEnd next t (After g)
-  at-end-after told next is t goes g e =
+  pub at-end-after : s.tells ≡ true → (next : Session) → next.head ≡ new → (t : host.State) → GoesOn old.journal next.journal s1 t r → (g : Graph) (cs : List Change)
+      → IsAtEnd old s g → Gives s.file cs → IsAtEnd next t (after_on (change_of cs) live g q)
+  at-end-after told next is t goes g cs e gives =
       let b = at-end-behind old s g e in
       let rs = b.found in
       let h = history_by rs in
       let to = leads-to old new s s1 q p leads quiet h b.kept b.place in
       let at1 = subst (λ (f : List ℕ). IsJournalAt old.journal f rs) (sym quiet.keeps.file) b.at in
-      let now = goes (quiet.time.tells ∙ told) rs (After h.graph) at1 to in
+      let now = goes (quiet.time.tells ∙ told) rs (After h) at1 to in
       let kept = kept-new told rs b.at b.kept b.place in
-      behind-at-end next t (with_new rs r) (After g) now
+      behind-at-end next t (with_new rs r) (after_on (change_of cs) live g q) now
       (subst (λ (x : Head). KeepsHistory x.graph (history_by (with_new rs r))) (sym is) kept.keeps)
-      (graph-new told rs b.at b.kept b.place ∙ ap After b.graph)
+      (graph-new told rs b.at b.kept b.place ∙ after-at old new s s1 q p leads quiet g cs e gives)
 
   -- ---- the live state, on every store
 
@@ -223,7 +251,7 @@ module _ (old : Session) (new : Head) (s s1 : host.State) (q : Request) (p : Pre
         let h = history_by rs in
         let to = leads-to old new s s1 q p leads quiet h b.kept b.place in
         let at1 = subst (λ (f : List ℕ). IsJournalAt old.journal f rs) (sym quiet.keeps.file) b.at in
-        let now = goes (quiet.time.tells ∙ told) rs (After h.graph) at1 to in
+        let now = goes (quiet.time.tells ∙ told) rs (After h) at1 to in
         let before = subst (λ (f : Option (List ℕ)). LivesAt f old.head h) (told-some s told) (lives h b.kept) in
         let after = lives-new told rs b.at b.kept b.place t.file (ends-records t.file (with_new rs r) now.ends) before in
         subst (λ (f : Option (List ℕ)). LivesAt f new j) (sym (told-some t (tells ∙ told)))

@@ -1,23 +1,30 @@
--- What is known merely, that a table tells a state by the lengths of its pictures, is so.
-use Rattle.std.proofs.Common.{◌≡◌, ◌⊎◌, inl, inr, ⊎_elim, ℕ, List, [], ◌∷◌, length, refl, subst}
+-- What is known merely, that a table tells a state by the lengths of its pictures, or that these are kept, is so.
+use Rattle.std.proofs.Common.{◌≡◌, ◌⊎◌, inl, inr, ⊎_elim, ℕ, if◌then◌else◌, List, [], ◌∷◌, length, refl, subst}
 use Rattle.std.specs.List.{AllByRecursion-prop}
-use Rattle.std.specs.Prelude.{None}
+use Rattle.std.specs.Prelude.{Option, Some, None}
 use Rattle.std.proofs.Math.Logic.{∥∥₁_elim}
 use Rattle.std.proofs.Props.{props}
 use Rattle.kishu_language.specs.tokens.Names.{is_among}
 use Rattle.kishu_meaning.specs.values.Keys.{KeyPart, Key}
 use Rattle.kishu_meaning.specs.values.Keys as keys
 use Rattle.kishu_meaning.specs.values.Values.{State, Value, Node, none, bool, integer, text, range, builtin, class, node, list, tuple, dict, object, function, exception}
-use Rattle.kishu_objects.specs.Bytes.{state_bytes}
+use Rattle.kishu_objects.specs.Bytes.{state_bytes, picture_bytes}
 use Rattle.kishu_objects.specs.Fits.{ValueFits, PartFits, AllFit, KeyFits, NodeFits, StateFits}
 use Rattle.kishu_objects.specs.Lists.{In, Rise}
 use Rattle.kishu_objects.specs.Picture.{listed, picture}
 use Rattle.kishu_objects.specs.Sound.{IsSound}
 use Rattle.kishu_objects.specs.States.{IsSoundState}
-use Rattle.kishu_store.specs.Tables.{Row, Table}
+use Rattle.kishu_store.specs.Histories.{History, head_table}
+use Rattle.kishu_store.specs.Groups.{Group, is_one_of}
+use Rattle.kishu_store.specs.Tables.{Row, Table, groups_in}
+use Rattle.kishu_graph.specs.Tables.{table_of_rows}
+use Rattle.kishu_delta.specs.Kept.{Pictures, KeepsJust, kept_of}
 use Rattle.kishu_history.specs.Live.{IsLive}
 use Rattle.kishu_history.specs.Stored.{Stored, HasLength}
 use Rattle.kishu_history_laws.specs.Choices.{among_decides, told}
+use Rattle.kishu_session.specs.Head.{KeepsTable}
+use Rattle.kishu_session.specs.Lives.{state_of}
+use Rattle.kishu_session.specs.declared.head.Head.{Head}
 
 -- ---- facts of which there is one proof at most
 
@@ -112,3 +119,25 @@ live-there t s merely = record {
   apart = λ r q x y m n a b touch. ∥∥₁_elim merely (row-set r q) (λ k. k.apart r q x y m n a b touch);
   pictures = λ r m. ∥∥₁_elim merely (length-prop r (picture s r.group)) (λ k. k.pictures r m);
 }
+
+-- ---- what is kept of a head's table
+
+pictures-prop : (kept : Pictures) (gs : List Group) (s : State) → IsProp (KeepsJust kept gs s)
+pictures-prop kept gs s x y = λ i. record {
+  bytes = λ g. bytes-set (kept_of kept g) (if is_one_of g gs then Some (picture_bytes s g) else None) (x.bytes g) (y.bytes g) i;
+  fit = λ g m. fits-prop (picture s g) (x.fit g m) (y.fit g m) i;
+}
+  where
+    bytes-set : IsSet (Option (List ℕ))
+    bytes-set = hlevel props
+
+pub pictures-there : (kept : Pictures) (gs : List Group) (s : State) → ∥ KeepsJust kept gs s ∥₁ → KeepsJust kept gs s
+pictures-there kept gs s merely = ∥∥₁_elim merely (pictures-prop kept gs s) (λ k. k)
+
+pub keeps-prop : (head : Head) (h : History) → IsProp (KeepsTable head h)
+keeps-prop head h x y =
+    let rows : IsSet Table = hlevel props in
+    λ i. record {
+      table = rows (table_of_rows head.table) (head_table h) x.table y.table i;
+      pictures = pictures-prop head.kept (groups_in (head_table h)) (state_of head.live) x.pictures y.pictures i;
+    }

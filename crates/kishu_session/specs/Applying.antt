@@ -1,10 +1,12 @@
 -- What a request gives, over the graph of the host's file: `s` is the host before, `t` the host after.
-use Rattle.std.specs.Prelude.{◌≡◌, ◌≤◌, ◌⊎◌, ℕ, ◌+◌, Some}
+use Rattle.std.specs.Prelude.{◌≡◌, ◌≤◌, ◌⊎◌, ℕ, ◌+◌, List, Some}
 use Rattle.kishu_history.specs.Sizes.{StaysSmall}
 use Rattle.kishu_host.specs.Host.{State, Told, Only, Elapses}
 use Rattle.kishu_objects.specs.Same.{Same}
 use Rattle.kishu_store.specs.Graph.{Graph}
 use Rattle.kishu_store.specs.Histories.{History, table_to}
+use Rattle.kishu_store.specs.Holds.{Gives}
+use Rattle.kishu_store.specs.Tables.{Change, change_of}
 use Rattle.kishu_replay.specs.Replay.{replay}
 use Rattle.kishu_model.specs.declared.answer.Answer.{Answer}
 use Rattle.kishu_model.specs.declared.request.Request.{Request}
@@ -42,13 +44,13 @@ Counts old s q before now = Told s ((g : Graph) → IsAttached old s g → befor
 
 -- ---- from one that stands at the end of the file, whatever its live state is
 
--- the graph after a request, whose cells run on that state
-abbrev pub after_here : Session → Graph → Request → Graph
-after_here old g q = after_on (state_of old.head.live) g (request_of q)
+-- the graph after a request, whose cells run on that state, where the file's records change this
+abbrev pub after_here : Session → List Change → Graph → Request → Graph
+after_here old cs g q = after_on (change_of cs) (state_of old.head.live) g (request_of q)
 
 -- It stays there, and the file's graph is the one after the request.
 abbrev pub StaysAtEnd : (old new : Session) → (s t : State) → Request → Type 0
-StaysAtEnd old new s t q = Told s ((g : Graph) → IsAtEnd old s g → IsAtEnd new t (after_here old g q))
+StaysAtEnd old new s t q = Told s ((g : Graph) (cs : List Change) → IsAtEnd old s g → Gives s.file cs → IsAtEnd new t (after_here old cs g q))
 
 -- The file is the old one with one record more, or it is the old one.
 abbrev pub RecordsOne : Session → (s t : State) → Type 0
@@ -56,7 +58,8 @@ RecordsOne old s t = Told s ((g : Graph) → IsAtEnd old s g → (t.file ≡ s.f
 
 -- Where a stop before left the file alone, a stop at any moment leaves the graph before or after the request, and no output.
 abbrev pub LeavesHere : Session → (s t : State) → Request → Type 0
-LeavesHere old s t q = Told s (Only s.file s.may_leave → (g : Graph) → IsAtEnd old s g → Elapses s t (BeforeOrAfter s g (after_here old g q)))
+LeavesHere old s t q =
+    Told s (Only s.file s.may_leave → (g : Graph) (cs : List Change) → IsAtEnd old s g → Gives s.file cs → Elapses s t (BeforeOrAfter s g (after_here old cs g q)))
 
 -- ---- the live state, on every store
 

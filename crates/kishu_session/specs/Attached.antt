@@ -6,7 +6,7 @@ use Rattle.kishu_store.specs.Holds.{Gives}
 use Rattle.kishu_store.specs.Tables.{Change, change_of}
 use Rattle.kishu_graph.specs.Kept.{StandsFor, TellsChanges}
 use Rattle.kishu_replay.specs.Replay.{replay}
-use Rattle.kishu_history.specs.Good.{IsWholeAttached}
+use Rattle.kishu_history.specs.Good as good
 use Rattle.kishu_checkout.specs.Pictures.{told_file}
 use Rattle.kishu_session.specs.Head.{CountsPath, Lives}
 use Rattle.kishu_session.specs.Journals.{IsJournalOf}
@@ -27,7 +27,7 @@ pub record IsAttached (session : Session) (s : host.State) (g : Graph) : Type 0 
   pub count : CountsPath session.head g
   pub changes : List Change
   pub gives : Gives s.file changes
-  pub states : IsWholeAttached s.file g (change_of changes) (state_of session.head.live)
+  pub states : good.IsAttached s.file g (change_of changes) (state_of session.head.live)
   pub few : length (state_of session.head.live).nodes ≤ length (replay g g.head.commit).nodes
 
 -- The session stands at the end of its host's file, whichever graph that holds.

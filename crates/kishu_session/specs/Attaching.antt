@@ -4,7 +4,7 @@ use Rattle.kishu_host.specs.Host.{State, Told, Now, Only, Keeps, Elapses}
 use Rattle.kishu_store.specs.Graph.{Graph}
 use Rattle.kishu_store.specs.Holds.{Holds, Gives, IsForeign, IsBroken}
 use Rattle.kishu_store.specs.Tables.{Change, change_of, table_at}
-use Rattle.kishu_history.specs.Good.{IsWholeFile, IsWholeFileOf}
+use Rattle.kishu_history.specs.Good.{IsGoodFile, IsGoodFileOf}
 use Rattle.kishu_checkout.specs.Pictures.{LacksAt}
 use Rattle.kishu_session.specs.Attached.{IsAttached}
 use Rattle.kishu_session.specs.Written.{begun, HoldsNone, Stays}
@@ -14,7 +14,7 @@ use Rattle.kishu_session.specs.declared.session.Session.{Session}
 
 -- It is attached to the graph that a good file holds.
 abbrev pub Attaches : Session → (s t : State) → Type 0
-Attaches session s t = Told s ((g : Graph) → IsWholeFileOf s.file g → IsAttached session t g)
+Attaches session s t = Told s ((g : Graph) → IsGoodFileOf s.file g → IsAttached session t g)
 
 -- ---- what becomes of the file
 
@@ -28,7 +28,7 @@ KeepsGraphs s t = Told s ((g : Graph) → Holds s.file g → Holds t.file g)
 
 -- A good file stays one, with that graph.
 abbrev pub KeepsGood : (s t : State) → Type 0
-KeepsGood s t = Told s ((g : Graph) → IsWholeFileOf s.file g → IsWholeFileOf t.file g)
+KeepsGood s t = Told s ((g : Graph) → IsGoodFileOf s.file g → IsGoodFileOf t.file g)
 
 -- A file that holds no graph stays.
 abbrev pub KeepsBad : (s t : State) → Type 0
@@ -44,10 +44,10 @@ LeavesGraph s t = Told s ((g : Graph) → Holds s.file g → Elapses s t (λ c o
 
 -- The same of a good file: what a stop leaves is good.
 abbrev pub SettlesGood : (Failed : Type 0) → (s t : State) → Type 0
-SettlesGood Failed s t = Told s ((g : Graph) → IsWholeFileOf s.file g → (Failed × Keeps s t) ⊎ ((c : List ℕ) → t.may_leave c → IsWholeFileOf c g))
+SettlesGood Failed s t = Told s ((g : Graph) → IsGoodFileOf s.file g → (Failed × Keeps s t) ⊎ ((c : List ℕ) → t.may_leave c → IsGoodFileOf c g))
 
 abbrev pub LeavesGood : (s t : State) → Type 0
-LeavesGood s t = Told s ((g : Graph) → IsWholeFileOf s.file g → Elapses s t (λ c o. Now s c o ⊎ (IsWholeFileOf c g × (o ≡ s.out))))
+LeavesGood s t = Told s ((g : Graph) → IsGoodFileOf s.file g → Elapses s t (λ c o. Now s c o ⊎ (IsGoodFileOf c g × (o ≡ s.out))))
 
 -- ---- why there is no session
 
@@ -62,7 +62,7 @@ pub record LacksPicture (s : State) (at : ℕ) : Type 0 where
   pub holds : Holds s.file graph
   pub gives : Gives s.file changes
   pub lacks : LacksAt s (table_at graph (change_of changes) graph.head.commit) at
-  pub bad : IsWholeFile s.file → ⊥
+  pub bad : IsGoodFile s.file → ⊥
 
 abbrev pub FindsDamage : State → (at : ℕ) → Type 0
 FindsDamage s at = Told s (IsBroken s.file at ⊎ LacksPicture s at)

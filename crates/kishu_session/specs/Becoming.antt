@@ -22,12 +22,12 @@ pub record IsHeadLoaded (file : List ℕ) (g : Graph) (u : State) : Type 0 where
   pub loaded : IsLoadedFrom file (table_at g (change_of changes) g.head.commit) u
 
 -- After a request that commits nothing it may be the one that was loaded for the head of the graph.
-abbrev pub IsLoadedAfter : List ℕ → Graph → State → Request → State → Type 0
-IsLoadedAfter file g u q v = (newest (after_on u g q) ≤ newest g) × IsHeadLoaded file (after_on u g q) v
+abbrev pub IsLoadedAfter : List ℕ → (ℕ → Change) → Graph → State → Request → State → Type 0
+IsLoadedAfter file changes g u q v = (newest (after_on changes u g q) ≤ newest g) × IsHeadLoaded file (after_on changes u g q) v
 
--- After a request on a state it is the one that the request's cells left, where they are committed, and the same where none are; or none are, and it was loaded for the head of the graph after it.
-abbrev pub IsNextState : List ℕ → Graph → State → Request → State → Type 0
-IsNextState file g u q v = (v ≡ state_on u g q) ⊎ IsLoadedAfter file g u q v
+-- Where the records of the commits change this: after a request on a state it is the one that the request's cells left, where they are committed, and the same where none are; or none are, and it was loaded for the head of the graph after it.
+abbrev pub IsNextState : List ℕ → (ℕ → Change) → Graph → State → Request → State → Type 0
+IsNextState file changes g u q v = (v ≡ state_on changes u g q) ⊎ IsLoadedAfter file changes g u q v
 
 -- ---- of a session: `s` is the host before, `t` the host after
 
@@ -38,9 +38,11 @@ LoadsHead session s t = host.Told s ((g : Graph) → Holds t.file g → IsHeadLo
 -- From one that stands at the file's end it goes on so, whatever it is.
 abbrev pub GoesOnLive : (old new : Session) → host.State → rust_request.Request → Type 0
 GoesOnLive old new s q =
-    host.Told s ((g : Graph) → IsAtEnd old s g → IsNextState s.file g (state_of old.head.live) (request_of q) (state_of new.head.live))
+    host.Told s ((g : Graph) (cs : List Change) → IsAtEnd old s g → Gives s.file cs
+    → IsNextState s.file (change_of cs) g (state_of old.head.live) (request_of q) (state_of new.head.live))
 
 -- The answer is the one on that state.
 abbrev pub IsAnswerHere : Session → host.State → rust_request.Request → Answer → Type 0
 IsAnswerHere old s q a =
-    host.Told s ((g : Graph) → IsAtEnd old s g → answer_of a ≡ Some (answer_on (state_of old.head.live) g (request_of q)))
+    host.Told s ((g : Graph) (cs : List Change) → IsAtEnd old s g → Gives s.file cs
+    → answer_of a ≡ Some (answer_on (change_of cs) (state_of old.head.live) g (request_of q)))

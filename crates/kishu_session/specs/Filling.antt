@@ -1,17 +1,12 @@
 -- Where cells would begin with too many nodes.
-use Rattle.kishu_meaning.specs.values.Values.{State}
-use Rattle.kishu_store.specs.Limits.{newest_profile}
-use Rattle.kishu_replay.specs.Replay.{FillsIn, IsFull}
-use Rattle.kishu_model.specs.Request.{Request, cell, cells, checkout, branch, log, status, inspect, unreadable}
-use Rattle.kishu_model.specs.requests.Cells.{cells_run}
+use Rattle.kishu_store.specs.Histories.{History, head_table}
+use Rattle.kishu_model.specs.Request.{Request}
+pub use Rattle.kishu_live_laws.specs.Filling.{FillsBy}
+use Rattle.kishu_live_laws.specs.OnStates.{FillsOn}
+use Rattle.kishu_session.specs.Known.{IsHistoryOf}
+use Rattle.kishu_session.specs.Lives.{state_of}
+use Rattle.kishu_session.specs.declared.head.Head.{Head}
 
--- a cell of a request, where it runs on this state: its own, or one of its own that are run
-abbrev pub FillsBy : State → Request → Type 0
-FillsBy s unreadable = ⊥
-FillsBy s (cell text) = IsFull s
-FillsBy s (cells texts) = FillsIn newest_profile (cells_run newest_profile texts s) s
-FillsBy s (checkout to) = ⊥
-FillsBy s (branch name at) = ⊥
-FillsBy s log = ⊥
-FillsBy s status = ⊥
-FillsBy s inspect = ⊥
+-- A cell of the request would, where it runs on the live state, as the head's table tells which are run, in each history that is kept.
+abbrev pub FillsHere : Head → Request → Type 0
+FillsHere head q = (h : History) → IsHistoryOf head.graph h → FillsOn (head_table h) (state_of head.live) q

@@ -3,10 +3,12 @@ use Rattle.std.specs.Prelude.{◌≡◌, ◌≤◌, ◌*◌, ◌^◌, ℕ, List,
 use Rattle.kishu_host.specs.Host.{State}
 use Rattle.kishu_store.specs.Graph.{Graph, newest, count_of}
 use Rattle.kishu_store.specs.Histories.{History, head_table}
-use Rattle.kishu_store.specs.Tables.{Table}
+use Rattle.kishu_store.specs.Tables.{Table, groups_in}
 use Rattle.kishu_graph.specs.Kept.{Kept}
+use Rattle.kishu_graph.specs.Tables.{table_of_rows}
 use Rattle.kishu_history.specs.Live.{IsLive}
 use Rattle.kishu_history.specs.Stored.{Stored}
+use Rattle.kishu_delta.specs.Kept.{KeepsJust}
 use Rattle.kishu_checkout.specs.Loads.{IsLoadedFrom}
 use Rattle.kishu_checkout.specs.Pictures.{LacksAt, LacksSome}
 use Rattle.kishu_session.specs.Known.{IsHistoryOf}
@@ -39,15 +41,21 @@ LivesAt file head h = IsLive (Stored file) (head_table h) (state_of head.live)
 abbrev pub Lives : Option (List ℕ) → Head → Type 0
 Lives file head = (h : History) → IsHistoryOf head.graph h → LivesAt file head h
 
+-- The table of the history's head is kept, and just of its groups the pictures in the live state.
+pub record KeepsTable (head : Head) (h : History) : Type 0 where
+  pub table : table_of_rows head.table ≡ head_table h
+  pub pictures : KeepsJust head.kept (groups_in (head_table h)) (state_of head.live)
+
 -- Where the file is told, the live state is what its pictures leave of the empty one that are stored for the rows of the head's table.
 abbrev pub IsGiven : Option (List ℕ) → Head → History → Type 0
 IsGiven None head h = Unit {0}
 IsGiven (Some file) head h = IsLoadedFrom file (head_table h) (state_of head.live)
 
--- It was loaded for that table.
+-- It was loaded for that table, and this and its pictures are kept.
 pub record IsLoadedAt (file : Option (List ℕ)) (head : Head) (h : History) : Type 0 where
   pub lives : LivesAt file head h
   pub given : IsGiven file head h
+  pub held : KeepsTable head h
 
 -- So it is for the head's table in each history that is kept.
 abbrev pub IsLoaded : Option (List ℕ) → Head → Type 0
@@ -66,12 +74,13 @@ LacksAtHead kept s at = (h : History) → IsHistoryOf kept h → Lacks s (head_t
 
 -- ---- whatever the host tells
 
--- The history is kept, its records end at that place, the cells on the path to its head are counted, and the live state has the names of the head's table, and pictures of the lengths that this tells.
+-- The history is kept, its records end at that place, the cells on the path to its head are counted, the live state has the names of the head's table, and pictures of the lengths that this tells; and that table is kept, and these pictures.
 pub record IsHeadOf (head : Head) (place : ℕ) (h : History) : Type 0 where
   pub kept : IsHistoryOf head.graph h
   pub place_is : h.place ≡ place
   pub count : CountsPath head h.graph
   pub lives : LivesAt None head h
+  pub held : KeepsTable head h
 
 -- There is such a history.
 abbrev pub IsKnown : Head → ℕ → Type 0

@@ -4,7 +4,7 @@ use Rattle.kishu_host.specs.Host.{State}
 use Rattle.kishu_store.specs.Entries.{Entry}
 use Rattle.kishu_store.specs.Graph.{Graph}
 use Rattle.kishu_store.specs.Holds.{Holds, graph_of}
-use Rattle.kishu_history.specs.Good.{IsWholeFileOf}
+use Rattle.kishu_history.specs.Good.{IsGoodFileOf}
 use Rattle.kishu_journal.specs.Stands.{JournalState, Stands}
 
 -- It stands at the end of the file, which holds this graph.
@@ -19,4 +19,4 @@ BeforeOrAfter s before now file out = (out ≡ s.out) × (Holds file before ⊎ 
 
 -- It leaves the output as it was, and a good file that holds one of them.
 abbrev pub GoodBeforeOrAfter : State → (before now : Graph) → (file out : List ℕ) → Type 0
-GoodBeforeOrAfter s before now file out = (out ≡ s.out) × (IsWholeFileOf file before ⊎ IsWholeFileOf file now)
+GoodBeforeOrAfter s before now file out = (out ≡ s.out) × (IsGoodFileOf file before ⊎ IsGoodFileOf file now)

@@ -2,6 +2,7 @@ pub mod TextLists
 pub mod Known
 pub mod Lives
 pub mod Running
+pub mod Sized
 pub mod Asked
 pub mod Refusing
 pub mod Filling

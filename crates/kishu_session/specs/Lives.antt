@@ -7,8 +7,11 @@ use Rattle.kishu_meaning.specs.cells.Meaning.{run}
 use Rattle.kishu_meaning.specs.values.Values.{Ran, State}
 use Rattle.kishu_interp.specs.Running.{state_in}
 use Rattle.kishu_model.specs.Answers.{Counted}
-use Rattle.kishu_model.specs.requests.Cells.{cells_run, results_from}
+use Rattle.kishu_model.specs.requests.Cells.{results_from}
 use Rattle.kishu_replay.specs.Replay.{after_cells, charge_in, FillsIn}
+use Rattle.kishu_store.specs.Tables.{Table}
+use Rattle.kishu_history.specs.Accessed.{accessed_by}
+use Rattle.kishu_live_laws.specs.OnStates.{run_of}
 use Rattle.kishu_session.specs.TextLists.{texts_of}
 use Rattle.kishu_session.specs.declared.live.Live.{Live}
 
@@ -19,21 +22,25 @@ state_of live = state_in live.heap live.names
 abbrev pub run_on : Live → List ℕ → Ran
 run_on live text = run One text (state_of live)
 
--- ---- the cells that are run of these: a further one only after one that ended well
+-- ---- the cells that are run of these: a further one only after one that ended well, and where those before it don't leave too much, as this table tells it
 
-abbrev pub ran_of : Live → List (RcStr Global) → List (List ℕ)
-ran_of live texts = cells_run One (texts_of texts) (state_of live)
+module _ (t : Table) (live : Live) (texts : List (RcStr Global)) where
+  abbrev pub ran_of : List (List ℕ)
+  ran_of = run_of t (texts_of texts) (state_of live)
 
--- what they show, where so many cells are on the path before them
-abbrev pub shown_of : (before : ℕ) → Live → List (RcStr Global) → List Counted
-shown_of before live texts = results_from (suc before) One (ran_of live texts) (state_of live)
+  -- what they show, where so many cells are on the path before them
+  abbrev pub shown_of : (before : ℕ) → List Counted
+  shown_of before = results_from (suc before) One ran_of (state_of live)
 
--- the state after them, the steps that they take, and whether one of them would begin with too many nodes
-abbrev pub state_after_ran : Live → List (RcStr Global) → State
-state_after_ran live texts = after_cells One (ran_of live texts) (state_of live)
+  -- the names that they access, the state after them, the steps that they take, and whether one of them would begin with too many nodes
+  abbrev pub accessed_of_ran : List (List ℕ)
+  accessed_of_ran = accessed_by One ran_of (state_of live)
 
-abbrev pub charge_of_ran : Live → List (RcStr Global) → ℕ
-charge_of_ran live texts = charge_in One (ran_of live texts) (state_of live)
+  abbrev pub state_after_ran : State
+  state_after_ran = after_cells One ran_of (state_of live)
 
-abbrev pub FillsRan : Live → List (RcStr Global) → Type 0
-FillsRan live texts = FillsIn One (ran_of live texts) (state_of live)
+  abbrev pub charge_of_ran : ℕ
+  charge_of_ran = charge_in One ran_of (state_of live)
+
+  abbrev pub FillsRan : Type 0
+  FillsRan = FillsIn One ran_of (state_of live)

@@ -7,19 +7,23 @@ use Rattle.kishu_store.specs.Fitting.{changed}
 use Rattle.kishu_store.specs.Histories.{History, Follows, head_table, led, table_to}
 use Rattle.kishu_store.specs.Limits.{newest_profile}
 use Rattle.kishu_store.specs.Rules.{IsRecord}
+use Rattle.kishu_store.specs.Tables.{change_of}
+use Rattle.kishu_meaning.specs.values.Values as values
 use Rattle.kishu_objects.specs.States.{IsSoundState}
 use Rattle.kishu_replay.specs.Replay.{after_cells}
+use Rattle.kishu_history.specs.Accessed.{accessed_by}
 use Rattle.kishu_model.specs.declared.answer.Answer as rust_answer
+use Rattle.kishu_model.specs.Answers.{Answer}
 use Rattle.kishu_model.specs.Request.{Request}
 use Rattle.kishu_model.specs.Step.{step}
 use Rattle.kishu_model.specs.Values.{answer_of}
 use Rattle.kishu_graph.specs.Kept.{Kept, StandsFor, KeepsHistory}
-use Rattle.kishu_commit.specs.Whole.{whole_record, CanBeStored}
+use Rattle.kishu_commit.specs.Told.{told_record, CanBeStored}
 use Rattle.kishu_commit.specs.declared.committing.Record as rust_record
 use Rattle.kishu_live_laws.specs.OnStates.{answer_on, after_on, charge_on}
 use Rattle.kishu_live_laws.specs.Refusals.{LeavesTooLarge}
 use Rattle.kishu_session.specs.Committing.{record_of}
-use Rattle.kishu_session.specs.Head.{CountsPath, IsLoaded, Lacks}
+use Rattle.kishu_session.specs.Head.{CountsPath, IsLoaded, KeepsTable, Lacks}
 use Rattle.kishu_session.specs.Known.{IsHistoryOf}
 use Rattle.kishu_session.specs.Lives.{state_of}
 use Rattle.kishu_session.specs.Reading.{reads_at, MayRead}
@@ -58,28 +62,39 @@ pub record IsPrepared (h : History) (now : Graph) (prepared : Prepared) (kept : 
   pub leads : LeadsTo h (record_in prepared.recorded) now
   pub keeps : KeepsHistory kept (led_with h (record_in prepared.recorded))
 
+-- ---- what a request gives on a history's graph, by the tables of its commits, where its cells run on this state
+
+abbrev pub after_by : History → values.State → Request → Graph
+after_by h s q = after_on (change_of h.changes) s h.graph q
+
+abbrev pub answer_by : History → values.State → Request → Answer
+answer_by h s q = answer_on (change_of h.changes) s h.graph q
+
+abbrev pub charge_by : History → values.State → Request → ℕ
+charge_by h s q = charge_on (change_of h.changes) s h.graph q
+
 -- ---- what holds of each request, whichever history is meant: of those that are kept, whose records end at the journal's place
 
 -- The record leads from the graph that was kept to the one after the request, where its cells run on the live state; and that is kept then.
 abbrev pub Prepares : (place : ℕ) → (old new : Head) → Request → Prepared → Type 0
 Prepares place old new q prepared =
-    (h : History) → IsHistoryOf old.graph h → h.place ≡ place → IsPrepared h (after_on (state_of old.live) h.graph q) prepared new.graph
+    (h : History) → IsHistoryOf old.graph h → h.place ≡ place → IsPrepared h (after_by h (state_of old.live) q) prepared new.graph
 
 -- The request is refused just for the cause for which one step refuses it.
 abbrev pub RefusesFor : Kept → Request → rust_answer.Answer → Type 0
 RefusesFor kept q a = (g : Graph) → StandsFor kept g → RefusesAs (answer_of a) (step g q).answer
 
 -- The answer is the request's, where its cells run on the live state, and the cells on the path to the new head are counted.
-pub record IsAnswered (g : Graph) (q : Request) (old new : Head) (prepared : Prepared) : Type 0 where
-  pub answer : answer_of prepared.answer ≡ Some (answer_on (state_of old.live) g q)
-  pub count : CountsPath new (after_on (state_of old.live) g q)
+pub record IsAnswered (h : History) (q : Request) (old new : Head) (prepared : Prepared) : Type 0 where
+  pub answer : answer_of prepared.answer ≡ Some (answer_by h (state_of old.live) q)
+  pub count : CountsPath new (after_by h (state_of old.live) q)
 
 abbrev pub Answers : (old new : Head) → Request → Prepared → Type 0
-Answers old new q prepared = (h : History) → IsHistoryOf old.graph h → CountsPath old h.graph → IsAnswered h.graph q old new prepared
+Answers old new q prepared = (h : History) → IsHistoryOf old.graph h → CountsPath old h.graph → IsAnswered h q old new prepared
 
 -- The counter rose by at least the steps of the request's own cells.
 abbrev pub CountsOn : Head → Request → (before now : ℕ) → Type 0
-CountsOn head q before now = (g : Graph) → StandsFor head.graph g → before + charge_on (state_of head.live) g q ≤ now
+CountsOn head q before now = (h : History) → IsHistoryOf head.graph h → before + charge_by h (state_of head.live) q ≤ now
 
 -- ---- how the table of the new head tells the live state
 
@@ -88,18 +103,25 @@ pub record IsBack (file : Option (List ℕ)) (old new : Head) : Type 0 where
   pub graph : new.graph ≡ old.graph
   pub loaded : IsLoaded file new
 
--- The commit is that of all names of the new state, which these cells left of the old one. It is a state, and bytes can tell its pictures.
+-- The live state stays, and what is kept of the head's table.
+pub record KeepsState (old new : Head) : Type 0 where
+  pub live : new.live ≡ old.live
+  pub table : new.table ≡ old.table
+  pub kept : new.kept ≡ old.kept
+
+-- The commit drops and stores what these cells changed, which left the new state of the old one, as the head's table tells it among the names that they accessed. The new one is a state, bytes can tell the pictures that are stored, and the new head's table is kept, and its pictures.
 pub record IsCommitOf (old new : Head) (r : Record) (parent : ℕ) (cells : List (List ℕ)) : Type 0 where
-  pub is : (h : History) → IsHistoryOf old.graph h → r ≡ whole_record parent cells (head_table h) (state_of new.live)
+  pub is : (h : History) → IsHistoryOf old.graph h → r ≡ told_record parent cells (head_table h) (state_of old.live) (accessed_by newest_profile cells (state_of old.live)) (state_of new.live)
   pub ran : state_of new.live ≡ after_cells newest_profile cells (state_of old.live)
   pub sound : IsSoundState (state_of new.live)
-  pub fits : CanBeStored (state_of new.live)
+  pub fits : (h : History) → IsHistoryOf old.graph h → CanBeStored (head_table h) (state_of old.live) (accessed_by newest_profile cells (state_of old.live)) (state_of new.live)
+  pub held : (h : History) → IsHistoryOf new.graph h → KeepsTable new h
 
 -- To a move belongs a state that was loaded. A branch leaves it.
 abbrev pub TellsBy : Option (List ℕ) → (old new : Head) → Record → Entry → Type 0
 TellsBy file old new r (commit parent profile cells dropped stored) = IsCommitOf old new r parent cells
 TellsBy file old new r (move to) = IsLoaded file new
-TellsBy file old new r (name title number) = new.live ≡ old.live
+TellsBy file old new r (name title number) = KeepsState old new
 
 -- Where there is no record, nothing changes, or the head's state was loaded.
 abbrev pub Tells : Option (List ℕ) → (old new : Head) → Option Record → Type 0
@@ -112,10 +134,14 @@ Tells file old new (Some r) = TellsBy file old new r r.entry
 abbrev pub RefusesNoSize : rust_answer.Answer → Type 0
 RefusesNoSize a = (bytes : ℕ) → RefusesSize (answer_of a) bytes → ⊥
 
+-- The request's cells leave a state that takes so many bytes, which are too many, as the head's table tells them in each history that is kept.
+abbrev pub LeavesLarge : Head → Request → ℕ → Type 0
+LeavesLarge head q bytes = (h : History) → IsHistoryOf head.graph h → LeavesTooLarge (head_table h) (state_of head.live) q bytes
+
 -- A state is refused for its size only where the request's cells left it. It has no record, and the head's state was loaded.
 abbrev pub RefusesLarge : Option (List ℕ) → (old new : Head) → Request → Prepared → Type 0
 RefusesLarge file old new q prepared =
-    (bytes : ℕ) → RefusesSize (answer_of prepared.answer) bytes → LeavesTooLarge (state_of old.live) q bytes × (prepared.recorded ≡ None) × IsBack file old new
+    (bytes : ℕ) → RefusesSize (answer_of prepared.answer) bytes → LeavesLarge old q bytes × (prepared.recorded ≡ None) × IsBack file old new
 
 -- ---- together
 

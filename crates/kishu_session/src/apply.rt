@@ -4,15 +4,14 @@ ghost use Rattle.kishu_replay.specs.Replay.{IsFull};
 ghost use Rattle.kishu_model.specs.Values.{request_of, answer_of};
 ghost use Rattle.kishu_model.specs.requests.Cells.{HasRoom};
 ghost use Rattle.kishu_journal.specs.Going.{IsQuiet};
-ghost use Rattle.kishu_live_laws.specs.Refusals.{LeavesTooLarge};
 ghost use Rattle.kishu_session.specs.Applying.{IsAnswer, StaysAttached, Counts, StaysAtEnd, StaysLive, IsBackAt, LacksHere, FillsReplay, RecordsOne, LeavesBeforeOrAfter, LeavesHere, KeepsSmall};
 ghost use Rattle.kishu_session.specs.Attached.{IsReady};
 ghost use Rattle.kishu_session.specs.Faults.{DiskFailed};
-ghost use Rattle.kishu_session.specs.Filling.{FillsBy};
+ghost use Rattle.kishu_session.specs.Filling.{FillsHere};
 ghost use Rattle.kishu_session.specs.Head.{IsKnown};
 ghost use Rattle.kishu_session.specs.Becoming.{GoesOnLive, IsAnswerHere};
 ghost use Rattle.kishu_session.specs.Lives.{state_of};
-ghost use Rattle.kishu_session.specs.Prepared.{RefusesFor};
+ghost use Rattle.kishu_session.specs.Prepared.{RefusesFor, LeavesLarge};
 ghost use Rattle.kishu_session.specs.Refusing.{IsRefusal, RefusesSize};
 ghost use Rattle.kishu_session.specs.declared.halt.Halt.TheVariants.{DiskFault, Damaged, NoMemory, HeapFull, Closed};
 
@@ -66,8 +65,9 @@ impl Session {
         // On every store the live state stays the one that the head's table tells.
         ensures live { OnOk result (StaysLive self.old self.new (H.state host.old) (H.state host.new)) }
 
-        // On every host there is a history that is kept, and the live state has the names of its head's table, no
-        // two rows share a node, and each has a picture of its length.
+        // On every host there is a history that is kept, and the live state has the names of its head's table,
+        // no two rows share a node, and each has a picture of its length. This table is kept, and these
+        // pictures.
         ensures known { OnOk result (IsKnown self.new.head self.new.journal.place) }
 
         // On every host the answer is one, a request is refused just for the causes that the session's graph
@@ -78,11 +78,11 @@ impl Session {
         ensures refused { IfOk result (λ a. IsRefusal (answer_of a)
             → (host.new ≡ host.old) × (self.new.head ≡ self.old.head)) }
 
-        // A state is refused for its size only where the request's cells left it, above 2^28 bytes, which are
-        // told. The host is only read then, and the graph is as it was. The head's state is loaded: it is the
-        // same as the one before, where this was the one that the file tells.
+        // A state is refused for its size only where the request's cells left it, above 2^28 bytes, as the
+        // head's table tells them. The host is only read then, and the graph is as it was. The head's state is
+        // loaded: it is the same as the one before, where this was the one that the file tells.
         ensures too_large { IfOk result (λ a. (bytes : ℕ) → RefusesSize (answer_of a) bytes
-            → LeavesTooLarge (state_of self.old.head.live) (request_of request.now) bytes
+            → LeavesLarge self.old.head (request_of request.now) bytes
             × IsQuiet (H.state host.old) (H.state host.new) × (self.new.head.graph ≡ self.old.head.graph)) }
         ensures back { IfOk result (λ a. (bytes : ℕ) → RefusesSize (answer_of a) bytes
             → IsBackAt self.old self.new (H.state host.old)) }
@@ -106,8 +106,7 @@ impl Session {
         ensures damaged_stays { (at : ℕ) → IsErrOf result (Damaged at)
             → (H.state host.new).file ≡ (H.state host.old).file }
         ensures disk_fault { IsErrOf result DiskFault → DiskFailed (H.state host.old) (H.state host.new) }
-        ensures heap_full { IsErrOf result HeapFull
-            → FillsBy (state_of self.old.head.live) (request_of request.now) }
+        ensures heap_full { IsErrOf result HeapFull → FillsHere self.old.head (request_of request.now) }
         ensures full { IsErrOf result HeapFull → FillsReplay self.old (H.state host.old) request.now }
         ensures beyond { IsErrOf result HeapFull → IsFull (state_of self.new.head.live) }
         ensures only_these { IfErr result (λ e. ((at : ℕ) × (e ≡ Damaged at))

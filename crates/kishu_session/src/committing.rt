@@ -1,14 +1,14 @@
 // The commit of cells that were run: its record, and what a session keeps of it.
 ghost use Rattle.std.specs.Prelude.{◌≡◌, ◌≤◌, ◌<◌, IfOk};
-ghost use Rattle.kishu_commit.specs.Whole.{MayBeCommitted};
-ghost use Rattle.kishu_objects.specs.Sizes.{size, most_bytes};
+ghost use Rattle.kishu_commit.specs.Told.{MayBeCommitted};
+ghost use Rattle.kishu_meaning.specs.values.Values.{State};
 ghost use Rattle.kishu_store.specs.Limits.{most_records};
-ghost use Rattle.kishu_session.specs.Committing.{HasShortHead, Commits};
-ghost use Rattle.kishu_session.specs.Lives.{state_of};
+ghost use Rattle.kishu_session.specs.Committing.{HasRun, Commits};
 ghost use Rattle.kishu_session.specs.TextLists.{texts_of};
 
 use crate::head::Head;
 use kishu_commit::{Record, commit};
+use kishu_delta::detect;
 use kishu_journal::{Journal, follow};
 use kishu_model::Steps;
 use std::alloc::AllocError;
@@ -30,7 +30,8 @@ const FAR: u64 = 1 << 62;
 
 impl Head {
     /// Adds the commit of these cells, which were run on the head's state and left the live one. It drops
-    /// the groups of its parent, and stores the picture of all names.
+    /// and stores just the groups that changed, and the new head's table is kept then, with just its groups'
+    /// pictures.
     pub(crate) fn commit<L: Ledger>(
         &mut self,
         journal: &Journal,
@@ -38,10 +39,11 @@ impl Head {
         steps: &mut Steps<L>,
     ) -> Result<Committed, AllocError>
         requires cells { MayBeCommitted (texts_of cells.now) }
-        requires known { HasShortHead self.old.graph }
-        requires small { size (state_of self.old.live) ≤ most_bytes }
+        requires ran { (before : State) × HasRun journal.now.place before self.old (texts_of cells.now) }
         requires room { self.old.graph.records < most_records }
-        ensures commits { IfOk result (Commits journal.now.place self.old self.new (texts_of cells.now)) }
+        ensures commits { IfOk result (λ c. (before : State)
+            → HasRun journal.now.place before self.old (texts_of cells.now)
+            → Commits journal.now.place before self.old self.new (texts_of cells.now) c) }
         ensures live { self.new.live ≡ self.old.live }
         ensures counted { steps.old ≤ steps.new }
     {
@@ -50,17 +52,18 @@ impl Head {
             return Err(AllocError);
         }
         let parent = self.graph.head().commit;
-        let table = self.graph.table(parent)?;
         let live = &self.live;
-        let made = commit(
+        // By the names that were accessed a namespace also tells that what it binds are names.
+        let _accessed = live.names.accessed();
+        let delta = detect(
             self.alloc,
-            parent,
-            cells,
-            &table,
+            &mut self.kept,
+            &self.table,
             &live.heap,
             &live.names,
             steps,
         )?;
+        let made = commit(self.alloc, parent, cells, delta)?;
         let number = self.graph.commits();
         if !follow(
             self.alloc,
@@ -70,6 +73,7 @@ impl Head {
         )? {
             unreachable!();
         }
+        self.table = self.graph.table(number)?;
         self.cells = self.cells.saturating_add(cells.len() as u64);
         Ok(Committed {
             number,

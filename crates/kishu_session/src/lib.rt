@@ -1,11 +1,14 @@
 //! Sessions: a store that is open, its graph, and the state at its head.
 //!
-//! `Session::attach` opens a store and loads the picture of its head. `Session::apply` answers a
-//! request, and records it where it changes the store: at `Ok` the answer and the file's graph are those
-//! of one step of the machine that replays each commit from empty, and the live state is the same as
-//! that commit's replay. No old cell is run: opening, a checkout, and the way back from a state that is
-//! too large load pictures into an empty heap (`head`). What a request leads to is worked out on what the
-//! session keeps, before the host is written to (`requests`); then its record is appended (`recording`).
+//! `Session::attach` opens a store and loads the pictures of the groups of its head's table.
+//! `Session::apply` answers a request, and records it where it changes the store: at `Ok` the answer and
+//! the file's graph are those of one step of the machine that replays each commit from empty, and the live
+//! state is the same as that commit's replay. No old cell is run: opening, a checkout, and the way back
+//! from a state that is too large load the pictures of these groups into an empty heap (`head`). Beside the
+//! live state a session keeps the table of its head and just its groups' pictures (`keeping`). By these it
+//! tells, among the names that cells accessed, how much they leave (`live`) and which groups they changed,
+//! and a commit stores just those (`committing`). What a request leads to is worked out on what the session
+//! keeps, before the host is written to (`requests`); then its record is appended (`recording`).
 #![tactic(auto)]
 
 mod apply;
@@ -14,6 +17,7 @@ mod committing;
 mod counting;
 mod halt;
 mod head;
+mod keeping;
 mod live;
 mod prepared;
 mod preparing;

@@ -3,17 +3,20 @@ ghost use Rattle.std.specs.Prelude.{◌≡◌, ◌≤◌, ◌⊎◌, ◌+◌, []
 ghost use Rattle.kishu_meaning.specs.moments.Accesses.{with_accesses};
 ghost use Rattle.kishu_language.specs.Limits.{longest_text};
 ghost use Rattle.kishu_replay.specs.Replay.{IsFull};
-ghost use Rattle.kishu_checkout.specs.Loads.{state_restored};
 ghost use Rattle.kishu_meaning.specs.values.Sound.{are_sound_names};
 ghost use Rattle.kishu_meaning.specs.values.Values.{empty, report_of};
-ghost use Rattle.kishu_inspect.specs.Sized.{size_refused};
+ghost use Rattle.kishu_graph.specs.Tables.{table_of_rows};
+ghost use Rattle.kishu_history.specs.Touched.{size_told};
+ghost use Rattle.kishu_interp.specs.Running.{state_in};
 ghost use Rattle.kishu_model.specs.Values.{answer_of, refusal_of};
 ghost use Rattle.kishu_model.specs.requests.Inspect.{told_at};
 ghost use Rattle.kishu_objects.specs.Picture.{whole};
+ghost use Rattle.kishu_session.specs.Sized.{size_refused};
 ghost use Rattle.kishu_session.specs.declared.unprepared.Unprepared.TheVariants.{HeapFull, NoMemory};
 
 use crate::unprepared::Unprepared;
-use kishu_checkout::Restored;
+use kishu_delta::state_len;
+use kishu_graph::Table;
 use kishu_heap::Heap;
 use kishu_interp::run_cell;
 use kishu_model::{Answer, CellResult, Profile, Refusal, Steps};
@@ -23,6 +26,9 @@ use std::sync::ledger::Ledger;
 
 /// The most nodes with which a cell begins.
 const MOST_NODES: u32 = 1 << 31;
+
+/// The most bytes that the pictures of a state's groups may have.
+const MOST_BYTES: u64 = 1 << 28;
 
 /// The nodes and the names that cells have left, or that were loaded.
 #[derive(Drop)]
@@ -46,11 +52,10 @@ impl Live {
     }
 
     /// What was loaded. Its names lead to nodes that are there.
-    pub(crate) fn of(restored: Restored) -> Live
-        requires { IsTrue (are_sound_names (length restored.heap) restored.names.bound) }
-        ensures { state_of result ≡ state_restored restored }
+    pub(crate) fn of(heap: Heap, names: Names) -> Live
+        requires { IsTrue (are_sound_names (length heap) names.bound) }
+        ensures { state_of result ≡ state_in heap names }
     {
-        let Restored { heap, names } = restored;
         Live { heap, names }
     }
 
@@ -93,16 +98,24 @@ impl Live {
         Ok(result)
     }
 
-    /// The refusal of a state that is too large. None says that it isn't.
+    /// The refusal of a state that is too large, as the table from before the cells tells it among the names
+    /// that they accessed. None says that it isn't.
     pub(crate) fn too_large<L: Ledger>(
         &self,
         alloc: Global,
+        table: &Table,
         steps: &mut Steps<L>,
     ) -> Result<Option<Refusal>, AllocError>
-        ensures refusal { IfOk result (λ o. option_map refusal_of o ≡ size_refused (state_of self.now)) }
+        ensures refusal { IfOk result (λ o. option_map refusal_of o ≡ size_refused
+            (size_told (table_of_rows table.now) self.now.names.accessed (state_of self.now))) }
         ensures counted { steps.old ≤ steps.new }
     {
-        kishu_inspect::too_large(alloc, &self.heap, &self.names, steps)
+        let bytes = state_len(alloc, table, &self.heap, &self.names, steps)?;
+        if bytes > MOST_BYTES {
+            Ok(Some(Refusal::StateTooLarge { bytes }))
+        } else {
+            Ok(None)
+        }
     }
 
     /// What is bound, told at this commit.

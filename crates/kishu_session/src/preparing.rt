@@ -6,7 +6,7 @@ ghost use Rattle.kishu_journal.specs.Going.{IsQuiet};
 ghost use Rattle.kishu_model.specs.Values.{request_of};
 ghost use Rattle.kishu_model.specs.requests.Cells.{HasRoom};
 ghost use Rattle.kishu_session.specs.Faults.{DiskFailed};
-ghost use Rattle.kishu_session.specs.Filling.{FillsBy};
+ghost use Rattle.kishu_session.specs.Filling.{FillsHere};
 ghost use Rattle.kishu_session.specs.Head.{IsKnown};
 ghost use Rattle.kishu_session.specs.Lives.{state_of};
 ghost use Rattle.kishu_session.specs.Prepared.{LeadsOn, CountsOn, StaysWithout, LacksFor};
@@ -38,7 +38,7 @@ impl Head {
         ensures stays { IfOk result (StaysWithout self.old self.new host.old host.new) }
         ensures quiet { IsQuiet (H.state host.old) (H.state host.new) }
         ensures least { OnOk result (CountsOn self.old (request_of request.now) steps.old steps.new) }
-        ensures full { IsErrOf result HeapFull → FillsBy (state_of self.old.live) (request_of request.now) }
+        ensures full { IsErrOf result HeapFull → FillsHere self.old (request_of request.now) }
         ensures beyond { IsErrOf result HeapFull → IsFull (state_of self.new.live) }
         ensures damaged { (at : ℕ) → IsErrOf result (Damaged at)
             → LacksFor self.old.graph (H.state host.old) (request_of request.now) at }
@@ -52,6 +52,7 @@ impl Head {
             Request::Log => Ok(self.log()?),
             Request::Status => Ok(self.status()?),
             Request::Inspect => Ok(self.inspect(steps)?),
+            Request::Stored { of } => Ok(self.stored(of.as_str())?),
         }
     }
 }

@@ -7,3 +7,4 @@ pub(crate) mod checkout;
 pub(crate) mod inspect;
 pub(crate) mod log;
 pub(crate) mod status;
+pub(crate) mod stored;

@@ -8,7 +8,7 @@ ghost use Rattle.kishu_checkout.specs.Pictures.{told_file};
 ghost use Rattle.kishu_journal.specs.Going.{IsQuiet};
 ghost use Rattle.kishu_session.specs.Asked.{cell_for};
 ghost use Rattle.kishu_session.specs.Faults.{DiskFailed};
-ghost use Rattle.kishu_session.specs.Filling.{FillsBy};
+ghost use Rattle.kishu_session.specs.Filling.{FillsHere};
 ghost use Rattle.kishu_session.specs.Head.{IsKnown, LacksAtHead};
 ghost use Rattle.kishu_session.specs.Lives.{state_of};
 ghost use Rattle.kishu_session.specs.Prepared.{LeadsOn, CountsOn, StaysWithout};
@@ -44,7 +44,7 @@ impl Head {
         ensures stays { IfOk result (StaysWithout self.old self.new host.old host.new) }
         ensures quiet { IsQuiet (H.state host.old) (H.state host.new) }
         ensures least { OnOk result (CountsOn self.old (cell_for text.now) steps.old steps.new) }
-        ensures full { IsErrOf result HeapFull → FillsBy (state_of self.old.live) (cell_for text.now) }
+        ensures full { IsErrOf result HeapFull → FillsHere self.old (cell_for text.now) }
         ensures beyond { IsErrOf result HeapFull → IsFull (state_of self.new.live) }
         ensures damaged { (at : ℕ) → IsErrOf result (Damaged at)
             → LacksAtHead self.old.graph (H.state host.old) at }
@@ -52,7 +52,7 @@ impl Head {
     {
         self.live.clear_record();
         let result = self.live.run(self.alloc, text.as_str(), steps)?;
-        let found = self.live.too_large(self.alloc, steps)?;
+        let found = self.live.too_large(self.alloc, &self.table, steps)?;
         match found {
             Some(refusal) => return self.back(host, journal, refusal),
             None => {}
@@ -83,7 +83,7 @@ impl Head {
         ensures stays { IfOk result (StaysWithout self.old self.new host.old host.new) }
         ensures quiet { IsQuiet (H.state host.old) (H.state host.new) }
         ensures least { OnOk result (CountsOn self.old (cell_for text.now) steps.old steps.new) }
-        ensures full { IsErrOf result HeapFull → FillsBy (state_of self.old.live) (cell_for text.now) }
+        ensures full { IsErrOf result HeapFull → FillsHere self.old (cell_for text.now) }
         ensures beyond { IsErrOf result HeapFull → IsFull (state_of self.new.live) }
         ensures damaged { (at : ℕ) → IsErrOf result (Damaged at)
             → LacksAtHead self.old.graph (H.state host.old) at }

@@ -5,17 +5,18 @@ ghost use Rattle.std.specs.List.{list_any};
 ghost use Rattle.kishu_meaning.specs.values.Values.{report_of};
 ghost use Rattle.kishu_store.specs.Limits.{most_records};
 ghost use Rattle.kishu_replay.specs.Replay.{IsFull};
+ghost use Rattle.kishu_graph.specs.Tables.{table_of_rows};
 ghost use Rattle.kishu_checkout.specs.Pictures.{told_file};
 ghost use Rattle.kishu_journal.specs.Going.{IsQuiet};
 ghost use Rattle.kishu_model.specs.Values.{counted_of};
 ghost use Rattle.kishu_model.specs.requests.Cells.{is_ok, is_too_long, texts_size, largest_texts};
 ghost use Rattle.kishu_session.specs.Asked.{cells_for};
 ghost use Rattle.kishu_session.specs.Faults.{DiskFailed};
-ghost use Rattle.kishu_session.specs.Filling.{FillsBy};
+ghost use Rattle.kishu_session.specs.Filling.{FillsHere};
 ghost use Rattle.kishu_session.specs.Head.{IsKnown, LacksAtHead};
-ghost use Rattle.kishu_session.specs.Lives.{state_of, state_after_ran, charge_of_ran, FillsRan};
+ghost use Rattle.kishu_session.specs.Lives.{state_of, accessed_of_ran, state_after_ran, charge_of_ran, FillsRan};
 ghost use Rattle.kishu_session.specs.Prepared.{LeadsOn, CountsOn, StaysWithout};
-ghost use Rattle.kishu_session.specs.Running.{IsGivenBy};
+ghost use Rattle.kishu_session.specs.Running.{IsGivenBy, AreSameNames};
 ghost use Rattle.kishu_session.specs.TextLists.{texts_of, AreShort};
 ghost use Rattle.kishu_session.specs.declared.unprepared.Unprepared.TheVariants.{HeapFull, Damaged, DiskFault, NoMemory};
 
@@ -23,6 +24,7 @@ use crate::head::Head;
 use crate::live::Live;
 use crate::prepared::Prepared;
 use crate::unprepared::Unprepared;
+use kishu_graph::Table;
 use kishu_host::Host;
 use kishu_journal::Journal;
 use kishu_language::LONGEST_TEXT;
@@ -75,28 +77,34 @@ enum Several {
     TooLarge(Refusal),
 }
 
-/// Runs cells in order up to the first that doesn't end well or leaves a state that is too large. So many
-/// cells are on the path before the first of them.
+/// Runs cells in order up to the first that doesn't end well or leaves a state that is too large, as this
+/// table tells it. So many cells are on the path before the first of them.
 fn run_cells<L: Ledger>(
     alloc: Global,
     texts: &[RcStr],
     before: u64,
+    table: &Table,
     live: &mut Live,
     steps: &mut Steps<L>,
 ) -> Result<Several, Unprepared>
     requires short { AreShort texts.now }
     requires some { 0 < length texts.now }
-    ensures gives { IfOk result (IsGivenBy before live.old texts.now) }
-    ensures state { OnOk result (state_of live.new ≡ state_after_ran live.old texts.now) }
-    ensures least { OnOk result (steps.old + charge_of_ran live.old texts.now ≤ steps.new) }
-    ensures full { IsErrOf result HeapFull → FillsRan live.old texts.now }
+    requires fresh { live.old.names.accessed ≡ [] }
+    ensures gives { IfOk result (IsGivenBy before (table_of_rows table.now) live.old texts.now) }
+    ensures state { OnOk result
+        (state_of live.new ≡ state_after_ran (table_of_rows table.now) live.old texts.now) }
+    ensures accessed { OnOk result (AreSameNames live.new.names.accessed
+        (accessed_of_ran (table_of_rows table.now) live.old texts.now)) }
+    ensures least { OnOk result
+        (steps.old + charge_of_ran (table_of_rows table.now) live.old texts.now ≤ steps.new) }
+    ensures full { IsErrOf result HeapFull → FillsRan (table_of_rows table.now) live.old texts.now }
     ensures beyond { IsErrOf result HeapFull → IsFull (state_of live.new) }
     ensures only_these { IfErr result (λ e. (e ≡ HeapFull) ⊎ (e ≡ NoMemory)) }
 {
     let mut results = Vec::new(alloc);
     for text in texts {
         let ran = live.run(alloc, text.as_str(), steps)?;
-        let found = live.too_large(alloc, steps)?;
+        let found = live.too_large(alloc, table, steps)?;
         match found {
             Some(refusal) => return Ok(Several::TooLarge(refusal)),
             None => {}
@@ -130,14 +138,21 @@ impl Head {
         ensures stays { IfOk result (StaysWithout self.old self.new host.old host.new) }
         ensures quiet { IsQuiet (H.state host.old) (H.state host.new) }
         ensures least { OnOk result (CountsOn self.old (cells_for texts.now) steps.old steps.new) }
-        ensures full { IsErrOf result HeapFull → FillsBy (state_of self.old.live) (cells_for texts.now) }
+        ensures full { IsErrOf result HeapFull → FillsHere self.old (cells_for texts.now) }
         ensures beyond { IsErrOf result HeapFull → IsFull (state_of self.new.live) }
         ensures damaged { (at : ℕ) → IsErrOf result (Damaged at)
             → LacksAtHead self.old.graph (H.state host.old) at }
         ensures disk_fault { IsErrOf result DiskFault → DiskFailed (H.state host.old) (H.state host.new) }
     {
         self.live.clear_record();
-        let several = run_cells(self.alloc, texts, self.cells, &mut self.live, steps)?;
+        let several = run_cells(
+            self.alloc,
+            texts,
+            self.cells,
+            &self.table,
+            &mut self.live,
+            steps,
+        )?;
         let results = match several {
             Several::Shown(results) => results,
             Several::TooLarge(refusal) => return self.back(host, journal, refusal),
@@ -170,7 +185,7 @@ impl Head {
         ensures stays { IfOk result (StaysWithout self.old self.new host.old host.new) }
         ensures quiet { IsQuiet (H.state host.old) (H.state host.new) }
         ensures least { OnOk result (CountsOn self.old (cells_for texts.now) steps.old steps.new) }
-        ensures full { IsErrOf result HeapFull → FillsBy (state_of self.old.live) (cells_for texts.now) }
+        ensures full { IsErrOf result HeapFull → FillsHere self.old (cells_for texts.now) }
         ensures beyond { IsErrOf result HeapFull → IsFull (state_of self.new.live) }
         ensures damaged { (at : ℕ) → IsErrOf result (Damaged at)
             → LacksAtHead self.old.graph (H.state host.old) at }

@@ -25,7 +25,7 @@ returns-in-Ok-clause-leads c =
     both c.branched.result (λ (p : Prepared). answer_of p.answer ≡ Some (branched commit title))
     (λ (p : Prepared). record_in p.recorded ≡ Some (plain (named title commit))) (LeadsAlone old new (branch title at))
     c.branched.ensures.answer c.branched.ensures.record
-    (λ p answer recorded. branch-leads old new title at commit (omega arith) made refl refl p answer recorded c.requires.known)
+    (λ p answer recorded. branch-leads old new title at commit (omega arith) made (record { live = refl; table = refl; kept = refl }) refl p answer recorded c.requires.known)
 
 pub returns-in_ok-refusal-in-Err-clause-leads : goal.returns-in_ok-refusal-in-Err-clause-leads
 returns-in_ok-refusal-in-Err-clause-leads c =
@@ -38,4 +38,4 @@ returns-in_ok-refusal-in-Err-clause-leads c =
     let cause = subst (λ (t : List ℕ). IsCause old.graph t at fault) c.as_str.ensures.value c.in-Err.ensures.refused in
     subst (λ (k : Kept). LeadsAlone old (record old { graph = k }) (branch title at) c.refused.result) (sym c.in-Err.ensures.err)
     (refused-leads old (branch title at) r c.refused.result (fault-by-graph fault r by) c.refused.ensures.answer c.refused.ensures.record
-    (λ g s. branch-fault g title at old.graph fault r by cause s.shape))
+    (λ of g s. branch-fault g title at old.graph fault r by cause s.shape))

@@ -3,6 +3,7 @@ use Rattle.std.specs.Rc.{rc_str_bytes}
 use Rattle.kishu_language.specs.Limits.{longest_text}
 use Rattle.kishu_store.specs.Graph.{Graph}
 use Rattle.kishu_store.specs.Limits.{most_records}
+use Rattle.kishu_store.specs.Tables.{change_of}
 use Rattle.kishu_graph.specs.Kept.{StandsFor}
 use Rattle.kishu_model.specs.Answers.{cell_too_long, store_full}
 use Rattle.kishu_model.specs.Request.{cell}
@@ -19,17 +20,17 @@ returns-then-len-gt-LONGEST_TEXT-clause-leads g c =
     let self = c.args.self.now in
     let text = rc_str_bytes c.args.text.now in
     let long : longest_text < length text = omega (arith, c.len.ensures, c.if-len-gt-LONGEST_TEXT.true) in
-    refused-leads self (cell text) cell_too_long c.refused.result refl c.refused.ensures.answer c.refused.ensures.record (λ g' st. step-long (state_of self.live) g' text long)
+    refused-leads self (cell text) cell_too_long c.refused.result refl c.refused.ensures.answer c.refused.ensures.record (λ of g' st. step-long of (state_of self.live) g' text long)
     (told_file (g.H.Host.state c.args.host.now)) c.args.journal.now.place
 
 pub returns-then-len-gt-LONGEST_TEXT-clause-stays : goal.returns-then-len-gt-LONGEST_TEXT-clause-stays
 returns-then-len-gt-LONGEST_TEXT-clause-stays g c = still-stays c.args.self.now c.args.host.now c.refused.result
 
 pub returns-then-len-gt-LONGEST_TEXT-clause-least : goal.returns-then-len-gt-LONGEST_TEXT-clause-least
-returns-then-len-gt-LONGEST_TEXT-clause-least g c g' st =
+returns-then-len-gt-LONGEST_TEXT-clause-least g c h k =
     let text = rc_str_bytes c.args.text.now in
     let long : longest_text < length text = omega (arith, c.len.ensures, c.if-len-gt-LONGEST_TEXT.true) in
-    omega (arith, charge-long (state_of c.args.self.now.live) g' text long)
+    omega (arith, charge-long (change_of h.changes) (state_of c.args.self.now.live) h.graph text long)
 
 -- ---- a store that is full
 
@@ -39,15 +40,15 @@ returns-then-records-ge-MOST_RECORDS-clause-leads g c =
     let text = rc_str_bytes c.args.text.now in
     let short : length text ≤ longest_text = omega (arith, c.len.ensures, c.if-len-gt-LONGEST_TEXT.false) in
     let none = λ (g' : Graph) (st : StandsFor self.graph g'). subst (λ (n : ℕ). most_records ≤ n) st.shape.records (omega (arith, c.records.ensures.value, c.if-records-ge-MOST_RECORDS.true)) in
-    refused-leads self (cell text) store_full c.refused-then-records-ge-MOST_RECORDS.result refl c.refused-then-records-ge-MOST_RECORDS.ensures.answer c.refused-then-records-ge-MOST_RECORDS.ensures.record (λ g' st. step-full (state_of self.live) g' text short (none g' st))
+    refused-leads self (cell text) store_full c.refused-then-records-ge-MOST_RECORDS.result refl c.refused-then-records-ge-MOST_RECORDS.ensures.answer c.refused-then-records-ge-MOST_RECORDS.ensures.record (λ of g' st. step-full of (state_of self.live) g' text short (none g' st))
     (told_file (g.H.Host.state c.args.host.now)) c.args.journal.now.place
 
 pub returns-then-records-ge-MOST_RECORDS-clause-stays : goal.returns-then-records-ge-MOST_RECORDS-clause-stays
 returns-then-records-ge-MOST_RECORDS-clause-stays g c = still-stays c.args.self.now c.args.host.now c.refused-then-records-ge-MOST_RECORDS.result
 
 pub returns-then-records-ge-MOST_RECORDS-clause-least : goal.returns-then-records-ge-MOST_RECORDS-clause-least
-returns-then-records-ge-MOST_RECORDS-clause-least g c g' st =
+returns-then-records-ge-MOST_RECORDS-clause-least g c h k =
     let text = rc_str_bytes c.args.text.now in
     let short : length text ≤ longest_text = omega (arith, c.len.ensures, c.if-len-gt-LONGEST_TEXT.false) in
-    let none : most_records ≤ g'.records = omega (arith, c.records.ensures.value, c.if-records-ge-MOST_RECORDS.true, st.shape.records) in
-    omega (arith, charge-full (state_of c.args.self.now.live) g' text short none)
+    let none : most_records ≤ h.graph.records = omega (arith, c.records.ensures.value, c.if-records-ge-MOST_RECORDS.true, k.keeps.graph.shape.records) in
+    omega (arith, charge-full (change_of h.changes) (state_of c.args.self.now.live) h.graph text short none)

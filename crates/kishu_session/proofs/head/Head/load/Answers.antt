@@ -1,8 +1,10 @@
-use Rattle.std.proofs.Common.{◌≡◌, ap}
+use Rattle.std.proofs.Common.{◌≡◌, ap, subst}
 use Rattle.kishu_store.specs.Graph.{Target}
+use Rattle.kishu_graph.specs.Kept.{Kept}
 use Rattle.kishu_graph.specs.Tables.{table_of_rows}
 use Rattle.kishu_checkout.specs.Loads.{state_restored}
-use Rattle.kishu_session.proofs.LoadFacts.{head-table-is, table-kept, loaded-at, lacks-at}
+use Rattle.kishu_session.specs.Known.{IsHistoryOf}
+use Rattle.kishu_session.proofs.LoadFacts.{head-table-is, table-kept, loaded-at, lacks-at, pictures-held}
 use Rattle.kishu_session.proofs.head.Head.load.Goals as goal
 
 pub restore-requires : goal.restore-requires
@@ -13,8 +15,12 @@ returns-in-Ok-clause-loaded g c h k =
     let kept = c.args.self.now.graph in
     let commit = c.head.result.now.commit in
     let table = table_of_rows c.in_ok-table.table in
+    let u = state_restored c.in-Ok.restored in
     let at : commit ≡ kept.head.commit = ap (λ (t : Target). t.commit) c.head.ensures.value in
-    loaded-at (g.H.Host.state c.args.host.now) table (state_restored c.in-Ok.restored) _ h (head-table-is kept commit table at c.in_ok-table.ensures h k) c.of.ensures c.in-Ok.ensures.loaded c.in-Ok.ensures.live
+    let here = subst (λ (x : Kept). IsHistoryOf x h) c.take.ensures.graph k in
+    let taken = c.in_ok-take-in-Ok.ensures in
+    loaded-at (g.H.Host.state c.args.host.now) table u c.take.new.self h (head-table-is kept commit table at c.in_ok-table.ensures h here) taken.live c.in-Ok.ensures.loaded c.in-Ok.ensures.live
+    (ap table_of_rows taken.table) (pictures-held c.take.new.self.kept table u taken.kept c.in-Ok.ensures.fits)
 
 pub returns-in-Err-Damaged-clause-damaged : goal.returns-in-Err-Damaged-clause-damaged
 returns-in-Err-Damaged-clause-damaged g c at err h k =

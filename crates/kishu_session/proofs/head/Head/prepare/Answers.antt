@@ -1,6 +1,6 @@
 use Rattle.std.proofs.Common.{ℕ, List, sym, subst}
 use Rattle.kishu_model.specs.declared.request.Request.{Request}
-use Rattle.kishu_model.specs.Request.{checkout}
+use Rattle.kishu_model.specs.Request.{checkout, stored}
 use Rattle.kishu_model.specs.Values.{request_of}
 use Rattle.kishu_checkout.specs.Pictures.{told_file}
 use Rattle.kishu_session.specs.Prepared.{LacksFor, LeadsOn}
@@ -57,3 +57,12 @@ returns-in_ok-inspect-in-Inspect-clause-leads g c =
     let place = c.args.journal.now.place in
     subst (λ (r : Request). LeadsOn file place c.args.self.now c.args.self.now (request_of r) c.in_ok-inspect-in-Inspect.field-0)
     (sym c.in-Inspect.is) (c.in_ok-inspect-in-Inspect.ensures.leads file place)
+
+pub returns-in_ok-stored-in-Stored-clause-leads : goal.returns-in_ok-stored-in-Stored-clause-leads
+returns-in_ok-stored-in-Stored-clause-leads g c =
+    let file = told_file (g.H.Host.state c.args.host.now) in
+    let place = c.args.journal.now.place in
+    let p = c.in_ok-stored-in-Stored.field-0 in
+    let self = c.args.self.now in
+    subst (λ (r : Request). LeadsOn file place self self (request_of r) p) (sym c.in-Stored.is)
+    (subst (λ (t : List ℕ). LeadsOn file place self self (stored t) p) c.as_str-in-Stored.ensures.value (c.in_ok-stored-in-Stored.ensures.leads file place))

@@ -54,11 +54,11 @@ returns-clause-attached g c told g' a =
     (durable-read (st c.args.host.now) (st c.prepare.new.host) quiet a.durable)) g' a
 
 pub returns-clause-at_end : goal.returns-clause-at_end
-returns-clause-at_end g c told g' e =
+returns-clause-at_end g c told g' cs e gives =
     let st = g.H.Host.state in
     at-end-after c.args.self.now c.prepare.new.self (st c.args.host.now) (st c.prepare.new.host) (request_of c.args.request.now)
     c.in_ok-prepared.prepared c.in_ok-prepared.ensures.leads c.prepare.ensures.quiet told _ refl
-    (st c.record.new.host) c.in_ok-record.ensures.stands g' e
+    (st c.record.new.host) c.in_ok-record.ensures.stands g' cs e gives
 
 pub returns-clause-bytes : goal.returns-clause-bytes
 returns-clause-bytes g c told g' e =
@@ -67,16 +67,16 @@ returns-clause-bytes g c told g' e =
     (c.in_ok-record.ensures.bytes (c.prepare.ensures.quiet.time.tells ∙ told))
 
 pub returns-clause-answered_here : goal.returns-clause-answered_here
-returns-clause-answered_here g c told g' e =
+returns-clause-answered_here g c told g' cs e gives =
     let self = c.args.self.now in
     answer-on-live self c.prepare.new.self (g.H.Host.state c.args.host.now) (request_of c.args.request.now) c.in_ok-prepared.prepared
-    c.in_ok-prepared.ensures.leads (self.known c.if-self.false) g' e
+    c.in_ok-prepared.ensures.leads g' cs e gives (self.known c.if-self.false)
 
 pub returns-clause-goes_on : goal.returns-clause-goes_on
-returns-clause-goes_on g c told g' e =
+returns-clause-goes_on g c told g' cs e gives =
     let st = g.H.Host.state in
     goes-on-live c.args.self.now c.prepare.new.self (st c.args.host.now) (request_of c.args.request.now) c.in_ok-prepared.prepared
-    c.in_ok-prepared.ensures.leads (st c.prepare.new.host) c.prepare.ensures.quiet told g' e
+    c.in_ok-prepared.ensures.leads g' cs e gives (st c.prepare.new.host) c.prepare.ensures.quiet told
 
 pub returns-clause-live : goal.returns-clause-live
 returns-clause-live g c lives =
@@ -141,18 +141,18 @@ returns-clause-stop g c told g' a =
     (st c.record.new.host) c.record.ensures.stop g' a
 
 pub returns-clause-stop_here : goal.returns-clause-stop_here
-returns-clause-stop_here g c told only g' e =
+returns-clause-stop_here g c told only g' cs e gives =
     let st = g.H.Host.state in
     stop-here c.args.self.now c.prepare.new.self (st c.args.host.now) (st c.prepare.new.host) (request_of c.args.request.now)
     c.in_ok-prepared.prepared c.in_ok-prepared.ensures.leads c.prepare.ensures.quiet
-    (st c.record.new.host) c.record.ensures.stop told only g' e
+    (st c.record.new.host) c.record.ensures.stop told only g' cs e gives
 
 pub returns-clause-least : goal.returns-clause-least
 returns-clause-least g c told g' a =
     let st = g.H.Host.state in
     counts-after c.args.self.now c.prepare.new.self (st c.args.host.now) (st c.prepare.new.host) (request_of c.args.request.now)
-    c.in_ok-prepared.prepared c.in_ok-prepared.ensures.leads c.prepare.ensures.quiet
-    c.args.steps.now c.prepare.new.steps c.in_ok-prepared.ensures.least g' a
+    c.in_ok-prepared.prepared c.in_ok-prepared.ensures.leads c.prepare.ensures.quiet g' a
+    c.args.steps.now c.prepare.new.steps c.in_ok-prepared.ensures.least
 
 -- ---- where the record wasn't appended
 
@@ -167,11 +167,11 @@ returns-in_err-record-clause-stop g c told g' a =
     (st c.record.new.host) c.record.ensures.stop g' a
 
 pub returns-in_err-record-clause-stop_here : goal.returns-in_err-record-clause-stop_here
-returns-in_err-record-clause-stop_here g c told only g' e =
+returns-in_err-record-clause-stop_here g c told only g' cs e gives =
     let st = g.H.Host.state in
     stop-here c.args.self.now c.prepare.new.self (st c.args.host.now) (st c.prepare.new.host) (request_of c.args.request.now)
     c.in_ok-prepared.prepared c.in_ok-prepared.ensures.leads c.prepare.ensures.quiet
-    (st c.record.new.host) c.record.ensures.stop told only g' e
+    (st c.record.new.host) c.record.ensures.stop told only g' cs e gives
 
 -- ---- where nothing was prepared
 
@@ -184,7 +184,7 @@ returns-in_err-prepared-clause-stop g c told g' a =
     quiet-good c.args.self.now (st c.args.host.now) (st c.prepare.new.host) c.prepare.ensures.quiet a.durable g' _ a
 
 pub returns-in_err-prepared-clause-stop_here : goal.returns-in_err-prepared-clause-stop_here
-returns-in_err-prepared-clause-stop_here g c told only g' e =
+returns-in_err-prepared-clause-stop_here g c told only g' cs e gives =
     let st = g.H.Host.state in
     quiet-here c.args.self.now (st c.args.host.now) (st c.prepare.new.host) c.prepare.ensures.quiet only g' _ e
 
