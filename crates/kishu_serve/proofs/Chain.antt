@@ -7,7 +7,7 @@ use Rattle.kishu_host.specs.Host.{State, Told, Elapses}
 use Rattle.kishu_host.specs.Source.{SourceState}
 use Rattle.kishu_store.specs.Graph.{Graph}
 use Rattle.kishu_replay.specs.Replay.{replay}
-use Rattle.kishu_history.specs.Good.{IsWholeFileOf}
+use Rattle.kishu_history.specs.Good.{IsGoodFileOf}
 use Rattle.kishu_model.specs.Request.{Request}
 use Rattle.kishu_model.specs.Serve.{after, answer_of, Item, answered, after_item, bytes_of, charge_by, answers, charges, Reached}
 use Rattle.kishu_model.specs.Step.{charge_of}
@@ -126,7 +126,7 @@ module _ (s0 s1 s2 : State) (g now : Graph) (all rest : List Item) (i : Item) (s
 module _ (s0 s : State) (g now : Graph) (all : List Item) (steps0 steps : ℕ) (comes : Comes s0 s g now all [] steps0 steps) where
   pub comes-whole : (session : Session) → IsAttached session s now → IsWhole s0 s g all
   comes-whole session a = record {
-    good = subst (λ (x : Graph). IsWholeFileOf s.file x) comes.ends (attached-good session s now a);
+    good = subst (λ (x : Graph). IsGoodFileOf s.file x) comes.ends (attached-good session s now a);
     out_is = sym (append-nil s.out) ∙ comes.said;
     durable = a.durable;
   }

@@ -4,6 +4,7 @@ use Rattle.std.specs.Str.{is_utf8}
 use Rattle.kishu_host.specs.Source.{SourceState}
 use Rattle.kishu_meaning.specs.values.Values.{State}
 use Rattle.kishu_store.specs.Graph.{Graph}
+use Rattle.kishu_store.specs.Tables.{Change, change_of}
 use Rattle.kishu_replay.specs.Replay.{IsFull}
 use Rattle.kishu_model.specs.Request.{Request, cell, unreadable}
 use Rattle.kishu_model.specs.Serve.{Item, answered, silent, closing, after_all, answers}
@@ -11,9 +12,9 @@ use Rattle.kishu_model.specs.Task.{Form, one_cell, session, notebook, one_reques
 use Rattle.kishu_model.specs.generated.Run.{summary_of}
 use Rattle.kishu_model.specs.notebooks.Run.{cell_requests, with_answers}
 use Rattle.kishu_model.specs.notebooks.Setting.{written}
+use Rattle.kishu_live_laws.specs.OnStates.{head_rows, FillsOn}
 use Rattle.kishu_gen.specs.Scripts.{to_come}
 use Rattle.kishu_notebook.specs.Views.{data_of}
-use Rattle.kishu_session.specs.Filling.{FillsBy}
 use Rattle.kishu_serve.specs.Fillable.{asks_for, AsksHere, FillsFile}
 use Rattle.kishu_serve.specs.Filling.{FillsLive, FillsInFormLive, FillsFrom}
 use Rattle.kishu_serve.specs.Notebooks.{texts_of}
@@ -37,37 +38,39 @@ one-asked (Makes script) g left q is =
     let qs = to_come script in
     absurd (not-answered qs (summary_of (after_all g (map silent qs)) (answers g (map answered qs))) q is)
 
-module _ (file : List ℕ) (g : Graph) (u : State) (input : List ℕ) where
-  by-cell : (b : Bool) → FillsBy u (if b then cell input else unreadable) → IsFull u
+module _ (file : List ℕ) (cs : List Change) (g : Graph) (u : State) (input : List ℕ) where
+  by-cell : (b : Bool) → FillsOn (head_rows (change_of cs) g) u (if b then cell input else unreadable) → IsFull u
   by-cell true full = full
   by-cell false full = absurd full
 
-  one-full : FillsLive file g u (answered (cell_request input) ∷ []) → IsFull u
+  one-full : FillsLive file cs g u (answered (cell_request input) ∷ []) → IsFull u
   one-full (inl full) = by-cell (is_utf8 input) full
-  one-full (inr later) = absurd later.3
+  one-full (inr later) = absurd later.4
 
 -- from the making of the work to its end
-module _ (file : List ℕ) (g : Graph) (u : State) (work : Work) (old mid : SourceState) (tells : mid.tells ≡ old.tells)
-    (fills : Knows work mid → FillsLive file g u (asks_for work mid.left)) where
+module _ (file : List ℕ) (cs : List Change) (g : Graph) (u : State) (work : Work) (old mid : SourceState) (tells : mid.tells ≡ old.tells)
+    (fills : Knows work mid → FillsLive file cs g u (asks_for work mid.left)) where
   by-form : (f : Form) → AsksHere f old work mid → (f ≡ one_cell → IsOneCell work) → still_reads work ≡ is_session f
-      → FillsInFormLive (Some f) old file g u
+      → FillsInFormLive (Some f) old file cs g u
   by-form one_cell asks one lines =
       let input = (one refl).0 in
       let asked = one-asked work g mid.left (cell_request input) ((one refl).1 g mid.left) in
-      one-full file g u input (subst (λ (is : List Item). FillsLive file g u is) asked (fills (alone-knows work mid lines)))
-  by-form session asks one lines = λ told. subst (λ (is : List Item). FillsLive file g u is) (asks told) (fills (knows-told work mid (tells ∙ told)))
+      one-full file cs g u input (subst (λ (is : List Item). FillsLive file cs g u is) asked (fills (alone-knows work mid lines)))
+  by-form session asks one lines = λ told. subst (λ (is : List Item). FillsLive file cs g u is) (asks told) (fills (knows-told work mid (tells ∙ told)))
   by-form (notebook together) asks one lines = λ told.
-      subst (λ (is : List Item). FillsLive file g u is) (asks told) (fills (knows-told work mid (tells ∙ told)))
-  by-form (one_request q) asks one lines = subst (λ (is : List Item). FillsLive file g u is) (asks tt) (fills (alone-knows work mid lines))
-  by-form (generated start many) asks one lines = subst (λ (is : List Item). FillsLive file g u is) (asks tt) (fills (alone-knows work mid lines))
+      subst (λ (is : List Item). FillsLive file cs g u is) (asks told) (fills (knows-told work mid (tells ∙ told)))
+  by-form (one_request q) asks one lines = subst (λ (is : List Item). FillsLive file cs g u is) (asks tt) (fills (alone-knows work mid lines))
+  by-form (generated start many) asks one lines = subst (λ (is : List Item). FillsLive file cs g u is) (asks tt) (fills (alone-knows work mid lines))
 
 pub fills-from : (f : Form) (work : Work) (old mid : SourceState) (file : List ℕ) → AsksHere f old work mid
     → (f ≡ one_cell → IsOneCell work) → still_reads work ≡ is_session f → mid.tells ≡ old.tells
     → FillsFile work mid file → FillsFrom (Some f) old file
 fills-from f work old mid file asks one lines tells w = record {
   graph = w.graph;
+  changes = w.changes;
   state = w.state;
   holds = w.holds;
+  gives = w.gives;
   loaded = w.loaded;
-  fills = by-form file w.graph w.state work old mid tells w.fills f asks one lines;
+  fills = by-form file w.changes w.graph w.state work old mid tells w.fills f asks one lines;
 }

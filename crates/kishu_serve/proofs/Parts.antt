@@ -6,11 +6,13 @@ use Rattle.kishu_host.specs.Going.{weaker, goes_on}
 use Rattle.kishu_store.specs.Entries.{Entry}
 use Rattle.kishu_store.specs.Graph.{Graph}
 use Rattle.kishu_store.specs.Holds.{Holds, Gives, graph_of}
-use Rattle.kishu_store.specs.Tables.{change_of}
+use Rattle.kishu_store.specs.Tables.{Change, change_of}
 use Rattle.kishu_store_laws.specs.Laws.{ends-holds}
-use Rattle.kishu_history.specs.Good.{IsWholeFileOf, IsWholeAttached}
+use Rattle.kishu_history.specs.Good as good
+use Rattle.kishu_history.specs.Good.{IsGoodFileOf}
 use Rattle.kishu_model.specs.Serve.{Item, after_item, bytes_of, IsPrefix}
 use Rattle.kishu_session.specs.Attached.{IsAtEnd, IsAttached}
+use Rattle.kishu_session.specs.Ends.{at-end-history}
 use Rattle.kishu_session.specs.Journals.{IsJournalOf, GoodBeforeOrAfter}
 use Rattle.kishu_session.specs.Lives.{state_of}
 use Rattle.kishu_session.specs.Written.{IsRecorded}
@@ -23,8 +25,12 @@ attached-holds session s g a =
     subst (λ (x : Graph). Holds s.file x) (ap (λ (es : List Entry). graph_of es) journal.stands.says ∙ sym journal.graph) (ends-holds s.file journal.stands.found journal.stands.ends)
 
 -- The file of an attached session is good.
-pub attached-good : (session : Session) (s : State) (g : Graph) → IsAttached session s g → IsWholeFileOf s.file g
+pub attached-good : (session : Session) (s : State) (g : Graph) → IsAttached session s g → IsGoodFileOf s.file g
 attached-good session s g a = record { changes = a.changes; holds = attached-holds session s g a; gives = a.gives; store = a.states.good }
+
+-- The records of a file at whose end a session stands change something.
+pub at-end-gives : (session : Session) (s : State) (g : Graph) → IsAtEnd session s g → (cs : List Change) × Gives s.file cs
+at-end-gives session s g e = let h = at-end-history session s g e in (h.history.changes, h.gives)
 
 -- A session stays at the end of a file that stays.
 pub at-end-kept : (session : Session) (s0 s1 : State) (g : Graph) → s1.file ≡ s0.file → IsAtEnd session s0 g → IsAtEnd session s1 g
@@ -43,17 +49,17 @@ attached-kept session s0 s1 g same crash a = record {
   count = a.count;
   changes = a.changes;
   gives = subst (λ (f : List ℕ). Gives f a.changes) (sym same) a.gives;
-  states = subst (λ (f : List ℕ). IsWholeAttached f g (change_of a.changes) (state_of session.head.live)) (sym same) a.states;
+  states = subst (λ (f : List ℕ). good.IsAttached f g (change_of a.changes) (state_of session.head.live)) (sym same) a.states;
   few = a.few;
 }
 
 module _ (s : State) (g : Graph) (i : Item) where
   -- nothing is done yet
-  pub part-none : (file out : List ℕ) → IsWholeFileOf file g → out ≡ s.out → IsPart s g (i ∷ []) file out
+  pub part-none : (file out : List ℕ) → IsGoodFileOf file g → out ≡ s.out → IsPart s g (i ∷ []) file out
   part-none file out good same = record { now = g; printed = []; good = good; out_is = same ∙ sym (append-nil s.out); reached = inl (refl, refl) }
 
   -- it is done, and a part of what is written for it is out
-  pub part-done : (file out p : List ℕ) → IsWholeFileOf file (after_item g i) → out ≡ s.out ++ p → IsPrefix p (bytes_of g i) → IsPart s g (i ∷ []) file out
+  pub part-done : (file out p : List ℕ) → IsGoodFileOf file (after_item g i) → out ≡ s.out ++ p → IsPrefix p (bytes_of g i) → IsPart s g (i ∷ []) file out
   part-done file out p good is prefix = record {
     now = after_item g i;
     printed = p;
@@ -65,14 +71,14 @@ module _ (s : State) (g : Graph) (i : Item) where
   -- while it is applied
   pub part-applied : (file out : List ℕ) → GoodBeforeOrAfter s g (after_item g i) file out → IsPart s g (i ∷ []) file out
   part-applied file out w =
-      ⊎_elim (λ (h : IsWholeFileOf file g). part-none file out h w.0)
-      (λ (h : IsWholeFileOf file (after_item g i)). part-done file out [] h (w.0 ∙ sym (append-nil s.out)) (bytes_of g i, refl)) w.1
+      ⊎_elim (λ (h : IsGoodFileOf file g). part-none file out h w.0)
+      (λ (h : IsGoodFileOf file (after_item g i)). part-done file out [] h (w.0 ∙ sym (append-nil s.out)) (bytes_of g i, refl)) w.1
 
   -- while that goes out
-  pub part-put : (s1 : State) (bytes : List ℕ) → bytes ≡ bytes_of g i → Only s1.file s1.may_leave → IsWholeFileOf s1.file (after_item g i) → s1.out ≡ s.out
+  pub part-put : (s1 : State) (bytes : List ℕ) → bytes ≡ bytes_of g i → Only s1.file s1.may_leave → IsGoodFileOf s1.file (after_item g i) → s1.out ≡ s.out
       → (file out : List ℕ) → DuringPut s1 bytes file out → IsPart s g (i ∷ []) file out
   part-put s1 bytes is only good same file out d =
-      part-done file out d.1 (subst (λ (f : List ℕ). IsWholeFileOf f (after_item g i)) (sym (only file d.0)) good) (d.3 ∙ ap (λ (l : List ℕ). l ++ d.1) same) (d.2.0, sym is ∙ d.2.1)
+      part-done file out d.1 (subst (λ (f : List ℕ). IsGoodFileOf f (after_item g i)) (sym (only file d.0)) good) (d.3 ∙ ap (λ (l : List ℕ). l ++ d.1) same) (d.2.0, sym is ∙ d.2.1)
 
 -- what holds of a call, where it succeeded
 pub held : {T E P : Type 0} (r : Result T E) → P → OnOk r P
@@ -91,7 +97,7 @@ pub told-stop : (session : Session) (s0 s1 : State) (g : Graph) (i : Item) (byte
     → Elapses s0 s1 (DuringPut s0 bytes) → Elapses s0 s1 (IsPart s0 g (i ∷ []))
 told-stop session s0 s1 g i bytes a stays is put =
     weaker s0 s1 (IsPart s0 g (i ∷ [])) (DuringPut s0 bytes) put
-    (part-put s0 g i s0 bytes is a.durable (subst (λ (x : Graph). IsWholeFileOf s0.file x) (sym stays) (attached-good session s0 g a)) refl)
+    (part-put s0 g i s0 bytes is a.durable (subst (λ (x : Graph). IsGoodFileOf s0.file x) (sym stays) (attached-good session s0 g a)) refl)
 
 -- It is applied.
 pub applied-stop : (s0 s1 : State) (g : Graph) (i : Item) → Elapses s0 s1 (GoodBeforeOrAfter s0 g (after_item g i)) → Elapses s0 s1 (IsPart s0 g (i ∷ []))

@@ -4,7 +4,7 @@ use Rattle.std.proofs.lemmas.List.{append-nil}
 use Rattle.kishu_host.specs.Host.{State, Now, Only, Elapses, Rises}
 use Rattle.kishu_host.specs.Going.{weaker, goes_on}
 use Rattle.kishu_store.specs.Graph.{Graph}
-use Rattle.kishu_history.specs.Good.{IsWholeFileOf}
+use Rattle.kishu_history.specs.Good.{IsGoodFileOf}
 use Rattle.kishu_model.specs.Serve.{Item, Reached, answers}
 use Rattle.kishu_session.specs.Written.{begun}
 use Rattle.kishu_serve.specs.Headline.{IsPart, IsWhole}
@@ -16,23 +16,23 @@ RunStop s g qs c o = Now s c o ⊎ IsPart s g qs c o
 
 -- what opening leaves
 abbrev pub OpenStop : State → Graph → List ℕ → List ℕ → Type 0
-OpenStop s g c o = Now s c o ⊎ (IsWholeFileOf c g × (o ≡ s.out))
+OpenStop s g c o = Now s c o ⊎ (IsGoodFileOf c g × (o ≡ s.out))
 
 -- nothing is done yet
 pub reached-none : (g : Graph) (qs : List Item) → Reached g qs g []
 reached-none g [] = (refl, refl)
 reached-none g (q ∷ qs) = inl (refl, refl)
 
-pub none-done : (s : State) (g : Graph) (qs : List Item) (file out : List ℕ) → IsWholeFileOf file g → out ≡ s.out → IsPart s g qs file out
+pub none-done : (s : State) (g : Graph) (qs : List Item) (file out : List ℕ) → IsGoodFileOf file g → out ≡ s.out → IsPart s g qs file out
 none-done s g qs file out good same = record { now = g; printed = []; good = good; out_is = same ∙ sym (append-nil s.out); reached = reached-none g qs }
 
 -- as it reads at the start
-pub start-part : (s : State) (g : Graph) (qs : List Item) → IsWholeFileOf s.file g → Only s.file s.may_leave → (file out : List ℕ) → Now s file out → IsPart s g qs file out
-start-part s g qs good only file out now = none-done s g qs file out (subst (λ (f : List ℕ). IsWholeFileOf f g) (sym (only file now.0)) good) now.1
+pub start-part : (s : State) (g : Graph) (qs : List Item) → IsGoodFileOf s.file g → Only s.file s.may_leave → (file out : List ℕ) → Now s file out → IsPart s g qs file out
+start-part s g qs good only file out now = none-done s g qs file out (subst (λ (f : List ℕ). IsGoodFileOf f g) (sym (only file now.0)) good) now.1
 
 module _ (s0 s1 : State) (g : Graph) (qs : List Item) (opening : Elapses s0 s1 (OpenStop s0 g)) where
   pub opening-stop : Elapses s0 s1 (RunStop s0 g qs)
-  opening-stop = weaker s0 s1 (RunStop s0 g qs) (OpenStop s0 g) opening (λ f o h. ⊎_elim (λ now. inl now) (λ (k : IsWholeFileOf f g × (o ≡ s0.out)). inr (none-done s0 g qs f o k.0 k.1)) h)
+  opening-stop = weaker s0 s1 (RunStop s0 g qs) (OpenStop s0 g) opening (λ f o h. ⊎_elim (λ now. inl now) (λ (k : IsGoodFileOf f g × (o ≡ s0.out)). inr (none-done s0 g qs f o k.0 k.1)) h)
 
   module _ (same : s1.out ≡ s0.out) where
     pub part-from : (f o : List ℕ) → IsPart s1 g qs f o → IsPart s0 g qs f o

@@ -3,7 +3,8 @@ use Rattle.std.specs.Prelude.{◌≡◌, ℕ, List, [], ◌∷◌, map}
 use Rattle.kishu_host.specs.Source.{SourceState}
 use Rattle.kishu_meaning.specs.values.Values.{State}
 use Rattle.kishu_store.specs.Graph.{Graph}
-use Rattle.kishu_store.specs.Holds.{Holds}
+use Rattle.kishu_store.specs.Holds.{Holds, Gives}
+use Rattle.kishu_store.specs.Tables.{Change}
 use Rattle.kishu_model.specs.Serve.{Item, answered}
 use Rattle.kishu_model.specs.Task.{Form, one_cell, session, notebook, one_request, generated, cell_request, line_request, session_limits, session_lines}
 use Rattle.kishu_model.specs.generated.Requests.{generated_requests}
@@ -38,7 +39,9 @@ AsksHere form from work to = KnowsForm form from → asks_for work to.left ≡ f
 -- A file as it is opened holds a graph, and the run fills the heap from the state on that is loaded for the graph's head.
 pub record FillsFile (work : Work) (s : SourceState) (file : List ℕ) : Type 0 where
   pub graph : Graph
+  pub changes : List Change
   pub state : State
   pub holds : Holds file graph
+  pub gives : Gives file changes
   pub loaded : IsHeadLoaded file graph state
-  pub fills : Knows work s → FillsLive file graph state (asks_for work s.left)
+  pub fills : Knows work s → FillsLive file changes graph state (asks_for work s.left)

@@ -5,7 +5,7 @@ use Rattle.kishu_host.specs.Source.{SourceState}
 use Rattle.kishu_meaning.specs.values.Values.{State}
 use Rattle.kishu_store.specs.Graph.{Graph}
 use Rattle.kishu_store.specs.Holds.{Holds, Gives}
-use Rattle.kishu_store.specs.Tables.{Change, change_of, table_at}
+use Rattle.kishu_store.specs.Tables.{Change, change_of}
 use Rattle.kishu_history.specs.Live.{IsLive}
 use Rattle.kishu_history.specs.Stored.{Stored}
 use Rattle.kishu_model.specs.Request.{Request, cell}
@@ -16,9 +16,9 @@ use Rattle.kishu_model.specs.generated.Run.{generated_run}
 use Rattle.kishu_model.specs.notebooks.Notebook.{Fault, opening, sources_of}
 use Rattle.kishu_model.specs.notebooks.Run.{goes_on, all_cells}
 use Rattle.kishu_replay.specs.Replay.{replay, IsFull}
-use Rattle.kishu_live_laws.specs.OnStates.{after_on, answer_on}
+use Rattle.kishu_live_laws.specs.Filling.{FillsBy}
+use Rattle.kishu_live_laws.specs.OnStates.{after_on, answer_on, head_rows, FillsOn}
 use Rattle.kishu_session.specs.Becoming.{IsHeadLoaded, IsNextState}
-use Rattle.kishu_session.specs.Filling.{FillsBy}
 use Rattle.kishu_session.specs.Written.{IsRecorded}
 
 -- by an item: by its request
@@ -43,22 +43,25 @@ FillsInForm (Some (generated start many)) s g = FillsByAny g (generated_run star
 
 -- ---- on every store, by the live state
 
--- A request was applied to a state, over this graph, which a file holds: the file and the state that it led to. The state is the one that the new head's table tells, by the pictures that the file holds then.
-pub record IsApplied (file : List ℕ) (g : Graph) (u : State) (q : Request) (later : List ℕ) (v : State) : Type 0 where
+-- A request was applied to a state, over this graph, which a file holds whose records change this: the file that it led to, what the records of that change, and the state. The state is the one that the new head's table tells, by the pictures that the file holds then.
+pub record IsApplied (file : List ℕ) (cs : List Change) (g : Graph) (u : State) (q : Request) (later : List ℕ) (more : List Change) (v : State) : Type 0 where
   pub written : (later ≡ file) ⊎ IsRecorded file later
-  pub holds : Holds later (after_on u g q)
-  pub becomes : IsNextState file g u q v
-  pub tells : (cs : List Change) → Gives later cs
-      → IsLive (Stored (Some later)) (table_at (after_on u g q) (change_of cs) (after_on u g q).head.commit) v
+  pub holds : Holds later (after_on (change_of cs) u g q)
+  pub gives : Gives later more
+  pub becomes : IsNextState file (change_of cs) g u q v
+  pub tells : IsLive (Stored (Some later)) (head_rows (change_of more) (after_on (change_of cs) u g q)) v
 
--- One of these items fills the heap: the first one on this state, or a later one on the state to which the ones before it led. Of a notebook's cells one is run only after one that ended well.
-abbrev pub FillsLive : List ℕ → Graph → State → List Item → Type 0
-FillsLive file g u [] = ⊥
-FillsLive file g u (answered q ∷ is) =
-    FillsBy u q ⊎ ((later : List ℕ) × (v : State) × IsApplied file g u q later v × FillsLive later (after_on u g q) v is)
-FillsLive file g u (silent q ∷ is) =
-    FillsBy u q ⊎ ((goes_on (answer_on u g q) ≡ true) × ((later : List ℕ) × (v : State) × IsApplied file g u q later v × FillsLive later (after_on u g q) v is))
-FillsLive file g u (closing bytes ∷ is) = ⊥
+-- One of these items fills the heap: the first one on this state, with the head's table as the file's records give it, or a later one on the state to which the ones before it led. Of a notebook's cells one is run only after one that ended well.
+abbrev pub FillsLive : List ℕ → List Change → Graph → State → List Item → Type 0
+FillsLive file cs g u [] = ⊥
+FillsLive file cs g u (answered q ∷ is) =
+    FillsOn (head_rows (change_of cs) g) u q
+    ⊎ ((later : List ℕ) × (more : List Change) × (v : State) × IsApplied file cs g u q later more v × FillsLive later more (after_on (change_of cs) u g q) v is)
+FillsLive file cs g u (silent q ∷ is) =
+    FillsOn (head_rows (change_of cs) g) u q
+    ⊎ ((goes_on (answer_on (change_of cs) u g q) ≡ true)
+    × ((later : List ℕ) × (more : List Change) × (v : State) × IsApplied file cs g u q later more v × FillsLive later more (after_on (change_of cs) u g q) v is))
+FillsLive file cs g u (closing bytes ∷ is) = ⊥
 
 -- the cells of a notebook, of which each is run on its own or all together, if none before it ends badly
 abbrev pub cells_asked : (together : Bool) → List (List ℕ) → List Item
@@ -69,19 +72,21 @@ abbrev pub notebook_asked : (together : Bool) → Result Data Fault → List Ite
 notebook_asked together (Err fault) = []
 notebook_asked together (Ok d) = cells_asked together (sources_of d)
 
--- by what a form asks for, on the state that was loaded for the head of a graph that a file holds
-abbrev pub FillsInFormLive : Option Form → SourceState → List ℕ → Graph → State → Type 0
-FillsInFormLive None s file g u = ⊥
-FillsInFormLive (Some one_cell) s file g u = IsFull u
-FillsInFormLive (Some session) s file g u = s.tells ≡ true → FillsLive file g u (task (Some session) g s.left)
-FillsInFormLive (Some (notebook together)) s file g u = s.tells ≡ true → FillsLive file g u (notebook_asked together (opening s.left))
-FillsInFormLive (Some (one_request q)) s file g u = FillsLive file g u (answered q ∷ [])
-FillsInFormLive (Some (generated start many)) s file g u = FillsLive file g u (map answered (generated_requests start many))
+-- by what a form asks for, on the state that was loaded for the head of a graph that a file holds whose records change this
+abbrev pub FillsInFormLive : Option Form → SourceState → List ℕ → List Change → Graph → State → Type 0
+FillsInFormLive None s file cs g u = ⊥
+FillsInFormLive (Some one_cell) s file cs g u = IsFull u
+FillsInFormLive (Some session) s file cs g u = s.tells ≡ true → FillsLive file cs g u (task (Some session) g s.left)
+FillsInFormLive (Some (notebook together)) s file cs g u = s.tells ≡ true → FillsLive file cs g u (notebook_asked together (opening s.left))
+FillsInFormLive (Some (one_request q)) s file cs g u = FillsLive file cs g u (answered q ∷ [])
+FillsInFormLive (Some (generated start many)) s file cs g u = FillsLive file cs g u (map answered (generated_requests start many))
 
 -- So it is with a file, as it is opened.
 pub record FillsFrom (form : Option Form) (s : SourceState) (file : List ℕ) : Type 0 where
   pub graph : Graph
+  pub changes : List Change
   pub state : State
   pub holds : Holds file graph
+  pub gives : Gives file changes
   pub loaded : IsHeadLoaded file graph state
-  pub fills : FillsInFormLive form s file graph state
+  pub fills : FillsInFormLive form s file changes graph state

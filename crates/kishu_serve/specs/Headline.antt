@@ -4,7 +4,7 @@ use Rattle.kishu_language.specs.Limits.{longest_text}
 use Rattle.kishu_host.specs.Host.{State, Only}
 use Rattle.kishu_host.specs.Source.{SourceState}
 use Rattle.kishu_store.specs.Graph.{Graph}
-use Rattle.kishu_history.specs.Good.{IsWholeFileOf}
+use Rattle.kishu_history.specs.Good.{IsGoodFileOf}
 use Rattle.kishu_model.specs.Serve.{Item, Reached, after_all, answers}
 use Rattle.kishu_model.specs.Task.{Form, one_cell, session, notebook, one_request, generated, limit_place, session_limits, notebook_limit}
 use Rattle.kishu_model.specs.notebooks.Notebook.{Fault, opening}
@@ -16,13 +16,13 @@ use Rattle.kishu_serve.specs.declared.status.Status.TheVariants.{Usage, Notebook
 pub record IsPart (s : State) (g : Graph) (items : List Item) (file out : List ℕ) : Type 0 where
   pub now : Graph
   pub printed : List ℕ
-  pub good : IsWholeFileOf file now
+  pub good : IsGoodFileOf file now
   pub out_is : out ≡ s.out ++ printed
   pub reached : Reached g items now printed
 
 -- All items are done, the file is good, and each stop leaves so.
 pub record IsWhole (old new : State) (g : Graph) (items : List Item) : Type 0 where
-  pub good : IsWholeFileOf new.file (after_all g items)
+  pub good : IsGoodFileOf new.file (after_all g items)
   pub out_is : new.out ≡ old.out ++ answers g items
   pub durable : Only new.file new.may_leave
 
@@ -30,7 +30,7 @@ pub record IsWhole (old new : State) (g : Graph) (items : List Item) : Type 0 wh
 pub record IsGiven (host : State) (source : SourceState) (g : Graph) : Type 0 where
   pub host_tells : host.tells ≡ true
   pub source_tells : source.tells ≡ true
-  pub good : IsWholeFileOf host.file g
+  pub good : IsGoodFileOf host.file g
 
 -- ---- the input, by the form
 

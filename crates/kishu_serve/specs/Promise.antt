@@ -8,7 +8,7 @@ use Rattle.kishu_store.specs.Graph.{Graph}
 use Rattle.kishu_store.specs.Holds.{Holds, Gives, IsBroken}
 use Rattle.kishu_store.specs.Tables.{Row, Change, change_of, table_at}
 use Rattle.kishu_objects.specs.Lists.{In}
-use Rattle.kishu_history.specs.Good.{IsWholeFile, IsWholeFileOf}
+use Rattle.kishu_history.specs.Good.{IsGoodFile, IsGoodFileOf}
 use Rattle.kishu_model.specs.Serve.{Item}
 use Rattle.kishu_model.specs.Task.{Form, session, task}
 use Rattle.kishu_model.specs.notebooks.Notebook.{Fault}
@@ -74,7 +74,7 @@ pub record LacksPicture (file : List ℕ) (at : ℕ) : Type 0 where
 
 -- Where the host tells its file: at this place stands the first open gate behind which no whole record stands that fits; or the store isn't good, and as the run leaves it it lacks a picture there.
 abbrev pub IsDamaged : State → State → (at : ℕ) → Type 0
-IsDamaged old new at = Told old (IsBroken old.file at ⊎ ((IsWholeFile old.file → ⊥) × LacksPicture new.file at))
+IsDamaged old new at = Told old (IsBroken old.file at ⊎ ((IsGoodFile old.file → ⊥) × LacksPicture new.file at))
 
 -- ---- the input
 
@@ -94,7 +94,7 @@ RefusesFor fault status = (why : NotebookRefusal) × (fault_of why ≡ fault) ×
 
 -- Where the store is good, the run would fill the heap with the graph that it holds.
 abbrev pub FillsHeap : Option Form → State → SourceState → Type 0
-FillsHeap form host source = Told host ((g : Graph) → IsWholeFileOf host.file g → FillsInForm form source g)
+FillsHeap form host source = Told host ((g : Graph) → IsGoodFileOf host.file g → FillsInForm form source g)
 
 -- On every store the run would fill the heap with the state that is loaded for the head of the file's graph, or with one to which requests led from it.
 abbrev pub FillsHeapLive : Option Form → State → SourceState → Type 0
@@ -105,4 +105,4 @@ FillsHeapLive form host source = Told host (FillsFrom form source (begun host.fi
 -- Over a good store, where it is known what is to do, this holds of the graph and the items.
 abbrev pub OverKnown : Work → SourceState → State → (Graph → List Item → Type 0) → Type 0
 OverKnown work source host P =
-    Told host (Knows work source → (g : Graph) → IsWholeFileOf host.file g → P g (to_do work g source.left))
+    Told host (Knows work source → (g : Graph) → IsGoodFileOf host.file g → P g (to_do work g source.left))

@@ -13,21 +13,20 @@ ghost use Rattle.kishu_gen.specs.Summaries.{HasTaken};
 ghost use Rattle.kishu_session.specs.Attached.{IsAttached};
 ghost use Rattle.kishu_session.specs.Filling.{FillsBy};
 ghost use Rattle.kishu_session.specs.Faults.{DiskFailed};
-ghost use Rattle.kishu_session.specs.Lives.{state_of};
 ghost use Rattle.kishu_serve.specs.Coming.{AreApplied};
-ghost use Rattle.kishu_serve.specs.EveryStore.{AppliesHere, FillsHere};
+ghost use Rattle.kishu_serve.specs.EveryStore.{AppliesHere, FillsNow, FillsHere};
 ghost use Rattle.kishu_serve.specs.Filling.{FillsByAny};
 ghost use Rattle.kishu_serve.specs.Headline.{IsWhole};
 ghost use Rattle.kishu_serve.specs.Recorded.{Records};
 ghost use Rattle.kishu_serve.specs.Serving.{OutputFailed, WhereAttached, IsOpen, EndsDamaged, WritesOne, StopsInPart, AreOut, GoOut};
 ghost use Rattle.kishu_serve.specs.declared.serving.Stop.TheVariants.{HeapFull, DiskFault, InputFault, OutputFault, TooLong, Damaged, NoMemory};
 
-use crate::serving::Stop;
+use crate::serving::{Stop, stop_of};
 use kishu_gen::{Script, Summary};
 use kishu_host::Host;
 use kishu_lines::write_answer;
 use kishu_model::{Request, Steps};
-use kishu_session::{Halt, Session};
+use kishu_session::Session;
 use std::alloc::{AllocError, Global};
 use std::sync::ledger::Ledger;
 
@@ -76,7 +75,7 @@ fn apply_silently<H: Host, L: Ledger>(
     ensures applied { OnOk result (AppliesHere session.old session.new (H.state host.old) (H.state host.new)
         (request_of request.now)) }
     ensures full_live { IsErrOf result HeapFull
-        → FillsBy (state_of session.old.head.live) (request_of request.now) }
+        → FillsNow session.old (H.state host.old) (request_of request.now) }
     ensures damaged { (at : ℕ) → IsErrOf result (Damaged at)
         → EndsDamaged session.old (H.state host.old) (H.state host.new) at }
     ensures stop { WhereAttached session.old (H.state host.old) (λ g.
@@ -90,11 +89,7 @@ fn apply_silently<H: Host, L: Ledger>(
 {
     let answer = match session.apply(host, request, steps) {
         Ok(answer) => answer,
-        Err(Halt::HeapFull) => return Err(Stop::HeapFull),
-        Err(Halt::DiskFault) => return Err(Stop::DiskFault),
-        Err(Halt::NoMemory) => return Err(Stop::NoMemory),
-        Err(Halt::Damaged { at }) => return Err(Stop::Damaged { at }),
-        Err(Halt::NotAJournal | Halt::Closed) => unreachable!(),
+        Err(halt) => return Err(stop_of(halt)),
     };
     let Ok(line) = write_answer(alloc, &answer) else {
         return Err(Stop::NoMemory);

@@ -13,8 +13,7 @@ ghost use Rattle.kishu_notebook.specs.Views.{data_of};
 ghost use Rattle.kishu_session.specs.Attached.{IsAttached};
 ghost use Rattle.kishu_session.specs.Filling.{FillsBy};
 ghost use Rattle.kishu_session.specs.Faults.{DiskFailed};
-ghost use Rattle.kishu_session.specs.Lives.{state_of};
-ghost use Rattle.kishu_serve.specs.EveryStore.{AppliesHere, GoesOnHere, FillsHere};
+ghost use Rattle.kishu_serve.specs.EveryStore.{AppliesHere, GoesOnHere, FillsNow, FillsHere};
 ghost use Rattle.kishu_serve.specs.Filling.{FillsByAny, cells_asked};
 ghost use Rattle.kishu_serve.specs.Headline.{IsWhole};
 ghost use Rattle.kishu_serve.specs.Notebooks.{IsSet, run_of, texts_of, items_of};
@@ -24,11 +23,11 @@ ghost use Rattle.kishu_serve.specs.Serving.{OutputFailed, WhereAttached, IsOpen,
 ghost use Rattle.kishu_serve.specs.declared.serving.Stop.TheVariants.{HeapFull, DiskFault, InputFault, OutputFault, TooLong, Damaged};
 
 use crate::book::Book;
-use crate::serving::Stop;
+use crate::serving::{Stop, stop_of};
 use kishu_host::Host;
 use kishu_model::{Request, Steps};
 use kishu_notebook::Notebook;
-use kishu_session::{Halt, Session};
+use kishu_session::Session;
 use std::rc::RcStr;
 use std::sync::ledger::Ledger;
 
@@ -66,7 +65,7 @@ fn run_request<H: Host, L: Ledger>(
         (request_of request.now)) }
     ensures goes_on_live { IfOk result (GoesOnHere session.old (H.state host.old) (request_of request.now)) }
     ensures full_live { IsErrOf result HeapFull
-        → FillsBy (state_of session.old.head.live) (request_of request.now) }
+        → FillsNow session.old (H.state host.old) (request_of request.now) }
     ensures damaged { (at : ℕ) → IsErrOf result (Damaged at)
         → EndsDamaged session.old (H.state host.old) (H.state host.new) at }
     ensures stop { WhereAttached session.old (H.state host.old) (λ g.
@@ -80,11 +79,7 @@ fn run_request<H: Host, L: Ledger>(
 {
     let answer = match session.apply(host, request, steps) {
         Ok(answer) => answer,
-        Err(Halt::HeapFull) => return Err(Stop::HeapFull),
-        Err(Halt::DiskFault) => return Err(Stop::DiskFault),
-        Err(Halt::NoMemory) => return Err(Stop::NoMemory),
-        Err(Halt::Damaged { at }) => return Err(Stop::Damaged { at }),
-        Err(Halt::NotAJournal | Halt::Closed) => unreachable!(),
+        Err(halt) => return Err(stop_of(halt)),
     };
     let Ok(()) = notebook.set_answer(at, &answer) else {
         return Err(Stop::NoMemory);

@@ -8,9 +8,9 @@ ghost use Rattle.kishu_model.specs.Values.{answer_of as said_by};
 ghost use Rattle.kishu_session.specs.Attached.{IsAttached};
 ghost use Rattle.kishu_session.specs.Filling.{FillsBy};
 ghost use Rattle.kishu_session.specs.Faults.{DiskFailed};
-ghost use Rattle.kishu_session.specs.Lives.{state_of};
+ghost use Rattle.kishu_session.specs.declared.halt.Halt.TheVariants.{NotAJournal, Closed, Damaged as Broken, DiskFault as NoDisk, HeapFull as Full};
 ghost use Rattle.kishu_serve.specs.Asking.{asked_of};
-ghost use Rattle.kishu_serve.specs.EveryStore.{AppliesHere};
+ghost use Rattle.kishu_serve.specs.EveryStore.{AppliesHere, FillsNow};
 ghost use Rattle.kishu_serve.specs.Serving.{OutputFailed, IsAnswerOut, AnswerGoesOut, WhereAttached, IsOpen, EndsDamaged, IsAnswered, WritesOne, StopsInPart};
 ghost use Rattle.kishu_serve.specs.declared.serving.Stop.TheVariants.{HeapFull, DiskFault, InputFault, OutputFault, TooLong, Damaged};
 
@@ -33,6 +33,25 @@ pub(crate) enum Stop {
     /// There is no picture at this place of the store, where one should be.
     Damaged { at: u64 },
     NoMemory,
+}
+
+/// Why a run doesn't go on whose session has halted so. An open one answers no `NotAJournal` and no
+/// `Closed`.
+pub(crate) fn stop_of(halt: Halt) -> Stop
+    requires open { (halt ≡ NotAJournal → ⊥) × (halt ≡ Closed → ⊥) }
+    ensures full { result ≡ HeapFull → halt ≡ Full }
+    ensures disk_fault { result ≡ DiskFault → halt ≡ NoDisk }
+    ensures damaged { (at : ℕ) → result ≡ Damaged at → halt ≡ Broken at }
+    ensures no_input { (result ≡ InputFault → ⊥) × (result ≡ TooLong → ⊥) }
+    ensures no_output { result ≡ OutputFault → ⊥ }
+{
+    match halt {
+        Halt::HeapFull => Stop::HeapFull,
+        Halt::DiskFault => Stop::DiskFault,
+        Halt::NoMemory => Stop::NoMemory,
+        Halt::Damaged { at } => Stop::Damaged { at },
+        Halt::NotAJournal | Halt::Closed => unreachable!(),
+    }
 }
 
 /// Puts an answer's line out, by one call of the host.
@@ -87,7 +106,7 @@ pub(crate) fn serve<H: Host, L: Ledger>(
     ensures applied { OnOk result (AppliesHere session.old session.new (H.state host.old) (H.state host.new)
         (asked_of asked.now)) }
     ensures full_live { IsErrOf result HeapFull
-        → FillsBy (state_of session.old.head.live) (asked_of asked.now) }
+        → FillsNow session.old (H.state host.old) (asked_of asked.now) }
     ensures damaged { (at : ℕ) → IsErrOf result (Damaged at)
         → EndsDamaged session.old (H.state host.old) (H.state host.new) at }
     ensures stop { WhereAttached session.old (H.state host.old) (λ g.
@@ -104,10 +123,6 @@ pub(crate) fn serve<H: Host, L: Ledger>(
     };
     match session.apply(host, request, steps) {
         Ok(answer) => tell(alloc, host, &answer),
-        Err(Halt::HeapFull) => Err(Stop::HeapFull),
-        Err(Halt::DiskFault) => Err(Stop::DiskFault),
-        Err(Halt::NoMemory) => Err(Stop::NoMemory),
-        Err(Halt::Damaged { at }) => Err(Stop::Damaged { at }),
-        Err(Halt::NotAJournal | Halt::Closed) => unreachable!(),
+        Err(halt) => Err(stop_of(halt)),
     }
 }

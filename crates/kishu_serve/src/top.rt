@@ -4,7 +4,7 @@ ghost use Rattle.kishu_host.specs.Host.{Told, Keeps};
 ghost use Rattle.kishu_input.specs.Sources.{InputFailed, TakesMoreThan, TakesAtMost};
 ghost use Rattle.kishu_store.specs.Graph.{Graph};
 ghost use Rattle.kishu_store.specs.Holds.{IsForeign};
-ghost use Rattle.kishu_history.specs.Good.{IsWholeFileOf};
+ghost use Rattle.kishu_history.specs.Good.{IsGoodFileOf};
 ghost use Rattle.kishu_model.specs.Serve.{charges};
 ghost use Rattle.kishu_model.specs.Task.{session as lines};
 ghost use Rattle.kishu_model.specs.notebooks.Notebook.{Fault};
@@ -191,7 +191,7 @@ fn run_work<H: Host, S: Source, L: Ledger>(
     ensures output_fault { result ≡ OutputFault → OutputFailed (H.state host.old) (H.state host.new) }
     ensures input_fault { result ≡ InputFault
         → (still_reads work ≡ true) × InputFailed (S.source source.old) (S.source source.new) }
-    ensures complete { Told (H.state host.old) ((g : Graph) → IsWholeFileOf (H.state host.old).file g
+    ensures complete { Told (H.state host.old) ((g : Graph) → IsGoodFileOf (H.state host.old).file g
         → (result ≡ Done) ⊎ (result ≡ NoMemory) ⊎ (result ≡ InputTooLong) ⊎ (result ≡ HeapFull)
         ⊎ (result ≡ DiskFault) ⊎ (result ≡ InputFault) ⊎ (result ≡ OutputFault)) }
     ensures full { result ≡ HeapFull → OverKnown work (S.source source.old) (H.state host.old) (λ g items.

@@ -84,59 +84,66 @@ fn the_first_cell(rt: HostRuntime) -> Result<(), Fail> {
     let alloc = rt.alloc();
     let mut host = host_over(alloc, &[], Vec::new(alloc), None)?.ok_or("room")?;
     let status = run_cell_of(alloc, &mut host, b"print(1 + 2)".as_slice())?;
-    assert_eq!(rt; status, Status::Done);
-    assert_eq!(rt; host.out(), FIRST_LINE.as_bytes());
-    assert_eq!(rt; host.file(), FIRST.as_slice());
+    assert!(rt; status == Status::Done);
+    assert!(rt; host.out() == FIRST_LINE.as_bytes());
+    assert!(rt; host.file() == FIRST.as_slice());
     Ok(())
 }
 
-/// A file, an input, the status, and where the cell is committed its commit's number.
-fn stores(alloc: Global) -> Result<Vec<(Vec<u8>, Status, Option<&'static str>)>, AllocError> {
-    let mut closed = FIRST;
-    closed[16] = 0x3c;
-    let rows = vec![in alloc;
-        (
-            FIRST.to_vec(alloc)?,
-            Status::Done,
-            Some("\"commit\":2,\"count\":2,")
-        ),
-        (
-            closed.to_vec(alloc)?,
-            Status::Done,
-            Some("\"commit\":1,\"count\":1,")
-        ),
-        (FIRST[..40].to_vec(alloc)?, Status::Damaged { at: 16 }, None),
-        (
-            b"xxxxxxxxxxxxxxxxx".to_vec(alloc)?,
-            Status::Done,
-            Some("\"commit\":1,\"count\":1,")
-        ),
-        (
-            b"xxxxxxxxxxxxxxxxxx".to_vec(alloc)?,
-            Status::NotAJournal,
-            None
-        ),
-    ]?;
-    Ok(rows)
+/// The same file with its record's gate closed.
+const CLOSED: [u8; 64] =
+    *b"KISHU-JOURNAL-1\n\x3c\0\0\0\0\0\0\0\x26\0\0\0\x22\x01\0\0\0\0\x01\0\0\0\x01\0\0\0\x0cprint(1 + 2)\0\0\0\0\0\0\0\0\0";
+
+/// The first 40 bytes of that file.
+const CUT: [u8; 40] =
+    *b"KISHU-JOURNAL-1\n\xa5\0\0\0\0\0\0\0\x26\0\0\0\x22\x01\0\0\0\0\x01\0\0\0\x01\0";
+
+/// Files, the status of a cell on each, and where the cell is committed its commit's number.
+const STORES: [(&[u8], Status, Option<&str>); 5] = [
+    (&FIRST, Status::Done, Some("\"commit\":2,\"count\":2,")),
+    (&CLOSED, Status::Done, Some("\"commit\":1,\"count\":1,")),
+    (&CUT, Status::Damaged { at: 16 }, None),
+    (
+        b"xxxxxxxxxxxxxxxxx",
+        Status::Done,
+        Some("\"commit\":1,\"count\":1,"),
+    ),
+    (b"xxxxxxxxxxxxxxxxxx", Status::NotAJournal, None),
+];
+
+/// Whether the answer has the number, or where none is wanted there is no answer and the file stays.
+fn is_numbered(
+    alloc: Global,
+    host: &MemHost,
+    file: &[u8],
+    number: Option<&str>,
+) -> Result<bool, Fail> {
+    match number {
+        Some(number) => {
+            let out = String::from_utf8(host.out().to_vec(alloc)?)?;
+            Ok(out.as_str().contains(number))
+        }
+        None => Ok(host.out().is_empty() && host.file() == file),
+    }
+}
+
+/// Whether a cell on a row's file ends as the row says.
+fn takes_a_cell(alloc: Global, row: &(&[u8], Status, Option<&str>)) -> Result<bool, Fail> {
+    let (file, want, number) = row;
+    let mut host = host_over(alloc, file, Vec::new(alloc), None)?.ok_or("room")?;
+    let status = run_cell_of(alloc, &mut host, b"a = 1\n".as_slice())?;
+    Ok(status == *want && is_numbered(alloc, &host, file, *number)?)
 }
 
 #[test]
 fn stores_of_all_kinds(rt: HostRuntime) -> Result<(), Fail> {
     let alloc = rt.alloc();
-    for (file, want, number) in &stores(alloc)? {
-        let mut host = host_over(alloc, file, Vec::new(alloc), None)?.ok_or("room")?;
-        let status = run_cell_of(alloc, &mut host, b"a = 1\n".as_slice())?;
-        assert_eq!(rt; status, *want);
-        match number {
-            Some(number) => {
-                let out = String::from_utf8(host.out().to_vec(alloc)?)?;
-                assert!(rt; out.as_str().contains(*number), "{out}");
-            }
-            None => {
-                assert_eq!(rt; host.out(), b"".as_slice());
-                assert_eq!(rt; host.file(), file.as_slice());
-            }
-        }
+    for row in &STORES {
+        assert!(rt;
+            takes_a_cell(alloc, row)?,
+            "a file of {} bytes",
+            row.0.len()
+        );
     }
     Ok(())
 }
@@ -169,7 +176,7 @@ fn cells_show_what_they_mean(rt: HostRuntime) -> Result<(), Fail> {
             count = count.wrapping_add(1);
         }
     }
-    assert_eq!(rt; count, cells::COUNT);
+    assert!(rt; count == cells::COUNT);
     Ok(())
 }
 
@@ -184,7 +191,7 @@ fn cells_that_spend_their_steps(rt: HostRuntime) -> Result<(), Fail> {
             count = count.wrapping_add(1);
         }
     }
-    assert_eq!(rt; count, cells::SPENT);
+    assert!(rt; count == cells::SPENT);
     Ok(())
 }
 
@@ -198,7 +205,7 @@ fn examples_of_the_language(rt: HostRuntime) -> Result<(), Fail> {
             count = count.wrapping_add(1);
         }
     }
-    assert_eq!(rt; count, language::COUNT);
+    assert!(rt; count == language::COUNT);
     Ok(())
 }
 
@@ -213,102 +220,130 @@ fn examples_that_spend_their_steps(rt: HostRuntime) -> Result<(), Fail> {
             count = count.wrapping_add(1);
         }
     }
-    assert_eq!(rt; count, language::SPENT);
+    assert!(rt; count == language::SPENT);
     Ok(())
+}
+
+/// Words that have no form.
+const NO_FORMS: [&[&str]; 30] = [
+    &[],
+    &["S"],
+    &["S", "fly"],
+    &["", "cell"],
+    &["-S", "cell"],
+    &["S", "cell", "--together"],
+    &["S", "log", "--together"],
+    &["S", "--together"],
+    &["--together"],
+    &["--together", "run"],
+    &["S", "--together", "--together", "run"],
+    &["S", "run", "--togethe"],
+    &["S", "run", "--together=true"],
+    &["S", "run", "--"],
+    &["S", "run", "x"],
+    &["S", "gen"],
+    &["S", "gen", "7"],
+    &["S", "gen", "7", "1", "x"],
+    &["S", "gen", "07", "1"],
+    &["S", "gen", "2147483648", "1"],
+    &["S", "gen", "7", "100001"],
+    &["S", "gen", "7", "1", "--together"],
+    &["S", "-"],
+    &["S", "session", "x"],
+    &["S", "log", "x"],
+    &["S", "checkout"],
+    &["S", "checkout", "1", "2"],
+    &["S", "branch"],
+    &["S", "branch", "-try"],
+    &["S", "stored", "1"],
+];
+
+/// Whether these words have no form.
+fn has_no_form(alloc: Global, form: &[&str]) -> Result<bool, Fail> {
+    let words = words_of(alloc, form)?;
+    let mut host = host_over(alloc, &[], Vec::new(alloc), None)?.ok_or("room")?;
+    let mut source = MemSource::new(alloc, Vec::new(alloc), Vec::new(alloc))?;
+    Ok(run_in_memory(alloc, &words, &mut source, &mut host) == Status::Usage)
 }
 
 #[test]
-fn words_and_statuses(rt: HostRuntime) -> Result<(), Fail> {
+fn words_without_a_form(rt: HostRuntime) -> Result<(), Fail> {
     let alloc = rt.alloc();
-    let forms: [&[&str]; 29] = [
-        &[],
-        &["S"],
-        &["S", "fly"],
-        &["", "cell"],
-        &["-S", "cell"],
-        &["S", "cell", "--together"],
-        &["S", "log", "--together"],
-        &["S", "--together"],
-        &["--together"],
-        &["--together", "run"],
-        &["S", "--together", "--together", "run"],
-        &["S", "run", "--togethe"],
-        &["S", "run", "--together=true"],
-        &["S", "run", "--"],
-        &["S", "run", "x"],
-        &["S", "gen"],
-        &["S", "gen", "7"],
-        &["S", "gen", "7", "1", "x"],
-        &["S", "gen", "07", "1"],
-        &["S", "gen", "2147483648", "1"],
-        &["S", "gen", "7", "100001"],
-        &["S", "gen", "7", "1", "--together"],
-        &["S", "-"],
-        &["S", "session", "x"],
-        &["S", "log", "x"],
-        &["S", "checkout"],
-        &["S", "checkout", "1", "2"],
-        &["S", "branch"],
-        &["S", "branch", "-try"],
-    ];
-    for form in &forms {
-        let words = words_of(alloc, form)?;
-        let mut host = host_over(alloc, &[], Vec::new(alloc), None)?.ok_or("room")?;
-        let mut source = MemSource::new(alloc, Vec::new(alloc), Vec::new(alloc))?;
-        let status = run_in_memory(alloc, &words, &mut source, &mut host);
-        assert_eq!(rt; status, Status::Usage);
-    }
-    let texts: [(Status, u8, &str); 10] = [
-        (Status::Done, 0, ""),
-        (Status::Usage, 2, "usage: kishu STORE COMMAND"),
-        (Status::NotAJournal, 3, "not a journal"),
-        (Status::Damaged { at: 16 }, 3, "damaged at 16"),
-        (Status::DiskFault, 5, "disk fault"),
-        (Status::InputFault, 6, "input fault"),
-        (Status::OutputFault, 7, "output fault"),
-        (Status::NoMemory, 8, "no memory"),
-        (Status::InputTooLong, 9, "input too long"),
-        (Status::HeapFull, 11, "heap full"),
-    ];
-    for (status, code, text) in &texts {
-        assert_eq!(rt; status.code(), *code);
-        let told = status.text(alloc)?;
-        assert_eq!(rt; told.as_str(), *text);
+    for form in &NO_FORMS {
+        assert!(rt; has_no_form(alloc, form)?, "{} words", form.len());
     }
     Ok(())
 }
 
-/// The status of an input of so many line feeds on an empty store, and the file's length then.
-fn run_long(alloc: Global, length: usize) -> Result<(Status, usize), Fail> {
+/// Statuses, their codes and their texts.
+const STATUSES: [(Status, u8, &str); 10] = [
+    (Status::Done, 0, ""),
+    (Status::Usage, 2, "usage: kishu STORE COMMAND"),
+    (Status::NotAJournal, 3, "not a journal"),
+    (Status::Damaged { at: 16 }, 3, "damaged at 16"),
+    (Status::DiskFault, 5, "disk fault"),
+    (Status::InputFault, 6, "input fault"),
+    (Status::OutputFault, 7, "output fault"),
+    (Status::NoMemory, 8, "no memory"),
+    (Status::InputTooLong, 9, "input too long"),
+    (Status::HeapFull, 11, "heap full"),
+];
+
+/// Whether a status has its row's code and text.
+fn is_told(alloc: Global, row: &(Status, u8, &str)) -> Result<bool, AllocError> {
+    let (status, code, text) = row;
+    Ok(status.code() == *code && status.text(alloc)?.as_str() == *text)
+}
+
+#[test]
+fn statuses_have_their_texts(rt: HostRuntime) -> Result<(), Fail> {
+    let alloc = rt.alloc();
+    for row in &STATUSES {
+        assert!(rt; is_told(alloc, row)?, "{}", row.2);
+    }
+    Ok(())
+}
+
+/// Whether an input of so many line feeds on an empty store has this status, and the file this length then.
+fn is_long(alloc: Global, length: usize, want: Status, file: usize) -> Result<bool, Fail> {
     let mut host = MemHost::new(alloc, Vec::new(alloc), 1_100_000, Vec::new(alloc), None)?;
     let input = vec![in alloc; b'\n'; length]?;
     let status = run_cell_of(alloc, &mut host, &input)?;
-    Ok((status, host.file().len()))
+    Ok(status == want && host.file().len() == file)
 }
 
 #[test]
 fn inputs_past_the_limit(rt: HostRuntime) -> Result<(), Fail> {
     let alloc = rt.alloc();
     // The longest cell is run and stored. It has no statement.
-    assert_eq!(rt; run_long(alloc, 1_048_576)?, (Status::Done, 1_048_628));
-    assert_eq!(rt; run_long(alloc, 1_048_577)?, (Status::InputTooLong, 0));
+    assert!(rt; is_long(alloc, 1_048_576, Status::Done, 1_048_628)?);
+    assert!(rt; is_long(alloc, 1_048_577, Status::InputTooLong, 0)?);
     Ok(())
+}
+
+/// Files before an input that is no text and after it, and the input.
+const NO_TEXTS: [(&[u8], &[u8], &[u8]); 4] = [
+    (b"", b"KISHU-JOURNAL-1\n\0", b"\xff"),
+    (b"", b"KISHU-JOURNAL-1\n\0", b"print(1)\n\xc3"),
+    (&FIRST, &FIRST, b"\xff"),
+    (&FIRST, &FIRST, b"print(1)\n\xc3"),
+];
+
+const BAD_REQUEST: &str = "{\"answer\":\"refused\",\"number\":1,\"reason\":\"BadRequest\"}\n";
+
+/// Whether a row's input is refused.
+fn is_no_text(alloc: Global, row: &(&[u8], &[u8], &[u8])) -> Result<bool, Fail> {
+    let (before, after, input) = row;
+    let mut host = host_over(alloc, before, Vec::new(alloc), None)?.ok_or("room")?;
+    let status = run_cell_of(alloc, &mut host, input)?;
+    Ok(status == Status::Done && host.out() == BAD_REQUEST.as_bytes() && host.file() == *after)
 }
 
 #[test]
 fn refuses_what_is_no_text(rt: HostRuntime) -> Result<(), Fail> {
     let alloc = rt.alloc();
-    let files: [(&[u8], &[u8]); 2] = [(b"", b"KISHU-JOURNAL-1\n\0"), (&FIRST, &FIRST)];
-    for (before, after) in &files {
-        for input in [b"\xff".as_slice(), b"print(1)\n\xc3".as_slice()] {
-            let mut host = host_over(alloc, before, Vec::new(alloc), None)?.ok_or("room")?;
-            assert_eq!(rt; run_cell_of(alloc, &mut host, input)?, Status::Done);
-            assert_eq!(rt;
-                host.out(),
-                b"{\"answer\":\"refused\",\"number\":1,\"reason\":\"BadRequest\"}\n".as_slice()
-            );
-            assert_eq!(rt; host.file(), *after);
-        }
+    for row in &NO_TEXTS {
+        assert!(rt; is_no_text(alloc, row)?, "on {} bytes", row.0.len());
     }
     Ok(())
 }

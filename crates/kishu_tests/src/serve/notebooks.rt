@@ -2,7 +2,7 @@
 use super::sessions::{records, run_words};
 use super::{FIRST, host_over};
 use kishu_serve::Status;
-use std::alloc::Global;
+use std::alloc::{AllocError, Global};
 use std::process::Abort;
 use std::test::Fail;
 
@@ -429,17 +429,36 @@ const RUNS: [(&[&str], &str, &str, &str); 8] = [
     ),
 ];
 
+/// Whether words on this file are done, and this is put out.
+fn put_out(
+    alloc: Global,
+    file: &[u8],
+    words: &[&str],
+    input: &str,
+    want: &str,
+) -> Result<bool, Fail> {
+    let mut host = host_over(alloc, file, Vec::new(alloc), None)?.ok_or("room")?;
+    let status = run_words(alloc, &mut host, words, input.as_bytes())?;
+    Ok(status == Status::Done && host.out() == want.as_bytes())
+}
+
+/// Whether the run of a notebook on an empty store writes what its row says, and leaves its log.
+fn is_written(alloc: Global, row: &(&[&str], &str, &str, &str)) -> Result<bool, Fail> {
+    let (words, notebook, want, log) = row;
+    let mut host = host_over(alloc, &[], Vec::new(alloc), None)?.ok_or("room")?;
+    let status = run_words(alloc, &mut host, words, notebook.as_bytes())?;
+    Ok(
+        status == Status::Done
+            && host.out() == want.as_bytes()
+            && put_out(alloc, host.file(), &["S", "log"], "", log)?,
+    )
+}
+
 #[test]
 fn runs_notebooks(rt: HostRuntime) -> Result<(), Fail> {
     let alloc = rt.alloc();
-    for (words, notebook, want, log) in &RUNS {
-        let mut host = host_over(alloc, &[], Vec::new(alloc), None)?.ok_or("room")?;
-        let status = run_words(alloc, &mut host, words, notebook.as_bytes())?;
-        assert_eq!(rt; status, Status::Done);
-        assert_eq!(rt; host.out(), want.as_bytes());
-        let mut after = host_over(alloc, host.file(), Vec::new(alloc), None)?.ok_or("room")?;
-        let _ = run_words(alloc, &mut after, &["S", "log"], b"".as_slice())?;
-        assert_eq!(rt; after.out(), log.as_bytes());
+    for row in &RUNS {
+        assert!(rt; is_written(alloc, row)?, "{}", row.3);
     }
     Ok(())
 }
@@ -474,24 +493,31 @@ const REFUSED: [(&str, &str); 8] = [
     ),
 ];
 
+/// Whether a status tells the refusal of a notebook for this reason.
+fn is_refusal(alloc: Global, status: Status, reason: &str) -> Result<bool, AllocError> {
+    let text = format!(in alloc; "notebook refused: {reason}")?;
+    Ok(status.code() == 4 && status.text(alloc)?.as_str() == text.as_str())
+}
+
+/// Whether a notebook is refused for this reason, and no call of the host is made: each would fail.
+fn is_refused(alloc: Global, words: &[&str], notebook: &str, reason: &str) -> Result<bool, Fail> {
+    let mut host = host_over(alloc, &FIRST, Vec::new(alloc), Some(1))?.ok_or("room")?;
+    let status = run_words(alloc, &mut host, words, notebook.as_bytes())?;
+    Ok(is_refusal(alloc, status, reason)? && host.failed_disk() == 0 && host.out().is_empty())
+}
+
 #[test]
 fn refuses_notebooks(rt: HostRuntime) -> Result<(), Fail> {
     let alloc = rt.alloc();
     for (notebook, reason) in &REFUSED {
-        for words in [
-            ["S", "run"].as_slice(),
-            ["S", "run", "--together"].as_slice(),
-        ] {
-            let mut host = host_over(alloc, &FIRST, Vec::new(alloc), Some(1))?.ok_or("room")?;
-            let status = run_words(alloc, &mut host, words, notebook.as_bytes())?;
-            let text = format!(in alloc; "notebook refused: {reason}")?;
-            let told = status.text(alloc)?;
-            assert_eq!(rt; status.code(), 4);
-            assert_eq!(rt; told.as_str(), text.as_str());
-            // No call of the host is made: each would fail.
-            assert_eq!(rt; host.failed_disk(), 0);
-            assert_eq!(rt; host.out(), b"".as_slice());
-        }
+        assert!(rt;
+            is_refused(alloc, &["S", "run"], notebook, reason)?,
+            "{notebook}"
+        );
+        assert!(rt;
+            is_refused(alloc, &["S", "run", "--together"], notebook, reason)?,
+            "{notebook}"
+        );
     }
     Ok(())
 }
@@ -631,16 +657,13 @@ fn goes_on(
     let status = run_words(alloc, &mut host, &["S", "run"], LEFT[0].0.as_bytes())?;
     let out = host.out();
     assert!(rt; LEFT[0].1.as_bytes().starts_with(out));
-    assert_eq!(rt; status == Status::Done, out.len() == LEFT[0].1.len());
+    assert!(rt; (status == Status::Done) == (out.len() == LEFT[0].1.len()));
     for fill in [0u8, 0xa5, 0xff] {
         let torn = host.torn_file(fill)?;
         let count = records(alloc, &torn)?.ok_or("not opened")?;
         assert!(rt; out.is_empty() || count == 3);
         let (rest, want) = LEFT.get(count).ok_or("more than three records")?;
-        let mut after = host_over(alloc, &torn, Vec::new(alloc), None)?.ok_or("room")?;
-        let again = run_words(alloc, &mut after, &["S", "run"], rest.as_bytes())?;
-        assert_eq!(rt; again, Status::Done);
-        assert_eq!(rt; after.out(), want.as_bytes());
+        assert!(rt; put_out(alloc, &torn, &["S", "run"], rest, want)?);
     }
     Ok(status == Status::Done)
 }
@@ -652,13 +675,13 @@ fn each_call_of_a_notebook_run_stopped_and_failed(rt: HostRuntime) -> Result<(),
     for n in 1..60u64 {
         let stopped = goes_on(&rt, alloc, Vec::new(alloc), Some(n))?;
         let failed = goes_on(&rt, alloc, vec![in alloc; n]?, None)?;
-        assert_eq!(rt; stopped, failed);
+        assert!(rt; stopped == failed);
         if stopped {
             whole = n;
             break;
         }
     }
     // Opening makes four calls over an empty file, each of three records four, and the notebook is put out by one.
-    assert_eq!(rt; whole, 18);
+    assert!(rt; whole == 18);
     Ok(())
 }

@@ -1,7 +1,7 @@
 // Sessions: request lines and their answers.
 ghost use Rattle.std.specs.Prelude.{◌≡◌, ◌<◌};
 
-use super::{FIRST, host_over, run_in_memory, words_of};
+use super::{CLOSED, FIRST, host_over, run_in_memory, words_of};
 use kishu_host::{MemHost, MemSource};
 use kishu_model::{Request, Steps};
 use kishu_serve::Status;
@@ -26,7 +26,7 @@ pub(super) fn run_words(
 }
 
 /// The lines of a session on an empty store, and the lines of its answers.
-const SESSIONS: [(&str, &str); 15] = [
+const SESSIONS: [(&str, &str); 19] = [
     ("", ""),
     (
         r#"{"op":"status"}"#,
@@ -76,15 +76,79 @@ const SESSIONS: [(&str, &str); 15] = [
     (
         r#"{"op":"cell","text":"def g(x, acc=[]): acc.append(x); return acc"}
 {"op":"cell","text":"p = g(1)"}
+{"op":"stored","of":"2"}
 {"op":"cell","text":"p = 0"}
+{"op":"stored","of":"3"}
 {"op":"checkout","to":"2"}
 {"op":"cell","text":"print(g(2) is p)"}
 "#,
         r#"{"answer":"cell","commit":1,"count":1,"outcome":"ok","outputs":[]}
 {"answer":"cell","commit":2,"count":2,"outcome":"ok","outputs":[]}
+{"answer":"stored","commit":2,"dropped":[["g"]],"stored":[["g","p"]]}
 {"answer":"cell","commit":3,"count":3,"outcome":"ok","outputs":[]}
+{"answer":"stored","commit":3,"dropped":[["g","p"]],"stored":[["g"],["p"]]}
 {"answer":"checkout","commit":2,"head":null}
 {"answer":"cell","commit":4,"count":3,"outcome":"ok","outputs":[{"name":"stdout","output_type":"stream","text":"True\n"}]}
+"#,
+    ),
+    // Names that share a list are one group. A commit stores the groups that it changed, and drops those of before.
+    (
+        r#"{"op":"cell","text":"x = [1]; y = [x]; z = [2]"}
+{"op":"stored","of":"1"}
+{"op":"cell","text":"y = 0"}
+{"op":"stored","of":"2"}
+{"op":"stored","of":"main"}
+{"op":"stored","of":"0"}
+{"op":"stored","of":"3"}
+{"op":"status"}
+"#,
+        r#"{"answer":"cell","commit":1,"count":1,"outcome":"ok","outputs":[]}
+{"answer":"stored","commit":1,"dropped":[],"stored":[["x","y"],["z"]]}
+{"answer":"cell","commit":2,"count":2,"outcome":"ok","outputs":[]}
+{"answer":"stored","commit":2,"dropped":[["x","y"]],"stored":[["x"],["y"]]}
+{"answer":"stored","commit":2,"dropped":[["x","y"]],"stored":[["x"],["y"]]}
+{"answer":"stored","commit":0,"dropped":[],"stored":[]}
+{"answer":"refused","number":2,"reason":"NoSuchRef"}
+{"answer":"status","branch":"main","commit":2,"commits":3,"names":["x","y","z"],"records":2}
+"#,
+    ),
+    // A function changes a list that it finds by its name.
+    (
+        r#"{"op":"cell","text":"L = []"}
+{"op":"cell","text":"def f(): L.append(1)"}
+{"op":"cell","text":"f()"}
+{"op":"stored","of":"3"}
+"#,
+        r#"{"answer":"cell","commit":1,"count":1,"outcome":"ok","outputs":[]}
+{"answer":"cell","commit":2,"count":2,"outcome":"ok","outputs":[]}
+{"answer":"cell","commit":3,"count":3,"outcome":"ok","outputs":[]}
+{"answer":"stored","commit":3,"dropped":[["L"]],"stored":[["L"]]}
+"#,
+    ),
+    // What is as it was isn't stored.
+    (
+        r#"{"op":"cell","text":"a = [1]"}
+{"op":"cell","text":"a[0] = 1"}
+{"op":"stored","of":"2"}
+"#,
+        r#"{"answer":"cell","commit":1,"count":1,"outcome":"ok","outputs":[]}
+{"answer":"cell","commit":2,"count":2,"outcome":"ok","outputs":[]}
+{"answer":"stored","commit":2,"dropped":[],"stored":[]}
+"#,
+    ),
+    // It is stored where it is as on another way.
+    (
+        r#"{"op":"cell","text":"a = 1"}
+{"op":"cell","text":"a = 2"}
+{"op":"checkout","to":"1"}
+{"op":"cell","text":"a = 2"}
+{"op":"stored","of":"3"}
+"#,
+        r#"{"answer":"cell","commit":1,"count":1,"outcome":"ok","outputs":[]}
+{"answer":"cell","commit":2,"count":2,"outcome":"ok","outputs":[]}
+{"answer":"checkout","commit":1,"head":null}
+{"answer":"cell","commit":3,"count":2,"outcome":"ok","outputs":[]}
+{"answer":"stored","commit":3,"dropped":[["a"]],"stored":[["a"]]}
 "#,
     ),
     (
@@ -220,31 +284,43 @@ const SESSIONS: [(&str, &str); 15] = [
 {"answer":"inspect","commit":2,"names":{"b":"<built-in function len>","c":"<class 'list'>","d":"#0","e":"#1","f":"#2","o":"#3","r":"range(0, 3)","t":"#4","u":"True"},"nodes":[["dict","'k'","#4","(1, 2)","None"],["exception","ValueError","'no'"],["function","1","def f(x=[], y=2): return x","#5","2"],["object","left","#0","low","-1"],["tuple","1","'x'"],["list"]]}
 "##,
     ),
-    // A state of more than 2^28 bytes isn't kept, nor are cells of which one leaves it.
+    // A state of more than 2^28 bytes isn't kept, nor are cells of which one leaves it. Names that no cell touched
+    // count too.
     (
         r#"{"op":"cell","text":"s = 'x' * 1000000"}
 {"op":"cell","text":"a = [s] * 300"}
 {"op":"cell","text":"a"}
+{"op":"cell","text":"u = 'y' * 1000000; v = [u] * 267"}
 {"op":"cells","texts":["b = 1","a = [s] * 300","c = 2"]}
 {"op":"status"}
 "#,
         r#"{"answer":"cell","commit":1,"count":1,"outcome":"ok","outputs":[]}
 {"answer":"refused","bytes":301001535,"number":7,"reason":"StateTooLarge"}
 {"answer":"cell","commit":2,"count":2,"outcome":"error","outputs":[{"ename":"NameError","evalue":"name 'a' is not defined","output_type":"error","traceback":["NameError: name 'a' is not defined"]}]}
+{"answer":"refused","bytes":269001385,"number":7,"reason":"StateTooLarge"}
 {"answer":"refused","bytes":301001562,"number":7,"reason":"StateTooLarge"}
 {"answer":"status","branch":"main","commit":2,"commits":3,"names":["s"],"records":2}
 "#,
     ),
 ];
 
+/// Whether a session on this file comes to its end with these answers.
+pub(super) fn is_answered(
+    alloc: Global,
+    file: &[u8],
+    input: &str,
+    want: &str,
+) -> Result<bool, Fail> {
+    let mut host = host_over(alloc, file, Vec::new(alloc), None)?.ok_or("room")?;
+    let status = run_words(alloc, &mut host, &["S", "session"], input.as_bytes())?;
+    Ok(status == Status::Done && host.out() == want.as_bytes())
+}
+
 #[test]
 fn answers_sessions(rt: HostRuntime) -> Result<(), Fail> {
     let alloc = rt.alloc();
     for (input, want) in &SESSIONS {
-        let mut host = host_over(alloc, &[], Vec::new(alloc), None)?.ok_or("room")?;
-        let status = run_words(alloc, &mut host, &["S", "session"], input.as_bytes())?;
-        assert_eq!(rt; status, Status::Done);
-        assert_eq!(rt; host.out(), want.as_bytes());
+        assert!(rt; is_answered(alloc, &[], input, want)?, "{input}");
     }
     Ok(())
 }
@@ -270,7 +346,7 @@ fn answers_the_same_in_many_runs(rt: HostRuntime) -> Result<(), Fail> {
     let alloc = rt.alloc();
     for (input, want) in &SESSIONS[3..] {
         let out = answers_line_by_line(alloc, input)?;
-        assert_eq!(rt; out.as_slice(), want.as_bytes());
+        assert!(rt; out.as_slice() == want.as_bytes(), "{input}");
     }
     Ok(())
 }
@@ -321,39 +397,36 @@ fn answers_words(rt: HostRuntime) -> Result<(), Fail> {
     for (words, want) in &WORDS {
         let mut host = host_over(alloc, &file, Vec::new(alloc), None)?.ok_or("room")?;
         let status = run_words(alloc, &mut host, words, b"not read".as_slice())?;
-        assert_eq!(rt; status, Status::Done);
-        assert_eq!(rt; host.out(), want.as_bytes());
+        assert!(rt; status == Status::Done);
+        assert!(rt; host.out() == want.as_bytes());
         file = host.file().to_vec(alloc)?;
     }
     Ok(())
 }
 
+/// Files, the first with its gate closed, and the answers of a session on each.
+const GATES: [(&[u8], &str); 2] = [
+    (
+        &CLOSED,
+        r#"{"answer":"status","branch":"main","commit":0,"commits":1,"names":[],"records":0}
+{"answer":"cell","commit":1,"count":1,"outcome":"ok","outputs":[]}
+"#,
+    ),
+    (
+        &FIRST,
+        r#"{"answer":"status","branch":"main","commit":1,"commits":2,"names":[],"records":1}
+{"answer":"cell","commit":2,"count":2,"outcome":"ok","outputs":[]}
+"#,
+    ),
+];
+
 #[test]
 fn a_gate_that_is_closed_ends_the_store(rt: HostRuntime) -> Result<(), Fail> {
     let alloc = rt.alloc();
-    let mut closed = FIRST;
-    closed[16] = 0x3c;
-    let rows: [(&[u8], &str); 2] = [
-        (
-            &closed,
-            r#"{"answer":"status","branch":"main","commit":0,"commits":1,"names":[],"records":0}
-{"answer":"cell","commit":1,"count":1,"outcome":"ok","outputs":[]}
-"#,
-        ),
-        (
-            &FIRST,
-            r#"{"answer":"status","branch":"main","commit":1,"commits":2,"names":[],"records":1}
-{"answer":"cell","commit":2,"count":2,"outcome":"ok","outputs":[]}
-"#,
-        ),
-    ];
-    for (file, want) in &rows {
-        let mut host = host_over(alloc, file, Vec::new(alloc), None)?.ok_or("room")?;
-        let input = r#"{"op":"status"}
+    let input = r#"{"op":"status"}
 {"op":"cell","text":"a = 1"}"#;
-        let status = run_words(alloc, &mut host, &["S", "session"], input.as_bytes())?;
-        assert_eq!(rt; status, Status::Done);
-        assert_eq!(rt; host.out(), want.as_bytes());
+    for (file, want) in &GATES {
+        assert!(rt; is_answered(alloc, file, input, want)?, "{want}");
     }
     Ok(())
 }
@@ -423,7 +496,7 @@ fn holds(rt: &impl Abort, alloc: Global, fail: Vec<u64>, stop: Option<u64>) -> R
     let mut host = host_over(alloc, &[], fail, stop)?.ok_or("room")?;
     let status = run_words(alloc, &mut host, &["S", "session"], FOUR.as_bytes())?;
     let answers = answered(host.out()).ok_or("no prefix of the answers")?;
-    assert_eq!(rt; status == Status::Done, answers == 4);
+    assert!(rt; (status == Status::Done) == (answers == 4));
     let least = acknowledged(answers);
     for fill in [0u8, 0xa5, 0xff] {
         let torn = host.torn_file(fill)?;
@@ -440,14 +513,14 @@ fn each_call_of_a_session_stopped_and_failed(rt: HostRuntime) -> Result<(), Fail
     for n in 1..60u64 {
         let stopped = holds(&rt, alloc, Vec::new(alloc), Some(n))?;
         let failed = holds(&rt, alloc, vec![in alloc; n]?, None)?;
-        assert_eq!(rt; stopped, failed);
+        assert!(rt; stopped == failed);
         if stopped {
             whole = n;
             break;
         }
     }
     // Opening makes four calls over an empty file, each of three records four, and each answer one.
-    assert_eq!(rt; whole, 21);
+    assert!(rt; whole == 21);
     Ok(())
 }
 
@@ -483,7 +556,7 @@ fn a_session_is_closed_by_a_fault(rt: HostRuntime) -> Result<(), Fail> {
     // The seventh call is the second write of the append, which opens the gate.
     let mut host = host_over(alloc, &[], vec![in alloc; 7]?, None)?.ok_or("room")?;
     let (first, second) = halts::<Brand>(alloc, &mut host, Blank::new(1))?;
-    assert_eq!(rt; first, Some(Halt::DiskFault));
-    assert_eq!(rt; second, Some(Halt::Closed));
+    assert!(rt; first == Some(Halt::DiskFault));
+    assert!(rt; second == Some(Halt::Closed));
     Ok(())
 }

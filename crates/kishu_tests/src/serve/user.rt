@@ -179,8 +179,8 @@ fn a_user_with_a_notebook(rt: HostRuntime) -> Result<(), Fail> {
     for (words, input, want) in &STEPS {
         let mut host = host_over(alloc, &file, Vec::new(alloc), None)?.ok_or("room")?;
         let status = run_words(alloc, &mut host, words, input.as_bytes())?;
-        assert_eq!(rt; status, Status::Done);
-        assert_eq!(rt; host.out(), want.as_bytes());
+        assert!(rt; status == Status::Done);
+        assert!(rt; host.out() == want.as_bytes());
         file = host.file().to_vec(alloc)?;
     }
     Ok(())

@@ -35,11 +35,11 @@ turn g c =
           (ran.attached now_told t.so.now t.so.attached) c.apply_silently.ensures.out (ran.taken now_told t.so.now t.so.attached)
           (ran.least now_told t.so.now t.so.attached)
           (c.apply_silently.ensures.stop now_told t.so.now t.so.attached);
-      live = λ told lives g' a.
-          let so = before.live told lives g' a in
+      live = λ told lives g' cs a gives.
+          let so = before.live told lives g' cs a gives in
           answered-more so (request_of c.in-Some.request) (map answered (to_come c.next_made.new.script))
           (ap (λ (qs : List Request). map answered qs) next)
-          (g.H.Host.state c.apply_silently.new.host) c.apply_silently.new.session (ran.applied (before.tells ∙ told) so.lives so.now so.at_end);
+          (g.H.Host.state c.apply_silently.new.host) c.apply_silently.new.session (ran.applied (before.tells ∙ told) so.lives so.now so.changes so.at_end so.gives);
       tells = c.apply_silently.ensures.tells ∙ before.tells;
       disk = omega (arith, before.disk, c.apply_silently.ensures.disk);
       outs = omega (arith, before.outs, c.apply_silently.ensures.outs);
@@ -82,13 +82,14 @@ returns-in_err-apply_silently-clause-full g c is_full told g' a =
     (c.in_err-apply_silently.ensures.full (cc (is_full, p.1, p.2)) (before.tells ∙ told) t.so.now t.so.attached)
 
 pub returns-in_err-apply_silently-clause-full_live : goal.returns-in_err-apply_silently-clause-full_live
-returns-in_err-apply_silently-clause-full_live g c is_full told lives g' a =
-    let so = c.loop-request.invariant.live told lives g' a in
+returns-in_err-apply_silently-clause-full_live g c is_full told lives g' cs a gives =
+    let before = c.loop-request.invariant in
+    let so = before.live told lives g' cs a gives in
     let next = rw c.in-Some.is at c.in_ok-request.ensures.next in
     let p = err_from_is_err_and c.from_residual-in_err-apply_silently.result c.from_residual-in_err-apply_silently.ensures.1 in
     answered-full so (request_of c.in-Some.request) (map answered (to_come c.next_made.new.script))
     (ap (λ (qs : List Request). map answered qs) next)
-    (c.in_err-apply_silently.ensures.full_live (cc (is_full, p.1, p.2)))
+    (c.in_err-apply_silently.ensures.full_live (cc (is_full, p.1, p.2)) (before.tells ∙ told) so.now so.changes so.at_end so.gives)
 
 pub returns-in_err-apply_silently-clause-damaged : goal.returns-in_err-apply_silently-clause-damaged
 returns-in_err-apply_silently-clause-damaged g c at is =

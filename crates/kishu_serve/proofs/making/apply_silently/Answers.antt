@@ -1,26 +1,14 @@
 use Rattle.std.proofs.Common.{refl, sym, ◌∙◌, IsErrOf}
+use Rattle.kishu_store.specs.Tables.{change_of}
 use Rattle.kishu_model.specs.Serve.{silent}
 use Rattle.kishu_model.specs.Values.{request_of}
-use Rattle.kishu_session.specs.declared.halt.Halt.TheVariants.{Damaged}
+use Rattle.kishu_live_laws.specs.OnStates.{after_on}
+use Rattle.kishu_session.specs.Lives.{state_of}
+use Rattle.kishu_session.specs.declared.halt.Halt.TheVariants.{Damaged, HeapFull}
 use Rattle.kishu_serve.proofs.Damages.{ends-damaged}
-use Rattle.kishu_serve.proofs.LiveRuns.{applied-here}
-use Rattle.kishu_serve.proofs.Parts.{applied-stop}
+use Rattle.kishu_serve.proofs.LiveRuns.{applied-here, fills-now}
+use Rattle.kishu_serve.proofs.Parts.{at-end-gives, applied-stop}
 use Rattle.kishu_serve.proofs.making.apply_silently.Goals as goal
-
-pub returns-in-Err-HeapFull-clause-stop : goal.returns-in-Err-HeapFull-clause-stop
-returns-in-Err-HeapFull-clause-stop g c told g' a =
-    let st = g.H.Host.state in
-    applied-stop (st c.args.host.now) (st c.apply.new.host) g' (silent (request_of c.args.request.now)) (c.apply.ensures.stop told g' a)
-
-pub returns-in-Err-DiskFault-clause-stop : goal.returns-in-Err-DiskFault-clause-stop
-returns-in-Err-DiskFault-clause-stop g c told g' a =
-    let st = g.H.Host.state in
-    applied-stop (st c.args.host.now) (st c.apply.new.host) g' (silent (request_of c.args.request.now)) (c.apply.ensures.stop told g' a)
-
-pub returns-in-Err-NoMemory-clause-stop : goal.returns-in-Err-NoMemory-clause-stop
-returns-in-Err-NoMemory-clause-stop g c told g' a =
-    let st = g.H.Host.state in
-    applied-stop (st c.args.host.now) (st c.apply.new.host) g' (silent (request_of c.args.request.now)) (c.apply.ensures.stop told g' a)
 
 pub returns-in_default-clause-stop : goal.returns-in_default-clause-stop
 returns-in_default-clause-stop g c told g' a =
@@ -34,17 +22,21 @@ returns-clause-bytes g c told =
 pub returns-clause-stands : goal.returns-clause-stands
 returns-clause-stands g c told =
     let before = sym c.apply.ensures.tells ∙ told in
-    let stands = c.requires.stands before in (_, c.in-Ok.ensures.at_end before stands.0 stands.1)
+    let stands = c.requires.stands before in
+    let given = at-end-gives c.args.session.now (g.H.Host.state c.args.host.now) stands.0 stands.1 in
+    let then_graph = after_on (change_of given.0) (state_of c.args.session.now.head.live) stands.0 (request_of c.args.request.now) in
+    (then_graph, c.in-Ok.ensures.at_end before stands.0 given.0 stands.1 given.1)
 
-pub returns-in-Err-Damaged-clause-stop : goal.returns-in-Err-Damaged-clause-stop
-returns-in-Err-Damaged-clause-stop g c told g' a =
+pub returns-in-Err-clause-stop : goal.returns-in-Err-clause-stop
+returns-in-Err-clause-stop g c told g' a =
     let st = g.H.Host.state in
     applied-stop (st c.args.host.now) (st c.apply.new.host) g' (silent (request_of c.args.request.now)) (c.apply.ensures.stop told g' a)
 
-pub returns-in-Err-Damaged-clause-damaged : goal.returns-in-Err-Damaged-clause-damaged
-returns-in-Err-Damaged-clause-damaged g c at is =
+pub returns-in-Err-clause-damaged : goal.returns-in-Err-clause-damaged
+returns-in-Err-clause-damaged g c at is =
     let st = g.H.Host.state in
-    let halt : IsErrOf c.apply.result (Damaged at) = cc (is, c.in-Err-Damaged.is) in
+    let stop = c.stop_of.ensures.damaged at (cc is) in
+    let halt : IsErrOf c.apply.result (Damaged at) = cc (c.in-Err.is, stop) in
     ends-damaged c.args.session.now (st c.args.host.now) (st c.apply.new.host) c.args.request.now at c.requires.stands
     (c.apply.ensures.damaged_stays at halt) (c.apply.ensures.damaged at halt)
 
@@ -54,8 +46,13 @@ returns-clause-stop g c told g' a =
     applied-stop (st c.args.host.now) (st c.apply.new.host) g' (silent (request_of c.args.request.now)) (c.apply.ensures.stop told g' a)
 
 pub returns-clause-applied : goal.returns-clause-applied
-returns-clause-applied g c told lives g' a =
+returns-clause-applied g c told lives g' cs a gives =
     let st = g.H.Host.state in
     let s1 = st c.apply.new.host in
-    applied-here c.args.session.now c.apply.new.self (st c.args.host.now) s1 s1 (request_of c.args.request.now) g' refl refl (c.apply.ensures.tells ∙ told)
-    (c.in-Ok.ensures.at_end told g' a) (c.in-Ok.ensures.live lives) (c.in-Ok.ensures.bytes told g' a) (c.in-Ok.ensures.goes_on told g' a)
+    applied-here c.args.session.now c.apply.new.self (st c.args.host.now) s1 s1 (request_of c.args.request.now) g' cs refl refl (c.apply.ensures.tells ∙ told)
+    (c.in-Ok.ensures.at_end told g' cs a gives) (c.in-Ok.ensures.live lives) (c.in-Ok.ensures.bytes told g' a) (c.in-Ok.ensures.goes_on told g' cs a gives)
+
+pub returns-in-Err-clause-full_live : goal.returns-in-Err-clause-full_live
+returns-in-Err-clause-full_live g c is =
+    let full : IsErrOf c.apply.result HeapFull = cc (c.in-Err.is, c.stop_of.ensures.full (cc is)) in
+    fills-now c.args.session.now (g.H.Host.state c.args.host.now) (request_of c.args.request.now) (c.apply.ensures.heap_full full)

@@ -112,8 +112,8 @@ loop-text-preserved g c =
           goes-further i texts (data_of c.loop-text.notebook) so text here (g.H.Host.state c.run_request.new.host) c.run_request.new.session set c.run_request.new.steps
           (ran.attached now_told so.now so.attached) c.run_request.ensures.out (ran.least now_told so.now so.attached)
           (c.run_request.ensures.stop now_told so.now so.attached) is_set (cc (ran.goes_on now_told so.now so.attached, c.if-not-branch.false)) (i + 1) refl;
-      live = λ told lives g' a.
-          let so = before.live told lives g' a in
+      live = λ told lives g' cs a gives.
+          let so = before.live told lives g' cs a gives in
           let i = c.loop-text.text-index in
           let texts = map rc_str_bytes c.args.texts.now in
           let text = rc_str_bytes c.in-Ok.text in
@@ -121,20 +121,20 @@ loop-text-preserved g c =
           let now_told = before.tells ∙ told in
           silent-goes so (cell text) (cells_from (i + 1) texts) (cells-here i texts text here)
           (g.H.Host.state c.run_request.new.host) c.run_request.new.session
-          (ran.applied now_told so.lives so.now so.at_end) (cc (ran.goes_on_live now_told so.now so.at_end, c.if-not-branch.false));
+          (ran.applied now_told so.lives so.now so.changes so.at_end so.gives) (cc (ran.goes_on_live now_told so.now so.changes so.at_end so.gives, c.if-not-branch.false));
       tells = c.run_request.ensures.tells ∙ before.tells;
       disk = omega (arith, before.disk, c.run_request.ensures.disk);
       outs = omega (arith, before.outs, c.run_request.ensures.outs);
     }
 
 pub returns-in_err-run_request-clause-full_live : goal.returns-in_err-run_request-clause-full_live
-returns-in_err-run_request-clause-full_live g c is_full told lives g' a =
+returns-in_err-run_request-clause-full_live g c is_full told lives g' cs a gives =
     let before = c.loop-text.invariant in
-    let so = before.live told lives g' a in
+    let so = before.live told lives g' cs a gives in
     let i = c.loop-text.text-index in
     let texts = map rc_str_bytes c.args.texts.now in
     let text = rc_str_bytes c.in-Ok.text in
     let here = drop-texts c.args.texts.now i c.text-item.result c.loop-text-test.true c.text-item.is ∙ ap (λ (t : List ℕ). t ∷ drop (i + 1) texts) (sym c.in-Ok.ensures.cases) in
     let p = err_from_is_err_and c.from_residual.result c.from_residual.ensures.1 in
     silent-full so (cell text) (cells_from (i + 1) texts) (cells-here i texts text here)
-    (c.in_err-run_request.ensures.full_live (cc (is_full, p.1, p.2)))
+    (c.in_err-run_request.ensures.full_live (cc (is_full, p.1, p.2)) (before.tells ∙ told) so.now so.changes so.at_end so.gives)

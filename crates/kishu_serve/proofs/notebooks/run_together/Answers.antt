@@ -44,9 +44,9 @@ returns-clause-comes g c told g' a =
     (ran.attached told g' a) c.run_request.ensures.out (ran.least told g' a) (c.run_request.ensures.stop told g' a) (ran.set told g' a)
 
 pub returns-in_err-run_request-clause-full_live : goal.returns-in_err-run_request-clause-full_live
-returns-in_err-run_request-clause-full_live g c is_full told lives g' a =
+returns-in_err-run_request-clause-full_live g c is_full told lives g' cs a gives =
     let some : c.args.texts.items ≢ [] = search rules in
     let p = err_from_is_err_and c.from_residual.result c.from_residual.ensures.1 in
-    together-here (g.H.Host.state c.args.host.now).file g' (state_of c.args.session.now.head.live)
+    together-here (g.H.Host.state c.args.host.now).file cs g' (state_of c.args.session.now.head.live)
     (map rc_str_bytes c.args.texts.items) (some-cells c.args.texts.items some)
-    (c.in_err-run_request.ensures.full_live (cc (is_full, p.1, p.2)))
+    (c.in_err-run_request.ensures.full_live (cc (is_full, p.1, p.2)) told g' cs a gives)

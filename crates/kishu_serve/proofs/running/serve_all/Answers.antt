@@ -48,13 +48,13 @@ turn g c =
 live : (g : Over) (c : In_ok-serve g) → Knows c.args.requests.now (g.S.Source.source c.args.source.now)
     → ComesHere (g.H.Host.state c.args.host.now) (g.H.Host.state c.serve.new.host) c.args.session.now c.serve.new.session
     (to_come c.args.requests.now (g.S.Source.source c.args.source.now).left) (to_come c.next.new.self (g.S.Source.source c.next.new.source).left)
-live g c known told lives graph a =
+live g c known told lives graph cs a gives =
     let before = c.loop-asked.invariant in
     let next = rw c.in-Some.is at c.in_ok-asked.ensures.next in
-    let so = before.live known told lives graph a in
+    let so = before.live known told lives graph cs a gives in
     answered-more so (asked_of c.in-Some.asked) (to_come c.next.new.self (g.S.Source.source c.next.new.source).left)
     (next (known-along before.along known)).0
-    (g.H.Host.state c.serve.new.host) c.serve.new.session (c.in_ok-serve.ensures.applied (before.along.host_tells ∙ told) so.lives so.now so.at_end)
+    (g.H.Host.state c.serve.new.host) c.serve.new.session (c.in_ok-serve.ensures.applied (before.along.host_tells ∙ told) so.lives so.now so.changes so.at_end so.gives)
 
 unread : (g : Over) (c : In_ok-serve g) → reads_lines c.args.requests.now ≡ false → c.next.new.source ≡ c.args.source.now
 unread g c none = c.next.ensures.alone (c.loop-asked.invariant.along.lines ∙ none) ∙ c.loop-asked.invariant.alone none
@@ -90,6 +90,11 @@ loop-asked-preserved-in_ok-serve-6 g c =
     let c = (goal.at.loop-asked-preserved-in_ok-serve-6 g c).In_ok-serve in
     record { along = turn g c; live = live g c; alone = unread g c }
 
+pub loop-asked-preserved-in_ok-serve-7 : goal.loop-asked-preserved-in_ok-serve-7
+loop-asked-preserved-in_ok-serve-7 g c =
+    let c = (goal.at.loop-asked-preserved-in_ok-serve-7 g c).In_ok-serve in
+    record { along = turn g c; live = live g c; alone = unread g c }
+
 pub loop-asked-preserved : goal.loop-asked-preserved
 loop-asked-preserved g c =
     let c = (goal.at.loop-asked-preserved g c).In_ok-serve in
@@ -121,14 +126,14 @@ returns-in_err-serve-clause-full g c is_full told known graph a =
     (c.in_err-serve.ensures.full (cc (is_full, p.1, p.2)) (before.host_tells ∙ told) served.now served.attached)
 
 pub returns-in_err-serve-clause-full_live : goal.returns-in_err-serve-clause-full_live
-returns-in_err-serve-clause-full_live g c is_full known told lives graph a =
+returns-in_err-serve-clause-full_live g c is_full known told lives graph cs a gives =
     let before = c.loop-asked.invariant in
     let next = rw c.in-Some.is at c.in_ok-asked.ensures.next in
     let p = err_from_is_err_and c.from_residual-in_err-serve.result c.from_residual-in_err-serve.ensures.1 in
-    let so = before.live known told lives graph a in
+    let so = before.live known told lives graph cs a gives in
     answered-full so (asked_of c.in-Some.asked) (to_come c.next.new.self (g.S.Source.source c.next.new.source).left)
     (next (known-along before.along known)).0
-    (c.in_err-serve.ensures.full_live (cc (is_full, p.1, p.2)))
+    (c.in_err-serve.ensures.full_live (cc (is_full, p.1, p.2)) (before.along.host_tells ∙ told) so.now so.changes so.at_end so.gives)
 
 pub returns-in_err-serve-clause-damaged : goal.returns-in_err-serve-clause-damaged
 returns-in_err-serve-clause-damaged g c at is =

@@ -1,18 +1,21 @@
 use Rattle.std.proofs.Common.{◌≡◌, ◌≤◌, ◌+◌, ◌++◌, refl, sym, ◌∙◌, ap, subst, ℕ, List, [], ◌∷◌, IsErrOf}
 use Rattle.kishu_host.specs.Host.{Elapses}
+use Rattle.kishu_store.specs.Tables.{change_of}
 use Rattle.kishu_model.specs.Answers.{bad_request, refused}
 use Rattle.kishu_model.specs.Request.{Request, unreadable}
 use Rattle.kishu_model.specs.Serve.{after, answer_of, answered}
 use Rattle.kishu_model.specs.Step.{step, charge_of}
 use Rattle.kishu_model.specs.Values.{request_of}
+use Rattle.kishu_live_laws.specs.OnStates.{after_on}
 use Rattle.kishu_session.specs.Attached.{IsAttached}
-use Rattle.kishu_session.specs.declared.halt.Halt.TheVariants.{Damaged}
+use Rattle.kishu_session.specs.Lives.{state_of}
+use Rattle.kishu_session.specs.declared.halt.Halt.TheVariants.{Damaged, HeapFull}
 use Rattle.kishu_serve.specs.Asking.{asked_of}
-use Rattle.kishu_serve.specs.EveryStore.{LeadsOn}
+use Rattle.kishu_serve.specs.EveryStore.{LeadsOn, FillsNow}
 use Rattle.kishu_serve.specs.Headline.{IsPart}
 use Rattle.kishu_serve.proofs.Damages.{ends-damaged}
-use Rattle.kishu_serve.proofs.LiveRuns.{applied-here, unread-here}
-use Rattle.kishu_serve.proofs.Parts.{attached-kept, at-end-kept, held, and_then, recorded-kept, told-stop, applied-stop, served-stop}
+use Rattle.kishu_serve.proofs.LiveRuns.{applied-here, unread-here, fills-now}
+use Rattle.kishu_serve.proofs.Parts.{attached-kept, at-end-kept, at-end-gives, held, and_then, recorded-kept, told-stop, applied-stop, served-stop}
 use Rattle.kishu_serve.proofs.serving.serve.Goals as goal
 
 pub returns-in_default-clause-stop : goal.returns-in_default-clause-stop
@@ -38,7 +41,9 @@ returns-in-Ok-clause-stands g c =
     (λ told.
     let before = sym (c.tell-in-Ok.ensures.tells ∙ c.apply.ensures.tells) ∙ told in
     let stands = c.requires.stands before in
-    (_, at-end-kept c.apply.new.self (st c.apply.new.host) (st c.tell-in-Ok.new.host) _ c.tell-in-Ok.ensures.file (c.in-Ok.ensures.at_end before stands.0 stands.1)))
+    let given = at-end-gives c.args.session.now (st c.args.host.now) stands.0 stands.1 in
+    let then_graph = after_on (change_of given.0) (state_of c.args.session.now.head.live) stands.0 (request_of c.in-Request.request) in
+    (then_graph, at-end-kept c.apply.new.self (st c.apply.new.host) (st c.tell-in-Ok.new.host) then_graph c.tell-in-Ok.ensures.file (c.in-Ok.ensures.at_end before stands.0 given.0 stands.1 given.1)))
 
 pub returns-in_default-clause-stands : goal.returns-in_default-clause-stands
 returns-in_default-clause-stands g c =
@@ -58,8 +63,8 @@ returns-in_default-clause-attached g c =
     subst (λ (q : Request). IsAttached c.args.session.now s1 (after g' q)) (sym (ap asked_of c.in_default.is))
     (attached-kept c.args.session.now s0 s1 g' c.tell.ensures.file c.tell.ensures.crash a))
 
-pub returns-in-Err-Damaged-clause-stop : goal.returns-in-Err-Damaged-clause-stop
-returns-in-Err-Damaged-clause-stop g c told g' a =
+pub returns-in-Err-clause-stop : goal.returns-in-Err-clause-stop
+returns-in-Err-clause-stop g c told g' a =
     let st = g.H.Host.state in
     let s0 = st c.args.host.now in
     let s1 = st c.apply.new.host in
@@ -77,30 +82,6 @@ returns-in-Ok-clause-stop g c told g' a =
     served-stop c.apply.new.self s0 s1 s2 g' (answered q) _ (c.in-Ok.ensures.attached told g' a) refl c.apply.ensures.out (c.apply.ensures.stop told g' a)
     (c.tell-in-Ok.ensures.stop (step g' q).answer (c.in-Ok.ensures.answered told g' a)) in
     subst (λ (r : Request). Elapses s0 s2 (IsPart s0 g' (answered r ∷ []))) (sym (ap asked_of c.in-Request.is)) stop
-
-pub returns-in-Err-HeapFull-clause-stop : goal.returns-in-Err-HeapFull-clause-stop
-returns-in-Err-HeapFull-clause-stop g c told g' a =
-    let st = g.H.Host.state in
-    let s0 = st c.args.host.now in
-    let s1 = st c.apply.new.host in
-    subst (λ (r : Request). Elapses s0 s1 (IsPart s0 g' (answered r ∷ []))) (sym (ap asked_of c.in-Request.is))
-    (applied-stop s0 s1 g' (answered (request_of c.in-Request.request)) (c.apply.ensures.stop told g' a))
-
-pub returns-in-Err-DiskFault-clause-stop : goal.returns-in-Err-DiskFault-clause-stop
-returns-in-Err-DiskFault-clause-stop g c told g' a =
-    let st = g.H.Host.state in
-    let s0 = st c.args.host.now in
-    let s1 = st c.apply.new.host in
-    subst (λ (r : Request). Elapses s0 s1 (IsPart s0 g' (answered r ∷ []))) (sym (ap asked_of c.in-Request.is))
-    (applied-stop s0 s1 g' (answered (request_of c.in-Request.request)) (c.apply.ensures.stop told g' a))
-
-pub returns-in-Err-NoMemory-clause-stop : goal.returns-in-Err-NoMemory-clause-stop
-returns-in-Err-NoMemory-clause-stop g c told g' a =
-    let st = g.H.Host.state in
-    let s0 = st c.args.host.now in
-    let s1 = st c.apply.new.host in
-    subst (λ (r : Request). Elapses s0 s1 (IsPart s0 g' (answered r ∷ []))) (sym (ap asked_of c.in-Request.is))
-    (applied-stop s0 s1 g' (answered (request_of c.in-Request.request)) (c.apply.ensures.stop told g' a))
 
 pub returns-in-Ok-clause-attached : goal.returns-in-Ok-clause-attached
 returns-in-Ok-clause-attached g c =
@@ -130,10 +111,11 @@ returns-in-Ok-clause-least g c =
     (λ told g' a.
     subst (λ (r : Request). c.args.steps.now + charge_of g' r ≤ c.apply.new.steps) (sym (ap asked_of c.in-Request.is)) (c.in-Ok.ensures.least told g' a))
 
-pub returns-in-Err-Damaged-clause-damaged : goal.returns-in-Err-Damaged-clause-damaged
-returns-in-Err-Damaged-clause-damaged g c at is =
+pub returns-in-Err-clause-damaged : goal.returns-in-Err-clause-damaged
+returns-in-Err-clause-damaged g c at is =
     let st = g.H.Host.state in
-    let halt : IsErrOf c.apply.result (Damaged at) = cc (is, c.in-Err-Damaged.is) in
+    let stop = c.stop_of.ensures.damaged at (cc is) in
+    let halt : IsErrOf c.apply.result (Damaged at) = cc (c.in-Err.is, stop) in
     ends-damaged c.args.session.now (st c.args.host.now) (st c.apply.new.host) c.in-Request.request at c.requires.stands (c.apply.ensures.damaged_stays at halt) (c.apply.ensures.damaged at halt)
 
 -- ---- on every store
@@ -148,11 +130,11 @@ returns-in-Ok-clause-applied g c =
     let s1 = st c.apply.new.host in
     let s2 = st c.tell-in-Ok.new.host in
     held c.tell-in-Ok.result
-    (λ told lives g' a.
+    (λ told lives g' cs a gives.
     subst
-    (λ (r : Request). LeadsOn old new s0 s2 r g') (sym (ap asked_of c.in-Request.is))
-    (applied-here old new s0 s1 s2 q g' c.tell-in-Ok.ensures.file c.tell-in-Ok.ensures.tells (c.apply.ensures.tells ∙ told)
-    (c.in-Ok.ensures.at_end told g' a) (c.in-Ok.ensures.live lives) (c.in-Ok.ensures.bytes told g' a) (c.in-Ok.ensures.goes_on told g' a)))
+    (λ (r : Request). LeadsOn old new s0 s2 r g' cs) (sym (ap asked_of c.in-Request.is))
+    (applied-here old new s0 s1 s2 q g' cs c.tell-in-Ok.ensures.file c.tell-in-Ok.ensures.tells (c.apply.ensures.tells ∙ told)
+    (c.in-Ok.ensures.at_end told g' cs a gives) (c.in-Ok.ensures.live lives) (c.in-Ok.ensures.bytes told g' a) (c.in-Ok.ensures.goes_on told g' cs a gives)))
 
 pub returns-in_default-clause-applied : goal.returns-in_default-clause-applied
 returns-in_default-clause-applied g c =
@@ -161,7 +143,15 @@ returns-in_default-clause-applied g c =
     let s0 = st c.args.host.now in
     let s1 = st c.tell.new.host in
     held c.tell.result
-    (λ told lives g' a.
+    (λ told lives g' cs a gives.
     subst
-    (λ (r : Request). LeadsOn session session s0 s1 r g')
-    (sym (ap asked_of c.in_default.is)) (unread-here session s0 s1 g' c.tell.ensures.file c.tell.ensures.tells told lives a))
+    (λ (r : Request). LeadsOn session session s0 s1 r g' cs)
+    (sym (ap asked_of c.in_default.is)) (unread-here session s0 s1 g' cs c.tell.ensures.file c.tell.ensures.tells told lives a))
+
+pub returns-in-Err-clause-full_live : goal.returns-in-Err-clause-full_live
+returns-in-Err-clause-full_live g c is =
+    let full : IsErrOf c.apply.result HeapFull = cc (c.in-Err.is, c.stop_of.ensures.full (cc is)) in
+    let session = c.args.session.now in
+    let s0 = g.H.Host.state c.args.host.now in
+    subst (λ (r : Request). FillsNow session s0 r) (sym (ap asked_of c.in-Request.is))
+    (fills-now session s0 (request_of c.in-Request.request) (c.apply.ensures.heap_full full))
