@@ -121,6 +121,3 @@ def picture_size(space, names):
     named = sum(1 + len(name) + value_size(value) for name, value in zip(names, values))
     return 2 * NUMBER + named + sum(map(row_size, met(values)))
 
-
-def size(space):
-    return sum(picture_size(space, names) for names in groups(space))

@@ -9,8 +9,8 @@ files, and a run is killed (SIGKILL) after a random delay. What it put out befor
 Cells: each run commits one cell. After each run the store is opened by a run that isn't killed: its commit's number tells how many
 commits the store held. That number may not be below what was acknowledged, nor above it by more than the one cell that was under way.
 
-Sessions: each run is a session of 40 requests: cells, one or several at once, checkouts, branches, `log`, `status`, and some that are
-refused. What all of them are answered is known before, by session_rules.py. After each run the output has to be a prefix of these answers, and the file, byte by
+Sessions: each run is a session of 40 requests: cells, one or several at once, about some names that share nodes and some that don't,
+checkouts, branches, `log`, `status`, `stored`, and some that are refused. What all of them are answered is known before, by session_rules.py. After each run the output has to be a prefix of these answers, and the file, byte by
 byte as store_rules.py reads it, has to hold the records of the answered requests in order, and at most that of the next request
 besides. Then `log` and `status` by runs that aren't killed have to tell just these. The next session goes on with the same store,
 which is new every 25 runs.
@@ -133,6 +133,7 @@ def random_request(rng, graph, number):
         *[lambda: {"op": "cell", "text": f"x = {number}"}] * 5,
         *[lambda: {"op": "cell", "text": f"try: seen.append({number})\nexcept NameError: seen = [{number}]"}] * 3,
         *[lambda: {"op": "cell", "text": f"print(seen, {number})"}] * 2,
+        *[lambda: {"op": "cell", "text": rng.choice([f"row = [{number}]; pair = [row, seen]", "pair = row = 0", "row.append(x)", "pair = [row, row]"])}] * 3,
         *[lambda: {"op": "cells", "texts": [f"x = {number}", f"print(x, {number})", f"x // {number % 2}", "x"]}] * 2,
         *[lambda: {"op": "checkout", "to": str(rng.randint(0, newest))}] * 2,
         lambda: {"op": "checkout", "to": rng.choice(["0", "0", "main", "none"])},
@@ -140,6 +141,7 @@ def random_request(rng, graph, number):
         lambda: {"op": "branch", "name": f"b{len(graph.branches)}", "at": str(rng.randint(0, newest + 1))},
         lambda: {"op": "branch", "name": rng.choice(["main", "9", f"b{len(graph.branches)}"])},
         lambda: {"op": rng.choice(["log", "status", "fly"])},
+        lambda: {"op": "stored", "of": rng.choice(["main", str(rng.randint(0, newest + 1))])},
     ])()
 
 

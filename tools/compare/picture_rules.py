@@ -71,6 +71,8 @@ def row_bytes(node, numbers):
     if isinstance(node, OBJECT):
         return b"\x04" + count + b"".join(name_bytes(name) + value for name, value in zip(vars(node), values))
     if isinstance(node, FUNCTION):
+        if vars(node):
+            raise python_cells.Unlike("a function that has attributes")
         return b"\x05\x01" + text_bytes(python_cells.code_of(node)) + count + joined
     if isinstance(node, BaseException):
         return b"\x06" + bytes([CLASSES.index(type(node).__name__)]) + count + joined
@@ -95,11 +97,16 @@ def single_constants(space, names, nodes):
     return len(held) == len(set(held))
 
 
+def expect_single_constants(space, names):
+    """Unlike: a tuple of plain values is held twice by what these names reach, so CPython may have made one where the language makes two."""
+    if not single_constants(space, names, met([space[name] for name in names])):
+        raise python_cells.Unlike("a tuple that is held twice may be two")
+
+
 def picture(space, names):
     """The picture of these names, which stand in byte order."""
+    expect_single_constants(space, names)
     nodes = met([space[name] for name in names])
-    if not single_constants(space, names, nodes):
-        raise python_cells.Unlike("a tuple that is held twice may be two")
     numbers = {id(node): number for number, node in enumerate(nodes)}
     named = b"".join(name_bytes(name) + value_bytes(space[name], numbers) for name in names)
     return in_four(len(names)) + named + in_four(len(nodes)) + b"".join(row_bytes(node, numbers) for node in nodes)

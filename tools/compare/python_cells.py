@@ -28,6 +28,8 @@ WRONG = {
 SPENT = {"n = 0\nwhile True: n += 1": "n = 666666"}
 
 RESERVED = frozenset(keyword.kwlist)
+# The instructions that access a name of the namespace.
+ACCESSES = frozenset(f"{what}_{where}" for what in ("LOAD", "STORE", "DELETE") for where in ("NAME", "GLOBAL"))
 # The functions of all cells that were read: the text of each code object by its number, with the object, and the object by its text.
 CODES, FUNCTIONS = {}, {}
 
@@ -194,18 +196,61 @@ def in_time():
         signal.signal(signal.SIGALRM, before)
 
 
-def run(text, space):
-    """Runs a cell in a namespace: its outcome, what it printed, the shown value or None, and the class and text of a fault or None."""
+def named_at(code):
+    """The name that each instruction of some code looks up, binds or unbinds in the namespace, by the instruction's place."""
+    found, wide = {}, []
+    for instruction in dis.get_instructions(code):
+        if instruction.opname == "EXTENDED_ARG":  # the instruction behind it is told at this place
+            wide.append(instruction.offset)
+            continue
+        if instruction.opname in ACCESSES:
+            found |= {place: instruction.argval for place in [*wide, instruction.offset]}
+        wide = []
+    return found
+
+
+@contextlib.contextmanager
+def watched(space, accessed):
+    """Adds the names that code looks up, binds or unbinds in a namespace, a miss too, where these are asked for."""
+    names = {}
+
+    def note(frame, event, _):
+        if frame.f_globals is not space:
+            return None
+        frame.f_trace_opcodes = True
+        if event == "opcode":
+            code = frame.f_code
+            if code not in names:
+                names[code] = named_at(code)
+            if frame.f_lasti in names[code]:
+                accessed.add(names[code][frame.f_lasti])
+        return note
+
+    if accessed is None:
+        yield
+        return
+    before = sys.gettrace()
+    sys.settrace(note)
+    try:
+        yield
+    finally:
+        sys.settrace(before)
+
+
+def run(text, space, accessed=None):
+    """Runs a cell in a namespace: its outcome, what it printed, the shown value or None, and the class and text of a fault or None. The
+    names that it accesses are added to a set, where one is handed in."""
     if text in WRONG:
         return "error", "", None, ("SyntaxError", f"invalid syntax, line {WRONG[text]}")
     if text in SPENT:
-        exec(SPENT[text], space)
+        with watched(space, accessed):
+            exec(SPENT[text], space)
         return "stopped", "", None, ("Stopped", "step budget spent")
     printed, shown, fault = io.StringIO(), None, None
     with warnings.catch_warnings():
         warnings.simplefilter("ignore")
         code, last = parsed(text)
-    with in_time(), contextlib.redirect_stdout(printed):
+    with in_time(), contextlib.redirect_stdout(printed), watched(space, accessed):
         try:
             exec(code, space)
             value = eval(last, space) if last else None

@@ -2,8 +2,9 @@
 file between."""
 import dataclasses
 import json
+import re
 
-import picture_rules
+import group_rules
 import python_cells
 import session_rules
 from agree_programs import Maker
@@ -29,6 +30,23 @@ SHARED = [
     "print('\u00e9\U0001f600', end='')", "", "# note", "pass", "print()", "\n\n", "one = [\n    #,\n]\nprint(one)\r\nprint(2)",
     "print(1)\rprint(2)", "'a' * # # " + "\u00e9" * 70, "print('\\x00\\x01\\x7f\\t\"\\\\')",
 ]
+# Cells about groups of many names that join, split, change back and go. A, B and C are names, F is a function's, `#` a small number.
+GROUPED = [
+    "A = [#]", "A = [#]", "A = [#, [#]]", "A = #", "A = '#'", "A = B = [#]", "A = [B]", "A = [B, C]", "A = (B, C)", "A = B", "A, B = B, A", "A = B, C = [#], [#]",
+    "A = {'k': B, #: [#]}", "A['k'] = B", "A.pop('k')", "A = SimpleNamespace(left=B, right=None)", "A.left = B", "A.left = None", "A.right = [A]",
+    "A.append(#)", "A.append(B)", "A.pop()", "A.append(#); A.pop()", "A[0] = A[0]", "A[0] = #", "A[0] = B", "A[0] = 1 - A[0]", "A += [#]", "A = A[:]", "A.clear()",
+    "A = A", "A", "A is B", "print(A, B)", "print(A is B, len(C))", "A == B", "A[0] is B[0]", "if A == B: A = B", "A = [B, B]; A.pop()", "repr(A)", "len(A); B.append(#)",
+    "for A in [B, C]: pass", "for A in B: pass", "A = [#] + B", "A = B * 2", "A = [[#]] * 2", "A = list(B)", "A = dict(B)", "A = [A]",
+    "del A", "del A, B", "del A[0]", "try: raise ValueError(B)\nexcept ValueError as A: pass", "try: raise ValueError([#], B)\nexcept ValueError as A: C = A",
+    "try: raise IndexError(B, #)\nexcept IndexError as A: C = [A]", "try: A.nothing\nexcept AttributeError: B = [#]", "A = [#]; 1 // 0; B = [#]", "A.append(#); A.nothing",
+    "def F(): A.append(#)", "def F(x=A): x.append(#); return x", "def F(x, seen=[]): seen.append(x); return seen", "def F():\n    global A\n    A = [B]\n    return A",
+    "def F():\n    global A\n    del A", "def F(x):\n    global A\n    A = x", "def F(): return A", "def F(): return [A, B]", "def F(x): return x",
+    "F()", "F()", "A = F()", "F(A)", "A = F(B)", "A = F", "A = [F]", "del F", "F(B); F(C)", "try: F(A, B, C)\nexcept TypeError as A: pass",
+    "A = B = C = []", "A = []; B = [A]; C = [B]", "A = [#]; B = [#]; C = [A, B]", "C = 0", "A = B = 0", "from types import SimpleNamespace", "len = A", "del len",
+]
+# CPython cuts a name in the text of a NameError to 200 characters, so none is longer.
+GROUP_NAMES = [f"p{number}" for number in range(7)] + ["P", "_q", "q" * 200]
+FUNCTION_NAMES = ["f0", "f1", "f2"]
 NAMES = ["try", "back", "b-1", "_x", "B", "a" * 64]
 BAD_NAMES = ["", "9", "007", "-a", "a b", "a.b", "\u00e9", "main\n", "a" * 65, "x\u0000"]
 BAD_REFERENCES = ["007", "00", "01", "999", "", "-1", "+1", "1 ", " 1", "nope", "Main", "4294967296", "99999999999999999999", "\u0661", "0x1", "1_0"]
@@ -55,6 +73,7 @@ BAD_LINES = [
     b'{"op":"cell","text":"\\ud800"}', b'{"op":"cell","text":"\\udc00\\ud800"}', b'{"op":"cell","text":"\xff"}',
     b'{"op":"cell","text":"\xed\xa0\x80"}', b"\xff", b'{"op":"cell","text":"\t"}', b'{"op":"cell","text":"a\x01"}',
     b'{"op":"cell","text":"\\u12"}', b'{"op":"log","op":1}', b'{"op":"log","x":' + b"[" * 127 + b"]" * 127 + b"}", b"[" * 200,
+    b'{"op":"stored"}', b'{"op":"stored","of":1}', b'{"op":"stored","to":"1"}', b'{"op":"stored","of":"1","to":"1"}', b'{"op":"stored","of":["1"]}',
     b'{"op":"log"}{"op":"log"}', b'{"op":"checkout","to":"0","to":0}', b'{"op":"log" "x":1}', b'// {"op":"log"}',
     b'{"op":"cell","text":"\\x41"}',
 ]
@@ -62,6 +81,7 @@ BAD_LINES = [
 ODD_LINES = [
     b' { "op" : "log" } ', b'\t{"op"\r:"status"}\r', b'{"\\u006fp":"l\\u006fg"}', b'{"op":1,"op":"status"}', b'{"op":"status","op":"log"}',
     b'{"op":' + b"[" * 126 + b"]" * 126 + b',"op":"status"}', b'{"op":"fly","op":"log"}',
+    b'{"of":"0", "op" :"stored"}', b'{"of":1,"op":"stored","of":"m\\u0061in"}',
     b'{"texts":1,"op":"cells","texts":["","#"]}', b'{"to":"0","to":"main","op":"checkout"}', b'{"at":"0","op":"branch","name":"\\u0074ry"}',
 ]
 
@@ -159,6 +179,7 @@ class Player:
         self.random = self.maker.random
         self.size = size
         self.functions = {}  # of each commit
+        self.grouped = self.pick(0.1, 0.3, 0.8)  # the share of cells that are about groups
         self.case = Case(self.first_file(), [], {"", "#"})
         self.file = self.case.file
 
@@ -235,6 +256,9 @@ class Player:
             return self.written({"op": "status"})
         if chance < 0.19:
             return self.written({"op": "inspect"})
+        if chance < 0.26:
+            return self.written({"op": "stored", "of": self.reference(session)})
+        chance = (chance - 0.26) * 0.81 / 0.74 + 0.19
         if chance < 0.28:
             return self.written({"op": "checkout", "to": self.reference(session)})
         if chance < 0.34:
@@ -268,7 +292,7 @@ class Player:
             text = self.some_cell(trial.space, self.functions.get(graph.commit, {}))
             try:
                 fault = trial.run(text, trial.space)[3]
-                picture_rules.picture(trial.space, python_cells.names_in(trial.space))
+                group_rules.groups(trial.space)
             except python_cells.Unlike:
                 continue
             if fault is not None and fault[0] == "NameError" and self.chance(0.8):
@@ -329,6 +353,8 @@ class Player:
         )()
 
     def some_cell(self, space, functions):
+        if self.chance(self.grouped):
+            return self.grouped_cell(space)
         self.maker.meet(space, functions)
         chance = self.random.random()
         if chance < 0.5:
@@ -338,6 +364,17 @@ class Player:
         if chance < 0.532:
             return self.pick(*python_cells.SPENT)
         return self.maker.cell()
+
+    def grouped_cell(self, space):
+        """A cell about groups, and now and then two."""
+        names = {letter: self.pick(*self.bound_first(space, GROUP_NAMES)) for letter in "ABC"} | {"F": self.pick(*self.bound_first(space, FUNCTION_NAMES))}
+        form = self.pick(*GROUPED) if self.chance(0.85) else "\n".join(self.pick(*GROUPED) for _ in range(self.pick(2, 3)))
+        return re.sub(r"\b[ABCF]\b|#", lambda found: names.get(found.group()) or str(self.random.randrange(3)), form)
+
+    def bound_first(self, space, names):
+        """The names, those that are bound more often."""
+        bound = [name for name in names if name in space]
+        return [*names, *bound * (1 + 2 * len(names) // max(1, len(bound)))]
 
     # harm
 
@@ -353,12 +390,22 @@ class Player:
             self.step(harm)
 
     def is_known(self, file):
-        """Whether what opening makes of a file is known: a function's code that no cell has may be one or none."""
+        """Whether what opening and checkouts make of a file is known: a function's code that no cell has may be one or none."""
         try:
-            session_rules.Session(file)
+            session = session_rules.Session(file)
         except python_cells.Unlike:
             return False
         except (NotAJournal, Damaged):
+            return True
+        return all(self.is_loaded(session, commit) for commit in range(len(session.graph.parents)))
+
+    def is_loaded(self, session, commit):
+        """Whether the state of a commit is known, or that it can't be loaded."""
+        try:
+            group_rules.groups(session.loaded(commit))
+        except python_cells.Unlike:
+            return False
+        except Damaged:
             pass
         return True
 

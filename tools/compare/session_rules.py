@@ -1,11 +1,12 @@
 """The rules of requests, answers and runs, read a second time: by docs/LINES.md, docs/STORE.md and docs/RULES.md, and by nothing of
 the program. The state at a commit is read of the pictures that its table names; those of a new commit hold what CPython makes of its
-cells."""
+cells, and group_rules.py tells which groups it drops and stores."""
 import json
 import re
 
 import bound_rules
 import gen_rules
+import group_rules
 import notebook_rules
 import picture_rules
 import python_cells
@@ -19,7 +20,7 @@ LONGEST_LINE = 2**24
 REASONS = {1: "BadRequest", 2: "NoSuchRef", 3: "BadName", 4: "NameTaken", 5: "StoreFull", 6: "CellTooLong", 7: "StateTooLarge"}
 KEYS = {
     "cell": ["op", "text"], "cells": ["op", "texts"], "checkout": ["op", "to"], "branch": ["name", "op"], "log": ["op"], "status": ["op"],
-    "inspect": ["op"],
+    "inspect": ["op"], "stored": ["of", "op"],
 }
 USAGE = b"usage: kishu STORE COMMAND\n"
 TOO_LONG = b"input too long\n"
@@ -80,11 +81,11 @@ class Session:
         self.known = known
         self.space = self.loaded(self.graph.commit)
 
-    def run(self, text, space):
-        """Runs a cell, where it is one of the known ones."""
+    def run(self, text, space, accessed=None):
+        """Runs a cell, where it is one of the known ones. The names that it accesses are added to a set, where one is handed in."""
         if self.known is not None and text not in self.known:
             raise python_cells.Unlike("the text isn't known")
-        return python_cells.run(text, space)
+        return python_cells.run(text, space, accessed)
 
     def loaded(self, commit):
         """The namespace of a commit's table. Damaged: the bytes of a row aren't a picture of its names."""
@@ -106,9 +107,9 @@ class Session:
         if self.graph.records >= MOST_RECORDS:
             raise Refused(5)
 
-    def fits(self):
-        """Refuses a state that is too large, and leaves that of the head."""
-        size = bound_rules.size(self.space)
+    def fits(self, still):
+        """Refuses a state that is too large beside rows that stay as they are, and leaves that of the head."""
+        size = group_rules.size(self.space, still)
         if size > bound_rules.MOST_BYTES:
             self.space = self.loaded(self.graph.commit)
             raise Refused(7, size)
@@ -119,17 +120,17 @@ class Session:
             raise Refused(6)
         self.room()
         count, results = self.graph.count(self.graph.commit), []
+        rows = self.graph.tables[self.graph.commit]
+        loose, accessed = group_rules.loose_rows(rows, self.space), set()
         for number, text in enumerate(texts, count + 1):
-            outcome, *told = self.run(text, self.space)
+            outcome, *told = self.run(text, self.space, accessed if loose else None)
             results.append({"count": number, "outcome": outcome, "outputs": python_cells.outputs_of(*told, number)})
-            self.fits()
+            still = group_rules.untouched(loose, accessed)
+            self.fits(still)
             if outcome != "ok":
                 break
         ran = [text.encode() for text in texts[: len(results)]]
-        dropped = [row.names for row in self.graph.tables[self.graph.commit]]
-        names = python_cells.names_in(self.space)
-        stored = [(names, picture_rules.picture(self.space, names))] if names else []
-        self.record(commit_body(self.graph.commit, ran, dropped, stored))
+        self.record(commit_body(self.graph.commit, ran, *group_rules.changes(rows, self.file, self.space, still)))
         return results
 
     def cell(self, text):
@@ -179,6 +180,14 @@ class Session:
     def inspect(self):
         names, nodes = bound_rules.inspected(self.space)
         return {"answer": "inspect", "commit": self.graph.commit, "names": names, "nodes": nodes}
+
+    def stored(self, of):
+        target = self.graph.resolve(of)
+        if target is None:
+            raise Refused(2)
+        commit, graph = target[0], self.graph
+        dropped, stored = (list(map(list, groups[commit])) for groups in (graph.dropped, graph.stored))
+        return {"answer": "stored", "commit": commit, "dropped": dropped, "stored": stored}
 
     def told(self, request):
         """The answer to a request; None is what isn't one."""

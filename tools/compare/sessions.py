@@ -4,20 +4,22 @@
 Usage: tools/compare/sessions.py --program PROGRAM [--cases COUNT] [--seed SEED]      500 cases of seed 1 where no numbers are given
        tools/compare/sessions.py --program PROGRAM --only K [--seed SEED]             shows case K of a seed, and compares it
        tools/compare/sessions.py --program PROGRAM --full                             sessions on a store that is full or nearly
+       tools/compare/sessions.py --rules [--cases COUNT] [--seed SEED]                the rules alone: whether they leave good stores
 
 PROGRAM is the built program, crates/kishu_cli/out/kishu_cli. A case is one store and some runs on it: of `session` with lines of
 requests, of `run` with a notebook, and of `cell`, `log`, `status`, `checkout` and `branch`; at the beginning some of `gen`, too. Lines are cells, several cells at once,
-checkouts by number and by branch, branches, `log` and `status`, some of them refused, and lines that are no request. Between runs a file may be harmed: cut, a byte changed or
+checkouts by number and by branch, branches, `log`, `status`, `inspect` and `stored`, some of them refused, and lines that are no request. Between runs a file may be harmed: cut, a byte changed or
 taken out, the gate at its end opened, a gate before it closed. Before the random cases come some that are always the same, about
 limits and ends of lines, and one session that gets each line when the line before is answered. Case K of a seed depends on these
 two numbers alone, and later cases are longer.
 
-Compared are the status, its text, the output and every byte of the file after each run. The first case that differs is reduced
+Compared are the status, its text, the output and every byte of the file after each run. With `--rules` no program is run: each store
+that no harm was done to has to be good then, by good_rules.py, which runs all cells again from nothing. The first case that differs is reduced
 by leaving out runs, lines and harm, and shown whole; then the script ends with status 1.
 
-The rules are those of session_rules.py, notebook_rules.py and store_rules.py, which stand on the documents and on nothing of the program. What a cell
+The rules are those of session_rules.py, group_rules.py, notebook_rules.py and store_rules.py, which stand on the documents and on nothing of the program. What a cell
 gives is what CPython 3.11 makes of it (python_cells.py), in the state that the pictures of the store give (picture_rules.py), so the
-cells are of forms that both languages mean alike: those of agree_forms.py, and some about what names share. A cell whose exception has a text that isn't known is left out.
+cells are of forms that both languages mean alike: those of agree_forms.py, and some about what names share, and about groups that join, split, change back and go. A cell whose exception has a text that isn't known is left out.
 An input of 2^30 bytes and a body of 2^30 bytes aren't tried.
 """
 import argparse
@@ -32,6 +34,8 @@ import sys
 import tempfile
 
 import gen_rules
+import good_rules
+import older_stores
 import python_cells
 import session_rules
 from session_cases import STORE, Case, Harm, Player, Run
@@ -72,6 +76,27 @@ LARGE = [
     CELL % b"s = 'x' * 1000000", CELL % b"a = [s] * 300", CELL % b"a", b'{"op":"cells","texts":["b = 1","a = [s] * 300","c = 2"]}', STATUS,
     CELL % b"a = [s] * 267; b = [a, a]", CELL % b"b.append('x' * 500000)", STATUS,
 ]
+STORED = b'{"op":"stored","of":"%s"}'
+GROUPS = [
+    STORED % b"0", CELL % b"x = [1]; y = [x]; z = [2]", STORED % b"1", CELL % b"y = 0", STORED % b"main", CELL % b"x[0] = 1", STORED % b"3", CELL % b"x = [1]", STORED % b"4",
+    b'{"op":"checkout","to":"1"}', STORED % b"main", CELL % b"print(y[0] is x, z)", STORED % b"5", CELL % b"del z", STORED % b"6", CELL % b"z", STORED % b"7",
+    CELL % b"try: z\\nexcept NameError as y: x = [x]", STORED % b"8", CELL % b"x = x[0]", STORED % b"9", STORED % b"10", STORED % b"01", b'{"op":"stored"}', STATUS, INSPECT,
+    b'{"op":"cells","texts":["x.append(2)","x.pop()"]}', STORED % b"10", b'{"op":"cells","texts":["x = [2]; w = [x]","w = 0; 1 // 0","w = 2"]}', STORED % b"11", LOG,
+]
+GLOBALS = [
+    CELL % b"L = []; m = [1]", CELL % b"def f(): L.append(1)", CELL % b"f()", STORED % b"3", CELL % b"def h():\\n    global m\\n    m = L", CELL % b"h()", STORED % b"5",
+    CELL % b"def k():\\n    global m\\n    del m", CELL % b"k()", STORED % b"7", CELL % b"k()", STORED % b"8", CELL % b"L = [1]", STORED % b"9", STATUS,
+]
+LARGE_GROUPS = [
+    CELL % b"t = 'y' * 1000000", CELL % b"a = [t] * 130", CELL % b"n = 0; b = [t] * 5", STORED % b"3", CELL % b"c = [t] * 135", CELL % b"n = [n]", STORED % b"4",
+    CELL % b"n.append([t] * 135)", CELL % b"n", CELL % b"a = 0; b.append([t] * 5)", STORED % b"6", CELL % b"a = b; n = [b, 'z']", STORED % b"7",
+    CELL % b"a, b = [t] * 262, a", STATUS, CELLS % (b"n = 5", b"a = [t] * 260"), b'{"op":"checkout","to":"3"}', CELL % b"len(a) + len(b)", STORED % b"8",
+]
+# On a store whose first commit has one group of t, a and n.
+LARGE_OLDER = [
+    STORED % b"1", CELL % b"c = [7]; print(8)", STORED % b"2", CELL % b"c = ['z' * 1000000] * 250", CELLS % (b"c = 8", b"c = ['z' * 1000000] * 260"),
+    CELL % b"c = ['z' * 1000000] * 10", STORED % b"3", CELL % b"n", STORED % b"4", CELL % b"a = c", STORED % b"5", CELL % b"t = [t] * 269", STATUS,
+]
 LONG_CELL = b"#" * LONGEST_CELL
 
 
@@ -84,8 +109,11 @@ def session_case(*lines):
 
 def same_cases():
     """Cases about limits, ends of lines and what a user does first."""
-    for lines in ([b""], [b"", b""], [STATUS], [LOG, b"", b"", b""], SHARED, [*SHARED, b""], RING, DEFAULTS, SPENT, REFUSED, TOGETHER, BOUND, LARGE):
+    for lines in ([b""], [b"", b""], [STATUS], [LOG, b"", b"", b""], SHARED, [*SHARED, b""], RING, DEFAULTS, SPENT, REFUSED, TOGETHER, BOUND, LARGE, GROUPS, GLOBALS, LARGE_GROUPS):
         yield session_case(*lines)
+    for first, lines in (("t = 'y' * 1000000; a = [t] * 20; n = 1", LARGE_OLDER), ("x = [1]; y = [x]; z = [2]", GROUPS), ("x = 1; y = 2", GLOBALS)):
+        case = session_case(*lines)
+        yield Case(older_stores.whole_store(first), case.steps, case.known)
     by_hand = session_case(*SHARED, b"")
     yield Case(None, [Run([STORE, "session"], by_hand.steps[0].data, typed=True)], by_hand.known)
     yield session_case(CELL % LONG_CELL, CELL % (LONG_CELL + b"#"), STATUS, b"")
@@ -170,7 +198,7 @@ def typed(words, data, folder):
 
 
 class Compared:
-    """The program in a folder of its own, and what its runs ended with."""
+    """The program in a folder of its own, and what its runs ended with. Without a program the rules are looked at alone."""
 
     def __init__(self, program, folder):
         self.program, self.folder = program, folder
@@ -178,6 +206,8 @@ class Compared:
 
     def difference(self, case):
         """The first run of a case that differs: its number, what was found and what is expected. None: none does."""
+        if self.program is None:
+            return self.fault_by_rules(case)
         file = case.file
         for number, step in enumerate(case.steps):
             if isinstance(step, Harm):
@@ -190,6 +220,21 @@ class Compared:
             if got != want:
                 return number, got, want
             file = want[3]
+        return None
+
+    def fault_by_rules(self, case):
+        """The first run of a case by the rules alone that leaves a store that isn't good, and what is wrong with it. None: none does."""
+        file, whole = case.file, good_rules.is_good(case.file)
+        for number, step in enumerate(case.steps):
+            if isinstance(step, Harm):
+                file, whole = step.done(file) if file is not None else None, False
+                continue
+            status, text, out, file = session_rules.expected(step.words, step.data, file, case.known)
+            self.runs[status] += 1
+            self.answers += out.count(b"\n")
+            found = good_rules.fault(file) if whole else None
+            if found is not None:
+                return number, (status, f"the store isn't good: {found}".encode(), out, file), (status, text, out, file)
         return None
 
     def differs(self, case):
@@ -268,8 +313,11 @@ def files_differ(mine, other):
 
 
 def case_of(seed, number):
-    """Case K of a seed: the later, the longer."""
-    return Player(f"{seed}/{number}", min(2 + number // 12, LONGEST)).made()
+    """Case K of a seed: the later, the longer. None: it comes to what isn't known as it is made."""
+    try:
+        return Player(f"{seed}/{number}", min(2 + number // 12, LONGEST)).made()
+    except python_cells.Unlike:
+        return None
 
 
 def cases_of(given):
@@ -293,7 +341,9 @@ def report(compared, title, case):
 
 def read_words():
     words = argparse.ArgumentParser(usage=__doc__)
-    words.add_argument("--program", required=True)
+    runs = words.add_mutually_exclusive_group(required=True)
+    runs.add_argument("--program", type=os.path.abspath)
+    runs.add_argument("--rules", action="store_true")
     words.add_argument("--cases", type=int, default=500)
     words.add_argument("--seed", default="1")
     words.add_argument("--only", type=int)
@@ -306,8 +356,11 @@ def main():
     if not python_cells.is_release():
         sys.exit(f"CPython 3.11 is needed, since the texts of its exceptions are known; this is {sys.version.split()[0]}")
     with tempfile.TemporaryDirectory() as folder:
-        compared, tried, left = Compared(os.path.abspath(given.program), folder), 0, 0
+        compared, tried, left = Compared(given.program, folder), 0, 0
         for title, case in cases_of(given):
+            if case is None:
+                left += 1
+                continue
             if given.only is not None:
                 show_case(case)
             try:

@@ -195,6 +195,7 @@ class Graph:
 
     def __init__(self):
         self.parents, self.cells, self.tables = [0], [[]], [[]]
+        self.dropped, self.stored = [[]], [[]]  # the groups of each commit's record
         self.branches, self.branch, self.commit = {"main": 0}, "main", 0
         self.records = 0
 
@@ -228,10 +229,10 @@ class Graph:
 
     def table_after(self, dropped, rows):
         """The head's table without some groups and with more rows. NoFit: one that is to go isn't there, or they don't go together."""
-        table = self.tables[self.commit]
-        if not {row.names for row in table}.issuperset(dropped):
+        table, gone = self.tables[self.commit], set(dropped)
+        if not {row.names for row in table}.issuperset(gone):
             raise NoFit
-        table = sorted([row for row in table if row.names not in dropped] + rows)
+        table = sorted([row for row in table if row.names not in gone] + rows)
         names = [name for row in table for name in row.names]
         if len(names) != len(set(names)) or sum(row.length for row in table) > MOST_PICTURED:
             raise NoFit
@@ -242,6 +243,8 @@ class Graph:
             raise NoFit
         rows = [Row(names, len(self.parents), place + at, length) for names, at, length in stored]
         self.tables.append(self.table_after(dropped, rows))
+        self.dropped.append(dropped)
+        self.stored.append([row.names for row in rows])
         self.parents.append(parent)
         self.cells.append(texts)
         self.commit = len(self.parents) - 1

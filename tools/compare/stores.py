@@ -6,12 +6,13 @@ Usage: tools/compare/stores.py PROGRAM [COUNT [SEED]]      1000 cases of seed 1 
 PROGRAM is the built program. A case is a store file, the words of a command line and an input. Its files have records of every kind
 that fit and ones that don't, commits whose pictures are those of their cells' states, of other states, of other names or of none, gates,
 lengths and headers that were changed, bytes taken out and put in, and ends cut off. Compared are the status, its text, the output and
-every byte of the file afterwards. The exit is 1 where something differed. A store of 1,000,000
+every byte of the file afterwards. Some commits store one group of all names, as those of stores that were made before did, or none. The
+exit is 1 where something differed. A store of 1,000,000
 records and a body of 2^30 bytes aren't tried.
 
 What is expected comes of session_rules.py and store_rules.py, which stand on the documents and on nothing of the program. The cells
 are ones that CPython runs alike, so their outputs are its; a case whose pictures have a function's code that isn't known, since a byte
-of it was changed, is left out. Sessions are compared by sessions.py.
+of it was changed, is left out. Sessions have a few lines; longer ones are compared by sessions.py.
 """
 import json
 import os
@@ -20,6 +21,7 @@ import subprocess
 import sys
 import tempfile
 
+import older_stores
 import picture_rules
 import python_cells
 import session_rules
@@ -29,13 +31,15 @@ from store_rules import (
 
 CELLS = [
     "", "# \u00fc", "x = 1", "x = x + 1", "print(7)", "print(x)", 'print("\u00e9")', "x = 3\nprint(x, x)",
-    "y = x * 2\nprint(y)", 'z = "a" * 3\nprint(z)', "print(1 // 0)", "x = = 1",
+    "y = x * 2\nprint(y)", 'z = "a" * 3\nprint(z)', "print(1 // 0)", "x = = 1", "x = [1]; y = [x]; z = [2]", "y = 0", "y = [x, z]", "x = [1]", "z = y",
+    "w = [7]", "w.append(7)", "w = 7", "print(8, w)", "w", "y.append(2)", "print(y, z)", "z", "del y", "x is y", "def f(n, seen=[]): seen.append(n); return seen", "y = f(1)", "try: x[7]\nexcept IndexError as y: z = y",
 ]
 LENGTHS = [LONGEST_CELL - 1, LONGEST_CELL]
 KNOWN = {*CELLS, *("#" * length for length in LENGTHS)}
 NO_TEXTS = [b"\xff", b"print(1)\xc3", b"\xed\xa0\x80", b"\xf4\x90\x80\x80", b"\xc0\x80"]
 NO_NAMES = [b"", b"9", b"-a", b"a b", b"a.b", "\u00e9".encode(), b"a" * 65, b"a" * 255, b"\xff", b"a\n"]
-FORMS = ["cell"] * 8 + ["run"] * 3 + ["log"] * 3 + ["status"] * 2 + ["inspect"] * 3 + ["checkout"] * 4 + ["branch"] * 3
+FORMS = ["cell"] * 8 + ["session"] * 5 + ["run"] * 3 + ["log"] * 3 + ["status"] * 2 + ["inspect"] * 3 + ["checkout"] * 4 + ["branch"] * 3
+REFERENCES = [*["0", "1", "2", "main"] * 2, "3", "b0", "b1", "00", "01", "007", "none"]
 # Cells whose states stand in pictures that no cell of the store gives.
 STATES = [
     "x = 7", "x = [1]; y = x", "y = 'text'; z = (x, [y]) if 'x' in 'x' and False else [y]", "x = []; x.append(x)", "x = {'k': [1], (1, 2): None}; y = x['k']",
@@ -139,6 +143,16 @@ def foreign_commit(rng, graph, texts):
     return commit_body(graph.commit, texts, dropped, stored)
 
 
+def whole_commit(rng, file, texts):
+    """The file with a commit of these cells as older stores have it; None where the state at its head isn't known."""
+    try:
+        session = session_rules.Session(file + CLOSED, KNOWN)
+        older_stores.commit_whole(session, [text.decode() for text in texts], rng.random() < 0.9)
+    except (Damaged, python_cells.Unlike):
+        return None
+    return session.file[:-1]
+
+
 def spoilt(rng, picture, space):
     """A picture as it is, or now and then another, or bytes that are none."""
     if rng.random() < 0.85:
@@ -168,14 +182,14 @@ def chain(rng):
     file, graph = HEADER, Graph()
     for _ in range(rng.choice([0, 1, 1, 2, 3, 4, 6, 9])):
         texts = [rng.choice(CELLS).encode() for _ in range(rng.choice([1, 1, 1, 2, 3]))]
-        grown = ran_commit(rng, file, texts) if rng.random() < 0.5 else None
+        grown = rng.choice([ran_commit, ran_commit, whole_commit, lambda *_: None])(rng, file, texts)
         if grown is not None:
             graph, file = session_rules.opened(grown + CLOSED)[2], grown
         elif rng.random() < 0.1:
             file += record(wrong_body(rng, graph, texts))
         else:
             file, graph = with_body(file, graph, good_body(rng, graph, texts))
-    file += rng.choice([CLOSED, CLOSED, CLOSED, b"<", b"\xa4", b"\xff", OPEN])
+    file += rng.choice([CLOSED, CLOSED, CLOSED, CLOSED, CLOSED, b"<", b"\xa4", b"\xff", OPEN])
     if rng.random() < 0.3:
         file += bytes(rng.choice([0, 1, 0xA5, 0xFF]) for _ in range(rng.randrange(1, 60)))
     return file
@@ -202,22 +216,22 @@ def changed(rng, file):
     ])
 
 
-def file_of(rng):
+def file_of(rng, words):
+    """A file, mostly with one place changed or two; for a session it is mostly left as it is."""
     chance = rng.random()
     if chance < 0.03:
         return None
     if chance < 0.06:
         return bytes(rng.choice([0, 0x4B, 0x78, 0xA5]) for _ in range(rng.randrange(40)))
     file = chain(rng)
-    for _ in range(rng.choice([0, 0, 0, 1, 1, 2])):
+    for _ in range(rng.choice([0, 0, 0, 0, 0, 1] if words[1:] == ["session"] else [0, 0, 0, 1, 1, 2])):
         file = changed(rng, file) if file else file
     return file
 
 
 def words_of(rng, store):
     if rng.random() < 0.95:
-        form = rng.choice(FORMS)
-        reference = rng.choice(["0", "1", "2", "3", "main", "b0", "b1", "00", "01", "007", "none"])
+        form, reference = rng.choice(FORMS), rng.choice(REFERENCES)
         more = {"run": rng.choice([[], ["--together"]]), "checkout": [reference], "branch": rng.choice([["new"], ["b1"], ["main"], ["9"], ["new", reference]])}
         return [store, form, *more.get(form, [])]
     return rng.choice([
@@ -238,8 +252,20 @@ def notebook_of(rng):
     return json.dumps({"cells": cells, "metadata": {}, "nbformat": 4, "nbformat_minor": rng.choice([5, 5, 5, 5, 4])}).encode()
 
 
+def line_of(rng):
+    """A line of a session."""
+    request = rng.choice([
+        *[lambda: {"op": "cell", "text": rng.choice(CELLS)}] * 4, lambda: {"op": "cells", "texts": [rng.choice(CELLS) for _ in range(rng.choice([1, 2, 3]))]},
+        *[lambda: {"op": "stored", "of": rng.choice(REFERENCES)}] * 3, *[lambda: {"op": "checkout", "to": rng.choice(REFERENCES)}] * 3,
+        lambda: {"op": rng.choice(["log", "status", "inspect", "fly"])}, lambda: {"op": "branch", "name": rng.choice(["b0", "new"])},
+    ])()
+    return json.dumps(request).encode() + b"\n"
+
+
 def input_of(rng, words):
     chance = rng.random()
+    if words[1:] == ["session"]:
+        return b"".join(line_of(rng) for _ in range(rng.randrange(12)))
     if "run" in words and chance < 0.9:
         return notebook_of(rng)
     if chance < 0.03:
@@ -282,7 +308,8 @@ def main():
     rng, differ, left_out, statuses = random.Random(seed), 0, 0, {}
     with tempfile.TemporaryDirectory() as folder:
         for case in range(count):
-            file, words = file_of(rng), words_of(rng, "store")
+            words = words_of(rng, "store")
+            file = file_of(rng, words)
             data = input_of(rng, words)
             want = wanted(words, data, file)
             if want is None:

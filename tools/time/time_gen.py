@@ -7,8 +7,8 @@ PROGRAM is the built program, crates/kishu_cli/out/kishu_cli. `STORE gen START N
 store of its own: in memory, where the system has such a folder, so that syncs take no time, and there the least of five runs counts,
 less the least of a run without requests; and once on the disk. Beside the latter the same bytes are written to another file on that
 disk by this script, each record by two writes with a sync behind each, as the program appends: what is left of the run's time is the
-program's. The state grows with the requests, and each commit stores all its names as one group, so a later request has more bytes to
-picture and to write than an earlier one: the file's bytes are told beside the times. The script ends with status 1 where a request of
+program's. The groups of names grow with the requests, and a commit stores each one that changed whole, so a later request has more bytes
+to picture and to write than an earlier one: the file's bytes are told beside the times. The script ends with status 1 where a request of
 2,000 takes more than twice as many times as long as one of 200 as it has bytes in the file.
 """
 import os

@@ -1,0 +1,203 @@
+#!/usr/bin/env python3
+"""Runs worked sessions whose answers and bytes stand here, by the rules that the other scripts compare with, or by the built program.
+
+Usage: tools/compare/worked_rows.py [--show]                the rules alone
+       tools/compare/worked_rows.py PROGRAM [--show]        the rules, and the program on stores of its own
+
+PROGRAM is the built program, crates/kishu_cli/out/kishu_cli. The answers, the bytes of a store, a picture and the groups of commits were
+written by hand, from the documents. Each store is also looked at whether it is good: that of each row has to be, but for one that begins
+as a file whose commit has one group of all names. With `--show` each row prints its lines with the answers. The script ends with status 1
+where something differs."""
+import argparse
+import json
+import os
+import pathlib
+import subprocess
+import sys
+import tempfile
+
+import good_rules
+import older_stores
+import picture_rules
+import python_cells
+import session_rules
+
+ONE = bytes.fromhex(
+    "4b495348552d4a4f55524e414c2d310a a5 0000000000000026 00000022 01 00000000 01 00000001 0000000c 7072696e742831202b203229 00000000 00000000 00"
+)
+SHARED = bytes.fromhex(
+    "00000002 0161 0800000000 0162 0800000000 00000001 01 00000001 03 00000000000000000000000000000001"
+)
+
+
+def cell(text, shows=None):
+    """A cell, and what it prints or shows, as its answer has it."""
+    return {"op": "cell", "text": text}, {} if shows is None else {"shows": shows}
+
+
+def fault(text, name, value):
+    return {"op": "cell", "text": text}, {"fault": (name, value)}
+
+
+def stored(of, dropped, groups, commit=None):
+    commit = int(of) if commit is None else commit
+    return {"op": "stored", "of": of}, {"answer": "stored", "commit": commit, "dropped": dropped, "stored": groups}
+
+
+def checkout(to, commit, head):
+    return {"op": "checkout", "to": to}, {"answer": "checkout", "commit": commit, "head": head}
+
+
+XY, X, Y, Z, G, P, GP, L, F = ["x", "y"], ["x"], ["y"], ["z"], ["g"], ["p"], ["g", "p"], ["L"], ["f"]
+LOG = {
+    "answer": "log", "branches": [{"commit": 2, "name": "main"}],
+    "path": [
+        {"cells": 1, "commit": 3, "line": "print(a, a is b)", "parent": 1}, {"cells": 1, "commit": 1, "line": "a = [1]; b = a", "parent": 0},
+    ],
+}
+BOUND = {"answer": "inspect", "commit": 1, "names": {"a": "#0", "b": "#0"}, "nodes": [["list", "1"]]}
+TOO_LARGE = {"answer": "refused", "bytes": 301001535, "number": 7, "reason": "StateTooLarge"}
+NO_REFERENCE = {"answer": "refused", "number": 2, "reason": "NoSuchRef"}
+ROWS = {
+    "the first cell": [cell("print(1 + 2)", "3\n")],
+    "two ways from one state": [
+        cell("a = [1]; b = a"), cell("b.append(2)"), checkout("1", 1, None), cell("print(a, a is b)", "[1] True\n"), ({"op": "log"}, LOG),
+        stored("1", [], [["a", "b"]]), stored("2", [["a", "b"]], [["a", "b"]]), stored("3", [], []),
+    ],
+    "what is bound": [cell("a = [1]; b = a"), ({"op": "inspect"}, BOUND)],
+    "a list that holds itself": [
+        cell("a = []"), cell("a.append(a)"), cell("print(a)", "[[...]]\n"), checkout("0", 0, None), checkout("main", 3, "main"),
+        cell("print(a, a[0] is a)", "[[...]] True\n"), stored("2", [["a"]], [["a"]]), stored("4", [], []),
+    ],
+    "a group that is split": [
+        cell("x = [1]; y = [x]; z = [2]"), stored("1", [], [XY, Z]), cell("y = 0"), stored("2", [XY], [X, Y]), stored("main", [XY], [X, Y], 2), checkout("1", 1, None),
+        cell("print(y[0] is x, z)", "True [2]\n"), stored("3", [], []), stored("0", [], []), ({"op": "stored", "of": "7"}, NO_REFERENCE),
+    ],
+    "a function that changes a global name": [cell("L = []"), cell("def f(): L.append(1)"), cell("f()"), stored("2", [], [F]), stored("3", [L], [L])],
+    "a group that joins another": [
+        cell("def g(x, acc=[]): acc.append(x); return acc"), cell("p = g(1)"), stored("2", [G], [GP]), cell("p = 0"), stored("3", [GP], [G, P]),
+        checkout("2", 2, None), cell("g(2) is p", "True"), stored("4", [GP], [GP]),
+    ],
+    "the same value again": [cell("a = [1]"), cell("a[0] = 1"), stored("2", [], []), cell("a = [1]"), stored("3", [], []), cell("a = [1, 2]"), cell("a.pop()", "2"), stored("5", [["a"]], [["a"]])],
+    "what raised is stored": [
+        fault("n = 1; m = 1 // 0; n = 2", "ZeroDivisionError", "division by zero"), cell("n", "1"), stored("1", [], [["n"]]), stored("2", [], []),
+    ],
+    "a state that is too large": [
+        cell("s = 'x' * 1000000"), ({"op": "cell", "text": "a = [s] * 300"}, TOO_LARGE), fault("a", "NameError", "name 'a' is not defined"), stored("2", [], []),
+    ],
+    "one change after another": [
+        cell("x = [1]; y = [x]; z = [2]"), cell("y = 0"), cell("x[0] = 1"), cell("z.append(x)"), cell("del y"), stored("1", [], [XY, Z]), stored("2", [XY], [X, Y]),
+        stored("3", [], []), stored("4", [X, Z], [["x", "z"]]), stored("5", [Y], []),
+    ],
+    "a value that comes back": [
+        cell("a = [1]"), cell("a = [2]"), cell("a = [1]"), stored("3", [["a"]], [["a"]]), ({"op": "cells", "texts": ["a.append(2)", "a.pop()"]}, {"answer": "cells", "commit": 4, "results": [
+            {"count": 4, "outcome": "ok", "outputs": []},
+            {"count": 5, "outcome": "ok", "outputs": [{"data": {"text/plain": "2"}, "execution_count": 5, "metadata": {}, "output_type": "execute_result"}]},
+        ]}), stored("4", [], []),
+    ],
+    "a name that goes": [
+        cell("k = [1]"), fault("try: {}[k[0]]\nexcept KeyError as e: k.append(2); e.args[1]", "IndexError", "index out of range"),
+        stored("2", [["k"]], [["k"]]), cell("del k"), stored("3", [["k"]], []), ({"op": "status"}, {
+            "answer": "status", "branch": "main", "commit": 3, "commits": 4, "names": [], "records": 3,
+        }),
+    ],
+}
+WHOLE = "one group of all names"
+ROWS[WHOLE] = [
+    cell("print(0)", "0\n"), stored("1", [], [XY]), stored("2", [], []), cell("z = 3"), stored("3", [], [Z]), cell("x", "1"), stored("4", [XY], [X, Y]), cell("x = 1"),
+    stored("5", [], []), checkout("3", 3, None), cell("print(y)", "2\n"), stored("6", [XY], [X, Y]),
+]
+
+
+def is_told(answer, wanted):
+    """Whether an answer is the one that is wanted: whole, or of a cell what it shows or raises."""
+    if "answer" in wanted:
+        return answer == wanted
+    if "fault" in wanted:
+        return answer["outcome"] == "error" and (answer["outputs"][-1]["ename"], answer["outputs"][-1]["evalue"]) == wanted["fault"]
+    shown = [output.get("text") or output["data"]["text/plain"] for output in answer["outputs"]]
+    return answer["outcome"] == "ok" and shown == ([wanted["shows"]] if "shows" in wanted else [])
+
+
+def by_rules(lines, file):
+    """Status, output and file of a session, by the rules."""
+    status, _, out, after = session_rules.expected(["store", "session"], lines, file)
+    return status, out, after
+
+
+def by_program(program, lines, file):
+    with tempfile.TemporaryDirectory() as folder:
+        path = os.path.join(folder, "store")
+        if file is not None:
+            pathlib.Path(path).write_bytes(file)
+        done = subprocess.run([program, path, "session"], input=lines, capture_output=True)
+        return done.returncode, done.stdout, pathlib.Path(path).read_bytes()
+
+
+def faults_of(title, row, done, show):
+    """What differs in a row that was run."""
+    status, out, file = done
+    answers = [json.loads(line) for line in out.splitlines()]
+    if status != 0 or len(answers) != len(row):
+        yield f"{title}: status {status}, {len(answers)} answers"
+        return
+    for (request, wanted), answer in zip(row, answers):
+        if show:
+            print(f"  {json.dumps(request)}\n    {json.dumps(answer)}")
+        if not is_told(answer, wanted):
+            yield f"{title}: {request} is answered {answer}, and not {wanted}"
+    found = good_rules.fault(file)
+    if (found is None) != (title != WHOLE):
+        yield f"{title}: the store is {'good' if found is None else 'not good: ' + found}"
+
+
+def faults_of_bytes(files):
+    """What differs in the bytes of a store and of a picture."""
+    if files["the first cell"] != ONE:
+        yield f"the first cell: the file is {files['the first cell'].hex()}"
+    if len(SHARED) != 44 or not files["what is bound"].endswith(SHARED + b"\0"):
+        yield f"what is bound: the file is {files['what is bound'].hex()}"
+
+
+def faults_of_pictures():
+    """What differs in the reading of a picture."""
+    space = python_cells.empty_space()
+    picture_rules.load(SHARED, space)
+    if space["a"] is not space["b"] or picture_rules.picture(space, ["a", "b"]) != SHARED:
+        yield "the picture isn't read as it was written"
+    for data, place in ((SHARED[:43], 28), (SHARED + b"\0", 44)):
+        try:
+            picture_rules.load(data, python_cells.empty_space())
+            yield f"{data.hex()} is read"
+        except picture_rules.NoPicture as found:
+            if found.args != (place,):
+                yield f"{data.hex()} has its fault at {found}, and not at {place}"
+
+
+def main():
+    words = argparse.ArgumentParser(usage=__doc__)
+    words.add_argument("program", nargs="?")
+    words.add_argument("--show", action="store_true")
+    given = words.parse_args()
+    runs = {"the rules": by_rules}
+    if given.program is not None:
+        runs["the program"] = lambda lines, file: by_program(os.path.abspath(given.program), lines, file)
+    faults = [*faults_of_pictures()]
+    for name, run in runs.items():
+        files = {}
+        for title, row in ROWS.items():
+            if given.show:
+                print(f"{title}, by {name}:")
+            lines = b"".join(json.dumps(request).encode() + b"\n" for request, _ in row)
+            done = run(lines, older_stores.whole_store("x = 1; y = 2") if title == WHOLE else None)
+            files[title] = done[2]
+            faults += faults_of(title, row, done, given.show)
+        faults += faults_of_bytes(files)
+    for found in faults:
+        print(f"differs: {found}")
+    print(f"{len(ROWS)} rows by {' and '.join(runs)}: {len(faults)} differences")
+    sys.exit(1 if faults else 0)
+
+
+if __name__ == "__main__":
+    main()
