@@ -29,6 +29,7 @@ fn told(alloc: Global, request: &Request) -> Result<String, AllocError> {
         Request::Status => String::from_str(alloc, "status"),
         Request::Inspect => String::from_str(alloc, "inspect"),
         Request::Stored { of } => format!(in alloc; "stored {}", of.as_str()),
+        Request::Plan { to } => format!(in alloc; "plan {}", to.as_str()),
     }
 }
 
@@ -45,8 +46,8 @@ fn reads_none(alloc: Global, line: &[u8]) -> Result<bool, AllocError> {
     Ok(read_request(alloc, line)?.is_none())
 }
 
-/// Lines that are requests. The first nine are the examples of docs/LINES.md.
-const REQUESTS: [(&str, &str); 28] = [
+/// Lines that are requests. The first ten are the examples of docs/LINES.md.
+const REQUESTS: [(&str, &str); 30] = [
     (
         "{\"op\":\"cell\",\"text\":\"a = [1]; b = a\"}",
         "cell a = [1]; b = a",
@@ -65,10 +66,12 @@ const REQUESTS: [(&str, &str); 28] = [
     ("{\"op\":\"status\"}", "status"),
     ("{\"op\":\"inspect\"}", "inspect"),
     ("{\"op\":\"stored\",\"of\":\"1\"}", "stored 1"),
+    ("{\"op\":\"plan\",\"to\":\"1\"}", "plan 1"),
     // in another order, with white space around and between
     ("{\"text\":\"x\",\"op\":\"cell\"}", "cell x"),
     (" \t\r{ \"op\" :\t\"log\"\r} ", "log"),
     ("{ \"of\" : \"main\", \"op\" : \"stored\" }", "stored main"),
+    ("{\"to\":\"main\" ,\"op\":\"plan\"}", "plan main"),
     // texts of any kind, which are looked at only when the request is done
     ("{\"op\":\"cell\",\"text\":\"\"}", "cell "),
     (
@@ -124,7 +127,7 @@ fn reads_requests(rt: HostRuntime) -> Result<(), Fail> {
 }
 
 /// Lines that are no request.
-const NO_REQUESTS: [&str; 53] = [
+const NO_REQUESTS: [&str; 57] = [
     // no JSON, or none that is one value
     "",
     " \t\r",
@@ -168,9 +171,13 @@ const NO_REQUESTS: [&str; 53] = [
     "{\"op\":\"stored\"}",
     "{\"op\":\"stored\",\"to\":\"1\"}",
     "{\"op\":\"stored\",\"of\":\"1\",\"to\":\"1\"}",
+    "{\"op\":\"plan\"}",
+    "{\"op\":\"plan\",\"of\":\"1\"}",
+    "{\"op\":\"plan\",\"of\":\"1\",\"to\":\"1\"}",
     // another kind of value
     "{\"op\":\"checkout\",\"to\":1}",
     "{\"op\":\"stored\",\"of\":1}",
+    "{\"op\":\"plan\",\"to\":1}",
     "{\"op\":\"cell\",\"text\":null}",
     "{\"op\":\"cell\",\"text\":\"b\",\"text\":[\"b\"]}",
     "{\"op\":\"branch\",\"name\":\"try\",\"at\":null}",
@@ -334,6 +341,69 @@ fn writes_what_commits_stored(rt: HostRuntime) -> Result<(), Fail> {
             tells_stored(alloc, *commit, dropped, stored, want)?,
             "{want}"
         );
+    }
+    Ok(())
+}
+
+/// A checkout that isn't made, with the line that tells what it would drop, keep and load.
+struct Planned {
+    commit: u32,
+    drop: &'static [&'static [&'static str]],
+    keep: &'static [&'static [&'static str]],
+    load: &'static [&'static [&'static str]],
+    line: &'static str,
+}
+
+/// What checkouts would drop, keep and load.
+const PLANS: [Planned; 4] = [
+    Planned {
+        commit: 1,
+        drop: &[&["x"], &["y"]],
+        keep: &[&["z"]],
+        load: &[&["x", "y"]],
+        line: "{\"answer\":\"plan\",\"commit\":1,\"drop\":[[\"x\"],[\"y\"]],\"keep\":[[\"z\"]],\"load\":[[\"x\",\"y\"]]}\n",
+    },
+    // to where the head stands
+    Planned {
+        commit: 2,
+        drop: &[],
+        keep: &[&["a"]],
+        load: &[],
+        line: "{\"answer\":\"plan\",\"commit\":2,\"drop\":[],\"keep\":[[\"a\"]],\"load\":[]}\n",
+    },
+    // the root, and what no commit has: a group without names, and a name that is escaped
+    Planned {
+        commit: 0,
+        drop: &[&["a", "b"]],
+        keep: &[],
+        load: &[],
+        line: "{\"answer\":\"plan\",\"commit\":0,\"drop\":[[\"a\",\"b\"]],\"keep\":[],\"load\":[]}\n",
+    },
+    Planned {
+        commit: u32::MAX,
+        drop: &[],
+        keep: &[&[]],
+        load: &[&["\"\u{e9}"]],
+        line: "{\"answer\":\"plan\",\"commit\":4294967295,\"drop\":[],\"keep\":[[]],\"load\":[[\"\\\"\u{e9}\"]]}\n",
+    },
+];
+
+/// Whether this line tells what a checkout would drop, keep and load.
+fn tells_plan(alloc: Global, plan: &Planned) -> Result<bool, AllocError> {
+    let answer = Answer::Plan {
+        commit: plan.commit,
+        drop: groups_of(alloc, plan.drop)?,
+        keep: groups_of(alloc, plan.keep)?,
+        load: groups_of(alloc, plan.load)?,
+    };
+    Ok(write_answer(alloc, &answer)?.as_slice() == plan.line.as_bytes())
+}
+
+#[test]
+fn writes_what_checkouts_would_do(rt: HostRuntime) -> Result<(), Fail> {
+    let alloc = rt.alloc();
+    for plan in &PLANS {
+        assert!(rt; tells_plan(alloc, plan)?, "{}", plan.line);
     }
     Ok(())
 }

@@ -6,7 +6,7 @@ use Rattle.std.specs.Ordering.{match_ordering}
 use Rattle.serde_json.specs.Data.{Data, string, Members, no_members, member, put}
 use Rattle.serde_json.specs.View.{items_of}
 use Rattle.serde_json.specs.Written.{has_float, items_have_float, members_have_float}
-use Rattle.kishu_model.specs.Answers.{Refusal, bad_request, no_such_ref, bad_name, name_taken, store_full, cell_too_long, state_too_large, Counted, PathRow, Answer, ran_cell, ran_cells, checked_out, branched, logged, told_status, inspected, told_stored, refused, answer_data, counted_data, branch_data, entry_data, row_data, node_data, with_texts, output_data}
+use Rattle.kishu_model.specs.Answers.{Refusal, bad_request, no_such_ref, bad_name, name_taken, store_full, cell_too_long, state_too_large, Counted, PathRow, Answer, ran_cell, ran_cells, checked_out, branched, logged, told_status, inspected, told_stored, told_plan, refused, answer_data, counted_data, branch_data, entry_data, row_data, node_data, with_texts, output_data}
 use Rattle.kishu_meaning.specs.values.Values.{Output, stream, shown, fault}
 
 outputs_no_float : (count : ℕ) (outputs : List Output) → items_have_float (items_of (map (output_data count) outputs)) ≡ false
@@ -76,4 +76,5 @@ no_float (logged branches path) = rw (entries_no_float branches, rows_no_float p
 no_float (told_status s) = rw (branch_no_float s.branch, texts_no_float s.names) refl
 no_float (inspected commit names nodes) = rw (names_no_float names no_members refl, lists_no_float nodes) refl
 no_float (told_stored commit dropped stored) = rw (lists_no_float dropped, lists_no_float stored) refl
+no_float (told_plan commit drop keep load) = rw (lists_no_float drop, lists_no_float keep, lists_no_float load) refl
 no_float (refused r) = refusal_no_float r

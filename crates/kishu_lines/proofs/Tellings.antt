@@ -9,8 +9,8 @@ use Rattle.serde_json.specs.Events.{members_len}
 use Rattle.serde_json.specs.Find.{get_member, as_str, as_array}
 use Rattle.serde_json.specs.Read.{read}
 use Rattle.serde_json.specs.View.{items_of}
-use Rattle.kishu_model.specs.Reading.{Tells, tells_cell, tells_cells, tells_checkout, tells_branch, tells_branch_at, tells_log, tells_status, tells_inspect, tells_stored, Reads, has_members, text_at, cell_in, texts_in, texts_at, cells_of_texts, cells_in, checkout_in, stored_in, branch_at_in, branch_named_in, branch_in, alone_in, asked_in, request_in, reading}
-use Rattle.kishu_model.specs.Request.{Request, cell, cells, checkout, branch, log, status, inspect, stored}
+use Rattle.kishu_model.specs.Reading.{Tells, tells_cell, tells_cells, tells_checkout, tells_branch, tells_branch_at, tells_log, tells_status, tells_inspect, tells_stored, tells_plan, Reads, has_members, text_at, cell_in, texts_in, texts_at, cells_of_texts, cells_in, checkout_in, stored_in, plan_in, branch_at_in, branch_named_in, branch_in, alone_in, asked_in, request_in, reading}
+use Rattle.kishu_model.specs.Request.{Request, cell, cells, checkout, branch, log, status, inspect, stored, plan}
 use Rattle.kishu_lines.proofs.Members.{Ascends, AscendsIn, ascends_read, one_member, two_members, three_members}
 
 all_texts : (texts : List (List ℕ)) → texts_in (items_of (map string texts)) ≡ Some texts
@@ -28,6 +28,7 @@ told_is_read tells_log = refl
 told_is_read tells_status = refl
 told_is_read tells_inspect = refl
 told_is_read (tells_stored of) = refl
+told_is_read (tells_plan to) = refl
 
 -- ---- the other way
 
@@ -132,6 +133,12 @@ read_stored ms q ascends op is =
     mapped stored _ q parts.1 (λ t text asked.
     moved _ (object ms) (stored t) q (ap object (two_members (codes "of") (codes "op") _ _ ms ascends (sized 2 ms parts.0) refl (found_text (codes "of") ms t text) op)) asked (tells_stored t))
 
+read_plan : (ms : Members) (q : Request) → Ascends ms → get_member (codes "op") ms ≡ Some (string (codes "plan")) → plan_in (object ms) ≡ Some q → Tells (object ms) q
+read_plan ms q ascends op is =
+    let parts = tested (has_members 2 (object ms)) _ q is in
+    mapped plan _ q parts.1 (λ t text asked.
+    moved _ (object ms) (plan t) q (ap object (two_members (codes "op") (codes "to") _ _ ms ascends (sized 2 ms parts.0) refl op (found_text (codes "to") ms t text))) asked (tells_plan t))
+
 read_alone : (ms : Members) (op : List ℕ) (asked q : Request) → Tells (object (member (codes "op") (string op) no_members)) asked → get_member (codes "op") ms ≡ Some (string op)
     → alone_in asked (object ms) ≡ Some q → Tells (object ms) q
 read_alone ms op asked q tells found is =
@@ -143,13 +150,21 @@ same_op op word ms is found = found ∙ ap (λ (w : List ℕ). Some (string w)) 
 
 -- ---- the words, of which each is tried in its turn: what is asked from one of them on
 
+read_from_plan : (b : Bool) (ms : Members) (op : List ℕ) (q : Request) → bytes_eq op (codes "plan") ≡ b → Ascends ms → get_member (codes "op") ms ≡ Some (string op)
+    → cond b (plan_in (object ms)) None ≡ Some q → Tells (object ms) q
+read_from_plan true ms op q word ascends found is = read_plan ms q ascends (same_op op (codes "plan") ms word found) is
+read_from_plan false ms op q word ascends found is = absurd (none-some q is)
+
+abbrev from_plan : List ℕ → Data → Option Request
+from_plan op d = cond (bytes_eq op (codes "plan")) (plan_in d) None
+
 read_from_stored : (b : Bool) (ms : Members) (op : List ℕ) (q : Request) → bytes_eq op (codes "stored") ≡ b → Ascends ms → get_member (codes "op") ms ≡ Some (string op)
-    → cond b (stored_in (object ms)) None ≡ Some q → Tells (object ms) q
+    → cond b (stored_in (object ms)) (from_plan op (object ms)) ≡ Some q → Tells (object ms) q
 read_from_stored true ms op q word ascends found is = read_stored ms q ascends (same_op op (codes "stored") ms word found) is
-read_from_stored false ms op q word ascends found is = absurd (none-some q is)
+read_from_stored false ms op q word ascends found is = read_from_plan (bytes_eq op (codes "plan")) ms op q refl ascends found is
 
 abbrev from_stored : List ℕ → Data → Option Request
-from_stored op d = cond (bytes_eq op (codes "stored")) (stored_in d) None
+from_stored op d = cond (bytes_eq op (codes "stored")) (stored_in d) (from_plan op d)
 
 read_from_inspect : (b : Bool) (ms : Members) (op : List ℕ) (q : Request) → bytes_eq op (codes "inspect") ≡ b → Ascends ms → get_member (codes "op") ms ≡ Some (string op)
     → cond b (alone_in inspect (object ms)) (from_stored op (object ms)) ≡ Some q → Tells (object ms) q

@@ -3,7 +3,7 @@ ghost use Rattle.std.specs.Rc.{rc_str_bytes};
 ghost use Rattle.serde_json.specs.Data.{array, no_members, object, string};
 ghost use Rattle.serde_json.specs.View.{items_of, view};
 ghost use Rattle.kishu_model.specs.Answers as spec;
-ghost use Rattle.kishu_model.specs.Answers.{answer_data, branch_data, entry_data, row_data, ran_cell, ran_cells, counted_data, checked_out, branched, logged, told_status, inspected, told_stored, node_data, groups_data, with_texts, refused};
+ghost use Rattle.kishu_model.specs.Answers.{answer_data, branch_data, entry_data, row_data, ran_cell, ran_cells, counted_data, checked_out, branched, logged, told_status, inspected, told_stored, told_plan, node_data, groups_data, with_texts, refused};
 ghost use Rattle.kishu_meaning.specs.values.Values.{report_of};
 ghost use Rattle.kishu_model.specs.Values.{counted_of, entry_of, named_of, numbered, refusal_of, row_of, texts_of};
 
@@ -275,6 +275,23 @@ pub(crate) fn stored_json(
     let dropped = lists_json(alloc, dropped)?;
     let stored = lists_json(alloc, stored)?;
     json!(in alloc; {"answer": "stored", "commit": commit, "dropped": dropped, "stored": stored})
+}
+
+/// What a checkout would drop, keep and load.
+pub(crate) fn plan_json(
+    alloc: Global,
+    commit: u32,
+    drop: &[Vec<RcStr>],
+    keep: &[Vec<RcStr>],
+    load: &[Vec<RcStr>],
+) -> Result<Value, AllocError>
+    ensures { IfOk result (λ v. view v ≡ answer_data
+        (told_plan commit (map texts_of drop.now) (map texts_of keep.now) (map texts_of load.now))) }
+{
+    let drop = lists_json(alloc, drop)?;
+    let keep = lists_json(alloc, keep)?;
+    let load = lists_json(alloc, load)?;
+    json!(in alloc; {"answer": "plan", "commit": commit, "drop": drop, "keep": keep, "load": load})
 }
 
 /// The request was refused.

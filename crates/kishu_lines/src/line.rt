@@ -4,8 +4,8 @@ ghost use Rattle.kishu_model.specs.Answers.{answer_data, answer_line};
 ghost use Rattle.kishu_model.specs.Values.{answer_of};
 
 use crate::answers::{
-    branch_json, cell_json, cells_json, checkout_json, inspect_json, log_json, refused_json,
-    status_json, stored_json,
+    branch_json, cell_json, cells_json, checkout_json, inspect_json, log_json, plan_json,
+    refused_json, status_json, stored_json,
 };
 use kishu_model::Answer;
 use serde_json::Value;
@@ -60,6 +60,12 @@ fn answer_json(alloc: Global, answer: &Answer) -> Result<Value, AllocError>
             dropped,
             stored,
         } => stored_json(alloc, *commit, dropped, stored),
+        Answer::Plan {
+            commit,
+            drop,
+            keep,
+            load,
+        } => plan_json(alloc, *commit, drop, keep, load),
         Answer::Refused { number, bytes } => refused_json(alloc, *number, *bytes),
     }
 }

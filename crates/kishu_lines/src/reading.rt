@@ -66,6 +66,7 @@ fn asked_in(alloc: Global, op: &str, value: &Value) -> Result<Option<Request>, A
         "status" => Ok(alone_in(Request::Status, value)),
         "inspect" => Ok(alone_in(Request::Inspect, value)),
         "stored" => stored_in(alloc, value),
+        "plan" => plan_in(alloc, value),
         _ => Ok(None),
     }
 }
@@ -171,6 +172,21 @@ fn stored_in(alloc: Global, value: &Value) -> Result<Option<Request>, AllocError
         Some(of) => {
             let of = RcStr::from_str(alloc, of)?;
             Ok(Some(Request::Stored { of }))
+        }
+        None => Ok(None),
+    }
+}
+
+fn plan_in(alloc: Global, value: &Value) -> Result<Option<Request>, AllocError>
+    ensures { IfOk result (λ o. option_map request_of o ≡ spec.plan_in (view value.now)) }
+{
+    if !has_members(value, 2) {
+        return Ok(None);
+    }
+    match text_at(value, "to") {
+        Some(to) => {
+            let to = RcStr::from_str(alloc, to)?;
+            Ok(Some(Request::Plan { to }))
         }
         None => Ok(None),
     }

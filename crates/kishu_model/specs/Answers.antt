@@ -55,6 +55,8 @@ pub data Answer : Type 0 where
   inspected : (commit : ℕ) → (names : List (List ℕ × List ℕ)) → (nodes : List (List (List ℕ))) → Answer
   -- the commit, the groups that its record drops, and those that it stores, as names
   told_stored : (commit : ℕ) → (dropped stored : List (List (List ℕ))) → Answer
+  -- the commit to which a checkout would go, the groups of the head's commit that it would drop, and of the other's those that it would keep and those that it would load, as names
+  told_plan : (commit : ℕ) → (drop keep load : List (List (List ℕ))) → Answer
   refused : Refusal → Answer
 
 abbrev pub refusal_number : Refusal → ℕ
@@ -182,6 +184,12 @@ answer_data (told_stored commit dropped stored) =
     member (codes "answer") (string (codes "stored"))
     (member (codes "commit") (number (unsigned commit))
     (member (codes "dropped") (groups_data dropped) (member (codes "stored") (groups_data stored) no_members)))
+    )
+answer_data (told_plan commit drop keep load) =
+    object (
+    member (codes "answer") (string (codes "plan"))
+    (member (codes "commit") (number (unsigned commit))
+    (member (codes "drop") (groups_data drop) (member (codes "keep") (groups_data keep) (member (codes "load") (groups_data load) no_members))))
     )
 answer_data (refused r) =
     object (

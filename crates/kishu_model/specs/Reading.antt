@@ -6,7 +6,7 @@ use Rattle.serde_json.specs.Events.{members_len}
 use Rattle.serde_json.specs.Find.{get, as_str, as_array, as_object}
 use Rattle.serde_json.specs.Read.{read}
 use Rattle.serde_json.specs.View.{items_of}
-use Rattle.kishu_model.specs.Request.{Request, cell, cells, checkout, branch, log, status, inspect, stored}
+use Rattle.kishu_model.specs.Request.{Request, cell, cells, checkout, branch, log, status, inspect, stored, plan}
 
 -- A request's value is an object with these keys and no others. Their order in the line is free; here they stand in byte order.
 pub data Tells : Data → Request → Type 0 where
@@ -19,6 +19,7 @@ pub data Tells : Data → Request → Type 0 where
   tells_status : Tells (object (member (codes "op") (string (codes "status")) no_members)) status
   tells_inspect : Tells (object (member (codes "op") (string (codes "inspect")) no_members)) inspect
   tells_stored : (of : List ℕ) → Tells (object (member (codes "of") (string of) (member (codes "op") (string (codes "stored")) no_members))) (stored of)
+  tells_plan : (to : List ℕ) → Tells (object (member (codes "op") (string (codes "plan")) (member (codes "to") (string to) no_members))) (plan to)
 
 -- The line is UTF-8, and its value tells the request.
 pub record Reads (line : List ℕ) (q : Request) : Type 0 where
@@ -59,6 +60,9 @@ checkout_in d = if has_members 2 d then option_map checkout (text_at (codes "to"
 abbrev pub stored_in : Data → Option Request
 stored_in d = if has_members 2 d then option_map stored (text_at (codes "of") d) else None
 
+abbrev pub plan_in : Data → Option Request
+plan_in d = if has_members 2 d then option_map plan (text_at (codes "to") d) else None
+
 abbrev pub branch_at_in : List ℕ → Data → Option Request
 branch_at_in name d = if has_members 3 d then option_map (λ at. branch name (Some at)) (text_at (codes "at") d) else None
 
@@ -81,6 +85,7 @@ asked_in op d =
     else if bytes_eq op (codes "status") then alone_in status d
     else if bytes_eq op (codes "inspect") then alone_in inspect d
     else if bytes_eq op (codes "stored") then stored_in d
+    else if bytes_eq op (codes "plan") then plan_in d
     else None
 
 unfoldable pub request_in : Data → Option Request

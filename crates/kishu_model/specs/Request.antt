@@ -12,6 +12,7 @@ pub data Request : Type 0 where
   status : Request
   inspect : Request
   stored : (of : List ℕ) → Request
+  plan : (to : List ℕ) → Request
   -- what has no reading as a request
   unreadable : Request
 

@@ -5,8 +5,8 @@ use Rattle.std.specs.declared.alloc.Global.{Global}
 use Rattle.std.specs.declared.rc.RcStr.{RcStr}
 use Rattle.std.specs.declared.vec.Vec.{Vec}
 use Rattle.kishu_meaning.specs.values.Values.{report_of}
-use Rattle.kishu_model.specs.Answers.{Refusal, bad_request, no_such_ref, bad_name, name_taken, store_full, cell_too_long, state_too_large, Counted, PathRow, Answer, ran_cell, ran_cells, checked_out, branched, logged, told_status, inspected, told_stored, refused}
-use Rattle.kishu_model.specs.Request.{Request, cell, cells, checkout, branch, log, status, inspect, stored}
+use Rattle.kishu_model.specs.Answers.{Refusal, bad_request, no_such_ref, bad_name, name_taken, store_full, cell_too_long, state_too_large, Counted, PathRow, Answer, ran_cell, ran_cells, checked_out, branched, logged, told_status, inspected, told_stored, told_plan, refused}
+use Rattle.kishu_model.specs.Request.{Request, cell, cells, checkout, branch, log, status, inspect, stored, plan}
 use Rattle.kishu_model.specs.declared.request.Request as rust_request
 use Rattle.kishu_model.specs.declared.request.Request.TheVariants as asks
 use Rattle.kishu_model.specs.declared.refusal.Refusal as rust_refusal
@@ -25,6 +25,7 @@ request_of asks.Log = log
 request_of asks.Status = status
 request_of asks.Inspect = inspect
 request_of (asks.Stored of) = stored (rc_str_bytes of)
+request_of (asks.Plan to) = plan (rc_str_bytes to)
 
 abbrev pub refusal_of : rust_refusal.Refusal → Refusal
 refusal_of refuses.BadRequest = bad_request
@@ -78,4 +79,5 @@ answer_of (answers.Status head commit commits names records) =
     Some (told_status (record { branch = option_map rc_str_bytes head; commit = commit; commits = commits; names = map rc_str_bytes names.items; records = records }))
 answer_of (answers.Inspect commit names nodes) = Some (inspected commit (map named_of names.items) (map texts_of nodes.items))
 answer_of (answers.Stored commit gone new) = Some (told_stored commit (map texts_of gone.items) (map texts_of new.items))
+answer_of (answers.Plan commit gone kept more) = Some (told_plan commit (map texts_of gone.items) (map texts_of kept.items) (map texts_of more.items))
 answer_of (answers.Refused number bytes) = option_map refused (numbered number bytes)

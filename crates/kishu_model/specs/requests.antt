@@ -7,3 +7,4 @@ pub mod Log
 pub mod Status
 pub mod Inspect
 pub mod Stored
+pub mod Plan

@@ -77,6 +77,15 @@ pub enum Answer {
         dropped: Vec<Vec<RcStr>>,
         stored: Vec<Vec<RcStr>>,
     },
+    /// The commit to which a checkout would go, the groups of the head's commit that it would drop, and of the
+    /// other's those that it would keep and those that it would load, by their first names, each as its names,
+    /// in byte order.
+    Plan {
+        commit: u32,
+        drop: Vec<Vec<RcStr>>,
+        keep: Vec<Vec<RcStr>>,
+        load: Vec<Vec<RcStr>>,
+    },
     /// The request was refused: the number of the refusal, and where the state is too large its bytes.
     Refused {
         number: u8,
@@ -102,6 +111,7 @@ impl Answer {
             Answer::Status { .. } => false,
             Answer::Inspect { .. } => false,
             Answer::Stored { .. } => false,
+            Answer::Plan { .. } => false,
             Answer::Refused { .. } => false,
         }
     }

@@ -21,4 +21,7 @@ pub enum Request {
     Inspect,
     /// To tell which groups of names the record of the commit drops and stores that this reference names.
     Stored { of: RcStr },
+    /// To tell which groups of names a checkout to the commit would drop, keep and load that this reference
+    /// names.
+    Plan { to: RcStr },
 }

@@ -183,6 +183,7 @@ impl Notebook {
             Answer::Status { .. } => Ok(()),
             Answer::Inspect { .. } => Ok(()),
             Answer::Stored { .. } => Ok(()),
+            Answer::Plan { .. } => Ok(()),
         }
     }
 

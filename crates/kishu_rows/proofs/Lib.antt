@@ -7,4 +7,5 @@ mod Inputs
 mod Notebooks
 mod Files
 mod Stored
+mod Planned
 mod Generated

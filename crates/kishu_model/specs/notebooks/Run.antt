@@ -2,7 +2,7 @@
 use Rattle.std.specs.Prelude.{ℕ, suc, Bool, true, false, if◌then◌else◌, List, [], ◌∷◌, ◌++◌, map, Result, Ok, Err}
 use Rattle.serde_json.specs.Data.{Data}
 use Rattle.kishu_store.specs.Graph.{Graph}
-use Rattle.kishu_model.specs.Answers.{Answer, Counted, ran_cell, ran_cells, checked_out, branched, logged, told_status, inspected, told_stored, refused, refusal_name}
+use Rattle.kishu_model.specs.Answers.{Answer, Counted, ran_cell, ran_cells, checked_out, branched, logged, told_status, inspected, told_stored, told_plan, refused, refusal_name}
 use Rattle.kishu_model.specs.Request.{Request, cell, cells}
 use Rattle.kishu_model.specs.Step.{step}
 use Rattle.kishu_model.specs.requests.Cells.{is_ok}
@@ -22,6 +22,7 @@ goes_on (logged branches path) = false
 goes_on (told_status s) = false
 goes_on (inspected commit names nodes) = false
 goes_on (told_stored commit dropped stored) = false
+goes_on (told_plan commit drop keep load) = false
 goes_on (refused r) = false
 
 -- one for each cell, up to the first that is refused or doesn't end well
@@ -55,6 +56,7 @@ with_answer at (logged branches path) d = d
 with_answer at (told_status s) d = d
 with_answer at (inspected commit names nodes) d = d
 with_answer at (told_stored commit dropped stored) d = d
+with_answer at (told_plan commit drop keep load) d = d
 with_answer at (refused r) d = with_refused at (refusal_name r) d
 
 -- the answers to requests, of which the first begins at this code cell, and each further one at the next

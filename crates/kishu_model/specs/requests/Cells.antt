@@ -12,7 +12,7 @@ use Rattle.kishu_store.specs.Limits.{most_records, newest_profile}
 use Rattle.kishu_store.specs.Graph.{Graph, newest, with_commit, count_of}
 use Rattle.kishu_replay.specs.Replay.{replay, after_cells, charge_in}
 use Rattle.kishu_model.specs.Answers.{Counted, ran_cells, bad_request, cell_too_long, store_full}
-use Rattle.kishu_model.specs.Request.{Request, cell, cells, checkout, branch, log, status, inspect, stored, unreadable, Stepped, refused_with}
+use Rattle.kishu_model.specs.Request.{Request, cell, cells, checkout, branch, log, status, inspect, stored, plan, unreadable, Stepped, refused_with}
 use Rattle.kishu_model.specs.requests.TooLarge.{is_too_large, unless_too_large}
 
 -- a run that ended well
@@ -99,3 +99,4 @@ HasRoom log = Unit {0}
 HasRoom status = Unit {0}
 HasRoom inspect = Unit {0}
 HasRoom (stored of) = Unit {0}
+HasRoom (plan to) = Unit {0}
