@@ -7,6 +7,7 @@ ghost use Rattle.kishu_language.specs.declared.profile.Profile.{Profile};
 ghost use Rattle.kishu_meaning.specs.values.Values.{State, empty, find};
 ghost use Rattle.kishu_meaning.specs.cells.Meaning.{run};
 ghost use Rattle.kishu_store.specs.Graph.{Commit, Graph, newest, with_commit, new_graph};
+ghost use Rattle.kishu_store.specs.Holds.{Holds, Gives};
 ghost use Rattle.kishu_replay.specs.Replay.{after_cells, replay};
 ghost use Rattle.kishu_objects.specs.Shape.{node_at};
 ghost use Rattle.kishu_objects.specs.Same.{Same};
@@ -79,12 +80,14 @@ pub fn records_give_tables()
     ensures fits { (c : Change) (t : Table) (commit : ℕ) → IsTable t → Rise (map first_in c.stored) → ((r : Row) → In r c.stored → In (first_in r) r.group) → ((r : Row) → In r c.stored → Rise r.group) → ((r : Row) → In r c.stored → r.version ≡ commit) → ((r : Row) → In r t → r.version < commit) → ((r q : Row) (x : List ℕ) → In r (after c t) → In q (after c t) → In x r.group → In x q.group → r ≡ q) → IsTable (after c t) }
 {}
 
-/// What a file's records change is what the laws above ask for: their rows have their commits' numbers and stand in order, each commit's table is one, in a file that keeps the bytes at their places they are kept, and nothing changes at the root.
+/// What a file's records change is what the laws above ask for: their rows have their commits' numbers and stand in order, each commit's table is one, in a file that keeps the bytes at their places they are kept, and nothing changes at the root. And a commit's pictures take no more bytes than the file that holds them.
 pub fn files_give_tables()
     ensures rows { (g : Graph) (cs : List Change) (place : ℕ) → AreChanges g cs place → AreRows (change_of cs) }
     ensures tables { (g : Graph) (cs : List Change) (place : ℕ) → AreChanges g cs place → (c : ℕ) → IsTable (table_at g (change_of cs) c) }
     ensures stays { (file grown : List ℕ) (cs : List Change) (newest : ℕ) → StayIn file grown cs → KeepsRecords file grown newest (change_of cs) }
     ensures root { (cs : List Change) → change_of cs 0 ≡ no_change }
+    ensures within { (file : List ℕ) (g : Graph) (cs : List Change) → Holds file g → Gives file cs
+        → (c : ℕ) → bytes_in (table_at g (change_of cs) c) ≤ length file }
 {}
 
 /// The rows of a record have its commit and its groups, and lie where its pictures lie. What a file holds at a row's place is one picture, it may be loaded for the row where it reads in order, and it stays in a file that begins alike.
