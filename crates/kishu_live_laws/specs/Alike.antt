@@ -1,5 +1,5 @@
 -- States that are the same, and those that sessions have, as the laws name them.
-use Rattle.std.specs.Prelude.{◌≡◌, ◌≤◌, ℕ, List, length}
+use Rattle.std.specs.Prelude.{◌≡◌, ℕ, List}
 use Rattle.kishu_meaning.specs.values.Values.{State}
 use Rattle.kishu_store.specs.Graph.{Graph}
 use Rattle.kishu_store.specs.Holds.{Holds}
@@ -30,7 +30,3 @@ OnAttached P = (file : List ℕ) (of : ℕ → Change) (s : State) (g : Graph) �
 -- So it is besides where the file holds the graph, and nothing is stored at the root.
 abbrev pub OnHeld : ((ℕ → Change) → State → Graph → Type 0) → Type 0
 OnHeld P = (file : List ℕ) (of : ℕ → Change) (s : State) (g : Graph) → AreRows of → IsAttached file g of s → Holds file g → of 0 ≡ no_change → P of s g
-
--- It has no more nodes.
-abbrev pub IsFewer : State → State → Type 0
-IsFewer s t = length s.nodes ≤ length t.nodes

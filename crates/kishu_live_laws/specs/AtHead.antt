@@ -1,5 +1,5 @@
 -- In a session that is attached to a good store a request gives just what one step of the machine gives, and leaves the state of the new head.
-use Rattle.std.specs.Prelude.{◌≡◌, ◌≤◌, ◌<◌, ℕ, suc, nat_lt, false, List, length}
+use Rattle.std.specs.Prelude.{◌≡◌, ◌≤◌, ◌<◌, ◌+◌, ℕ, suc, nat_lt, false, List, length}
 use Rattle.std.proofs.Common.{ap, sym, ◌∙◌, subst, arith, inl, inr}
 use Rattle.kishu_language.specs.declared.profile.Profile.{Profile}
 use Rattle.kishu_meaning.specs.values.Values.{State, empty}
@@ -12,20 +12,23 @@ use Rattle.kishu_history.specs.Paths.{AreRows}
 use Rattle.kishu_history.specs.Sizes.{StaySmall}
 use Rattle.kishu_history.specs.Versions.{at_end}
 use Rattle.kishu_history_laws.specs.versions.PathLaws.{end_replay, newest_path}
-use Rattle.kishu_session_laws.specs.CellLaws.{replay_is_state, stay_small_alike}
-use Rattle.kishu_replay.specs.Replay.{after_cells, after_commits, replay, FillsIn, IsFull}
+use Rattle.kishu_session_laws.specs.CellLaws.{cells_leave, replay_is_state, stay_small_alike}
+use Rattle.kishu_replay.specs.Replay.{after_cells, after_commits, replay}
 use Rattle.kishu_store.specs.Graph.{Commit, Graph, Target, newest, path_in, with_commit}
 use Rattle.kishu_store.specs.Holds.{Holds}
 use Rattle.kishu_store.specs.Limits.{newest_profile}
 use Rattle.kishu_store.specs.Tables.{Table, Change, no_change}
-use Rattle.kishu_model.specs.Request.{Request, cell, cells, checkout, branch, log, status, inspect, stored, unreadable, Stepped}
+use Rattle.kishu_model.specs.Request.{Request, cell, cells, checkout, branch, log, status, inspect, stored, plan, unreadable, Stepped}
 use Rattle.kishu_model.specs.Serve.{after}
 use Rattle.kishu_model.specs.Step.{step, charge_of}
 use Rattle.kishu_model.specs.requests.TooLarge.{is_too_large}
-use Rattle.kishu_live_laws.specs.CellsAlike.{cells_few, fills_alike}
-use Rattle.kishu_live_laws.specs.Filling.{FillsBy}
-use Rattle.kishu_live_laws.specs.OnStates.{ran_by, left_of, head_rows, answer_on, after_on, charge_on, state_on, IsNoCheckout, FillsOn}
+use Rattle.kishu_live_laws.specs.CellsAlike.{cells_make, fills_made}
+use Rattle.kishu_live_laws.specs.Filling.{FillsBy, FillsMade}
+use Rattle.kishu_live_laws.specs.Made.{made_by_cells}
+use Rattle.kishu_live_laws.specs.OnStates.{ran_by, left_of, head_rows, answer_on, after_on, charge_on, state_on, IsNoCheckout}
 use Rattle.kishu_live_laws.specs.Outcomes.{IsStill, IsMade, goes, still_state, more_state, when_more}
+use Rattle.kishu_live_laws.specs.Refusals.{FillsOn}
+use Rattle.kishu_live_laws.specs.Replays.{ran_in}
 use Rattle.kishu_live_laws.specs.RequestsAlike as alike
 use Rattle.kishu_live_laws.specs.Small.{ran_small}
 use Rattle.kishu_live_laws.specs.Told.{told_size}
@@ -128,7 +131,7 @@ module _ (file : List ℕ) (of : ℕ → Change) (s : State) (g : Graph) (rows :
         | inr is ↦ more_keeps is
       ])
 
-    -- So it is with sameness, and with having no more nodes.
+    -- So it is with sameness.
     same_on : (texts : List (List ℕ)) → Same (after_cells newest_profile texts s) (after_cells newest_profile texts head)
     same_on texts = same_after newest_profile texts s head here there same
 
@@ -141,21 +144,17 @@ module _ (file : List ℕ) (of : ℕ → Change) (s : State) (g : Graph) (rows :
     pub others_same : IsNoCheckout q → Same (state_on of s g q) (replay (after g q) (after g q).head.commit)
     others_same = others_keep (λ (u v : State). Same u v) same same_on
 
-    module _ (few : length s.nodes ≤ length head.nodes) where
-      abbrev Few : State → State → Type 0
-      Few u v = length u.nodes ≤ length v.nodes
+    -- ---- nodes
 
-      few_on : (texts : List (List ℕ)) → Few (after_cells newest_profile texts s) (after_cells newest_profile texts head)
-      few_on texts = cells_few newest_profile texts s head here there same few
-
-      pub committed_few : newest g < newest (after g q) → length (state_on of s g q).nodes ≤ length (replay (after g q) (after g q).head.commit).nodes
-      committed_few = committed_keeps Few few few_on
-
-      pub stayed_few : (after g q).head.commit ≡ g.head.commit → length (state_on of s g q).nodes ≤ length (replay (after g q) (after g q).head.commit).nodes
-      stayed_few = stayed_keeps Few few few_on
-
-      pub others_few : IsNoCheckout q → length (state_on of s g q).nodes ≤ length (replay (after g q) (after g q).head.commit).nodes
-      others_few = others_keep Few few few_on
+    -- Where cells are committed, the state has as many more nodes as they make on the replay.
+    pub committed_makes : newest g < newest (after g q) → length (state_on of s g q).nodes ≡ length s.nodes + made_by_cells g q
+    committed_makes more =
+        let ran_is : ran_by table q s ≡ ran_in q head = alike.ran_by_alike file of s g rows attached q in
+        let left = more_state of s g q (made more) in
+        let new = cells_make newest_profile (ran_in q head) s head here there same in
+        let grows = (cells_leave newest_profile (ran_in q head) head there).grows in
+        let length_is = ap (λ (l : List (List ℕ)). length (after_cells newest_profile l s).nodes) ran_is in
+        omega (arith, ap (λ (t : State). length t.nodes) left, length_is, new, grows)
 
     -- ---- sizes
 
@@ -171,21 +170,19 @@ module _ (file : List ℕ) (of : ℕ → Change) (s : State) (g : Graph) (rows :
     pub replay_stays_small : newest g < newest (after g q) → StaySmall newest_profile (ran_by (head_rows of g) q s) (replay g g.head.commit)
     replay_stays_small more = stay_small_alike newest_profile ran s head here there same (stays_small more)
 
-  -- ---- nodes
+  -- ---- too many nodes
 
-  full_few : length s.nodes ≤ length head.nodes → IsFull s → IsFull head
-  full_few few full = omega (arith, few, full)
-
-  -- Where a cell would begin with too many nodes, so would it on the replay.
-  pub fills_here : length s.nodes ≤ length (replay g g.head.commit).nodes → (q : Request) → FillsOn (head_rows of g) s q → FillsBy (replay g g.head.commit) q
-  fills_here few unreadable fills = fills
-  fills_here few (cell text) fills = full_few few fills
-  fills_here few (cells texts) fills =
-      subst (λ (l : List (List ℕ)). FillsIn newest_profile l head) (alike.ran_by_alike file of s g rows attached (cells texts))
-      (fills_alike newest_profile (ran_by table (cells texts) s) s head here there same few fills)
-  fills_here few (checkout to) fills = fills
-  fills_here few (branch name at) fills = fills
-  fills_here few log fills = fills
-  fills_here few status fills = fills
-  fills_here few inspect fills = fills
-  fills_here few (stored to) fills = fills
+  -- Where a cell, or the loading of a checkout, would begin with too many nodes, it would with too many made, where no fewer were made before.
+  pub fills_here : (made : ℕ) → length s.nodes ≤ made → (q : Request) → FillsOn (head_rows of g) s g q → FillsBy made g q
+  fills_here made few unreadable fills = fills
+  fills_here made few (cell text) fills = omega (arith, few, fills)
+  fills_here made few (cells texts) fills =
+      subst (λ (l : List (List ℕ)). FillsMade made newest_profile l head) (alike.ran_by_alike file of s g rows attached (cells texts))
+      (fills_made newest_profile (ran_by table (cells texts) s) s head here there same made few fills)
+  fills_here made few (checkout to) fills = (fills.0, omega (arith, few, fills.1))
+  fills_here made few (branch name at) fills = fills
+  fills_here made few log fills = fills
+  fills_here made few status fills = fills
+  fills_here made few inspect fills = fills
+  fills_here made few (stored to) fills = fills
+  fills_here made few (plan to) fills = fills

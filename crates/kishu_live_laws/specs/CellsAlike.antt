@@ -14,12 +14,15 @@ use Rattle.kishu_pairing_laws.specs.runs.PairedRuns.{same_runs}
 use Rattle.kishu_pairing_laws.specs.runs.SoundRuns.{run_is_state}
 use Rattle.kishu_history_laws.specs.cells.GroupsAfter.{same_size}
 use Rattle.kishu_history_laws.specs.states.SameLaws.{same_listed}
-use Rattle.kishu_replay.specs.Replay.{after_cells, charge_in, FillsIn, IsFull}
+use Rattle.kishu_session_laws.specs.CellLaws.{cells_leave}
+use Rattle.kishu_replay.specs.Replay.{after_cells, charge_in, FillsIn}
 use Rattle.kishu_model.specs.Answers.{Counted, state_too_large}
 use Rattle.kishu_model.specs.requests.Cells.{cells_run, is_followed, is_ok, results_from}
 use Rattle.kishu_model.specs.requests.Inspect.{told_at}
 use Rattle.kishu_model.specs.requests.Status.{names_in}
 use Rattle.kishu_model.specs.requests.TooLarge.{is_too_large, most_told, too_large}
+use Rattle.kishu_live_laws.specs.Filling.{FillsMade}
+use Rattle.kishu_live_laws.specs.Made.{made_in}
 
 -- ---- what shows of a state
 
@@ -96,28 +99,21 @@ module _ (profile : Profile) (texts : List (List ℕ)) (s t : State) (here : IsS
 
 -- ---- how many nodes there are
 
--- A run makes as many nodes in both.
-pub run_few : (profile : Profile) (text : List ℕ) (s t : State) → IsSoundState s → IsSoundState t → Same s t → length s.nodes ≤ length t.nodes → length (run profile text s).state.nodes ≤ length (run profile text t).state.nodes
-run_few profile text s t here there same few = (let new = (same_runs profile text s t here there same).nodes_new in omega (arith, few, new))
+-- Cells make as many nodes in both.
+pub cells_make : (profile : Profile) (texts : List (List ℕ)) (s t : State) → IsSoundState s → IsSoundState t → Same s t
+    → length (after_cells profile texts s).nodes + length t.nodes ≡ length (after_cells profile texts t).nodes + length s.nodes
+cells_make profile [] s t here there same = omega arith
+cells_make profile (text ∷ texts) s t here there same =
+    let new = (same_runs profile text s t here there same).nodes_new in
+    let rest = cells_make profile texts (run profile text s).state (run profile text t).state (run_is_state profile text s here) (run_is_state profile text t there) (left_alike profile text s t here there same) in
+    omega (arith, new, rest)
 
-pub cells_few : (profile : Profile) (texts : List (List ℕ)) (s t : State) → IsSoundState s → IsSoundState t → Same s t → length s.nodes ≤ length t.nodes → length (after_cells profile texts s).nodes ≤ length (after_cells profile texts t).nodes
-cells_few profile [] s t here there same few = few
-cells_few profile (text ∷ texts) s t here there same few =
-    cells_few profile texts (run profile text s).state (run profile text t).state (run_is_state profile text s here) (run_is_state profile text t there)
-    (left_alike profile text s t here there same) (run_few profile text s t here there same few)
-
-full_few : (s t : State) → length s.nodes ≤ length t.nodes → IsFull s → IsFull t
-full_few s t few full = omega (arith, few, full)
-
--- Where a cell would begin with too many nodes, so would it from the state that has more.
-pub fills_alike : (profile : Profile) (texts : List (List ℕ)) (s t : State) → IsSoundState s → IsSoundState t → Same s t → length s.nodes ≤ length t.nodes → FillsIn profile texts s → FillsIn profile texts t
-fills_alike profile [] s t here there same few fills = fills
-fills_alike profile (text ∷ texts) s t here there same few (inl full) = inl (full_few s t few full)
-fills_alike profile (text ∷ texts) s t here there same few (inr later) =
-    inr (fills_alike profile texts (run profile text s).state (run profile text t).state (run_is_state profile text s here) (run_is_state profile text t there)
-    (left_alike profile text s t here there same) (run_few profile text s t here there same few) later)
-
-pub ran_fills_alike : (profile : Profile) (texts : List (List ℕ)) (s t : State) → IsSoundState s → IsSoundState t → Same s t → length s.nodes ≤ length t.nodes → FillsIn profile (cells_run profile texts s) s → FillsIn profile (cells_run profile texts t) t
-ran_fills_alike profile texts s t here there same few fills =
-    fills_alike profile (cells_run profile texts t) s t here there same few
-    (subst (λ (l : List (List ℕ)). FillsIn profile l s) (ran_alike profile texts s t here there same) fills)
+-- Where a cell would begin with too many nodes, it would with too many made, where no fewer were made before.
+pub fills_made : (profile : Profile) (texts : List (List ℕ)) (s t : State) → IsSoundState s → IsSoundState t → Same s t → (made : ℕ) → length s.nodes ≤ made → FillsIn profile texts s → FillsMade made profile texts t
+fills_made profile [] s t here there same made few fills = fills
+fills_made profile (text ∷ texts) s t here there same made few (inl full) = inl (omega (arith, few, full))
+fills_made profile (text ∷ texts) s t here there same made few (inr later) =
+    let new = (same_runs profile text s t here there same).nodes_new in
+    let grows = (cells_leave profile (text ∷ []) t there).grows in
+    inr (fills_made profile texts (run profile text s).state (run profile text t).state (run_is_state profile text s here) (run_is_state profile text t there)
+    (left_alike profile text s t here there same) (made + made_in profile (text ∷ []) t) (omega (arith, few, new, grows)) later)

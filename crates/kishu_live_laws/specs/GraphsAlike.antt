@@ -8,11 +8,12 @@ use Rattle.kishu_store.specs.Graph.{Graph, Target, newest, with_branch}
 use Rattle.kishu_store.specs.Limits.{most_records}
 use Rattle.kishu_store.specs.References.{is_decimal, number_from, resolve}
 use Rattle.kishu_model.specs.Answers.{branched, Refusal, bad_request, cell_too_long, no_such_ref, bad_name, name_taken, store_full}
-use Rattle.kishu_model.specs.Request.{Request, cell, cells, checkout, branch, log, status, inspect, stored, unreadable, Stepped, refused_with}
+use Rattle.kishu_model.specs.Request.{Request, cell, cells, checkout, branch, log, status, inspect, stored, plan, unreadable, Stepped, refused_with}
 use Rattle.kishu_model.specs.requests.Branch.{branch_at, start_of}
 use Rattle.kishu_model.specs.requests.Cells.{is_too_long}
 use Rattle.kishu_model.specs.requests.Checkout.{checkout_to, went_to}
 use Rattle.kishu_model.specs.requests.Stored.{stored_of}
+use Rattle.kishu_model.specs.requests.Plan.{plan_of}
 use Rattle.kishu_model.specs.Step.{step}
 use Rattle.kishu_live_laws.specs.Refusals.{refusal_in}
 use Rattle.kishu_live_laws.specs.RefusalLaws.{cell_tests, cells_tests}
@@ -52,6 +53,7 @@ refused_by bs head n records log = None
 refused_by bs head n records status = None
 refused_by bs head n records inspect = None
 refused_by bs head n records (stored of) = named_by (target_in bs n of)
+refused_by bs head n records (plan to) = named_by (target_in bs n to)
 
 module _ (g : Graph) where
   chosen : (b : Bool) (x y : Stepped) (q r : Option Refusal) → refusal_in x.answer ≡ q → refusal_in y.answer ≡ r → refusal_in (if b then x else y).answer ≡ (if b then q else r)
@@ -78,6 +80,10 @@ module _ (g : Graph) where
   stored_told None = refl
   stored_told (Some t) = refl
 
+  plan_told : (o : Option Target) → refusal_in (plan_of o g).answer ≡ named_by o
+  plan_told None = refl
+  plan_told (Some t) = refl
+
   start_told : (at : Option (List ℕ)) → start_of at g ≡ start_in g.branches (newest g) g.head at
   start_told None = refl
   start_told (Some at) = refl
@@ -97,6 +103,7 @@ module _ (g : Graph) where
   told status = refl
   told inspect = refl
   told (stored to) = stored_told (resolve g to)
+  told (plan to) = plan_told (resolve g to)
 
 pub graphs_refuse_alike : (g h : Graph) → g.branches ≡ h.branches → g.head ≡ h.head → newest g ≡ newest h → g.records ≡ h.records → (q : Request) → refusal_in (step g q).answer ≡ refusal_in (step h q).answer
 graphs_refuse_alike g h branches head commits records q =

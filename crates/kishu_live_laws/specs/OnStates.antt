@@ -6,15 +6,16 @@ use Rattle.kishu_meaning.specs.cells.Meaning.{run}
 use Rattle.kishu_meaning.specs.values.Values.{State}
 use Rattle.kishu_objects.specs.Picture.{whole}
 use Rattle.kishu_objects.specs.Sizes.{most_bytes}
-use Rattle.kishu_replay.specs.Replay.{after_cells, charge_in, FillsIn, IsFull}
+use Rattle.kishu_replay.specs.Replay.{after_cells, charge_in}
 use Rattle.kishu_store.specs.Graph.{Graph, Target, newest, with_commit, count_of}
 use Rattle.kishu_store.specs.Limits.{most_records, newest_profile}
 use Rattle.kishu_store.specs.References.{resolve}
 use Rattle.kishu_store.specs.Tables.{Table, Change, groups_in, table_at}
 use Rattle.kishu_history.specs.Accessed.{accessed_by}
+use Rattle.kishu_history.specs.Checkout.{to_drop, to_keep, to_load}
 use Rattle.kishu_history.specs.Touched.{size_told}
-use Rattle.kishu_model.specs.Answers.{Answer, ran_cell, ran_cells, told_status, told_stored, Refusal, bad_request, cell_too_long, no_such_ref, store_full, state_too_large}
-use Rattle.kishu_model.specs.Request.{Request, cell, cells, checkout, branch, log, status, inspect, stored, unreadable, Stepped, refused_with}
+use Rattle.kishu_model.specs.Answers.{Answer, ran_cell, ran_cells, told_status, told_stored, told_plan, Refusal, bad_request, cell_too_long, no_such_ref, store_full, state_too_large}
+use Rattle.kishu_model.specs.Request.{Request, cell, cells, checkout, branch, log, status, inspect, stored, plan, unreadable, Stepped, refused_with}
 use Rattle.kishu_model.specs.requests.Cells.{is_ok, results_from, is_too_long}
 use Rattle.kishu_model.specs.requests.Inspect.{told_at}
 use Rattle.kishu_model.specs.requests.Status.{names_in}
@@ -64,10 +65,17 @@ ran_by t log s = []
 ran_by t status s = []
 ran_by t inspect s = []
 ran_by t (stored of) s = []
+ran_by t (plan to) s = []
 
 -- the state that they leave of this one
 abbrev pub left_of : Table → Request → State → State
 left_of t q s = after_cells newest_profile (ran_by t q s) s
+
+-- ---- what a checkout would do
+
+-- From one table to that of a commit: the answer that tells what is dropped, kept and loaded.
+abbrev pub planned_by : (commit : ℕ) → (now next : Table) → Answer
+planned_by commit now next = told_plan commit (to_drop now next) (groups_in (to_keep now next)) (groups_in (to_load now next))
 
 -- ---- one request: its answer, and the graph after it
 
@@ -123,6 +131,14 @@ module _ (changes : ℕ → Change) where
   abbrev pub stored_on : Graph → List ℕ → Stepped
   stored_on g of = stored_to (resolve g of) g
 
+  -- what a checkout would do, by the head's table and that of the commit to which it goes
+  abbrev pub plan_to : Option Target → Graph → Stepped
+  plan_to None g = refused_with no_such_ref g
+  plan_to (Some target) g = record { graph = g; answer = planned_by target.commit (head_rows g) (table_at g changes target.commit) }
+
+  abbrev pub plan_on : Graph → List ℕ → Stepped
+  plan_on g to = plan_to (resolve g to) g
+
   -- No other request asks for a state, or for what records change.
   abbrev pub step_on : State → Graph → Request → Stepped
   step_on s g unreadable = step g unreadable
@@ -134,6 +150,7 @@ module _ (changes : ℕ → Change) where
   step_on s g status = status_on s g
   step_on s g inspect = inspect_on s g
   step_on s g (stored of) = stored_on g of
+  step_on s g (plan to) = plan_on g to
 
   abbrev pub answer_on : State → Graph → Request → Answer
   answer_on s g q = (step_on s g q).answer
@@ -173,6 +190,7 @@ module _ (changes : ℕ → Change) where
   charge_on s g status = 0
   charge_on s g inspect = 0
   charge_on s g (stored of) = 0
+  charge_on s g (plan to) = 0
 
 -- ---- which requests leave the head where it is, but for a commit that they make
 
@@ -186,20 +204,7 @@ IsNoCheckout log = Unit {0}
 IsNoCheckout status = Unit {0}
 IsNoCheckout inspect = Unit {0}
 IsNoCheckout (stored of) = Unit {0}
-
--- ---- when it would begin a cell with too many nodes
-
--- a cell of the request, where it runs on this state: its own, or one of its own that are run
-abbrev pub FillsOn : Table → State → Request → Type 0
-FillsOn t s unreadable = ⊥
-FillsOn t s (cell text) = IsFull s
-FillsOn t s (cells texts) = FillsIn newest_profile (run_of t texts s) s
-FillsOn t s (checkout to) = ⊥
-FillsOn t s (branch name at) = ⊥
-FillsOn t s log = ⊥
-FillsOn t s status = ⊥
-FillsOn t s inspect = ⊥
-FillsOn t s (stored of) = ⊥
+IsNoCheckout (plan to) = Unit {0}
 
 -- ---- when none of its cells leaves too much
 

@@ -12,15 +12,16 @@ use Rattle.kishu_store.specs.Limits.{most_records, newest_profile}
 use Rattle.kishu_store.specs.References.{resolve}
 use Rattle.kishu_store.specs.Tables.{Table, Change}
 use Rattle.kishu_model.specs.Answers.{branched, bad_request, bad_name, cell_too_long, name_taken, no_such_ref, store_full, Refusal}
-use Rattle.kishu_model.specs.Request.{Request, cell, cells, checkout, branch, log, status, inspect, stored, unreadable, Stepped, refused_with}
+use Rattle.kishu_model.specs.Request.{Request, cell, cells, checkout, branch, log, status, inspect, stored, plan, unreadable, Stepped, refused_with}
 use Rattle.kishu_model.specs.Step.{step}
 use Rattle.kishu_model.specs.requests.Branch.{branch_at, start_of}
 use Rattle.kishu_model.specs.requests.Cell.{committed}
 use Rattle.kishu_model.specs.requests.Cells.{cells_committed, is_too_long}
 use Rattle.kishu_model.specs.requests.Checkout.{checkout_to, went_to}
 use Rattle.kishu_model.specs.requests.Stored.{stored_of}
+use Rattle.kishu_model.specs.requests.Plan.{plan_of}
 use Rattle.kishu_model.specs.requests.TooLarge.{is_too_large, too_large}
-use Rattle.kishu_live_laws.specs.OnStates.{ran_by, left_of, leave_too_large, told_too_large, head_rows, run_of, cell_kept, cells_kept, stored_to, step_on, after_on, state_on, IsNoCheckout}
+use Rattle.kishu_live_laws.specs.OnStates.{ran_by, left_of, leave_too_large, told_too_large, head_rows, run_of, cell_kept, cells_kept, stored_to, plan_to, step_on, after_on, state_on, IsNoCheckout}
 use Rattle.kishu_live_laws.specs.Replays.{ran_in, left_in}
 
 -- cells by their tests: whether a text is too long, whether the store is full, and whether too much is left, with the refusal that tells it
@@ -97,6 +98,10 @@ module _ (g : Graph) where
   stored_goes to None = stays g [] (is_too_large head) (stored to) no_such_ref
   stored_goes to (Some t) = still g [] (is_too_large head) (stored to) (stored_of (Some t) g) refl
 
+  plan_goes : (to : List ℕ) (o : Option Target) → MachineGoes (plan to) (plan_of o g)
+  plan_goes to None = stays g [] (is_too_large head) (plan to) no_such_ref
+  plan_goes to (Some t) = still g [] (is_too_large head) (plan to) (plan_of (Some t) g) refl
+
   pub machine_goes : (q : Request) → MachineGoes q (step g q)
   machine_goes unreadable = stays g [] (is_too_large head) unreadable bad_request
   machine_goes (cell text) =
@@ -112,6 +117,7 @@ module _ (g : Graph) where
   machine_goes status = still g [] (is_too_large head) status (step g status) refl
   machine_goes inspect = still g [] (is_too_large head) inspect (step g inspect) refl
   machine_goes (stored to) = stored_goes to (resolve g to)
+  machine_goes (plan to) = plan_goes to (resolve g to)
 
 -- ---- a step on any state
 
@@ -132,6 +138,10 @@ module _ (of : ℕ → Change) (s : State) (g : Graph) where
   stored_to_goes to None = stays g [] (leaves (stored to)) (stored to) no_such_ref
   stored_to_goes to (Some t) = still g [] (leaves (stored to)) (stored to) (stored_to of (Some t) g) refl
 
+  plan_to_goes : (to : List ℕ) (o : Option Target) → StateGoes (plan to) (plan_to of o g)
+  plan_to_goes to None = stays g [] (leaves (plan to)) (plan to) no_such_ref
+  plan_to_goes to (Some t) = still g [] (leaves (plan to)) (plan to) (plan_to of (Some t) g) refl
+
   pub goes : (q : Request) → StateGoes q (step_on of s g q)
   goes unreadable = stays g [] (leaves unreadable) unreadable bad_request
   goes (cell text) =
@@ -147,6 +157,7 @@ module _ (of : ℕ → Change) (s : State) (g : Graph) where
   goes status = still g [] (leaves status) status (step_on of s g status) refl
   goes inspect = still g [] (leaves inspect) inspect (step_on of s g inspect) refl
   goes (stored to) = stored_to_goes to (resolve g to)
+  goes (plan to) = plan_to_goes to (resolve g to)
 
   -- ---- the commits, and the state after it
 

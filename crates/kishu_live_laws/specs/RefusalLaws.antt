@@ -12,16 +12,17 @@ use Rattle.kishu_store.specs.Graph.{Graph, Target, with_branch}
 use Rattle.kishu_store.specs.Limits.{most_records}
 use Rattle.kishu_store.specs.References.{resolve}
 use Rattle.kishu_store.specs.Tables.{Table, Change}
-use Rattle.kishu_model.specs.Answers.{Answer, Refusal, ran_cell, ran_cells, checked_out, branched, logged, told_status, inspected, told_stored, refused, bad_request, cell_too_long, no_such_ref, bad_name, name_taken, store_full, state_too_large}
-use Rattle.kishu_model.specs.Request.{Request, cell, cells, checkout, branch, log, status, inspect, stored, unreadable, Stepped, refused_with}
+use Rattle.kishu_model.specs.Answers.{Answer, Refusal, ran_cell, ran_cells, checked_out, branched, logged, told_status, inspected, told_stored, told_plan, refused, bad_request, cell_too_long, no_such_ref, bad_name, name_taken, store_full, state_too_large}
+use Rattle.kishu_model.specs.Request.{Request, cell, cells, checkout, branch, log, status, inspect, stored, plan, unreadable, Stepped, refused_with}
 use Rattle.kishu_model.specs.requests.Branch.{branch_at, start_of}
 use Rattle.kishu_model.specs.requests.Cell.{committed}
 use Rattle.kishu_model.specs.requests.Cells.{cells_committed, is_too_long}
 use Rattle.kishu_model.specs.requests.Checkout.{checkout_to, went_to}
 use Rattle.kishu_model.specs.requests.Stored.{stored_of}
+use Rattle.kishu_model.specs.requests.Plan.{plan_of}
 use Rattle.kishu_model.specs.requests.TooLarge.{is_too_large, most_told}
 use Rattle.kishu_model.specs.Step.{step}
-use Rattle.kishu_live_laws.specs.OnStates.{left_size, leave_too_large, told_too_large, head_rows, run_of, cell_kept, cells_kept, stored_to, answer_on, after_on}
+use Rattle.kishu_live_laws.specs.OnStates.{left_size, leave_too_large, told_too_large, head_rows, run_of, cell_kept, cells_kept, stored_to, plan_to, answer_on, after_on}
 use Rattle.kishu_live_laws.specs.Outcomes.{by_tests}
 use Rattle.kishu_live_laws.specs.Refusals.{refusal_in, TellsSize, LeavesTooLarge}
 use Rattle.kishu_live_laws.specs.Replays.{left_in}
@@ -75,6 +76,10 @@ module _ (g : Graph) where
     stored_tests None = refl
     stored_tests (Some t) = refl
 
+    plan_tests : (o : Option Target) → refusal_in (plan_to of o g).answer ≡ refusal_in (plan_of o g).answer
+    plan_tests None = refl
+    plan_tests (Some t) = refl
+
     pub refuses_as_step : (q : Request) → refusal_in (answer_on of s g q) ≡ refusal_in (step g q).answer
     refuses_as_step unreadable = refl
     refuses_as_step (cell text) = cell_on_tests text ∙ sym (cell_tests text)
@@ -86,6 +91,7 @@ module _ (g : Graph) where
     refuses_as_step status = refl
     refuses_as_step inspect = refl
     refuses_as_step (stored to) = stored_tests (resolve g to)
+    refuses_as_step (plan to) = plan_tests (resolve g to)
 
   pub refuses_alike : (of other : ℕ → Change) (s t : State) (q : Request) → refusal_in (answer_on of s g q) ≡ refusal_in (answer_on other t g q)
   refuses_alike of other s t q = refuses_as_step of s q ∙ sym (refuses_as_step other t q)
@@ -121,6 +127,10 @@ module _ (g : Graph) where
   stored_stays of None = refusing no_such_ref
   stored_stays of (Some t) = λ r is. refl
 
+  plan_stays : (of : ℕ → Change) (o : Option Target) → Stays (plan_to of o g)
+  plan_stays of None = refusing no_such_ref
+  plan_stays of (Some t) = λ r is. refl
+
   pub refused_stays : (of : ℕ → Change) (s : State) (q : Request) (r : Refusal) → answer_on of s g q ≡ refused r → after_on of s g q ≡ g
   refused_stays of s unreadable = refusing bad_request
   refused_stays of s (cell text) =
@@ -140,6 +150,7 @@ module _ (g : Graph) where
   refused_stays of s status = λ r is. refl
   refused_stays of s inspect = λ r is. refl
   refused_stays of s (stored to) = stored_stays of (resolve g to)
+  refused_stays of s (plan to) = plan_stays of (resolve g to)
 
   -- ---- cells that are refused for what they leave
 
@@ -186,6 +197,10 @@ module _ (g : Graph) where
   stored_large of None = λ n is. cc (is)
   stored_large of (Some t) = λ n is. cc (is)
 
+  plan_large : (of : ℕ → Change) (o : Option Target) → NoSize (plan_to of o g)
+  plan_large of None = λ n is. cc (is)
+  plan_large of (Some t) = λ n is. cc (is)
+
   pub refused_large : (of : ℕ → Change) (s : State) (q : Request) (bytes : ℕ) → answer_on of s g q ≡ refused (state_too_large bytes) → LeavesTooLarge (head_rows of g) s q bytes
   refused_large of s unreadable bytes e = absurd (cc (e))
   refused_large of s (cell text) bytes e =
@@ -206,6 +221,7 @@ module _ (g : Graph) where
   refused_large of s status bytes e = absurd (cc (e))
   refused_large of s inspect bytes e = absurd (cc (e))
   refused_large of s (stored to) bytes e = stored_large of (resolve g to) bytes e
+  refused_large of s (plan to) bytes e = plan_large of (resolve g to) bytes e
 
 -- ---- an answer that the graph alone refuses
 
@@ -219,6 +235,7 @@ refusing_what (logged branches path) r is = absurd (cc (is))
 refusing_what (told_status s) r is = absurd (cc (is))
 refusing_what (inspected commit names nodes) r is = absurd (cc (is))
 refusing_what (told_stored commit dropped new) r is = absurd (cc (is))
+refusing_what (told_plan commit drop keep load) r is = absurd (cc (is))
 
 pub graph_refusal_stays : (g : Graph) (of : ℕ → Change) (s : State) (q : Request) (r : Refusal) → refusal_in (answer_on of s g q) ≡ Some r → after_on of s g q ≡ g
 graph_refusal_stays g of s q r is = (let what = refusing_what (answer_on of s g q) r is in refused_stays g of s q what.0 what.1)

@@ -3,7 +3,7 @@ use Rattle.std.specs.Prelude.{ℕ, List, [], ◌∷◌}
 use Rattle.kishu_meaning.specs.values.Values.{State}
 use Rattle.kishu_replay.specs.Replay.{after_cells}
 use Rattle.kishu_store.specs.Limits.{newest_profile}
-use Rattle.kishu_model.specs.Request.{Request, cell, cells, checkout, branch, log, status, inspect, stored, unreadable}
+use Rattle.kishu_model.specs.Request.{Request, cell, cells, checkout, branch, log, status, inspect, stored, plan, unreadable}
 use Rattle.kishu_model.specs.requests.Cells.{cells_run}
 
 abbrev pub ran_in : Request → State → List (List ℕ)
@@ -16,6 +16,7 @@ ran_in log s = []
 ran_in status s = []
 ran_in inspect s = []
 ran_in (stored of) s = []
+ran_in (plan to) s = []
 
 abbrev pub left_in : Request → State → State
 left_in q s = after_cells newest_profile (ran_in q s) s

@@ -19,14 +19,16 @@ use Rattle.kishu_store.specs.Limits.{most_records, newest_profile}
 use Rattle.kishu_store.specs.References.{resolve}
 use Rattle.kishu_store.specs.Tables.{Table, Change, no_change}
 use Rattle.kishu_model.specs.Answers.{Answer, Counted, ran_cell, ran_cells, told_status, cell_too_long, state_too_large, store_full}
-use Rattle.kishu_model.specs.Request.{Request, cell, cells, checkout, branch, log, status, inspect, stored, unreadable, Stepped, refused_with}
+use Rattle.kishu_model.specs.Request.{Request, cell, cells, checkout, branch, log, status, inspect, stored, plan, unreadable, Stepped, refused_with}
 use Rattle.kishu_model.specs.Step.{step, charge_of}
 use Rattle.kishu_model.specs.requests.Cell.{committed}
 use Rattle.kishu_model.specs.requests.Cells.{cells_run, cells_committed, is_too_long, results_from}
 use Rattle.kishu_model.specs.requests.Stored.{stored_of}
+use Rattle.kishu_model.specs.requests.Plan.{plan_of}
 use Rattle.kishu_model.specs.requests.TooLarge.{most_told}
 use Rattle.kishu_live_laws.specs.CellsAlike.{report_alike, steps_alike, told_alike, names_alike, ran_alike, shown_alike, charge_alike}
-use Rattle.kishu_live_laws.specs.OnStates.{ran_by, run_of, left_of, left_size, head_rows, cell_kept, cells_kept, stored_to, step_on, after_on, charge_on}
+use Rattle.kishu_live_laws.specs.OnStates.{ran_by, run_of, left_of, left_size, head_rows, cell_kept, cells_kept, stored_to, plan_to, step_on, after_on, charge_on}
+use Rattle.kishu_live_laws.specs.PlansAlike.{plan_alike}
 use Rattle.kishu_live_laws.specs.Replays.{ran_in, left_in}
 use Rattle.kishu_live_laws.specs.StoredAlike.{stored_alike}
 use Rattle.kishu_live_laws.specs.Told.{is_state, ran_told, told_size}
@@ -81,6 +83,7 @@ module _ (file : List ℕ) (of : ℕ → Change) (s : State) (g : Graph) (rows :
   ran_by_told status = refl
   ran_by_told inspect = refl
   ran_by_told (stored to) = refl
+  ran_by_told (plan to) = refl
 
   pub ran_by_alike : (q : Request) → ran_by table q s ≡ ran_in q head
   ran_by_alike unreadable = refl
@@ -92,6 +95,7 @@ module _ (file : List ℕ) (of : ℕ → Change) (s : State) (g : Graph) (rows :
   ran_by_alike status = refl
   ran_by_alike inspect = refl
   ran_by_alike (stored to) = refl
+  ran_by_alike (plan to) = refl
 
   pub left_of_alike : (q : Request) → Same (left_of table q s) (left_in q head)
   left_of_alike q = subst (λ (l : List (List ℕ)). Same (left_of table q s) (after_cells newest_profile l head)) (ran_by_alike q) (same_after newest_profile (ran_by table q s) s head here there same)
@@ -138,11 +142,11 @@ module _ (file : List ℕ) (of : ℕ → Change) (s : State) (g : Graph) (rows :
 
   -- ---- every request
 
-  -- The answer to `stored` wants the records' commits besides.
+  -- The answers to `stored` and `plan` want besides that the commits are there that references name.
   abbrev IsTold : Request → Type 0
   IsTold q = step_on of s g q ≡ step g q
 
-  step_alike : ((to : List ℕ) → IsTold (stored to)) → (q : Request) → IsTold q
+  step_alike : ((to : List ℕ) → IsTold (stored to) × IsTold (plan to)) → (q : Request) → IsTold q
   step_alike told unreadable = refl
   step_alike told (cell text) = cell_alike text
   step_alike told (cells texts) = cells_alike texts
@@ -153,14 +157,19 @@ module _ (file : List ℕ) (of : ℕ → Change) (s : State) (g : Graph) (rows :
       ap (λ (names : List (List ℕ)). record { graph = g; answer = told_status (record { branch = g.head.branch; commit = g.head.commit; commits = suc (newest g); names = names; records = g.records }) })
       (names_alike s head here there same)
   step_alike told inspect = ap (λ (a : Answer). record { graph = g; answer = a }) (told_alike s head here there same g.head.commit)
-  step_alike told (stored to) = told to
+  step_alike told (stored to) = (told to).0
+  step_alike told (plan to) = (told to).1
 
   pub step_here : Holds file g → of 0 ≡ no_change → (q : Request) → step_on of s g q ≡ step g q
-  step_here holds root q = step_alike (λ to. stored_alike file g of attached.good root holds to) q
+  step_here holds root q = step_alike (λ to. (stored_alike file g of attached.good root holds to, plan_alike file g of rows attached.good attached.head holds to)) q
 
-  still_there : (o : Option Target) → (stored_to of o g).graph ≡ (stored_of o g).graph
-  still_there None = refl
-  still_there (Some t) = refl
+  stored_still : (o : Option Target) → (stored_to of o g).graph ≡ (stored_of o g).graph
+  stored_still None = refl
+  stored_still (Some t) = refl
+
+  plan_still : (o : Option Target) → (plan_to of o g).graph ≡ (plan_of o g).graph
+  plan_still None = refl
+  plan_still (Some t) = refl
 
   pub after_here : (q : Request) → after_on of s g q ≡ (step g q).graph
   after_here unreadable = refl
@@ -171,7 +180,8 @@ module _ (file : List ℕ) (of : ℕ → Change) (s : State) (g : Graph) (rows :
   after_here log = refl
   after_here status = refl
   after_here inspect = refl
-  after_here (stored to) = still_there (resolve g to)
+  after_here (stored to) = stored_still (resolve g to)
+  after_here (plan to) = plan_still (resolve g to)
 
   cells_charge_alike : (texts : List (List ℕ)) → charge_on of s g (cells texts) ≡ charge_of g (cells texts)
   cells_charge_alike [] = refl
@@ -189,3 +199,4 @@ module _ (file : List ℕ) (of : ℕ → Change) (s : State) (g : Graph) (rows :
   charge_here status = refl
   charge_here inspect = refl
   charge_here (stored to) = refl
+  charge_here (plan to) = refl

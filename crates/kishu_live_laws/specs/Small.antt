@@ -13,7 +13,7 @@ use Rattle.kishu_store.specs.Graph.{Commit, Graph, newest, path, path_in, with_c
 use Rattle.kishu_store.specs.Limits.{newest_profile}
 use Rattle.kishu_store.specs.Tables.{Table}
 use Rattle.kishu_replay.specs.Replay.{after_cells, after_commits, replay}
-use Rattle.kishu_model.specs.Request.{Request, cell, cells, checkout, branch, log, status, inspect, stored, unreadable}
+use Rattle.kishu_model.specs.Request.{Request, cell, cells, checkout, branch, log, status, inspect, stored, plan, unreadable}
 use Rattle.kishu_model.specs.requests.Cells.{is_ok, is_followed, cells_run}
 use Rattle.kishu_model.specs.requests.TooLarge.{is_too_large}
 use Rattle.kishu_model.specs.Serve.{after}
@@ -62,6 +62,7 @@ ran_small log s is = tt
 ran_small status s is = tt
 ran_small inspect s is = tt
 ran_small (stored of) s is = tt
+ran_small (plan to) s is = tt
 
 -- ---- told by a table
 
@@ -124,6 +125,7 @@ module _ (t : Table) (s : State) where
   told_small status = λ is. none_behind []
   told_small inspect = λ is. none_behind []
   told_small (stored of) = λ is. none_behind []
+  told_small (plan to) = λ is. none_behind []
 
 -- ---- a commit more
 

@@ -1,39 +1,45 @@
 // What requests give on a live state.
 
-ghost use Rattle.std.specs.Prelude.{◌≡◌, ◌≤◌, ◌<◌, if◌then◌else◌, ℕ, List, [], Some, None};
+ghost use Rattle.std.specs.Prelude.{◌≡◌, ◌≤◌, ◌<◌, ◌+◌, if◌then◌else◌, ℕ, List, [], length, Some, None};
 ghost use Rattle.std.specs.List.{AllZip};
 ghost use Rattle.kishu_language.specs.declared.profile.Profile.{Profile};
+ghost use Rattle.kishu_meaning.specs.cells.Meaning.{run};
 ghost use Rattle.kishu_meaning.specs.values.Values.{State, empty};
 ghost use Rattle.kishu_store.specs.Graph.{Graph, newest, path_in, with_commit};
 ghost use Rattle.kishu_store.specs.Holds.{Holds};
 ghost use Rattle.kishu_store.specs.Limits.{newest_profile};
 ghost use Rattle.kishu_replay.specs.Replay.{FillsIn, after_cells, charge_in, replay};
 ghost use Rattle.kishu_model.specs.Answers.{Refusal, refused, state_too_large};
-ghost use Rattle.kishu_model.specs.Request.{Request};
+ghost use Rattle.kishu_model.specs.Request.{Request, cell};
 ghost use Rattle.kishu_model.specs.requests.Cells.{cells_run, results_from};
 ghost use Rattle.kishu_model.specs.requests.Inspect.{told_at};
 ghost use Rattle.kishu_model.specs.requests.Status.{names_in};
 ghost use Rattle.kishu_model.specs.requests.TooLarge.{is_too_large, too_large};
 ghost use Rattle.kishu_model.specs.Serve.{after};
 ghost use Rattle.kishu_model.specs.Step.{step, charge_of};
+ghost use Rattle.kishu_objects.specs.Groups.{groups_of};
 ghost use Rattle.kishu_objects.specs.Lists.{In};
 ghost use Rattle.kishu_objects.specs.Picture.{picture, whole};
 ghost use Rattle.kishu_objects.specs.Same.{Same};
-ghost use Rattle.kishu_objects.specs.Sizes.{size};
+ghost use Rattle.kishu_objects.specs.Sizes.{size, size_among};
 ghost use Rattle.kishu_objects.specs.Sound.{IsSound};
 ghost use Rattle.kishu_objects.specs.States.{IsSoundState};
 ghost use Rattle.kishu_reading.specs.Pictured.{AreKnown};
-ghost use Rattle.kishu_history.specs.Checkout.{carried};
-ghost use Rattle.kishu_history.specs.Good.{IsGoodStore};
+ghost use Rattle.kishu_history.specs.Changed.{Group};
+ghost use Rattle.kishu_history.specs.Checkout.{carried, to_load};
+ghost use Rattle.kishu_history.specs.Good.{IsAttached, IsGoodStore};
 ghost use Rattle.kishu_history.specs.Live.{IsPictureOf, IsStoredPicture};
-ghost use Rattle.kishu_history.specs.Paths.{AreRows, table_at};
+ghost use Rattle.kishu_history.specs.Paths.{AreRows, stops, table_at};
 ghost use Rattle.kishu_history.specs.Sizes.{AllStaySmall, StaySmall};
 ghost use Rattle.kishu_history.specs.Stored.{Held};
-ghost use Rattle.kishu_history.specs.Tables.{Change, Row};
-ghost use Rattle.kishu_live_laws.specs.Alike.{IsFewer, OnAttached, OnHeld, OnSame, head_after, head_of};
-ghost use Rattle.kishu_live_laws.specs.Filling.{FillsBy};
-ghost use Rattle.kishu_live_laws.specs.OnStates.{FillsOn, IsNoCheckout, StayTold, after_on, answer_on, charge_on, head_rows, left_of, left_size, ran_by, run_of, state_on};
-ghost use Rattle.kishu_live_laws.specs.Refusals.{LeavesTooLarge, refusal_in};
+ghost use Rattle.kishu_history.specs.Tables.{Change, Row, bytes_in, groups_in};
+ghost use Rattle.kishu_history.specs.Versions.{loaded};
+ghost use Rattle.kishu_live_laws.specs.Alike.{OnAttached, OnHeld, OnSame, head_after, head_of};
+ghost use Rattle.kishu_live_laws.specs.Filling.{FillsBy, FillsMade};
+ghost use Rattle.kishu_live_laws.specs.Made.{loaded_nodes, made_by, made_by_cells, opened_nodes};
+ghost use Rattle.kishu_live_laws.specs.OnStates.{IsNoCheckout, StayTold, after_on, answer_on, charge_on, head_rows, left_of, left_size, ran_by, run_of, state_on};
+ghost use Rattle.kishu_live_laws.specs.Reached.{reached_by};
+ghost use Rattle.kishu_live_laws.specs.Refusals.{FillsOn, LeavesTooLarge, refusal_in};
 
 /// Where a session is attached to a good store, what is told of its cells by the head's table is what they
 /// leave: so just those are run that end well and leave no state that is too large.
@@ -59,26 +65,75 @@ pub fn live_states_step()
         → IsNoCheckout q → Same (state_on of s g q) (head_after g q)) }
 {}
 
-/// Where such a state has no more nodes than the replay, so it is with the state that a request leaves, and
-/// where a cell would begin with too many nodes, so would it on the replay. A picture has no more nodes than
-/// its state, and what a good store gives of a commit none more than the commit's replay.
-pub fn live_states_have_fewer_nodes()
-    ensures committed { OnAttached (λ of s g. (q : Request) → IsFewer s (head_of g)
-        → newest g < newest (after g q) → IsFewer (state_on of s g q) (head_after g q)) }
-    ensures stayed { OnAttached (λ of s g. (q : Request) → IsFewer s (head_of g)
-        → (after g q).head.commit ≡ g.head.commit → IsFewer (state_on of s g q) (head_after g q)) }
-    ensures others { OnAttached (λ of s g. (q : Request) → IsFewer s (head_of g)
-        → IsNoCheckout q → IsFewer (state_on of s g q) (head_after g q)) }
-    ensures fills { OnAttached (λ of s g. (q : Request) → IsFewer s (head_of g)
-        → FillsOn (head_rows of g) s q → FillsBy (head_of g) q) }
-    ensures cells { (profile : Profile) (texts : List (List ℕ)) → OnSame (λ s t. IsFewer s t
-        → FillsIn profile texts s → FillsIn profile texts t) }
-    ensures ran { (profile : Profile) (texts : List (List ℕ)) → OnSame (λ s t. IsFewer s t
-        → FillsIn profile (cells_run profile texts s) s → FillsIn profile (cells_run profile texts t) t) }
-    ensures pictures { (s : State) (names : List (List ℕ)) → IsSound s → IsFewer (picture s names) s }
+/// Where a session is attached to a good store, a request that makes a commit makes as many nodes as its
+/// cells make on the replay of the head; an opening makes as many as the pictures of the head's groups have,
+/// and a checkout as many as those of the groups that it loads. Where a cell, or the loading of a checkout,
+/// would begin with too many nodes, too many were made, where no fewer were made before than the state has.
+/// Cells make as many nodes on states that are the same. A picture has no more nodes than its state.
+pub fn requests_make_nodes()
+    ensures committed { OnAttached (λ of s g. (q : Request) → newest g < newest (after g q)
+        → length (state_on of s g q).nodes ≡ length s.nodes + made_by_cells g q) }
     ensures opened { (file : List ℕ) (g : Graph) (of : ℕ → Change) → AreRows of
         → IsGoodStore file g.commits of → (c : ℕ) → c ≤ newest g → (ps : List State)
-        → AllZip (IsPictureOf (Held file)) (table_at g of c) ps → IsFewer (carried [] ps empty) (replay g c) }
+        → AllZip (IsPictureOf (Held file)) (table_at g of c) ps
+        → length (carried [] ps empty).nodes ≡ opened_nodes g c }
+    ensures moved { (file : List ℕ) (g : Graph) (of : ℕ → Change) → AreRows of
+        → IsGoodStore file g.commits of → (h c : ℕ) → h ≤ newest g → c ≤ newest g → (ps : List State)
+        → AllZip (IsPictureOf (Held file)) (to_load (table_at g of h) (table_at g of c)) ps
+        → (gs : List Group) (s : State)
+        → length (carried gs ps s).nodes ≡ length s.nodes + loaded_nodes g h c }
+    ensures fills { OnAttached (λ of s g. (q : Request) (made : ℕ) → length s.nodes ≤ made
+        → FillsOn (head_rows of g) s g q → FillsBy made g q) }
+    ensures cells { (profile : Profile) (texts : List (List ℕ)) → OnSame (λ s t. (made : ℕ)
+        → length s.nodes ≤ made → FillsIn profile texts s → FillsMade made profile texts t) }
+    ensures same { (profile : Profile) (texts : List (List ℕ)) → OnSame (λ s t.
+        length (after_cells profile texts s).nodes + length t.nodes
+        ≡ length (after_cells profile texts t).nodes + length s.nodes) }
+    ensures pictures { (s : State) (names : List (List ℕ)) → IsSound s
+        → length (picture s names).nodes ≤ length s.nodes }
+{}
+
+/// On a good store the rows that a checkout loads take just the bytes of the pictures of the groups that it
+/// loads, and the rows of a commit's table those of all groups of its replay.
+pub fn loaded_bytes_are_sizes()
+    ensures moved { (file : List ℕ) (g : Graph) (of : ℕ → Change) → AreRows of
+        → IsGoodStore file g.commits of → (h c : ℕ) → h ≤ newest g → c ≤ newest g
+        → bytes_in (to_load (table_at g of h) (table_at g of c))
+        ≡ size_among (loaded (stops g h) (stops g c)) (replay g c) }
+    ensures opened { (file : List ℕ) (g : Graph) (of : ℕ → Change) → AreRows of
+        → IsGoodStore file g.commits of → (c : ℕ) → c ≤ newest g
+        → bytes_in (table_at g of c) ≡ size (replay g c) }
+{}
+
+/// In a session that is attached to a good store the live state after a request, whichever that is, has at
+/// most as many more nodes as the request makes by the machine that replays: the state that its cells left;
+/// where none are committed, the one that is carried on to the head after it; and the one that is loaded
+/// anew for the head, which has no more than there were.
+pub fn next_states_make_no_more()
+    ensures on { OnAttached (λ of s g. (q : Request)
+        → length (state_on of s g q).nodes ≤ length s.nodes + made_by g q) }
+    ensures carried { (file : List ℕ) (of : ℕ → Change) (s : State) (g : Graph) → AreRows of
+        → IsAttached file g of s → (q : Request) → newest (after_on of s g q) ≤ newest g → (ps : List State)
+        → AllZip (IsPictureOf (Held file)) (to_load (head_rows of g) (head_rows of (after_on of s g q))) ps
+        → (gs : List Group) → length (carried gs ps s).nodes ≤ length s.nodes + made_by g q }
+    ensures anew { (file : List ℕ) (of : ℕ → Change) (s : State) (g : Graph) → AreRows of
+        → IsAttached file g of s → (ps : List State) → AllZip (IsPictureOf (Held file)) (head_rows of g) ps
+        → length (carried [] ps empty).nodes ≤ length s.nodes }
+{}
+
+/// The names that a cell touched reach as many nodes afterwards, and the cell takes as many steps, on states
+/// that are the same; so in a session that is attached to a good store, by the head's table, as on the
+/// replay of the head. Where the cell is committed its state is the live one.
+pub fn touched_names_reach_alike()
+    ensures same { OnSame (λ s t. (text : List ℕ) (gs : List Group)
+        → reached_by gs s text ≡ reached_by gs t text) }
+    ensures reached { OnAttached (λ of s g. (text : List ℕ)
+        → reached_by (groups_in (head_rows of g)) s text
+        ≡ reached_by (groups_of (head_of g)) (head_of g) text) }
+    ensures charge { OnAttached (λ of s g. (text : List ℕ)
+        → (run newest_profile text s).charge ≡ (run newest_profile text (head_of g)).charge) }
+    ensures left { OnAttached (λ of s g. (text : List ℕ) → newest g < newest (after g (cell text))
+        → state_on of s g (cell text) ≡ (run newest_profile text s).state) }
 {}
 
 /// Whatever the state is, and whatever the records change: a request makes one commit, of the cells that are
