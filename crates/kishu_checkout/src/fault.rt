@@ -2,7 +2,7 @@
 use std::alloc::{AllocError, AllocFailed};
 use thiserror::Error;
 
-/// Why a table isn't loaded.
+/// Why pictures aren't loaded.
 #[derive(Clone, Copy, Debug, PartialEq, Eq, Error)]
 pub enum CheckoutFault {
     /// At this place of the file, which is that of a row, there is no picture of the row's names.

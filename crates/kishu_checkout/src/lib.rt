@@ -1,6 +1,5 @@
 //! The loading of groups from the store, and what a checkout keeps, loads and drops.
 //!
-//! `restore` reads the picture of each row of a table, and loads it into a heap and names that were empty.
 //! `plan` tells what a checkout from one table to another keeps, loads and drops, by their groups and
 //! versions. `fetch` reads the pictures that are loaded; `place` unbinds what is dropped and loads them, beside
 //! what is kept; `carry_out` does both.
@@ -13,11 +12,9 @@ mod group;
 mod placing;
 mod planning;
 mod plans;
-mod restoring;
 mod unbinding;
 
 pub use carrying::{carry_out, fetch, place};
 pub use fault::CheckoutFault;
 pub use planning::plan;
 pub use plans::Plan;
-pub use restoring::{Restored, restore};
