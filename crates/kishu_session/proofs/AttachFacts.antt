@@ -1,11 +1,12 @@
 -- A session whose head's state was loaded from a good file is attached to the graph that the file holds.
-use Rattle.std.proofs.Common.{◌≡◌, ◌≤◌, ℕ, List, length, sym, ◌∙◌, ap, subst}
+use Rattle.std.proofs.Common.{◌≡◌, ◌≤◌, ℕ, List, length, ◌∙◌, ap, subst, arith}
 use Rattle.std.specs.Prelude.{Bool, true, false, if◌then◌else◌, Option, Some, None}
-use Rattle.kishu_host.specs.Host.{State, Only}
+use Rattle.kishu_host.specs.Host.{State, Told, Only}
 use Rattle.kishu_meaning.specs.values.Values as values
 use Rattle.kishu_objects.specs.Same.{Same}
 use Rattle.kishu_store.specs.Graph.{Graph}
 use Rattle.kishu_store.specs.Histories.{History, head_table}
+use Rattle.kishu_store.specs.Holds.{Holds}
 use Rattle.kishu_store.specs.Tables.{Table, Change, change_of, table_at}
 use Rattle.kishu_store_laws.specs.GraphLaws.{IsGraph, held-graph}
 use Rattle.kishu_store_laws.specs.Laws.{one_changes}
@@ -20,12 +21,15 @@ use Rattle.kishu_history_laws.specs.stores.ReplayLaws.{live_replay}
 use Rattle.kishu_history_laws.specs.tables.FileLaws.{changes_are_rows}
 use Rattle.kishu_history_laws.specs.versions.PathLaws.{end_replay}
 use Rattle.kishu_session_laws.specs.CellLaws.{replays_are_states}
-use Rattle.kishu_live_laws.specs.Fewer.{opened_few}
+use Rattle.kishu_live_laws.specs.Fewer.{opened_makes}
+use Rattle.kishu_live_laws.specs.Made.{opened_nodes}
 use Rattle.kishu_checkout.specs.Loads.{IsLoadedFrom}
 use Rattle.kishu_checkout.specs.Pictures.{told_file}
 use Rattle.kishu_session.specs.Attached.{IsAtEnd, IsAttached}
+use Rattle.kishu_session.specs.Attaching.{KeepsGood}
+use Rattle.kishu_session.specs.Becoming.{IsHeadLoaded}
 use Rattle.kishu_session.specs.Ends.{IsHistoryIn, at-end-history}
-use Rattle.kishu_session.specs.Head.{CountsPath, Counts, IsGiven, IsLoaded}
+use Rattle.kishu_session.specs.Head.{CountsPath, Counts, IsLoaded}
 use Rattle.kishu_session.specs.Lives.{state_of}
 use Rattle.kishu_session.specs.declared.head.Head.{Head}
 use Rattle.kishu_session.specs.declared.session.Session.{Session}
@@ -52,12 +56,6 @@ module _ (file : List ℕ) (g : Graph) (is : IsGoodFileOf file g) where
 
     pub told-attached : good.IsAttached file g of live
     told-attached = record { good = is.store; head = good-graph.head.there; told = told; same = told-same }
-
-  -- the state that its pictures give
-  pub loaded-few : (live : values.State) → IsLoadedFrom file t live → length live.nodes ≤ length (replay g g.head.commit).nodes
-  loaded-few live from =
-      subst (λ (s : values.State). length s.nodes ≤ length (replay g g.head.commit).nodes) (sym from.is)
-      (opened_few file g of good-rows is.store g.head.commit good-graph.head.there from.pictures from.each)
 
 -- ---- what the host tells
 
@@ -88,11 +86,6 @@ module _ (session : Session) (s : State) (told : s.tells ≡ true) (g : Graph) (
         subst (λ (t : Table). IsLive (Held s.file) t (state_of head.live)) table-here
         (subst (λ (o : Option (List ℕ)). IsLive (Stored o) (head_table h) (state_of head.live)) (told-some s told) (loaded h in_file.kept).lives)
 
-    given-here : IsLoadedFrom s.file (table_at g (change_of is.changes) g.head.commit) (state_of head.live)
-    given-here =
-        subst (λ (t : Table). IsLoadedFrom s.file t (state_of head.live)) table-here
-        (subst (λ (o : Option (List ℕ)). IsGiven o head h) (told-some s told) (loaded h in_file.kept).given)
-
     pub loaded-attached : session.halted ≡ false → Only s.file s.may_leave → Counts head → IsAttached session s g
     loaded-attached going durable counts = record {
       going = going;
@@ -102,5 +95,17 @@ module _ (session : Session) (s : State) (told : s.tells ≡ true) (g : Graph) (
       changes = is.changes;
       gives = is.gives;
       states = told-attached s.file g is (state_of head.live) lives-here;
-      few = loaded-few s.file g is (state_of head.live) given-here;
     }
+
+-- ---- how many nodes were loaded
+
+-- From a good file that stays good, where this state was loaded for the head of the graph: as many as the pictures of the head's groups have.
+pub opens-nodes : (u : values.State) (s t : State) → Told s ((g : Graph) → Holds t.file g → IsHeadLoaded t.file g u) → KeepsGood s t
+    → Told s ((g : Graph) → IsGoodFileOf s.file g → length u.nodes ≤ opened_nodes g g.head.commit)
+opens-nodes u s t loads keeps told g was =
+    let now = keeps told g was in
+    let l = loads told g now.holds in
+    let from = subst (λ (cs : List Change). IsLoadedFrom t.file (table_at g (change_of cs) g.head.commit) u) (one_changes t.file l.changes now.changes l.gives now.gives) l.loaded in
+    let made = opened_makes t.file g (change_of now.changes) (good-rows t.file g now) now.store g.head.commit (good-graph t.file g now).head.there from.pictures from.each in
+    let all = ap (λ (v : values.State). length v.nodes) from.is in
+    omega (arith, made, all)

@@ -35,7 +35,7 @@ use Rattle.kishu_session.specs.declared.live.Live.{Live}
 use Rattle.kishu_session.specs.declared.prepared.Prepared.{Prepared}
 use Rattle.kishu_session.proofs.AddFacts.{count-newest}
 
-⊥-prop : IsProp ⊥
+pub ⊥-prop : IsProp ⊥
 ⊥-prop a b = absurd a
 
 -- what two commits have in common that are one

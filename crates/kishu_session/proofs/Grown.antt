@@ -1,14 +1,11 @@
 -- A file that ends with one record more, or with none: its head's table tells the live state, and where the file before was good, it is good.
-use Rattle.std.proofs.Common.{◌≡◌, ◌≤◌, ⊎_elim, ℕ, List, [], ◌∷◌, ◌++◌, length, refl, sym, ◌∙◌, ap, subst, arith}
+use Rattle.std.proofs.Common.{◌≡◌, ⊎_elim, ℕ, List, [], ◌∷◌, ◌++◌, length, refl, sym, ◌∙◌, ap, subst}
 use Rattle.std.proofs.lemmas.List.{append-nil}
-use Rattle.std.specs.List.{AllZip}
 use Rattle.std.specs.Prelude.{Option, Some, None}
 use Rattle.kishu_meaning.specs.values.Values as values
-use Rattle.kishu_meaning.specs.values.Values.{empty}
 use Rattle.kishu_objects.specs.States.{IsSoundState}
-use Rattle.kishu_replay.specs.Replay.{after_commits, replay}
 use Rattle.kishu_store.specs.Entries.{Record}
-use Rattle.kishu_store.specs.Graph.{Commit, Graph, newest, path_in, with_commit}
+use Rattle.kishu_store.specs.Graph.{Commit, Graph, newest}
 use Rattle.kishu_store.specs.Histories.{History, head_table}
 use Rattle.kishu_store.specs.Holds.{HasRecords, Holds, history_by}
 use Rattle.kishu_store.specs.Limits.{newest_profile}
@@ -18,32 +15,28 @@ use Rattle.kishu_store_laws.specs.Laws.{has-holds, has-gives, history-graph, his
 use Rattle.kishu_store_laws.specs.PlaceLaws.{pictures-stay, has-history}
 use Rattle.kishu_history.specs.Accessed.{accessed_by}
 use Rattle.kishu_history.specs.Good.{IsAttached, IsGoodFileOf, IsGoodStore}
-use Rattle.kishu_history.specs.Live.{IsLive, IsPictureOf}
+use Rattle.kishu_history.specs.Live.{IsLive}
 use Rattle.kishu_history.specs.Paths.{AreRows}
 use Rattle.kishu_history.specs.Sizes.{StaySmall}
-use Rattle.kishu_history.specs.Stored.{Held, Stored, Keeps, KeepsRecords}
+use Rattle.kishu_history.specs.Stored.{Stored, Keeps, KeepsRecords}
 use Rattle.kishu_history_laws.specs.stores.AttachedLaws.{attached_still}
 use Rattle.kishu_history_laws.specs.stores.StoreLaws.{live_still}
 use Rattle.kishu_history_laws.specs.tables.FileLaws.{changes_are_rows, stay_keeps}
 use Rattle.kishu_history_laws.specs.versions.PathLaws.{rows_recorded}
-use Rattle.kishu_session_laws.specs.CellLaws.{replay_is_state}
-use Rattle.kishu_live_laws.specs.AtHead.{replay_more}
-use Rattle.kishu_live_laws.specs.CellsAlike.{cells_few}
-use Rattle.kishu_live_laws.specs.Fewer.{opened_few}
 use Rattle.kishu_objects.specs.Locality.{Leaves}
 use Rattle.kishu_graph.specs.Tables.{table_of_rows}
 use Rattle.kishu_delta.specs.Kept.{Pictures, KeepsJust}
 use Rattle.kishu_commit.specs.AttachedLaws.{accesses-leave, recorded-attached}
 use Rattle.kishu_commit.specs.LiveLaws.{live-untold}
 use Rattle.kishu_commit.specs.RecordedLaws.{recorded-live}
-use Rattle.kishu_commit.specs.Told.{next_record}
 use Rattle.kishu_session.specs.Head.{LivesAt, KeepsTable}
 use Rattle.kishu_session.specs.Known.{IsHistoryOf}
 use Rattle.kishu_session.specs.Lives.{state_of}
 use Rattle.kishu_session.specs.Prepared.{led_with}
 use Rattle.kishu_session.specs.Recording.{with_new}
 use Rattle.kishu_session.specs.declared.head.Head.{Head}
-use Rattle.kishu_session.proofs.RecordKinds.{IsSameStore, IsStill, IsMoved, IsCommitted, Kind, same-table, same-head-table}
+use Rattle.kishu_session.proofs.RecordKinds.{IsSameStore, IsStill, IsMoved, IsReloaded, IsCommitted, Kind, same-table, same-head-table}
+use Rattle.kishu_session.proofs.Carried.{carried-held, carried-lives, carried-untold}
 use Rattle.kishu_session.proofs.LoadFacts.{lives-untold}
 
 -- ---- cells that were committed
@@ -75,8 +68,9 @@ module _ (file : Option (List ℕ)) (old new : Head) (h : History) (held : Keeps
   pub held-led : (r : Option Record) → IsHistoryOf new.graph (led_with h r) → Kind file old new h r (led_with h r) → KeepsTable new (led_with h r)
   held-led r kept kind =
       ⊎_elim (still-held (led_with h r))
-      (⊎_elim (λ (k : IsMoved file new h (led_with h r)). (k.loaded (led_with h r) kept).held)
-      (λ (k : IsCommitted old new h r). k.held (led_with h r) kept)) kind
+      (⊎_elim (λ (k : IsMoved file old new h (led_with h r)). carried-held file old new h (led_with h r) k kept)
+      (⊎_elim (λ (k : IsReloaded file new h (led_with h r)). (k.loaded (led_with h r) kept).held)
+      (λ (k : IsCommitted old new h r). k.held (led_with h r) kept))) kind
 
 -- ---- whatever the host tells
 
@@ -96,8 +90,9 @@ module _ (file : Option (List ℕ)) (old new : Head) (h : History) (good : IsHis
   pub lives-led : (r : Option Record) → IsHistoryOf new.graph (led_with h r) → Kind file old new h r (led_with h r) → LivesAt None new (led_with h r)
   lives-led r kept kind =
       ⊎_elim (still-untold (led_with h r))
-      (⊎_elim (λ (k : IsMoved file new h (led_with h r)). lives-untold file (head_table (led_with h r)) (state_of new.live)
-      (k.loaded (led_with h r) kept).lives) (committed-untold r)) kind
+      (⊎_elim (λ (k : IsMoved file old new h (led_with h r)). carried-untold file old new h (led_with h r) k kept lives)
+      (⊎_elim (λ (k : IsReloaded file new h (led_with h r)). lives-untold file (head_table (led_with h r)) (state_of new.live)
+      (k.loaded (led_with h r) kept).lives) (committed-untold r))) kind
 
 -- ---- tables in a file that has grown
 
@@ -141,12 +136,11 @@ module _ (file grown : List ℕ) (rs : List Record) (r : Option Record) (has : H
   module _ (old new : Head) where
     -- ---- the live state
 
-    moved-grown : IsHistoryOf new.graph n → IsMoved (Some file) new h n → LivesAt (Some grown) new n
-    moved-grown kept k =
-        let table = same-table h n k.same n.graph.head.commit in
+    head-grown : IsSameStore h n → LivesAt (Some file) new n → LivesAt (Some grown) new n
+    head-grown same lives =
+        let table = same-table h n same n.graph.head.commit in
         subst (λ (t : Table). IsLive (Stored (Some grown)) t (state_of new.live)) (sym table)
-        (stays-there n.graph.head.commit (state_of new.live)
-        (subst (λ (t : Table). IsLive (Stored (Some file)) t (state_of new.live)) table (k.loaded n kept).lives))
+        (stays-there n.graph.head.commit (state_of new.live) (subst (λ (t : Table). IsLive (Stored (Some file)) t (state_of new.live)) table lives))
 
     module _ (lives : LivesAt (Some file) old h) where
       still-grown : IsStill old new h n → LivesAt (Some grown) new n
@@ -163,16 +157,16 @@ module _ (file grown : List ℕ) (rs : List Record) (r : Option Record) (has : H
           lives k.sound (own-leave old new h r k lives.state) k.fits)
 
       pub lives-grown : IsHistoryOf new.graph n → Kind (Some file) old new h r n → LivesAt (Some grown) new n
-      lives-grown kept kind = ⊎_elim still-grown (⊎_elim (moved-grown kept) committed-grown) kind
+      lives-grown kept kind =
+          ⊎_elim still-grown
+          (⊎_elim (λ (k : IsMoved (Some file) old new h n). head-grown k.same (carried-lives (Some file) old new h n k kept lives))
+          (⊎_elim (λ (k : IsReloaded (Some file) new h n). head-grown k.same (k.loaded n kept).lives) committed-grown)) kind
 
     -- ---- a good file
 
     module _ (attached : IsAttached file h.graph of (state_of old.live)) where
       abbrev s : values.State
       s = state_of old.live
-
-      abbrev replayed : values.State
-      replayed = replay h.graph h.graph.head.commit
 
       good-by : IsGoodStore grown n.graph.commits (change_of n.changes) → IsGoodFileOf grown n.graph
       good-by store = record {
@@ -199,46 +193,5 @@ module _ (file grown : List ℕ) (rs : List Record) (r : Option Record) (has : H
       pub good-grown : Kind (Some file) old new h r n → ((k : IsCommitted old new h r) → StaySmall newest_profile k.cells s) → IsGoodFileOf grown n.graph
       good-grown kind small =
           ⊎_elim (λ (k : IsStill old new h n). same-good k.same)
-          (⊎_elim (λ (k : IsMoved (Some file) new h n). same-good k.same) (λ (k : IsCommitted old new h r). committed-good k (small k))) kind
-
-      -- ---- how many nodes there are
-
-      module _ (few : length s.nodes ≤ length replayed.nodes) where
-        abbrev IsFew : Graph → values.State → Type 0
-        IsFew g x = length x.nodes ≤ length (replay g g.head.commit).nodes
-
-        same-replay : IsSameStore h n → replay n.graph n.graph.head.commit ≡ replay h.graph n.graph.head.commit
-        same-replay same = ap (λ (ks : List Commit). after_commits (path_in ks n.graph.head.commit) empty) same.commits
-
-        still-few : IsStill old new h n → IsFew n.graph (state_of new.live)
-        still-few k =
-            let same : replay n.graph n.graph.head.commit ≡ replayed = same-replay k.same ∙ ap (λ (c : ℕ). replay h.graph c) k.head in
-            omega (arith, few, ap (λ (x : values.State). length x.nodes) same, ap (λ (x : values.State). length x.nodes) k.live)
-
-        moved-few : IsHistoryOf new.graph n → IsMoved (Some file) new h n → IsFew n.graph (state_of new.live)
-        moved-few kept k =
-            let c = n.graph.head.commit in
-            let from = (k.loaded n kept).given in
-            let each = subst (λ (t : Table). AllZip (IsPictureOf (Held file)) t from.pictures) (same-table h n k.same c) from.each in
-            let there : c ≤ newest h.graph = (let there = kept.good.graph.head.there in omega (arith, there, ap length k.same.commits)) in
-            let fewer = opened_few file h.graph of rows attached.good c there from.pictures each in
-            omega (arith, fewer, ap (λ (x : values.State). length x.nodes) from.is, ap (λ (x : values.State). length x.nodes) (same-replay k.same))
-
-        committed-few : IsCommitted old new h r → IsFew n.graph (state_of new.live)
-        committed-few k =
-            let u = state_of new.live in
-            let own_names = own old new h r k in
-            let fewer = cells_few newest_profile k.cells s replayed attached.told.state (replay_is_state h.graph h.graph.head.commit)
-            attached.same few in
-            let now : IsFew (with_commit newest_profile k.cells h.graph) u =
-            omega (
-              arith,
-              fewer,
-              ap (λ (x : values.State). length x.nodes) k.ran,
-              ap (λ (x : values.State). length x.nodes) (replay_more newest_profile k.cells h.graph),
-            ) in
-            subst (λ (o : Option Record). IsFew (history_by (with_new rs o)).graph u) (sym k.is)
-            (subst (λ (x : History). IsFew x.graph u) (led-is rs (Some (next_record h k.cells s own_names u))) now)
-
-        pub few-grown : IsHistoryOf new.graph n → Kind (Some file) old new h r n → IsFew n.graph (state_of new.live)
-        few-grown kept kind = ⊎_elim still-few (⊎_elim (moved-few kept) committed-few) kind
+          (⊎_elim (λ (k : IsMoved (Some file) old new h n). same-good k.same)
+          (⊎_elim (λ (k : IsReloaded (Some file) new h n). same-good k.same) (λ (k : IsCommitted old new h r). committed-good k (small k)))) kind

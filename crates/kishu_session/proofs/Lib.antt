@@ -11,6 +11,7 @@ mod Sizes
 mod Ran
 mod Still
 mod StoredFacts
+mod PlanFacts
 mod AddFacts
 mod CellSteps
 mod CellsSteps
@@ -21,6 +22,8 @@ mod Untold
 mod OneTable
 mod PutFacts
 mod LoadFacts
+mod Anew
+mod ReadBytes
 mod Commits
 mod RanOn
 mod MoveSteps
@@ -30,6 +33,9 @@ mod OpeningFacts
 mod RecordFacts
 mod Recordings
 mod RecordKinds
+mod Carried
+mod KeptOn
+mod CarryFacts
 mod Grown
 mod Applied
 mod Staying
@@ -40,3 +46,7 @@ mod RefusedBranch
 mod BranchFacts
 mod LogFacts
 mod Halts
+mod Work
+mod Gone
+mod KeptOld
+mod Makes

@@ -7,16 +7,17 @@ use Rattle.kishu_host.specs.Host as host
 use Rattle.kishu_meaning.specs.values.Values as values
 use Rattle.kishu_store.specs.Entries.{Record}
 use Rattle.kishu_store.specs.Graph.{Graph, newest}
-use Rattle.kishu_store.specs.Histories.{History}
+use Rattle.kishu_store.specs.Histories.{History, head_table}
 use Rattle.kishu_store.specs.Holds.{Holds, Gives, history_by}
 use Rattle.kishu_store.specs.Tables.{Table, Change, change_of}
 use Rattle.kishu_store_laws.specs.Laws.{ends-gives, one_changes, one_graph}
+use Rattle.kishu_history.specs.Checkout.{to_load, to_drop}
 use Rattle.kishu_live_laws.specs.OnStates.{answer_on}
 use Rattle.kishu_live_laws.specs.Outcomes.{still_state, when_none}
 use Rattle.kishu_model.specs.Request.{Request}
 use Rattle.kishu_model.specs.Values.{answer_of}
 use Rattle.kishu_journal.specs.Going.{IsQuiet}
-use Rattle.kishu_checkout.specs.Loads.{IsLoadedFrom}
+use Rattle.kishu_checkout.specs.Loads.{AreCarried, IsLoadedFrom}
 use Rattle.kishu_checkout.specs.Pictures.{told_file}
 use Rattle.kishu_session.specs.Attached.{IsAtEnd, StandsAtEnd}
 use Rattle.kishu_session.specs.Becoming.{IsHeadLoaded, IsNextState}
@@ -30,8 +31,9 @@ use Rattle.kishu_session.specs.declared.prepared.Prepared.{Prepared}
 use Rattle.kishu_session.specs.declared.session.Session.{Session}
 use Rattle.kishu_session.proofs.Applied.{graph-now, kept-now, kind-now, left-on}
 use Rattle.kishu_session.proofs.AttachFacts.{head-table-of, told-some}
+use Rattle.kishu_session.proofs.Carried.{carried-there}
 use Rattle.kishu_session.proofs.OneTable.{one-count}
-use Rattle.kishu_session.proofs.RecordKinds.{Kind, IsSameStore, IsStill, IsMoved, IsCommitted}
+use Rattle.kishu_session.proofs.RecordKinds.{Kind, IsSameStore, IsStill, IsMoved, IsReloaded, IsCommitted}
 
 -- ---- as a store is opened
 
@@ -76,25 +78,33 @@ module _ (file : List ℕ) (old new : Head) (h : History) (q : Request) (r : Opt
   still-next : IsStill old new h (led_with h r) → IsNextState file of h.graph u q v
   still-next k = inl (k.live ∙ sym (still_state of u h.graph q (when_none of u h.graph q (none-made k.same))))
 
-  moved-next : IsHistoryOf new.graph (led_with h r) → IsMoved (Some file) new h (led_with h r) → IsNextState file of h.graph u q v
+  moved-next : IsHistoryOf new.graph (led_with h r) → IsMoved (Some file) old new h (led_with h r) → IsNextState file of h.graph u q v
   moved-next kept k =
-      inr (
+      inr (inl (
         none-made k.same,
+        subst (λ (t : Table). AreCarried (Some file) (to_drop (head_table h) t) (to_load (head_table h) t) u v) (head-table-of (led_with h r) now h.changes after k.same.changes)
+            (carried-there (Some file) old new h (led_with h r) k kept),
+      ))
+
+  reloaded-next : IsHistoryOf new.graph (led_with h r) → IsReloaded (Some file) new h (led_with h r) → IsNextState file of h.graph u q v
+  reloaded-next kept k =
+      inr (inr (
+        sym after ∙ k.graph,
         record {
           changes = h.changes;
           gives = gives;
           loaded =
-              subst (λ (t : Table). IsLoadedFrom file t v) (head-table-of (led_with h r) now h.changes after k.same.changes)
+              subst (λ (t : Table). IsLoadedFrom file t v) (head-table-of (led_with h r) h.graph h.changes k.graph k.same.changes)
               (k.loaded (led_with h r) kept).given;
         },
-      )
+      ))
 
   committed-next : IsCommitted old new h r → IsNextState file of h.graph u q v
   committed-next k =
       inl (k.ran ∙ left-on of u h.graph q k.cells (sym after ∙ ap (λ (o : Option Record). (led_with h o).graph) k.is))
 
   next-state : IsHistoryOf new.graph (led_with h r) → Kind (Some file) old new h r (led_with h r) → IsNextState file of h.graph u q v
-  next-state kept kind = ⊎_elim still-next (⊎_elim (moved-next kept) committed-next) kind
+  next-state kept kind = ⊎_elim still-next (⊎_elim (moved-next kept) (⊎_elim (reloaded-next kept) committed-next)) kind
 
 -- The cells that a session counts are those on the path to the head of each history that is kept.
 counts-known : (head : Head) (place : ℕ) (h : History) → IsHistoryOf head.graph h → IsKnown head place → CountsPath head h.graph

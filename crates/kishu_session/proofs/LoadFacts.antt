@@ -1,31 +1,22 @@
--- What the loading of the head's table leaves.
-use Rattle.std.proofs.Common.{◌≡◌, ◌<◌, ◌≤◌, ℕ, List, refl, ◌∙◌, sym, ap, subst, arith}
+-- The table of a commit in each history that is kept, the cells on the path there, and what is known where the host tells no file.
+use Rattle.std.proofs.Common.{◌≡◌, ◌<◌, ◌≤◌, ℕ, List, ◌∙◌, ap, arith}
 use Rattle.std.specs.List.{AllByRecursion, AllByRecursion-prop}
-use Rattle.std.specs.Prelude.{Bool, true, false, if◌then◌else◌, IsTrue, Option, Some, None, length, map}
-use Rattle.std.proofs.Math.Logic.{∥∥₁_elim}
+use Rattle.std.specs.Prelude.{Bool, if◌then◌else◌, IsTrue, Option, Some, None, length, map}
 use Rattle.std.proofs.Props.{props}
 use Rattle.kishu_host.specs.Host.{State}
 use Rattle.kishu_meaning.specs.values.Values as values
 use Rattle.kishu_store.specs.Graph.{Target, count_of}
-use Rattle.kishu_store.specs.Groups.{Group, IsGroup, IsName, Rise, is_one_of}
+use Rattle.kishu_store.specs.Groups.{Group, IsGroup, IsName, Rise}
 use Rattle.kishu_store.specs.Histories.{History, head_table, table_to}
 use Rattle.kishu_store.specs.Limits.{most_pictured}
-use Rattle.kishu_store.specs.Tables.{Row, Table, groups_in, first_in, names_in, bytes_in, are_apart, IsKeptTable}
+use Rattle.kishu_store.specs.Tables.{Table, groups_in, first_in, names_in, bytes_in, are_apart, IsKeptTable}
 use Rattle.kishu_graph.specs.Kept.{Kept}
-use Rattle.kishu_graph.specs.Tables.{IsTableOf, table_of_rows}
-use Rattle.kishu_objects.specs.Bytes.{picture_bytes}
-use Rattle.kishu_objects.specs.Fits.{StateFits}
-use Rattle.kishu_objects.specs.Lists.{In}
-use Rattle.kishu_objects.specs.Picture.{picture}
-use Rattle.kishu_objects_laws.specs.ListLaws.{map_in}
-use Rattle.kishu_delta.specs.Kept.{Pictures, KeepsJust, kept_of}
+use Rattle.kishu_graph.specs.Tables.{IsTableOf}
 use Rattle.kishu_history.specs.Live.{IsLive}
 use Rattle.kishu_history.specs.Stored.{Stored}
-use Rattle.kishu_checkout.specs.Loads.{IsLoadedFrom, HasLoaded, IsLiveIn}
-use Rattle.kishu_checkout.specs.Pictures.{told_file, LacksAt, LacksSome}
-use Rattle.kishu_session.specs.Head.{CountsPath, CountsTo, IsGiven, IsLoadedAt, Lacks}
-use Rattle.kishu_session.specs.Known.{HasHistory, IsHistoryOf}
-use Rattle.kishu_session.specs.Lives.{state_of}
+use Rattle.kishu_checkout.specs.Pictures.{told_file}
+use Rattle.kishu_session.specs.Head.{CountsPath, CountsTo}
+use Rattle.kishu_session.specs.Known.{IsHistoryOf}
 use Rattle.kishu_session.specs.declared.head.Head.{Head}
 
 -- ---- the table is one
@@ -63,35 +54,6 @@ head-is kept c at h k = at ∙ ap (λ (t : Target). t.commit) k.keeps.graph.shap
 
 pub head-table-is : (kept : Kept) (c : ℕ) (t : Table) → c ≡ kept.head.commit → IsTableOf kept c t → (h : History) → IsHistoryOf kept h → t ≡ head_table h
 head-table-is kept c t at is h k = table-is kept c t is h k ∙ ap (table_to h) (head-is kept c at h k)
-
-pub table-kept : (kept : Kept) (c : ℕ) (t : Table) → HasHistory kept → IsTableOf kept c t → IsKeptTable t
-table-kept kept c t known is = ∥∥₁_elim known (kept-prop t) (λ k. subst IsKeptTable (sym (table-is kept c t is k.0 k.1)) (k.1.good.changes.tables c))
-
--- ---- what is loaded
-
-given-by : (b : Bool) (file : List ℕ) (head : Head) (h : History) → (b ≡ true → IsLoadedFrom file (head_table h) (state_of head.live)) → IsGiven (if b then Some file else None) head h
-given-by true file head h from = from refl
-given-by false file head h from = tt
-
--- Just of the table's groups these pictures are kept, and bytes can tell them.
-pub pictures-held : (kept : Pictures) (t : Table) (s : values.State) → ((g : Group) → kept_of kept g ≡ (if is_one_of g (groups_in t) then Some (picture_bytes s g) else None))
-    → ((r : Row) → In r t → StateFits (picture s r.group)) → KeepsJust kept (groups_in t) s
-pictures-held kept t s bytes fit = record {
-  bytes = bytes;
-  fit = λ g m. (let of = map_in (λ (r : Row). r.group) t g m in subst (λ (x : Group). StateFits (picture s x)) (sym of.2) (fit of.0 of.1));
-}
-
-pub loaded-at : (s : State) (t : Table) (u : values.State) (head : Head) (h : History) → t ≡ head_table h → state_of head.live ≡ u → HasLoaded s t u → IsLiveIn s t u → table_of_rows head.table ≡ t
-    → KeepsJust head.kept (groups_in t) u → IsLoadedAt (told_file s) head h
-loaded-at s t u head h is live loaded lives table pictures =
-    let here : IsLiveIn s (head_table h) (state_of head.live) = subst (λ (x : values.State). IsLiveIn s (head_table h) x) (sym live) (subst (λ (x : Table). IsLiveIn s x u) is lives) in
-    let from : HasLoaded s (head_table h) (state_of head.live) = subst (λ (x : values.State). HasLoaded s (head_table h) x) (sym live) (subst (λ (x : Table). HasLoaded s x u) is loaded) in
-    let held : KeepsJust head.kept (groups_in (head_table h)) (state_of head.live) =
-    subst (λ (x : values.State). KeepsJust head.kept (groups_in (head_table h)) x) (sym live) (subst (λ (x : Table). KeepsJust head.kept (groups_in x) u) is pictures) in
-    record { lives = here; given = given-by s.tells s.file head h from; held = record { table = table ∙ is; pictures = held } }
-
-pub lacks-at : (s : State) (t : Table) (at : ℕ) (h : History) → t ≡ head_table h → LacksAt s t at → LacksSome s t → Lacks s (head_table h) at
-lacks-at s t at h is lacks some = record { lacks = subst (λ (x : Table). LacksAt s x at) is lacks; some = subst (LacksSome s) is some }
 
 -- ---- the cells on the path
 

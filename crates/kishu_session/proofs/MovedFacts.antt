@@ -3,6 +3,7 @@ use Rattle.std.proofs.Common.{◌≡◌, ◌<◌, ◌≤◌, ◌^◌, ◌⊎◌,
 use Rattle.std.specs.Prelude.{IfSome, option_map}
 use Rattle.std.specs.Coded.{le_prop}
 use Rattle.std.proofs.Math.Logic.{∥∥₁_elim}
+use Rattle.std.proofs.Props.{props}
 use Rattle.kishu_host.specs.Host.{State}
 use Rattle.kishu_store.specs.Branches.{commit_of}
 use Rattle.kishu_store.specs.Entries.{Entry, Record, move, plain}
@@ -19,8 +20,11 @@ use Rattle.kishu_store_laws.specs.TitleLaws.{branch_title}
 use Rattle.kishu_graph.specs.Kept.{Kept, HasShapeOf, StandsFor, KeepsHistory}
 use Rattle.kishu_graph.specs.Laws.{moved-stands}
 use Rattle.kishu_graph.specs.Refusals.{HasMoved, unless_there}
+use Rattle.kishu_graph.specs.Tables.{table_of_rows}
+use Rattle.kishu_history.specs.Checkout.{to_load}
 use Rattle.kishu_graph.specs.declared.fault.GraphFault.{GraphFault}
 use Rattle.kishu_graph.specs.declared.fault.GraphFault.TheVariants.{NoMemory}
+use Rattle.kishu_replay.specs.Replay.{IsFull}
 use Rattle.kishu_model.specs.Answers.{Refusal, refused, checked_out}
 use Rattle.kishu_model.specs.Request.{Stepped, checkout, refused_with}
 use Rattle.kishu_model.specs.requests.Checkout.{went_to}
@@ -28,16 +32,22 @@ use Rattle.kishu_model.specs.Serve.{after}
 use Rattle.kishu_model.specs.Step.{step}
 use Rattle.kishu_model.specs.Values.{answer_of}
 use Rattle.kishu_live_laws.specs.Refusals.{refusal_in}
-use Rattle.kishu_session.specs.Head.{CountsPath, Lacks, LacksAtHead}
+use Rattle.kishu_session.specs.Filling.{FillsHere}
+use Rattle.kishu_session.specs.Head.{Carries, CountsPath, IsKnown, KeepsSome, Lacks, LacksToLoad, rows_to_load}
 use Rattle.kishu_session.specs.Known.{HasHistory, IsHistoryOf}
+use Rattle.kishu_session.specs.Lives.{state_of}
 use Rattle.kishu_session.specs.Moves.{move_by, move_to, IsMoved}
 use Rattle.kishu_session.specs.Prepared.{Leads, LeadsTo, LeadsOn, LeadsAlone, LacksFor, IsPrepared, IsAnswered, MayBeRecorded, StaysWithout, Tells, led_with, record_in}
+use Rattle.kishu_session.specs.Reading.{rows_read}
 use Rattle.kishu_session.specs.Refusing.{refusal_by}
 use Rattle.kishu_session.specs.declared.head.Head.{Head}
 use Rattle.kishu_session.specs.declared.prepared.Prepared.{Prepared}
 use Rattle.kishu_session.proofs.BranchFacts.{fault-by-graph}
 use Rattle.kishu_session.proofs.Causes.{by-cause, checkout-accepted, checkout-refused, room-there}
+use Rattle.kishu_session.proofs.Commits.{known-pictures, known-told}
 use Rattle.kishu_session.proofs.MoveSteps.{Reaches, resolved-reaches}
+use Rattle.kishu_session.proofs.OneTable.{one-table}
+use Rattle.kishu_session.proofs.RanOn.{table-known}
 use Rattle.kishu_session.proofs.Still.{refused-leads}
 
 module _ (g : Graph) (to : List ℕ) (c : ℕ) (old new : Kept) (m : HasMoved (resolve g to) g c old new) where
@@ -111,6 +121,10 @@ module _ (h : History) (to : List ℕ) (c : ℕ) (old new : Kept) (m : HasMoved 
   pub moved-history : IsHistoryOf old h → IsHistoryOf new (led h moved-entry)
   moved-history k = record { keeps = moved-keeps k.keeps; good = led-history h moved-entry k.good (rules-by k new.head.branch refl) moved-fits }
 
+  -- each commit has its table still
+  pub moved-rows : (d : ℕ) → table_to (led h moved-entry) d ≡ table_to h d
+  moved-rows d = ap (λ (x : Graph). table_at x (change_of h.changes) d) (moved-graph ∙ moved-is h.graph to c old new m)
+
   -- the table of the head then is that of the commit to which it went
   pub moved-table : head_table (led h moved-entry) ≡ table_to h (after h.graph (checkout to)).head.commit
   moved-table =
@@ -123,18 +137,67 @@ module _ (old new : Kept) (to : List ℕ) (c : ℕ) (moves : (g : Graph) → Has
   pub known-moved : HasHistory old → HasHistory new
   known-moved known = ∥∥₁_elim known squash₁ (λ k. ∣ (led k.0 (move (move_to new.head)), moved-history k.0 to c old new (moves k.0.graph k.1.keeps.graph.shape) k.1) ∣₁)
 
-  pub lacks-moved : (s : State) (at : ℕ) → LacksAtHead new s at → LacksFor old s (checkout to) at
+-- ---- what a head keeps whose graph moved
+
+module _ (place : ℕ) (head : Head) (known : IsKnown head place) (new : Kept) (to : List ℕ) (c : ℕ) (moves : (g : Graph) → HasShapeOf head.graph g → HasMoved (resolve g to) g c head.graph new) where
+  abbrev after_move : History → History
+  after_move h = led h (move (move_to new.head))
+
+  on-move : (h : History) → IsHistoryOf head.graph h → IsHistoryOf new (after_move h)
+  on-move h k = moved-history h to c head.graph new (moves h.graph k.keeps.graph.shape) k
+
+  -- each commit has the table that it had
+  stays-to : (h : History) → IsHistoryOf head.graph h → (n : History) → IsHistoryOf new n → (d : ℕ) → table_to h d ≡ table_to n d
+  stays-to h k n l d = sym (moved-rows h to c head.graph new (moves h.graph k.keeps.graph.shape) d) ∙ one-table new (after_move h) n (on-move h k) l d
+
+  -- The table that is kept is that of the commit on which the head stood.
+  was-kept : (n : History) → IsHistoryOf new n → table_of_rows head.table ≡ table_to n head.graph.head.commit
+  was-kept n l =
+      ∥∥₁_elim known (tables (table_of_rows head.table) (table_to n head.graph.head.commit))
+      (λ k.
+      let here : k.0.graph.head.commit ≡ head.graph.head.commit = ap (λ (t : Target). t.commit) (sym k.1.kept.keeps.graph.shape.head) in
+      k.1.held.table ∙ ap (table_to k.0) here ∙ stays-to k.0 k.1.kept n l head.graph.head.commit)
+    where
+      tables : IsSet Table
+      tables = hlevel props
+
+  pub keeps-moved : KeepsSome (record head { graph = new })
+  keeps-moved = record {
+    commit = head.graph.head.commit;
+    table = was-kept;
+    lives = known-told head place known;
+    pictures = known-pictures head place known;
+  }
+
+  pub lacks-moved : (s : State) (at : ℕ) → LacksToLoad (record head { graph = new }) s at → LacksFor head.graph s (checkout to) at
   lacks-moved s at lacks h k =
-      let m = moves h.graph k.keeps.graph.shape in (
+      let m = moves h.graph k.keeps.graph.shape in
+      let there = lacks (after_move h) (on-move h k) in (
         m.accepted,
-        subst (λ (t : Table). Lacks s t at) (moved-table h to c old new m)
-            (lacks (led h (move (move_to new.head))) (moved-history h to c old new m k)),
+        subst (λ (t : Table). Lacks s (to_load (head_table h) t) at) (moved-table h to c head.graph new m)
+            (subst (λ (t : Table). Lacks s (to_load t (head_table (after_move h))) at) (table-known place head known h k) there),
       )
+
+  -- The rows that are loaded are those that the request reads.
+  pub rows-moved : (file : Option (List ℕ)) (after : Head) → after.graph ≡ new → Carries file (record head { graph = new }) after → (h : History) → IsHistoryOf head.graph h
+      → rows_to_load (record head { graph = new }) after ≡ rows_read h (checkout to)
+  rows-moved file after same carries h k =
+      let m = moves h.graph k.keeps.graph.shape in
+      ap (λ (t : Table). to_load t (table_of_rows after.table)) (table-known place head known h k)
+      ∙ ap (λ (t : Table). to_load (head_table h) t)
+      (carries.to (after_move h) (subst (λ (x : Kept). IsHistoryOf x (after_move h)) (sym same) (on-move h k)) ∙ moved-table h to c head.graph new m)
+
+-- Where the heap is too full for the loading, it is so for the checkout.
+pub fills-moved : (head : Head) (new : Kept) (to : List ℕ) (c : ℕ) → ((g : Graph) → HasShapeOf head.graph g → HasMoved (resolve g to) g c head.graph new) → IsFull (state_of head.live) → FillsHere head (checkout to)
+fills-moved head new to c moves full h k = (
+  ap refusal_in (ap (λ (x : Stepped). x.answer) (stepped h.graph to c head.graph new (moves h.graph k.keeps.graph.shape))),
+  full,
+)
 
 -- ---- what the request leads to
 
 module _ (file : Option (List ℕ)) (place : ℕ) (old new : Head) (kept : Kept) (to : List ℕ) (c : ℕ) (same : new.graph ≡ kept)
-    (moves : (g : Graph) → HasShapeOf old.graph g → HasMoved (resolve g to) g c old.graph kept) (p : Prepared) (is : IsMoved file new p) where
+    (moves : (g : Graph) → HasShapeOf old.graph g → HasMoved (resolve g to) g c old.graph kept) (known : IsKnown old place) (p : Prepared) (is : IsMoved file (record old { graph = kept }) new p) where
   moves-here : (g : Graph) → HasShapeOf old.graph g → HasMoved (resolve g to) g c old.graph new.graph
   moves-here g s = subst (λ (x : Kept). HasMoved (resolve g to) g c old.graph x) (sym same) (moves g s)
 
@@ -166,7 +229,7 @@ module _ (file : Option (List ℕ)) (place : ℕ) (old new : Head) (kept : Kept)
     rules = subst MayBeRecorded (sym is.recorded) is.rules;
     refuses = λ g s. ap (option_map refusal_in) (answered g s);
     answers = λ h k count. answered-here h k;
-    tells = subst (λ (o : Option Record). Tells file old new o) (sym is.recorded) is.loaded;
+    tells = subst (λ (o : Option Record). Tells file old new o) (sym is.recorded) (record { from = table-known place old known; carries = record { to = is.carries.to; state = is.carries.state; pictures = is.carries.pictures } });
     large = λ bytes size. absurd (cc (sym is.answer ∙ size));
   }
 

@@ -1,34 +1,37 @@
 -- A store that is open: its history, where the host tells its file and where it doesn't, and what is damaged where a picture isn't loaded.
-use Rattle.std.proofs.Common.{◌≡◌, ◌≤◌, ◌<◌, inl, ⊎_elim, ℕ, List, [], length, refl, sym, ◌∙◌, ap, subst}
+use Rattle.std.proofs.Common.{◌≡◌, ◌≤◌, ◌<◌, ◌*◌, inl, ⊎_elim, ℕ, List, [], length, refl, sym, ◌∙◌, ap, subst, arith}
 use Rattle.std.specs.Prelude.{true, Option}
 use Rattle.std.proofs.Math.Logic.{∥∥₁_elim}
 use Rattle.std.proofs.lemmas.Bool.{cases_lt}
-use Rattle.kishu_host.specs.Host.{State}
+use Rattle.kishu_host.specs.Host.{State, Told}
 use Rattle.kishu_store.specs.Entries.{Entry}
 use Rattle.kishu_store.specs.Graph.{Graph, new_graph}
 use Rattle.kishu_store.specs.Histories.{History, head_table}
 use Rattle.kishu_store.specs.Holds.{Holds, Gives, graph_of, history_of, history_by}
-use Rattle.kishu_store.specs.Tables.{Table, Change, change_of, table_at}
+use Rattle.kishu_store.specs.Tables.{Table, Change, bytes_in, change_of, table_at}
 use Rattle.kishu_store_laws.specs.HistoryLaws.{records-history}
 use Rattle.kishu_store_laws.specs.Laws.{history-graph, ends-holds, ends-gives, one_graph, one_changes}
 use Rattle.kishu_graph.specs.Kept.{Kept, StandsFor, TellsChanges}
 use Rattle.kishu_history.specs.Good.{IsGoodFile, IsGoodFileOf}
 use Rattle.kishu_objects.specs.Lists.{In}
+use Rattle.kishu_history_laws.specs.tables.WithinLaws.{tables_within}
 use Rattle.kishu_live_laws.specs.Loads.{good_loads}
-use Rattle.kishu_journal.specs.Facts.{IsOfHistory}
+use Rattle.kishu_journal.specs.Facts.{IsOfHistory, KeepsLong, ReadsFile, StaysShort}
 use Rattle.kishu_journal.specs.Found.{entries_of}
+use Rattle.kishu_journal.specs.Going.{ReadsAtMost}
 use Rattle.kishu_journal.specs.Stands.{JournalState, Stands}
 use Rattle.kishu_journal.specs.Stores.{Opens}
 use Rattle.kishu_journal.specs.declared.open_store.OpenStore.{OpenStore}
 use Rattle.kishu_checkout.specs.Pictures.{HasEach, HasNone}
 use Rattle.kishu_session.specs.Attached.{IsAtEnd}
 use Rattle.kishu_session.specs.Attaching.{LacksPicture}
-use Rattle.kishu_session.specs.Head.{Counts, IsLoaded, IsKnown, Lacks}
+use Rattle.kishu_session.specs.Head.{Counts, IsLoaded, IsKnown, Lacks, ReadsAtHead}
 use Rattle.kishu_session.specs.Known.{HasHistory, IsHistoryOf}
 use Rattle.kishu_session.specs.declared.head.Head.{Head}
 use Rattle.kishu_session.specs.declared.session.Session.{Session}
 use Rattle.kishu_session.proofs.AttachFacts.{good-rows, good-graph}
 use Rattle.kishu_session.proofs.LoadFacts.{lives-untold}
+use Rattle.kishu_session.proofs.ReadBytes.{reads-then}
 
 -- ---- whatever the host tells
 
@@ -72,6 +75,24 @@ module _ (old new : State) (store : OpenStore) (o : Opens old new store) (told :
   pub opened-gives : Gives new.file opened-history.changes
   opened-gives = ends-gives new.file stands.found stands.ends
 
+  -- ---- the bytes of the head's table
+
+  -- where the file was begun anew, the table has no row
+  none-short : length new.file ≤ 17 → head_table opened-history ≡ []
+  none-short few =
+      ap (λ (x : Graph). table_at x (change_of opened-history.changes) x.head.commit) (one_graph new.file opened-history.graph new_graph opened-holds (inl (few, refl)))
+
+  -- They are no more than the file's were.
+  pub opened-bytes : (17 < length old.file → new.file ≡ old.file) → (length old.file ≤ 17 → length new.file ≤ 17) → bytes_in (head_table opened-history) ≤ length old.file
+  opened-bytes same short =
+      ⊎_elim
+      (λ (long : 17 < length old.file).
+      let within = tables_within new.file opened-history.graph opened-history.changes opened-holds opened-gives opened-history.graph.head.commit in
+      let kept = ap (λ (f : List ℕ). length f) (same long) in
+      omega (arith, within, kept))
+      (λ (few : length old.file ≤ 17). (let none = ap bytes_in (none-short (short few)) in omega (arith, none)))
+      (cases_lt 17 (length old.file))
+
   -- ---- a session there, once its head was loaded
 
   module _ (session : Session) (now : State) (same-journal : session.journal ≡ store.journal) (same-graph : session.head.graph ≡ store.graph) (same-file : now.file ≡ new.file)
@@ -90,11 +111,6 @@ module _ (old new : State) (store : OpenStore) (o : Opens old new store) (told :
   -- ---- damage
 
   module _ (same : 17 < length old.file → new.file ≡ old.file) (short : length old.file ≤ 17 → length new.file ≤ 17) (now : new.tells ≡ true) (at : ℕ) (l : Lacks new (head_table opened-history) at) where
-    -- where the file was begun anew, the head's table has no row
-    none-short : length new.file ≤ 17 → head_table opened-history ≡ []
-    none-short few =
-        ap (λ (x : Graph). table_at x (change_of opened-history.changes) x.head.commit) (one_graph new.file opened-history.graph new_graph opened-holds (inl (few, refl)))
-
     lacks-long : 17 < length old.file → LacksPicture old at
     lacks-long long =
         let e = same long in
@@ -123,3 +139,13 @@ module _ (old new : State) (store : OpenStore) (o : Opens old new store) (told :
 
     pub lacks-picture : LacksPicture old at
     lacks-picture = lacks-long lacks-is-long
+
+-- ---- the bytes that are read
+
+-- At most as many as the file has, and then at most those of the head's table.
+pub opening-reads : (old new now : State) (store : OpenStore) → Opens old new store → ReadsFile old new → KeepsLong old new → StaysShort old new → ReadsAtHead store.graph new now
+    → Told old (ReadsAtMost old.reads now.reads (3 * length old.file))
+opening-reads old new now store o file long short head told =
+    let bytes = opened-bytes old new store o told (long told) (short told) in
+    reads-then old.reads new.reads now.reads (length old.file) (bytes_in (head_table (opened-history old new store o told))) (3 * length old.file) (file told)
+    (head (opened-history old new store o told) (opened-kept old new store o told)) (omega (arith, bytes))

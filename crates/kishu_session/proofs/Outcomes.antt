@@ -9,3 +9,8 @@ gives (Err e) P R p f = tt
 pub always : {T E : Type 0} (r : Result T E) (Q : Type 0) → Q → OnOk r Q
 always (Ok x) Q q = q
 always (Err e) Q q = tt
+
+-- from two facts
+pub gives-both : {T E : Type 0} (r : Result T E) (P R : T → Type 0) (Q : Type 0) → IfOk r P → OnOk r Q → ((x : T) → P x → Q → R x) → IfOk r R
+gives-both (Ok x) P R Q p q f = f x p q
+gives-both (Err e) P R Q p q f = tt

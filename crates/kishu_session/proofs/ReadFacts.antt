@@ -1,26 +1,29 @@
 -- The commit whose table a request may read is there; and on a good file each of its rows has a picture that may be loaded.
 use Rattle.std.proofs.Common.{◌≡◌, ◌≤◌, ◌<◌, Bool, true, false, if◌then◌else◌, ℕ, List, Option, Some, None, refl, sym, subst, arith}
-use Rattle.std.specs.Prelude.{nat_le}
+use Rattle.std.specs.Prelude.{nat_le, not}
 use Rattle.std.proofs.lemmas.Bool.Decides.{nat_tests}
 use Rattle.kishu_host.specs.Host as host
 use Rattle.kishu_store.specs.Entries.{move}
 use Rattle.kishu_store.specs.Graph.{Graph, Target, newest, with_head}
-use Rattle.kishu_store.specs.Histories.{table_to}
+use Rattle.kishu_store.specs.Histories.{History, head_table, table_to}
 use Rattle.kishu_store.specs.Holds.{Holds, history_by}
 use Rattle.kishu_store.specs.Limits.{most_records}
 use Rattle.kishu_store.specs.References.{resolve}
-use Rattle.kishu_store.specs.Tables.{Change, change_of}
+use Rattle.kishu_store.specs.Tables.{Change, Row, change_of}
 use Rattle.kishu_store_laws.specs.GraphLaws.{IsGraph, changed-graph}
 use Rattle.kishu_store_laws.specs.Laws.{ends-gives, ends-holds, history-graph, one_changes}
 use Rattle.kishu_replay.specs.Replay.{replay}
+use Rattle.kishu_objects.specs.Lists.{In}
 use Rattle.kishu_objects.specs.Picture.{picture}
+use Rattle.kishu_objects_laws.specs.ListLaws.{filter_in}
+use Rattle.kishu_history.specs.Checkout.{is_row_of}
 use Rattle.kishu_history.specs.Good.{IsGoodStore}
 use Rattle.kishu_history_laws.specs.tables.FileLaws.{changes_are_rows}
 use Rattle.kishu_live_laws.specs.Loads.{good_loads}
 use Rattle.kishu_model.specs.declared.request.Request as rust
 use Rattle.kishu_model.specs.Answers.{store_full}
 use Rattle.kishu_model.specs.Values.{request_of}
-use Rattle.kishu_model.specs.Request.{Request, cell, cells, checkout, branch, log, status, inspect, stored, unreadable, refused_with}
+use Rattle.kishu_model.specs.Request.{Request, cell, cells, checkout, branch, log, status, inspect, stored, plan, unreadable, refused_with}
 use Rattle.kishu_model.specs.requests.Checkout.{checkout_to, went_to}
 use Rattle.kishu_checkout.specs.Pictures.{HasEach}
 use Rattle.kishu_session.specs.Applying.{LacksHere}
@@ -28,7 +31,7 @@ use Rattle.kishu_session.specs.Attached.{IsAttached}
 use Rattle.kishu_session.specs.Ends.{at-end-behind}
 use Rattle.kishu_session.specs.Moves.{move_to}
 use Rattle.kishu_session.specs.Prepared.{LacksFor}
-use Rattle.kishu_session.specs.Reading.{reads_at}
+use Rattle.kishu_session.specs.Reading.{reads_at, rows_read}
 use Rattle.kishu_session.specs.declared.session.Session.{Session}
 use Rattle.kishu_session.proofs.MoveSteps.{resolved-reaches}
 
@@ -52,7 +55,7 @@ module _ (g : Graph) (good : IsGraph g) where
   checkout-there to None is = good.head.there
   checkout-there to (Some t) is = went-there to t is (nat_le most_records g.records) refl
 
-  reads-there : (q : Request) → reads_at g q ≤ newest g
+  pub reads-there : (q : Request) → reads_at g q ≤ newest g
   reads-there unreadable = good.head.there
   reads-there (cell text) = good.head.there
   reads-there (cells texts) = good.head.there
@@ -62,6 +65,20 @@ module _ (g : Graph) (good : IsGraph g) where
   reads-there status = good.head.there
   reads-there inspect = good.head.there
   reads-there (stored of) = good.head.there
+  reads-there (plan to) = good.head.there
+
+-- The rows whose pictures it reads are of that commit's table.
+read-row : (h : History) (q : Request) (r : Row) → In r (rows_read h q) → In r (table_to h (reads_at h.graph q))
+read-row h unreadable r m = m
+read-row h (cell text) r m = m
+read-row h (cells texts) r m = m
+read-row h (checkout to) r m = (filter_in (λ x. not (is_row_of (head_table h) x)) (table_to h (reads_at h.graph (checkout to))) r m).0
+read-row h (branch title at) r m = m
+read-row h log r m = m
+read-row h status r m = m
+read-row h inspect r m = m
+read-row h (stored of) r m = m
+read-row h (plan to) r m = m
 
 -- ---- no picture is lacking where a session is attached
 
@@ -85,7 +102,7 @@ module _ (session : Session) (s : host.State) (ask : rust.Request) (at : ℕ) (l
         good_loads s.file h.graph (change_of h.changes) rows store holds c
             (reads-there h.graph b.kept.good.graph q) row m,
       ) in
-      (lacks h b.kept).1.some told each
+      (lacks h b.kept).1.some told (λ row m. each row (read-row h q row m))
 
   pub lacks-here : LacksHere session s ask at
   lacks-here = record { lacks = λ h kept. ((lacks h kept).0, (lacks h kept).1.lacks); never = never-lacks }

@@ -10,11 +10,12 @@ use Rattle.kishu_store.specs.Graph.{Commit, Graph}
 use Rattle.kishu_store.specs.Histories.{History, head_table, led}
 use Rattle.kishu_store.specs.Limits.{newest_profile}
 use Rattle.kishu_store.specs.Tables.{Change, table_in, change_of}
+use Rattle.kishu_graph.specs.Tables.{table_of_rows}
 use Rattle.kishu_history.specs.Accessed.{accessed_by}
 use Rattle.kishu_store_laws.specs.HistoryLaws.{IsHistory, led-history}
 use Rattle.kishu_graph.specs.Kept.{Kept, KeepsHistory}
 use Rattle.kishu_commit.specs.Told.{next_record, told_record, CanBeStored}
-use Rattle.kishu_session.specs.Head.{IsLoaded, KeepsTable}
+use Rattle.kishu_session.specs.Head.{Carries, IsLoaded, KeepsTable}
 use Rattle.kishu_session.specs.Known.{IsHistoryOf}
 use Rattle.kishu_session.specs.Lives.{state_of}
 use Rattle.kishu_session.specs.Prepared.{Leads, LeadsTo, led_with, Tells, TellsBy}
@@ -50,9 +51,16 @@ pub record IsStill (old new : Head) (h n : History) : Type 0 where
   pub table : new.table ≡ old.table
   pub kept : new.kept ≡ old.kept
 
--- They do, and the live state was loaded.
-pub record IsMoved (file : Option (List ℕ)) (new : Head) (h n : History) : Type 0 where
+-- They do, and the live state was carried on from the table of the head before.
+pub record IsMoved (file : Option (List ℕ)) (old new : Head) (h n : History) : Type 0 where
   pub same : IsSameStore h n
+  pub from : table_of_rows old.table ≡ head_table h
+  pub carries : Carries file old new
+
+-- The graph stays, and so do they; the live state was loaded anew.
+pub record IsReloaded (file : Option (List ℕ)) (new : Head) (h n : History) : Type 0 where
+  pub same : IsSameStore h n
+  pub graph : n.graph ≡ h.graph
   pub loaded : IsLoaded file new
 
 -- The record is the commit of these cells, which left the live state, as the head's table tells it among the names that they accessed.
@@ -65,7 +73,7 @@ pub record IsCommitted (old new : Head) (h : History) (r : Option Record) : Type
   pub held : (j : History) → IsHistoryOf new.graph j → KeepsTable new j
 
 abbrev pub Kind : Option (List ℕ) → (old new : Head) → History → Option Record → History → Type 0
-Kind file old new h r n = IsStill old new h n ⊎ IsMoved file new h n ⊎ IsCommitted old new h r
+Kind file old new h r n = IsStill old new h n ⊎ IsMoved file old new h n ⊎ IsReloaded file new h n ⊎ IsCommitted old new h r
 
 same-commits : (title : List ℕ) (o : Option ℕ) (g : Graph) → (on_branch title o g).commits ≡ g.commits
 same-commits title None g = refl
@@ -79,7 +87,7 @@ module _ (file : Option (List ℕ)) (old new : Head) (h : History) (now : Graph)
   by-entry : (r : Record) (e : Entry) → r.entry ≡ e → Leads h r now → TellsBy file old new r e → Kind file old new h (Some r) (led h r.entry)
   by-entry r (commit p f cells ds ss) is leads tells =
       let parent : p ≡ h.graph.head.commit = subst (λ (e : Entry). GoesOn h.graph e) is leads.fits.graph.goes_on in
-      inr (inr (record {
+      inr (inr (inr (record {
         cells = cells;
         is = ap (λ (x : Record). Some x)
             (tells.is h kept
@@ -88,9 +96,9 @@ module _ (file : Option (List ℕ)) (old new : Head) (h : History) (now : Graph)
         sound = tells.sound;
         fits = tells.fits h kept;
         held = tells.held;
-      }))
+      })))
   by-entry r (move to) is leads tells =
-      inr (inl (record { same = subst (λ (e : Entry). IsSameStore h (led h e)) (sym is) (moved-same h to); loaded = tells }))
+      inr (inl (record { same = subst (λ (e : Entry). IsSameStore h (led h e)) (sym is) (moved-same h to); from = tells.from h kept; carries = tells.carries }))
   by-entry r (name title n) is leads tells =
       inl (record {
         same = subst (λ (e : Entry). IsSameStore h (led h e)) (sym is) (record { commits = refl; changes = refl });
@@ -109,7 +117,7 @@ module _ (file : Option (List ℕ)) (old new : Head) (h : History) (now : Graph)
         table = ap (λ (x : Head). x.table) same;
         kept = ap (λ (x : Head). x.kept) same;
       })
-  kind-of None leads (inr back) = inr (inl (record { same = record { commits = refl; changes = refl }; loaded = back.loaded }))
+  kind-of None leads (inr back) = inr (inr (inl (record { same = record { commits = refl; changes = refl }; graph = refl; loaded = back.loaded })))
   kind-of (Some r) leads tells = by-entry r r.entry refl leads tells
 
 -- ---- tables

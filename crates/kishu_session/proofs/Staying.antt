@@ -1,5 +1,5 @@
 -- A session that was attached stays attached, and the live state stays the one that the head's table tells.
-use Rattle.std.proofs.Common.{◌≡◌, ◌≤◌, ◌+◌, inl, inr, ⊎_elim, ℕ, List, length, refl, sym, ◌∙◌, ap, subst}
+use Rattle.std.proofs.Common.{◌≡◌, ◌≤◌, ◌+◌, inl, inr, ⊎_elim, ℕ, List, refl, sym, ◌∙◌, ap, subst}
 use Rattle.std.specs.Prelude.{Bool, true, false, if◌then◌else◌, Option, Some, None}
 use Rattle.std.proofs.Math.Logic.{∥∥₁_elim}
 use Rattle.kishu_host.specs.Host as host
@@ -7,7 +7,6 @@ use Rattle.kishu_host.specs.Host.{Elapses, Only}
 use Rattle.kishu_host.specs.Going.{weaker}
 use Rattle.kishu_meaning.specs.values.Values as values
 use Rattle.kishu_objects.specs.Same.{Same}
-use Rattle.kishu_replay.specs.Replay.{replay}
 use Rattle.kishu_store.specs.Entries.{Record}
 use Rattle.kishu_store.specs.Graph.{Graph}
 use Rattle.kishu_store.specs.Histories.{History, head_table}
@@ -47,7 +46,7 @@ use Rattle.kishu_session.specs.declared.prepared.Prepared.{Prepared}
 use Rattle.kishu_session.specs.declared.session.Session.{Session}
 use Rattle.kishu_session.proofs.Applied.{after-at, behind-at-end, graph-now, kept-now, kind-now, leads-to, left-one, small-on}
 use Rattle.kishu_session.proofs.AttachFacts.{told-attached, told-some}
-use Rattle.kishu_session.proofs.Grown.{led-is, lives-grown, good-grown, few-grown}
+use Rattle.kishu_session.proofs.Grown.{led-is, lives-grown, good-grown}
 use Rattle.kishu_session.proofs.RecordKinds.{Kind, IsCommitted}
 use Rattle.kishu_session.proofs.OneTable.{one-head-table}
 use Rattle.kishu_session.proofs.Untold.{live-there}
@@ -155,9 +154,6 @@ module _ (old : Session) (new : Head) (s s1 : host.State) (q : Request) (p : Pre
           gives = now_good.gives;
           states = subst (λ (x : Head). good.IsAttached t.file n.graph (change_of now_good.changes) (state_of x.live)) (sym is)
               (told-attached t.file n.graph now_good (state_of new.live) told-new);
-          few =
-              subst (λ (x : Head). length (state_of x.live).nodes ≤ length (replay n.graph n.graph.head.commit).nodes) (sym is)
-              (few-grown s.file t.file rs r here has old.head new states a.few kept-new kind);
         }
 
         pub attached-new : IsAttached next t (after h.graph q)

@@ -1,18 +1,28 @@
 -- What a request gives, over the graph of the host's file: `s` is the host before, `t` the host after.
-use Rattle.std.specs.Prelude.{◌≡◌, ◌≤◌, ◌⊎◌, ℕ, ◌+◌, List, Some}
+use Rattle.std.specs.Prelude.{◌≡◌, ◌≤◌, ◌<◌, ◌⊎◌, ℕ, ◌+◌, List, length, Some}
+use Rattle.kishu_meaning.specs.values.Values.{find}
+use Rattle.kishu_history.specs.Changed.{Group}
+use Rattle.kishu_history.specs.Paths.{stops}
 use Rattle.kishu_history.specs.Sizes.{StaysSmall}
-use Rattle.kishu_host.specs.Host.{State, Told, Only, Elapses}
+use Rattle.kishu_history.specs.Versions.{kept, loaded}
+use Rattle.kishu_host.specs.Host.{State, Told, Only, Elapses, ReadsMore}
+use Rattle.kishu_objects.specs.Lists.{In}
 use Rattle.kishu_objects.specs.Same.{Same}
+use Rattle.kishu_objects.specs.Shape.{node_at}
+use Rattle.kishu_objects.specs.Sizes.{size_among}
 use Rattle.kishu_store.specs.Graph.{Graph}
-use Rattle.kishu_store.specs.Histories.{History, table_to}
+use Rattle.kishu_store.specs.Histories.{History}
 use Rattle.kishu_store.specs.Holds.{Gives}
 use Rattle.kishu_store.specs.Tables.{Change, change_of}
 use Rattle.kishu_replay.specs.Replay.{replay}
 use Rattle.kishu_model.specs.declared.answer.Answer.{Answer}
 use Rattle.kishu_model.specs.declared.request.Request.{Request}
+use Rattle.kishu_model.specs.Request as model
+use Rattle.kishu_model.specs.Request.{cell, checkout}
 use Rattle.kishu_model.specs.Serve.{after}
 use Rattle.kishu_model.specs.Step.{step, charge_of}
 use Rattle.kishu_model.specs.Values.{request_of, answer_of}
+use Rattle.kishu_live_laws.specs.Made.{made_by}
 use Rattle.kishu_live_laws.specs.OnStates.{after_on}
 use Rattle.kishu_checkout.specs.Pictures.{LacksAt}
 use Rattle.kishu_session.specs.Attached.{IsAtEnd, IsAttached, LivesIn}
@@ -20,9 +30,18 @@ use Rattle.kishu_session.specs.Filling.{FillsBy}
 use Rattle.kishu_session.specs.Journals.{BeforeOrAfter, GoodBeforeOrAfter}
 use Rattle.kishu_session.specs.Known.{IsHistoryOf}
 use Rattle.kishu_session.specs.Lives.{state_of}
-use Rattle.kishu_session.specs.Reading.{reads_at, MayRead}
+use Rattle.kishu_session.specs.Reading.{rows_read, MayRead}
+use Rattle.kishu_session.specs.Refusing.{IsRefusal, RefusesSize}
+use Rattle.kishu_session.specs.Sized.{most_kept}
+use Rattle.kishu_session.specs.Working.{CountsUpTo}
+pub use Rattle.kishu_session.specs.Working.{IsIdle, most_steps}
 use Rattle.kishu_session.specs.Written.{IsRecorded}
 use Rattle.kishu_session.specs.declared.session.Session.{Session}
+
+-- ---- kinds of requests
+
+abbrev pub IsCell : model.Request → Type 0
+IsCell q = (text : List ℕ) × (q ≡ cell text)
 
 -- ---- from a session that is attached
 
@@ -73,16 +92,67 @@ IsBackAt old new s = Told s (LivesIn old s → Same (state_of new.head.live) (st
 
 -- ---- why a picture isn't loaded
 
--- The request may read pictures, and at this place a row of the table that it reads has none. An attached session has no such place.
+-- The request may read pictures, and at this place one of the rows whose pictures it reads has none. An attached session has no such place.
 pub record LacksHere (old : Session) (s : State) (q : Request) (at : ℕ) : Type 0 where
-  pub lacks : (h : History) → IsHistoryOf old.head.graph h → MayRead h.graph (request_of q) × LacksAt s (table_to h (reads_at h.graph (request_of q))) at
+  pub lacks : (h : History) → IsHistoryOf old.head.graph h → MayRead h.graph (request_of q) × LacksAt s (rows_read h (request_of q)) at
   pub never : Told s ((g : Graph) → IsAttached old s g → ⊥)
 
 -- ---- where the heap is full
 
--- A cell of the request would begin with more than 2^31 nodes on the replay of the head, which has as many as the live state or more.
+-- Where so many nodes were made before, no fewer than the live state has, a cell of the request or the loading of a checkout would begin with more than 2^31 made.
 abbrev pub FillsReplay : Session → State → Request → Type 0
-FillsReplay old s q = Told s ((g : Graph) → IsAttached old s g → FillsBy (replay g g.head.commit) (request_of q))
+FillsReplay old s q = Told s ((g : Graph) → IsAttached old s g → (made : ℕ) → length (state_of old.head.live).nodes ≤ made → FillsBy made g (request_of q))
+
+-- The live state has at most as many more nodes as the request makes by one step of the machine that replays.
+abbrev pub MakesNodes : (old new : Session) → State → model.Request → Type 0
+MakesNodes old new s q = Told s ((g : Graph) → IsAttached old s g → length (state_of new.head.live).nodes ≤ length (state_of old.head.live).nodes + made_by g q)
+
+-- ---- a checkout that isn't refused
+
+abbrev pub IsCheckout : Request → Type 0
+IsCheckout q = (to : List ℕ) × (request_of q ≡ checkout to)
+
+-- The old nodes are as before under their old numbers.
+abbrev pub KeepsNodes : (old new : Session) → Type 0
+KeepsNodes old new =
+    (i : ℕ) → i < length (state_of old.head.live).nodes
+    → (i < length (state_of new.head.live).nodes) × (node_at (state_of old.head.live).nodes i ≡ node_at (state_of new.head.live).nodes i)
+
+-- The names of the groups that both commits have with one version have their old values.
+abbrev pub KeepsNames : (old new : Session) → State → Request → Type 0
+KeepsNames old new s q =
+    Told s ((g : Graph) → IsAttached old s g → (group : Group) → In group (kept (stops g g.head.commit) (stops g (after g (request_of q)).head.commit))
+    → (x : List ℕ) → In x group → find x (state_of new.head.live).names ≡ find x (state_of old.head.live).names)
+
+-- From so many nodes at most nothing but the groups that differ is loaded.
+abbrev pub StaysLoaded : Session → Type 0
+StaysLoaded session = length (state_of session.head.live).nodes ≤ most_kept
+
+abbrev pub KeepsOld : (old new : Session) → State → Request → Answer → Type 0
+KeepsOld old new s q a = IsCheckout q → (IsRefusal (answer_of a) → ⊥) → StaysLoaded old → KeepsNodes old new × KeepsNames old new s q
+
+-- ---- the work
+
+-- The host's bytes read rose by just the lengths of the pictures of the groups that are loaded.
+abbrev pub ReadsLoaded : Session → (s t : State) → Request → Answer → Type 0
+ReadsLoaded old s t q a =
+    IsCheckout q → (IsRefusal (answer_of a) → ⊥)
+    → Told s ((g : Graph) → IsAttached old s g → ReadsMore s.reads t.reads
+    (size_among (loaded (stops g g.head.commit) (stops g (after g (request_of q)).head.commit)) (replay g (after g (request_of q)).head.commit)))
+
+-- These requests read no byte. Nor does a cell that is committed.
+abbrev pub ReadsNone : Request → Answer → Type 0
+ReadsNone q a = IsIdle (request_of q) ⊎ (IsCell (request_of q) × (IsRefusal (answer_of a) → ⊥) × ((bytes : ℕ) → RefusesSize (answer_of a) bytes → ⊥))
+
+-- Each of these leaves the counter as it was: a checkout from a heap that isn't loaded anew, and requests that only tell what is kept.
+abbrev pub LeavesCounter : Session → Request → Type 0
+LeavesCounter old q = IsIdle (request_of q) ⊎ (IsCheckout q × StaysLoaded old)
+
+-- The counter rose by at most so much at a cell that is committed.
+abbrev pub CountsAtMost : (old new : Session) → Request → Answer → (before now : ℕ) → Type 0
+CountsAtMost old new q a before now =
+    (text : List ℕ) → request_of q ≡ cell text → (IsRefusal (answer_of a) → ⊥) → ((bytes : ℕ) → RefusesSize (answer_of a) bytes → ⊥) → StaysLoaded old
+    → CountsUpTo old.head new.head text before now
 
 -- ---- sizes
 

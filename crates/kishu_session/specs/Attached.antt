@@ -1,11 +1,10 @@
 -- A session that stands for the graph of its host's file.
-use Rattle.std.specs.Prelude.{◌≡◌, ◌≤◌, false, List, length}
+use Rattle.std.specs.Prelude.{◌≡◌, false, List}
 use Rattle.kishu_host.specs.Host as host
 use Rattle.kishu_store.specs.Graph.{Graph}
 use Rattle.kishu_store.specs.Holds.{Gives}
 use Rattle.kishu_store.specs.Tables.{Change, change_of}
 use Rattle.kishu_graph.specs.Kept.{StandsFor, TellsChanges}
-use Rattle.kishu_replay.specs.Replay.{replay}
 use Rattle.kishu_history.specs.Good as good
 use Rattle.kishu_checkout.specs.Pictures.{told_file}
 use Rattle.kishu_session.specs.Head.{CountsPath, Lives}
@@ -19,7 +18,7 @@ pub record IsAtEnd (session : Session) (s : host.State) (g : Graph) : Type 0 whe
   pub graph : StandsFor session.head.graph g
   pub tables : (cs : List Change) → Gives s.file cs → TellsChanges session.head.graph cs
 
--- No earlier call ended the session, and nothing is pending. It stands at the end of the file, which is good; and the live state is the one that the head's table tells, and the same as that of the head's replay, sharing and identity included. It has no more nodes than that.
+-- No earlier call ended the session, and nothing is pending. It stands at the end of the file, which is good; and the live state is the one that the head's table tells, and the same as that of the head's replay, sharing and identity included.
 pub record IsAttached (session : Session) (s : host.State) (g : Graph) : Type 0 where
   pub going : session.halted ≡ false
   pub durable : host.Only s.file s.may_leave
@@ -28,7 +27,6 @@ pub record IsAttached (session : Session) (s : host.State) (g : Graph) : Type 0 
   pub changes : List Change
   pub gives : Gives s.file changes
   pub states : good.IsAttached s.file g (change_of changes) (state_of session.head.live)
-  pub few : length (state_of session.head.live).nodes ≤ length (replay g g.head.commit).nodes
 
 -- The session stands at the end of its host's file, whichever graph that holds.
 abbrev pub StandsAtEnd : Session → host.State → Type 0

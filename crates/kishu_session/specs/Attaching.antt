@@ -1,12 +1,14 @@
 -- What opening gives, from what the file holds: `s` is the host before, `t` the host after.
-use Rattle.std.specs.Prelude.{◌≡◌, ◌⊎◌, ℕ, List}
+use Rattle.std.specs.Prelude.{◌≡◌, ◌≤◌, ◌⊎◌, ℕ, List, length}
 use Rattle.kishu_host.specs.Host.{State, Told, Now, Only, Keeps, Elapses}
 use Rattle.kishu_store.specs.Graph.{Graph}
 use Rattle.kishu_store.specs.Holds.{Holds, Gives, IsForeign, IsBroken}
 use Rattle.kishu_store.specs.Tables.{Change, change_of, table_at}
 use Rattle.kishu_history.specs.Good.{IsGoodFile, IsGoodFileOf}
 use Rattle.kishu_checkout.specs.Pictures.{LacksAt}
+use Rattle.kishu_live_laws.specs.Made.{opened_nodes}
 use Rattle.kishu_session.specs.Attached.{IsAttached}
+use Rattle.kishu_session.specs.Lives.{state_of}
 use Rattle.kishu_session.specs.Written.{begun, HoldsNone, Stays}
 use Rattle.kishu_session.specs.declared.session.Session.{Session}
 
@@ -15,6 +17,10 @@ use Rattle.kishu_session.specs.declared.session.Session.{Session}
 -- It is attached to the graph that a good file holds.
 abbrev pub Attaches : Session → (s t : State) → Type 0
 Attaches session s t = Told s ((g : Graph) → IsGoodFileOf s.file g → IsAttached session t g)
+
+-- Its live state has no more nodes than the pictures of the head's groups.
+abbrev pub OpensNodes : Session → State → Type 0
+OpensNodes session s = Told s ((g : Graph) → IsGoodFileOf s.file g → length (state_of session.head.live).nodes ≤ opened_nodes g g.head.commit)
 
 -- ---- what becomes of the file
 

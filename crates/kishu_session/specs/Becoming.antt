@@ -9,8 +9,9 @@ use Rattle.kishu_model.specs.Request.{Request}
 use Rattle.kishu_model.specs.Values.{request_of, answer_of}
 use Rattle.kishu_model.specs.declared.answer.Answer.{Answer}
 use Rattle.kishu_model.specs.declared.request.Request as rust_request
-use Rattle.kishu_live_laws.specs.OnStates.{after_on, answer_on, state_on}
-use Rattle.kishu_checkout.specs.Loads.{IsLoadedFrom}
+use Rattle.kishu_history.specs.Checkout.{to_load, to_drop}
+use Rattle.kishu_live_laws.specs.OnStates.{after_on, answer_on, head_rows, state_on}
+use Rattle.kishu_checkout.specs.Loads.{AreCarried, IsLoadedFrom}
 use Rattle.kishu_session.specs.Attached.{IsAtEnd}
 use Rattle.kishu_session.specs.Lives.{state_of}
 use Rattle.kishu_session.specs.declared.session.Session.{Session}
@@ -21,13 +22,21 @@ pub record IsHeadLoaded (file : List ℕ) (g : Graph) (u : State) : Type 0 where
   pub gives : Gives file changes
   pub loaded : IsLoadedFrom file (table_at g (change_of changes) g.head.commit) u
 
--- After a request that commits nothing it may be the one that was loaded for the head of the graph.
-abbrev pub IsLoadedAfter : List ℕ → (ℕ → Change) → Graph → State → Request → State → Type 0
-IsLoadedAfter file changes g u q v = (newest (after_on changes u g q) ≤ newest g) × IsHeadLoaded file (after_on changes u g q) v
+-- From the table of one graph's head to that of another's: the names of the groups to drop are unbound, and the pictures loaded that a file holds for the rows to load. What both tables have alike stays.
+abbrev pub IsHeadCarried : List ℕ → (ℕ → Change) → (g now : Graph) → (u v : State) → Type 0
+IsHeadCarried file changes g now u v = AreCarried (Some file) (to_drop (head_rows changes g) (head_rows changes now)) (to_load (head_rows changes g) (head_rows changes now)) u v
 
--- Where the records of the commits change this: after a request on a state it is the one that the request's cells left, where they are committed, and the same where none are; or none are, and it was loaded for the head of the graph after it.
+-- After a request that commits nothing it may be carried on to the head of the graph.
+abbrev pub IsCarriedAfter : List ℕ → (ℕ → Change) → Graph → State → Request → State → Type 0
+IsCarriedAfter file changes g u q v = (newest (after_on changes u g q) ≤ newest g) × IsHeadCarried file changes g (after_on changes u g q) u v
+
+-- After a request that changes nothing it may be the one that was loaded anew for the head.
+abbrev pub IsLoadedAfter : List ℕ → (ℕ → Change) → Graph → State → Request → State → Type 0
+IsLoadedAfter file changes g u q v = (after_on changes u g q ≡ g) × IsHeadLoaded file g v
+
+-- Where the records of the commits change this: after a request on a state it is the one that the request's cells left, where they are committed, and the same where none are; or none are, and it was carried on to the head of the graph after it; or nothing changed, and it was loaded anew.
 abbrev pub IsNextState : List ℕ → (ℕ → Change) → Graph → State → Request → State → Type 0
-IsNextState file changes g u q v = (v ≡ state_on changes u g q) ⊎ IsLoadedAfter file changes g u q v
+IsNextState file changes g u q v = (v ≡ state_on changes u g q) ⊎ IsCarriedAfter file changes g u q v ⊎ IsLoadedAfter file changes g u q v
 
 -- ---- of a session: `s` is the host before, `t` the host after
 

@@ -2,14 +2,17 @@
 use Rattle.std.specs.Prelude.{◌≡◌, ◌≤◌, ◌*◌, ◌^◌, ℕ, List, Option, Some, None}
 use Rattle.kishu_host.specs.Host.{State}
 use Rattle.kishu_store.specs.Graph.{Graph, newest, count_of}
-use Rattle.kishu_store.specs.Histories.{History, head_table}
-use Rattle.kishu_store.specs.Tables.{Table, groups_in}
+use Rattle.kishu_store.specs.Groups.{Group}
+use Rattle.kishu_store.specs.Histories.{History, head_table, table_to}
+use Rattle.kishu_store.specs.Tables.{Table, bytes_in, groups_in}
 use Rattle.kishu_graph.specs.Kept.{Kept}
 use Rattle.kishu_graph.specs.Tables.{table_of_rows}
+use Rattle.kishu_history.specs.Checkout.{to_load, to_drop}
 use Rattle.kishu_history.specs.Live.{IsLive}
 use Rattle.kishu_history.specs.Stored.{Stored}
 use Rattle.kishu_delta.specs.Kept.{KeepsJust}
-use Rattle.kishu_checkout.specs.Loads.{IsLoadedFrom}
+use Rattle.kishu_journal.specs.Going.{ReadsAtMost}
+use Rattle.kishu_checkout.specs.Loads.{AreCarried, IsLoadedFrom}
 use Rattle.kishu_checkout.specs.Pictures.{LacksAt, LacksSome}
 use Rattle.kishu_session.specs.Known.{IsHistoryOf}
 use Rattle.kishu_session.specs.Lives.{state_of}
@@ -46,6 +49,10 @@ pub record KeepsTable (head : Head) (h : History) : Type 0 where
   pub table : table_of_rows head.table ≡ head_table h
   pub pictures : KeepsJust head.kept (groups_in (head_table h)) (state_of head.live)
 
+-- That table is kept, whichever history is meant.
+abbrev pub KeepsHeadTable : Head → Type 0
+KeepsHeadTable head = (h : History) → IsHistoryOf head.graph h → table_of_rows head.table ≡ head_table h
+
 -- Where the file is told, the live state is what its pictures leave of the empty one that are stored for the rows of the head's table.
 abbrev pub IsGiven : Option (List ℕ) → Head → History → Type 0
 IsGiven None head h = Unit {0}
@@ -61,6 +68,33 @@ pub record IsLoadedAt (file : Option (List ℕ)) (head : Head) (h : History) : T
 abbrev pub IsLoaded : Option (List ℕ) → Head → Type 0
 IsLoaded file head = (h : History) → IsHistoryOf head.graph h → IsLoadedAt file head h
 
+-- ---- a state that was carried on
+
+-- The rows whose pictures are loaded on the way from one table to another, and the groups whose names are unbound: those of the heads.
+abbrev pub rows_to_load : (old new : Head) → Table
+rows_to_load old new = to_load (table_of_rows old.table) (table_of_rows new.table)
+
+abbrev pub groups_to_drop : (old new : Head) → List Group
+groups_to_drop old new = to_drop (table_of_rows old.table) (table_of_rows new.table)
+
+-- Now the table of the head's commit is kept, in each history that is kept. Where a host tells this of its file, the live state is the old one with the pictures loaded that are stored for the rows to load, after the names of the groups to drop were unbound; and just of the table's groups the pictures in it are kept.
+pub record Carries (file : Option (List ℕ)) (old new : Head) : Type 0 where
+  pub to : (h : History) → IsHistoryOf new.graph h → table_of_rows new.table ≡ head_table h
+  pub state : AreCarried file (groups_to_drop old new) (rows_to_load old new) (state_of old.live) (state_of new.live)
+  pub pictures : KeepsJust new.kept (groups_in (table_of_rows new.table)) (state_of new.live)
+
+-- So it came from the table of the head before, which was kept.
+pub record IsCarried (file : Option (List ℕ)) (old new : Head) : Type 0 where
+  pub from : (h : History) → IsHistoryOf old.graph h → table_of_rows old.table ≡ head_table h
+  pub carries : Carries file old new
+
+-- What is kept of the table of some commit, in each history that is kept: the live state is the one that this table tells, by the lengths of its pictures, and just of its groups the pictures in it are kept.
+pub record KeepsSome (head : Head) : Type 0 where
+  pub commit : ℕ
+  pub table : (h : History) → IsHistoryOf head.graph h → table_of_rows head.table ≡ table_to h commit
+  pub lives : IsLive (Stored None) (table_of_rows head.table) (state_of head.live)
+  pub pictures : KeepsJust head.kept (groups_in (table_of_rows head.table)) (state_of head.live)
+
 -- ---- pictures that aren't there
 
 -- At this place a row of the table has no picture; and so not each row has one.
@@ -68,9 +102,23 @@ pub record Lacks (s : State) (t : Table) (at : ℕ) : Type 0 where
   pub lacks : LacksAt s t at
   pub some : LacksSome s t
 
+-- So it is with the rows that are to be loaded, from the table that is kept to that of the head's commit.
+abbrev pub LacksToLoad : Head → State → ℕ → Type 0
+LacksToLoad head s at = (h : History) → IsHistoryOf head.graph h → Lacks s (to_load (table_of_rows head.table) (head_table h)) at
+
 -- So it is with the head's table.
 abbrev pub LacksAtHead : Kept → State → ℕ → Type 0
 LacksAtHead kept s at = (h : History) → IsHistoryOf kept h → Lacks s (head_table h) at
+
+-- ---- the bytes that are read
+
+-- At most the pictures of those rows were read.
+abbrev pub ReadsToLoad : Head → (s t : State) → Type 0
+ReadsToLoad head s t = (h : History) → IsHistoryOf head.graph h → ReadsAtMost s.reads t.reads (bytes_in (to_load (table_of_rows head.table) (head_table h)))
+
+-- At most those of the head's table.
+abbrev pub ReadsAtHead : Kept → (s t : State) → Type 0
+ReadsAtHead kept s t = (h : History) → IsHistoryOf kept h → ReadsAtMost s.reads t.reads (bytes_in (head_table h))
 
 -- ---- whatever the host tells
 

@@ -1,5 +1,6 @@
 pub mod TextLists
 pub mod Known
+pub mod OneTable
 pub mod Lives
 pub mod Running
 pub mod Sized
@@ -10,6 +11,7 @@ pub mod Reading
 pub mod Head
 pub mod Committing
 pub mod Prepared
+pub mod Working
 pub mod Moves
 pub mod LogRows
 pub mod Branching

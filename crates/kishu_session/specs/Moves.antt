@@ -5,7 +5,7 @@ use Rattle.kishu_store.specs.Graph.{Target}
 use Rattle.kishu_store.specs.Rules.{IsRecord}
 use Rattle.kishu_model.specs.Answers.{Answer, checked_out}
 use Rattle.kishu_model.specs.Values.{answer_of}
-use Rattle.kishu_session.specs.Head.{Counts, IsLoaded}
+use Rattle.kishu_session.specs.Head.{Carries, Counts}
 use Rattle.kishu_session.specs.Prepared.{record_in}
 use Rattle.kishu_session.specs.declared.head.Head.{Head}
 use Rattle.kishu_session.specs.declared.prepared.Prepared.{Prepared}
@@ -24,10 +24,10 @@ entry_to target = move (move_to target)
 abbrev pub told_at : Target → Answer
 told_at target = checked_out target.commit target.branch
 
--- What a move leads to that put the head where it stands: the answer that tells it, its record, and the state that was loaded there.
-pub record IsMoved (file : Option (List ℕ)) (head : Head) (prepared : Prepared) : Type 0 where
+-- What a move leads to that put the head where it stands: the answer that tells it, its record, and the state that was carried there.
+pub record IsMoved (file : Option (List ℕ)) (old head : Head) (prepared : Prepared) : Type 0 where
   pub answer : answer_of prepared.answer ≡ Some (told_at head.graph.head)
   pub recorded : record_in prepared.recorded ≡ Some (plain (entry_to head.graph.head))
   pub rules : IsRecord (plain (entry_to head.graph.head))
-  pub loaded : IsLoaded file head
+  pub carries : Carries file old head
   pub count : Counts head

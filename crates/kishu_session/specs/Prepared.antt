@@ -4,7 +4,7 @@ use Rattle.kishu_host.specs.Host.{State}
 use Rattle.kishu_store.specs.Graph.{Graph}
 use Rattle.kishu_store.specs.Entries.{Entry, Record, commit, move, name}
 use Rattle.kishu_store.specs.Fitting.{changed}
-use Rattle.kishu_store.specs.Histories.{History, Follows, head_table, led, table_to}
+use Rattle.kishu_store.specs.Histories.{History, Follows, head_table, led}
 use Rattle.kishu_store.specs.Limits.{newest_profile}
 use Rattle.kishu_store.specs.Rules.{IsRecord}
 use Rattle.kishu_store.specs.Tables.{change_of}
@@ -23,10 +23,10 @@ use Rattle.kishu_commit.specs.declared.committing.Record as rust_record
 use Rattle.kishu_live_laws.specs.OnStates.{answer_on, after_on, charge_on}
 use Rattle.kishu_live_laws.specs.Refusals.{LeavesTooLarge}
 use Rattle.kishu_session.specs.Committing.{record_of}
-use Rattle.kishu_session.specs.Head.{CountsPath, IsLoaded, KeepsTable, Lacks}
+use Rattle.kishu_session.specs.Head.{CountsPath, IsCarried, IsLoaded, KeepsTable, Lacks}
 use Rattle.kishu_session.specs.Known.{IsHistoryOf}
 use Rattle.kishu_session.specs.Lives.{state_of}
-use Rattle.kishu_session.specs.Reading.{reads_at, MayRead}
+use Rattle.kishu_session.specs.Reading.{rows_read, MayRead}
 use Rattle.kishu_session.specs.Refusing.{RefusesAs, RefusesSize}
 use Rattle.kishu_session.specs.declared.head.Head.{Head}
 use Rattle.kishu_session.specs.declared.prepared.Prepared.{Prepared}
@@ -117,10 +117,10 @@ pub record IsCommitOf (old new : Head) (r : Record) (parent : ℕ) (cells : List
   pub fits : (h : History) → IsHistoryOf old.graph h → CanBeStored (head_table h) (state_of old.live) (accessed_by newest_profile cells (state_of old.live)) (state_of new.live)
   pub held : (h : History) → IsHistoryOf new.graph h → KeepsTable new h
 
--- To a move belongs a state that was loaded. A branch leaves it.
+-- To a move belongs a state that was carried on. A branch leaves it.
 abbrev pub TellsBy : Option (List ℕ) → (old new : Head) → Record → Entry → Type 0
 TellsBy file old new r (commit parent profile cells dropped stored) = IsCommitOf old new r parent cells
-TellsBy file old new r (move to) = IsLoaded file new
+TellsBy file old new r (move to) = IsCarried file old new
 TellsBy file old new r (name title number) = KeepsState old new
 
 -- Where there is no record, nothing changes, or the head's state was loaded.
@@ -162,6 +162,6 @@ LeadsAlone old new q prepared = (file : Option (List ℕ)) (place : ℕ) → Lea
 abbrev pub StaysWithout : {H : Type 0} → (old new : Head) → (host now : H) → Prepared → Type 0
 StaysWithout old new host now prepared = prepared.recorded ≡ None → RefusesNoSize prepared.answer → (new ≡ old) × (now ≡ host)
 
--- The request may read pictures, and a row of the table that it reads has none at this place.
+-- The request may read pictures, and one of the rows whose pictures it reads has none at this place.
 abbrev pub LacksFor : Kept → State → Request → ℕ → Type 0
-LacksFor kept s q at = (h : History) → IsHistoryOf kept h → MayRead h.graph q × Lacks s (table_to h (reads_at h.graph q)) at
+LacksFor kept s q at = (h : History) → IsHistoryOf kept h → MayRead h.graph q × Lacks s (rows_read h q) at

@@ -1,10 +1,11 @@
 // The answering of requests.
 ghost use Rattle.std.specs.Prelude.{ℕ, ◌≡◌, ◌≤◌, ◌⊎◌, ◌↔◌, true, IfOk, IfErr, OnOk, IsErr, IsErrOf, IsSome};
+ghost use Rattle.kishu_host.specs.Host.{ReadsMore};
 ghost use Rattle.kishu_replay.specs.Replay.{IsFull};
 ghost use Rattle.kishu_model.specs.Values.{request_of, answer_of};
 ghost use Rattle.kishu_model.specs.requests.Cells.{HasRoom};
 ghost use Rattle.kishu_journal.specs.Going.{IsQuiet};
-ghost use Rattle.kishu_session.specs.Applying.{IsAnswer, StaysAttached, Counts, StaysAtEnd, StaysLive, IsBackAt, LacksHere, FillsReplay, RecordsOne, LeavesBeforeOrAfter, LeavesHere, KeepsSmall};
+ghost use Rattle.kishu_session.specs.Applying.{IsAnswer, IsIdle, StaysAttached, Counts, CountsAtMost, StaysAtEnd, StaysLive, IsBackAt, KeepsOld, LacksHere, LeavesCounter, FillsReplay, MakesNodes, ReadsLoaded, ReadsNone, RecordsOne, LeavesBeforeOrAfter, LeavesHere, KeepsSmall};
 ghost use Rattle.kishu_session.specs.Attached.{IsReady};
 ghost use Rattle.kishu_session.specs.Faults.{DiskFailed};
 ghost use Rattle.kishu_session.specs.Filling.{FillsHere};
@@ -30,10 +31,11 @@ impl Session {
     /// After an error the session is closed.
     ///
     /// - `Closed`: an earlier call ended the session. The host isn't called.
-    /// - `Damaged`: at that place there is no picture of a group of the commit to which a checkout goes, or
-    ///   of the head's, to which cells came back that left a state that is too large.
+    /// - `Damaged`: at that place there is no picture of a group that a checkout loads, or of one of the
+    ///   head's, to which cells came back that left a state that is too large.
     /// - `DiskFault`: a call of the host failed. The store holds the graph before or after the request.
-    /// - `HeapFull`: a cell of the request would have begun with more than 2^31 nodes.
+    /// - `HeapFull`: a cell of the request, or the loading of a checkout, would have begun with more than
+    ///   2^31 nodes.
     /// - `NoMemory`: there was no memory.
     pub fn apply<H: Host, L: Ledger>(
         &mut self,
@@ -58,9 +60,14 @@ impl Session {
         ensures bytes { OnOk result (RecordsOne self.old (H.state host.old) (H.state host.new)) }
 
         // So the answer is the one on the live state. That becomes the one that the request's cells left,
-        // where they are committed; else it stays, or is loaded for the head of the graph after the request.
+        // where they are committed; else it stays, or is carried on to the head of the graph after the
+        // request, or is loaded anew for the head.
         ensures answered_here { IfOk result (IsAnswerHere self.old (H.state host.old) request.now) }
         ensures goes_on { OnOk result (GoesOnLive self.old self.new (H.state host.old) request.now) }
+
+        // A checkout that isn't refused leaves the nodes that were there, from at most 8,000,000; and from an
+        // attached session the names of the groups that both commits have with one version keep their values.
+        ensures kept { IfOk result (λ a. KeepsOld self.old self.new (H.state host.old) request.now a) }
 
         // On every store the live state stays the one that the head's table tells.
         ensures live { OnOk result (StaysLive self.old self.new (H.state host.old) (H.state host.new)) }
@@ -113,6 +120,24 @@ impl Session {
             ⊎ (e ≡ DiskFault) ⊎ (e ≡ NoMemory) ⊎ (e ≡ HeapFull) ⊎ (e ≡ Closed)) }
         ensures disk { (H.state host.old).disk_faults ≤ (H.state host.new).disk_faults }
         ensures outs { (H.state host.old).out_faults ≤ (H.state host.new).out_faults }
+
+        // From an attached session the live state gets at most the nodes that one step of the machine makes.
+        ensures makes { OnOk result
+            (MakesNodes self.old self.new (H.state host.old) (request_of request.now)) }
+
+        // A checkout reads just the pictures of the groups that it loads. A cell that is committed reads
+        // nothing. Whatever the result is, what only tells or names what is kept reads nothing, and the counter
+        // stays, but at cells, `inspect`, and a checkout from more than 8,000,000 nodes. A cell that is committed
+        // raises it by no more than its bound.
+        ensures loads { IfOk result (λ a.
+            ReadsLoaded self.old (H.state host.old) (H.state host.new) request.now a) }
+        ensures reads { IfOk result (λ a. ReadsNone request.now a
+            → ReadsMore (H.state host.old).reads (H.state host.new).reads 0) }
+        ensures idle { IsIdle (request_of request.now)
+            → ReadsMore (H.state host.old).reads (H.state host.new).reads 0 }
+        ensures still { LeavesCounter self.old request.now → steps.new ≡ steps.old }
+        ensures most { IfOk result (λ a.
+            CountsAtMost self.old self.new request.now a steps.old steps.new) }
 
         // Each step of the request's own cells is counted.
         ensures least { OnOk result (Counts self.old (H.state host.old) request.now steps.old steps.new) }

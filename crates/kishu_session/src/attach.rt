@@ -1,10 +1,11 @@
 // The opening of a session.
-ghost use Rattle.std.specs.Prelude.{◌≡◌, ◌≤◌, ℕ, false, IfOk, IfErr, OnOk, IsErrOf};
+ghost use Rattle.std.specs.Prelude.{◌≡◌, ◌≤◌, ◌*◌, ℕ, false, length, IfOk, IfErr, OnOk, IsErrOf};
 ghost use Rattle.kishu_host.specs.Host.{Told};
-ghost use Rattle.kishu_journal.specs.Facts.{KeepsTables, IsOfHistory, BeginsShort, IsDurable, WasBroken};
+ghost use Rattle.kishu_journal.specs.Facts.{KeepsTables, IsOfHistory, BeginsShort, IsDurable, ReadsFile, WasBroken};
+ghost use Rattle.kishu_journal.specs.Going.{ReadsAtMost};
 ghost use Rattle.kishu_journal.specs.Stores.{Opens};
 ghost use Rattle.kishu_session.specs.Attached.{StandsAtEnd, LivesIn};
-ghost use Rattle.kishu_session.specs.Attaching.{Attaches, IsBegun, KeepsGraphs, KeepsGood, KeepsBad, KeepsDamaged, SettlesUnless, SettlesGood, LeavesGraph, LeavesGood, FindsForeign, FindsDamage};
+ghost use Rattle.kishu_session.specs.Attaching.{Attaches, IsBegun, OpensNodes, KeepsGraphs, KeepsGood, KeepsBad, KeepsDamaged, SettlesUnless, SettlesGood, LeavesGraph, LeavesGood, FindsForeign, FindsDamage};
 ghost use Rattle.kishu_session.specs.Faults.{DiskFailed};
 ghost use Rattle.kishu_session.specs.Becoming.{LoadsHead};
 ghost use Rattle.kishu_session.specs.Head.{IsKnown};
@@ -29,6 +30,7 @@ fn opened<H: Host>(alloc: Global, host: &mut H) -> Result<OpenStore, Halt>
     ensures begun { OnOk result (BeginsShort (H.state host.old) (H.state host.new)) }
     ensures durable { OnOk result (IsDurable (H.state host.old) (H.state host.new)) }
     ensures opening { IsOpening (IsErrOf result DiskFault) (H.state host.old) (H.state host.new) }
+    ensures reads { ReadsFile (H.state host.old) (H.state host.new) }
     ensures foreign { IsErrOf result NotAJournal → FindsForeign (H.state host.old) }
     ensures damaged { (at : ℕ) → IsErrOf result (Damaged at) → WasBroken (H.state host.old) at }
     ensures disk_fault { IsErrOf result DiskFault → DiskFailed (H.state host.old) (H.state host.new) }
@@ -96,8 +98,13 @@ impl Session {
         ensures disk { (H.state host.old).disk_faults ≤ (H.state host.new).disk_faults }
         ensures outs { (H.state host.old).out_faults ≤ (H.state host.new).out_faults }
 
-        // No step is counted.
+        // From a good file the state gets no more nodes than the pictures of the head's groups have.
+        ensures makes { IfOk result (λ s. OpensNodes s (H.state host.old)) }
+
+        // No step is counted, and at most three times as many bytes are read as the file has.
         ensures counted { steps.new ≡ steps.old }
+        ensures reads { Told (H.state host.old) (ReadsAtMost (H.state host.old).reads
+            (H.state host.new).reads (3 * length (H.state host.old).file)) }
     {
         let OpenStore { journal, graph } = opened(alloc, host)?;
         let head = Head::of_store(alloc, host, &journal, graph)?;

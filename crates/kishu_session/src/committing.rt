@@ -1,9 +1,15 @@
 // The commit of cells that were run: its record, and what a session keeps of it.
-ghost use Rattle.std.specs.Prelude.{◌≡◌, ◌≤◌, ◌<◌, IfOk};
+ghost use Rattle.std.specs.Prelude.{◌≡◌, ◌<◌, ◌*◌, IfOk, length};
 ghost use Rattle.kishu_commit.specs.Told.{MayBeCommitted};
+ghost use Rattle.kishu_graph.specs.Tables.{table_of_rows};
+ghost use Rattle.kishu_heap.specs.Costs.{Reads};
+ghost use Rattle.kishu_history.specs.Touched.{touched};
 ghost use Rattle.kishu_meaning.specs.values.Values.{State};
+ghost use Rattle.kishu_objects.specs.Picture.{order};
 ghost use Rattle.kishu_store.specs.Limits.{most_records};
+ghost use Rattle.kishu_store.specs.Tables.{groups_in};
 ghost use Rattle.kishu_session.specs.Committing.{HasRun, Commits};
+ghost use Rattle.kishu_session.specs.Lives.{state_of};
 ghost use Rattle.kishu_session.specs.TextLists.{texts_of};
 
 use crate::head::Head;
@@ -45,7 +51,9 @@ impl Head {
             → HasRun journal.now.place before self.old (texts_of cells.now)
             → Commits journal.now.place before self.old self.new (texts_of cells.now) c) }
         ensures live { self.new.live ≡ self.old.live }
-        ensures counted { steps.old ≤ steps.new }
+        ensures reads { Reads (4 * length (order (state_of self.old.live) (touched
+            (groups_in (table_of_rows self.old.table)) self.old.live.names.accessed
+            (state_of self.old.live)))) steps.old steps.new }
     {
         let place = journal.place();
         if place >= FAR {

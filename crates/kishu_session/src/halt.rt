@@ -17,7 +17,7 @@ pub enum Halt {
     /// There was no memory.
     #[error("no memory")]
     NoMemory,
-    /// A cell would have begun with more than 2^31 nodes.
+    /// A cell, or the loading of a checkout, would have begun with more than 2^31 nodes.
     #[error("heap full")]
     HeapFull,
     /// An earlier call of the session ended it.

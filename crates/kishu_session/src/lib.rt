@@ -3,9 +3,11 @@
 //! `Session::attach` opens a store and loads the pictures of the groups of its head's table.
 //! `Session::apply` answers a request, and records it where it changes the store: at `Ok` the answer and
 //! the file's graph are those of one step of the machine that replays each commit from empty, and the live
-//! state is the same as that commit's replay. No old cell is run: opening, a checkout, and the way back
-//! from a state that is too large load the pictures of these groups into an empty heap (`head`). Beside the
-//! live state a session keeps the table of its head and just its groups' pictures (`keeping`). By these it
+//! state is the same as that commit's replay. No old cell is run: a checkout keeps the groups that both tables
+//! have with one version, and loads the pictures of the others beside them (`carrying`). Opening, and the way
+//! back from a state that is too large, do the same from the empty table and an empty heap, and so load the
+//! pictures of all of the head's groups (`head`). Beside the live
+//! state a session keeps the table of its head and just its groups' pictures (`keeping`). By these it
 //! tells, among the names that cells accessed, how much they leave (`live`) and which groups they changed,
 //! and a commit stores just those (`committing`). What a request leads to is worked out on what the session
 //! keeps, before the host is written to (`requests`); then its record is appended (`recording`).
@@ -13,6 +15,7 @@
 
 mod apply;
 mod attach;
+mod carrying;
 mod committing;
 mod counting;
 mod halt;

@@ -1,20 +1,26 @@
 // What cells have left, or what was loaded, and the running of one cell more.
-ghost use Rattle.std.specs.Prelude.{◌≡◌, ◌≤◌, ◌⊎◌, ◌+◌, [], Some, IsTrue, IfOk, IfErr, OnOk, IsErrOf, length, option_map};
+ghost use Rattle.std.specs.Prelude.{◌≡◌, ◌≤◌, ◌⊎◌, ◌+◌, ◌*◌, ◌^◌, ℕ, [], Some, IsTrue, IfOk, IfErr, OnOk, IsErrOf, length, option_map};
 ghost use Rattle.kishu_meaning.specs.moments.Accesses.{with_accesses};
 ghost use Rattle.kishu_language.specs.Limits.{longest_text};
 ghost use Rattle.kishu_replay.specs.Replay.{IsFull};
 ghost use Rattle.kishu_meaning.specs.values.Sound.{are_sound_names};
 ghost use Rattle.kishu_meaning.specs.values.Values.{empty, report_of};
 ghost use Rattle.kishu_graph.specs.Tables.{table_of_rows};
-ghost use Rattle.kishu_history.specs.Touched.{size_told};
-ghost use Rattle.kishu_interp.specs.Running.{state_in};
+ghost use Rattle.kishu_heap.specs.Costs.{Reads};
+ghost use Rattle.kishu_history.specs.Touched.{size_told, touched};
 ghost use Rattle.kishu_model.specs.Values.{answer_of, refusal_of};
 ghost use Rattle.kishu_model.specs.requests.Inspect.{told_at};
-ghost use Rattle.kishu_objects.specs.Picture.{whole};
+ghost use Rattle.kishu_objects.specs.Picture.{order, whole};
+ghost use Rattle.kishu_store.specs.Tables.{groups_in};
+ghost use Rattle.kishu_checkout.specs.Fetched.{contents, taken_by};
+ghost use Rattle.kishu_checkout.specs.Placed.{ArePlaced, FailsAt};
+ghost use Rattle.kishu_checkout.specs.Plans.{groups_dropped, rows_loaded};
+ghost use Rattle.kishu_checkout.specs.declared.fault.CheckoutFault.TheVariants.{Damaged, DiskFault};
 ghost use Rattle.kishu_session.specs.Sized.{size_refused};
 ghost use Rattle.kishu_session.specs.declared.unprepared.Unprepared.TheVariants.{HeapFull, NoMemory};
 
 use crate::unprepared::Unprepared;
+use kishu_checkout::{CheckoutFault, Plan};
 use kishu_delta::state_len;
 use kishu_graph::Table;
 use kishu_heap::Heap;
@@ -24,7 +30,7 @@ use kishu_names::Names;
 use std::alloc::{AllocError, Global};
 use std::sync::ledger::Ledger;
 
-/// The most nodes with which a cell begins.
+/// The most nodes with which a cell begins, or the loading of a checkout.
 const MOST_NODES: u32 = 1 << 31;
 
 /// The most bytes that the pictures of a state's groups may have.
@@ -51,20 +57,44 @@ impl Live {
         }
     }
 
-    /// What was loaded. Its names lead to nodes that are there.
-    pub(crate) fn of(heap: Heap, names: Names) -> Live
-        requires { IsTrue (are_sound_names (length heap) names.bound) }
-        ensures { state_of result ≡ state_in heap names }
-    {
-        Live { heap, names }
-    }
-
     /// Forgets which names were accessed.
     pub(crate) fn clear_record(&mut self)
         ensures state { state_of self.new ≡ state_of self.old }
         ensures accessed { self.new.names.accessed ≡ [] }
     {
         self.names.clear_record();
+    }
+
+    /// Nothing is run or loaded with more than 2^31 nodes.
+    pub(crate) fn have_room(&self) -> Result<(), Unprepared>
+        ensures room { OnOk result (length self.now.heap ≤ 2 ^ 31) }
+        ensures full { IsErrOf result HeapFull → IsFull (state_of self.now) }
+        ensures only_this { IfErr result (λ e. e ≡ HeapFull) }
+    {
+        if self.heap.len() > MOST_NODES {
+            return Err(Unprepared::HeapFull);
+        }
+        Ok(())
+    }
+
+    /// Unbinds the names that a plan drops, and loads the pictures of the rows that it loads, which stand in
+    /// its order. The nodes that are there stay.
+    pub(crate) fn place(
+        &mut self,
+        alloc: Global,
+        plan: &Plan,
+        pictures: &[Vec<u8>],
+    ) -> Result<(), CheckoutFault>
+        requires one { length pictures.now ≡ length plan.now.load.items }
+        requires room { length self.old.heap ≤ 2 ^ 31 }
+        requires small { taken_by (contents pictures.now) ≤ 2 ^ 28 }
+        ensures placed { OnOk result (ArePlaced (groups_dropped plan.now) (rows_loaded plan.now)
+            (contents pictures.now) (state_of self.old) (state_of self.new)) }
+        ensures damaged { (at : ℕ) → IsErrOf result (Damaged at)
+            → FailsAt (rows_loaded plan.now) (contents pictures.now) at }
+        ensures no_disk { IsErrOf result DiskFault → ⊥ }
+    {
+        kishu_checkout::place(alloc, plan, pictures, &mut self.heap, &mut self.names)
     }
 
     /// Runs a cell. A cell isn't begun with more than 2^31 nodes.
@@ -80,13 +110,13 @@ impl Live {
         ensures accessed { OnOk result (self.new.names.accessed
             ≡ with_accesses (run_on self.old text.now).accessed self.old.names.accessed) }
         ensures least { OnOk result (steps.old + (run_on self.old text.now).charge ≤ steps.new) }
+        ensures most { OnOk result
+            (steps.new ≤ steps.old + 128 * (run_on self.old text.now).charge + 128) }
         ensures full { IsErrOf result HeapFull → IsFull (state_of self.old) }
         ensures beyond { IsErrOf result HeapFull → IsFull (state_of self.new) }
         ensures only_these { IfErr result (λ e. (e ≡ HeapFull) ⊎ (e ≡ NoMemory)) }
     {
-        if self.heap.len() > MOST_NODES {
-            return Err(Unprepared::HeapFull);
-        }
+        self.have_room()?;
         let result = run_cell(
             alloc,
             Profile::One,
@@ -108,7 +138,9 @@ impl Live {
     ) -> Result<Option<Refusal>, AllocError>
         ensures refusal { IfOk result (λ o. option_map refusal_of o ≡ size_refused
             (size_told (table_of_rows table.now) self.now.names.accessed (state_of self.now))) }
-        ensures counted { steps.old ≤ steps.new }
+        ensures reads { Reads (4 * length (order (state_of self.now) (touched
+            (groups_in (table_of_rows table.now)) self.now.names.accessed (state_of self.now))))
+            steps.old steps.new }
     {
         let bytes = state_len(alloc, table, &self.heap, &self.names, steps)?;
         if bytes > MOST_BYTES {

@@ -1,5 +1,5 @@
 // What a request leads to, whichever it is.
-ghost use Rattle.std.specs.Prelude.{ℕ, IfOk, OnOk, IsErrOf};
+ghost use Rattle.std.specs.Prelude.{◌≡◌, ℕ, IfOk, OnOk, IsErrOf};
 ghost use Rattle.kishu_replay.specs.Replay.{IsFull};
 ghost use Rattle.kishu_checkout.specs.Pictures.{told_file};
 ghost use Rattle.kishu_journal.specs.Going.{IsQuiet};
@@ -10,6 +10,7 @@ ghost use Rattle.kishu_session.specs.Filling.{FillsHere};
 ghost use Rattle.kishu_session.specs.Head.{IsKnown};
 ghost use Rattle.kishu_session.specs.Lives.{state_of};
 ghost use Rattle.kishu_session.specs.Prepared.{LeadsOn, CountsOn, StaysWithout, LacksFor};
+ghost use Rattle.kishu_session.specs.Working.{CountsFor, IsIdle, IsUncounted, ReadsFor};
 ghost use Rattle.kishu_session.specs.declared.unprepared.Unprepared.TheVariants.{HeapFull, Damaged, DiskFault};
 
 use crate::head::Head;
@@ -38,6 +39,12 @@ impl Head {
         ensures stays { IfOk result (StaysWithout self.old self.new host.old host.new) }
         ensures quiet { IsQuiet (H.state host.old) (H.state host.new) }
         ensures least { OnOk result (CountsOn self.old (request_of request.now) steps.old steps.new) }
+        ensures reads { IfOk result (ReadsFor self.old.graph (H.state host.old) (H.state host.new)
+            (request_of request.now)) }
+        ensures idle { IsIdle (request_of request.now) → host.new ≡ host.old }
+        ensures still { IsUncounted (request_of request.now) → steps.new ≡ steps.old }
+        ensures most { IfOk result (λ p. CountsFor self.old self.new (request_of request.now) p.answer
+            steps.old steps.new) }
         ensures full { IsErrOf result HeapFull → FillsHere self.old (request_of request.now) }
         ensures beyond { IsErrOf result HeapFull → IsFull (state_of self.new.live) }
         ensures damaged { (at : ℕ) → IsErrOf result (Damaged at)
@@ -53,6 +60,7 @@ impl Head {
             Request::Status => Ok(self.status()?),
             Request::Inspect => Ok(self.inspect(steps)?),
             Request::Stored { of } => Ok(self.stored(of.as_str())?),
+            Request::Plan { to } => Ok(self.plan(to.as_str())?),
         }
     }
 }

@@ -1,6 +1,6 @@
 // The record of what a request leads to, behind those of a store.
 ghost use Rattle.std.specs.Prelude.{◌≡◌, ◌≤◌, ◌⊎◌, false, Some, None, OnOk, IfErr, IsErrOf};
-ghost use Rattle.kishu_host.specs.Host.{Told};
+ghost use Rattle.kishu_host.specs.Host.{ReadsMore, Told};
 ghost use Rattle.kishu_store.specs.Rules.{IsRecord};
 ghost use Rattle.kishu_session.specs.Committing.{record_of};
 ghost use Rattle.kishu_session.specs.Faults.{DiskFailed};
@@ -33,6 +33,7 @@ fn append<H: Host>(
     ensures bytes { OnOk result (Records journal.old (H.state host.old) (H.state host.new)) }
     ensures durable { OnOk result (Told (H.state host.old) (IsDurable (H.state host.new))) }
     ensures stop { LeavesOne journal.old (H.state host.old) (H.state host.new) (Some (record_of made.now)) }
+    ensures reads { ReadsMore (H.state host.old).reads (H.state host.new).reads 0 }
     ensures out { (H.state host.new).out ≡ (H.state host.old).out }
     ensures tells { (H.state host.new).tells ≡ (H.state host.old).tells }
     ensures only_these { IfErr result (λ e. (e ≡ DiskFault) ⊎ (e ≡ NoMemory)) }
@@ -70,6 +71,7 @@ pub(crate) fn record<H: Host>(
     ensures durable { OnOk result (StaysDurable (H.state host.old) (H.state host.new)) }
     ensures quiet { OnOk result (prepared.now ≡ None → host.new ≡ host.old) }
     ensures stop { LeavesOne journal.old (H.state host.old) (H.state host.new) (record_in prepared.now) }
+    ensures reads { ReadsMore (H.state host.old).reads (H.state host.new).reads 0 }
     ensures out { (H.state host.new).out ≡ (H.state host.old).out }
     ensures tells { (H.state host.new).tells ≡ (H.state host.old).tells }
     ensures only_these { IfErr result (λ e. (e ≡ DiskFault) ⊎ (e ≡ NoMemory)) }

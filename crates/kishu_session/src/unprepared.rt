@@ -1,9 +1,10 @@
+use kishu_checkout::CheckoutFault;
 use std::alloc::AllocError;
 
 /// Why a request isn't prepared.
 #[derive(Clone, Copy, Debug, PartialEq, Eq)]
 pub(crate) enum Unprepared {
-    /// A cell would have begun with more than 2^31 nodes.
+    /// A cell, or the loading of a checkout, would have begun with more than 2^31 nodes.
     HeapFull,
     /// At this place of the file there is no picture of a group of the commit that was to be loaded.
     Damaged { at: u64 },
@@ -20,5 +21,20 @@ impl From<AllocError> for Unprepared {
 
     fn from(_error: AllocError) -> Unprepared {
         Unprepared::NoMemory
+    }
+}
+
+impl From<CheckoutFault> for Unprepared {
+    ghost use Rattle.std.specs.Prelude.{◌≡◌};
+    ghost use Rattle.kishu_session.specs.Halting.{unprepared_by};
+
+    ghost from_gives = { λ fault unprepared. unprepared ≡ unprepared_by fault };
+
+    fn from(fault: CheckoutFault) -> Unprepared {
+        match fault {
+            CheckoutFault::Damaged { at } => Unprepared::Damaged { at },
+            CheckoutFault::DiskFault => Unprepared::DiskFault,
+            CheckoutFault::NoMemory => Unprepared::NoMemory,
+        }
     }
 }

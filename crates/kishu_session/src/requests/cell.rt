@@ -12,6 +12,7 @@ ghost use Rattle.kishu_session.specs.Filling.{FillsHere};
 ghost use Rattle.kishu_session.specs.Head.{IsKnown, LacksAtHead};
 ghost use Rattle.kishu_session.specs.Lives.{state_of};
 ghost use Rattle.kishu_session.specs.Prepared.{LeadsOn, CountsOn, StaysWithout};
+ghost use Rattle.kishu_session.specs.Working.{ReadsNothing, CountsCell};
 ghost use Rattle.kishu_session.specs.declared.unprepared.Unprepared.TheVariants.{HeapFull, Damaged, DiskFault};
 
 use crate::head::Head;
@@ -44,6 +45,10 @@ impl Head {
         ensures stays { IfOk result (StaysWithout self.old self.new host.old host.new) }
         ensures quiet { IsQuiet (H.state host.old) (H.state host.new) }
         ensures least { OnOk result (CountsOn self.old (cell_for text.now) steps.old steps.new) }
+        ensures reads { IfOk result
+            (λ p. ReadsNothing (H.state host.old) (H.state host.new) p.answer) }
+        ensures most { IfOk result (λ p. CountsCell self.old self.new (rc_str_bytes text.now) p.answer
+            steps.old steps.new) }
         ensures full { IsErrOf result HeapFull → FillsHere self.old (cell_for text.now) }
         ensures beyond { IsErrOf result HeapFull → IsFull (state_of self.new.live) }
         ensures damaged { (at : ℕ) → IsErrOf result (Damaged at)
@@ -83,6 +88,10 @@ impl Head {
         ensures stays { IfOk result (StaysWithout self.old self.new host.old host.new) }
         ensures quiet { IsQuiet (H.state host.old) (H.state host.new) }
         ensures least { OnOk result (CountsOn self.old (cell_for text.now) steps.old steps.new) }
+        ensures reads { IfOk result
+            (λ p. ReadsNothing (H.state host.old) (H.state host.new) p.answer) }
+        ensures most { IfOk result (λ p. CountsCell self.old self.new (rc_str_bytes text.now) p.answer
+            steps.old steps.new) }
         ensures full { IsErrOf result HeapFull → FillsHere self.old (cell_for text.now) }
         ensures beyond { IsErrOf result HeapFull → IsFull (state_of self.new.live) }
         ensures damaged { (at : ℕ) → IsErrOf result (Damaged at)

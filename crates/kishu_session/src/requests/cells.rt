@@ -18,6 +18,7 @@ ghost use Rattle.kishu_session.specs.Lives.{state_of, accessed_of_ran, state_aft
 ghost use Rattle.kishu_session.specs.Prepared.{LeadsOn, CountsOn, StaysWithout};
 ghost use Rattle.kishu_session.specs.Running.{IsGivenBy, AreSameNames};
 ghost use Rattle.kishu_session.specs.TextLists.{texts_of, AreShort};
+ghost use Rattle.kishu_session.specs.Working.{ReadsNothing};
 ghost use Rattle.kishu_session.specs.declared.unprepared.Unprepared.TheVariants.{HeapFull, Damaged, DiskFault, NoMemory};
 
 use crate::head::Head;
@@ -138,6 +139,8 @@ impl Head {
         ensures stays { IfOk result (StaysWithout self.old self.new host.old host.new) }
         ensures quiet { IsQuiet (H.state host.old) (H.state host.new) }
         ensures least { OnOk result (CountsOn self.old (cells_for texts.now) steps.old steps.new) }
+        ensures reads { IfOk result
+            (λ p. ReadsNothing (H.state host.old) (H.state host.new) p.answer) }
         ensures full { IsErrOf result HeapFull → FillsHere self.old (cells_for texts.now) }
         ensures beyond { IsErrOf result HeapFull → IsFull (state_of self.new.live) }
         ensures damaged { (at : ℕ) → IsErrOf result (Damaged at)
@@ -185,6 +188,8 @@ impl Head {
         ensures stays { IfOk result (StaysWithout self.old self.new host.old host.new) }
         ensures quiet { IsQuiet (H.state host.old) (H.state host.new) }
         ensures least { OnOk result (CountsOn self.old (cells_for texts.now) steps.old steps.new) }
+        ensures reads { IfOk result
+            (λ p. ReadsNothing (H.state host.old) (H.state host.new) p.answer) }
         ensures full { IsErrOf result HeapFull → FillsHere self.old (cells_for texts.now) }
         ensures beyond { IsErrOf result HeapFull → IsFull (state_of self.new.live) }
         ensures damaged { (at : ℕ) → IsErrOf result (Damaged at)

@@ -1,18 +1,24 @@
-// A checkout: the head goes to a commit or to a branch, and the state that is stored there is loaded.
-ghost use Rattle.std.specs.Prelude.{◌≡◌, ◌≤◌, ℕ, length, IfOk, IfSome, IsErrOf};
+// A checkout: the head goes to a commit or to a branch, and the live state is carried on to there.
+ghost use Rattle.std.specs.Prelude.{◌≡◌, ◌≤◌, ℕ, length, IfOk, IfSome, OnOk, IsErrOf};
+ghost use Rattle.kishu_host.specs.Host.{ReadsMore};
 ghost use Rattle.kishu_store.specs.Entries.{move, plain};
 ghost use Rattle.kishu_store.specs.Limits.{longest_title};
 ghost use Rattle.kishu_store.specs.Rules.{IsRecord};
+ghost use Rattle.kishu_store.specs.Tables.{bytes_in};
+ghost use Rattle.kishu_replay.specs.Replay.{IsFull};
 ghost use Rattle.kishu_checkout.specs.Pictures.{told_file};
 ghost use Rattle.kishu_journal.specs.Going.{IsQuiet};
 ghost use Rattle.kishu_model.specs.Request.{checkout};
 ghost use Rattle.kishu_record.specs.Entries.{entry_of};
 ghost use Rattle.kishu_session.specs.Faults.{DiskFailed};
-ghost use Rattle.kishu_session.specs.Head.{LacksAtHead};
+ghost use Rattle.kishu_session.specs.Filling.{FillsHere};
+ghost use Rattle.kishu_session.specs.Head.{IsKnown, KeepsSome, LacksToLoad, rows_to_load};
 ghost use Rattle.kishu_session.specs.Known.{HasHistory};
+ghost use Rattle.kishu_session.specs.Lives.{state_of};
 ghost use Rattle.kishu_session.specs.Moves.{move_by, IsMoved};
 ghost use Rattle.kishu_session.specs.Prepared.{LeadsOn, StaysWithout, LacksFor};
 ghost use Rattle.kishu_session.specs.TextLists.{text_in};
+ghost use Rattle.kishu_session.specs.Working.{ReadsRows};
 ghost use Rattle.kishu_session.specs.declared.unprepared.Unprepared.TheVariants.{HeapFull, Damaged, DiskFault};
 
 use crate::head::Head;
@@ -53,47 +59,54 @@ fn moved(commit: u32, branch: &Option<RcStr>) -> Result<Entry, AllocError>
 }
 
 impl Head {
-    /// Moves the head to what a reference names, loads the state of the commit on which it then stands,
-    /// and prepares the move. A refused one changes nothing, and doesn't call the host.
+    /// Moves the head to what a reference names, carries the live state on to the commit on which it then
+    /// stands, and prepares the move. A refused one changes nothing, and doesn't call the host.
     pub(crate) fn checkout<H: Host>(
         &mut self,
         host: &mut H,
         journal: &Journal,
         to: &str,
     ) -> Result<Prepared, Unprepared>
-        requires known { HasHistory self.old.graph }
+        requires known { IsKnown self.old journal.now.place }
         ensures leads { IfOk result (LeadsOn (told_file (H.state host.old)) journal.now.place
             self.old self.new (checkout to.now)) }
         ensures stays { IfOk result (StaysWithout self.old self.new host.old host.new) }
         ensures quiet { IsQuiet (H.state host.old) (H.state host.new) }
+        ensures reads { IfOk result
+            (ReadsRows self.old.graph (H.state host.old) (H.state host.new) to.now) }
         ensures damaged { (at : ℕ) → IsErrOf result (Damaged at)
             → LacksFor self.old.graph (H.state host.old) (checkout to.now) at }
         ensures disk_fault { IsErrOf result DiskFault → DiskFailed (H.state host.old) (H.state host.new) }
-        ensures not_full { IsErrOf result HeapFull → ⊥ }
+        ensures full { IsErrOf result HeapFull → FillsHere self.old (checkout to.now) }
+        ensures beyond { IsErrOf result HeapFull → IsFull (state_of self.new.live) }
     {
         match self.graph.move_head(to) {
-            Ok(_) => self.load_moved(host, journal),
+            Ok(_) => self.carry_moved(host, journal),
             Err(fault) => Ok(Prepared::refused(refusal(fault)?)),
         }
     }
 
-    /// Loads the state of the commit on which the head stands, and prepares the move that led there.
-    fn load_moved<H: Host>(
+    /// Carries the live state on to the commit on which the head stands, and prepares the move that led there.
+    fn carry_moved<H: Host>(
         &mut self,
         host: &mut H,
         journal: &Journal,
     ) -> Result<Prepared, Unprepared>
         requires known { HasHistory self.old.graph }
+        requires keeps { KeepsSome self.old }
         requires title { IfSome self.old.graph.head.branch (λ title. length title ≤ longest_title) }
-        ensures moved { IfOk result (IsMoved (told_file (H.state host.old)) self.new) }
+        ensures moved { IfOk result (IsMoved (told_file (H.state host.old)) self.old self.new) }
         ensures graph { self.new.graph ≡ self.old.graph }
         ensures quiet { IsQuiet (H.state host.old) (H.state host.new) }
+        ensures reads { OnOk result (ReadsMore (H.state host.old).reads (H.state host.new).reads
+            (bytes_in (rows_to_load self.old self.new))) }
         ensures damaged { (at : ℕ) → IsErrOf result (Damaged at)
-            → LacksAtHead self.old.graph (H.state host.old) at }
+            → LacksToLoad self.old (H.state host.old) at }
         ensures disk_fault { IsErrOf result DiskFault → DiskFailed (H.state host.old) (H.state host.new) }
-        ensures not_full { IsErrOf result HeapFull → ⊥ }
+        ensures full { IsErrOf result HeapFull → IsFull (state_of self.old.live) }
+        ensures beyond { IsErrOf result HeapFull → IsFull (state_of self.new.live) }
     {
-        self.load(host, journal)?;
+        self.carry(host, journal)?;
         let head = self.graph.head();
         let answer = Answer::Checkout {
             commit: head.commit,

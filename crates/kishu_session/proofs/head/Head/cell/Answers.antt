@@ -11,6 +11,7 @@ use Rattle.kishu_checkout.specs.Pictures.{told_file}
 use Rattle.kishu_session.specs.Lives.{state_of}
 use Rattle.kishu_session.proofs.CellSteps.{step-long, step-full, charge-long, charge-full}
 use Rattle.kishu_session.proofs.Still.{refused-leads, still-stays}
+use Rattle.kishu_session.proofs.Work.{reads-still}
 use Rattle.kishu_session.proofs.head.Head.cell.Goals as goal
 
 -- ---- a text that is too long
@@ -25,6 +26,12 @@ returns-then-len-gt-LONGEST_TEXT-clause-leads g c =
 
 pub returns-then-len-gt-LONGEST_TEXT-clause-stays : goal.returns-then-len-gt-LONGEST_TEXT-clause-stays
 returns-then-len-gt-LONGEST_TEXT-clause-stays g c = still-stays c.args.self.now c.args.host.now c.refused.result
+
+pub returns-then-len-gt-LONGEST_TEXT-clause-reads : goal.returns-then-len-gt-LONGEST_TEXT-clause-reads
+returns-then-len-gt-LONGEST_TEXT-clause-reads g c sizes = reads-still (g.H.Host.state c.args.host.now).reads
+
+pub returns-then-len-gt-LONGEST_TEXT-clause-most : goal.returns-then-len-gt-LONGEST_TEXT-clause-most
+returns-then-len-gt-LONGEST_TEXT-clause-most g c sizes = omega arith
 
 pub returns-then-len-gt-LONGEST_TEXT-clause-least : goal.returns-then-len-gt-LONGEST_TEXT-clause-least
 returns-then-len-gt-LONGEST_TEXT-clause-least g c h k =
@@ -45,6 +52,12 @@ returns-then-records-ge-MOST_RECORDS-clause-leads g c =
 
 pub returns-then-records-ge-MOST_RECORDS-clause-stays : goal.returns-then-records-ge-MOST_RECORDS-clause-stays
 returns-then-records-ge-MOST_RECORDS-clause-stays g c = still-stays c.args.self.now c.args.host.now c.refused-then-records-ge-MOST_RECORDS.result
+
+pub returns-then-records-ge-MOST_RECORDS-clause-reads : goal.returns-then-records-ge-MOST_RECORDS-clause-reads
+returns-then-records-ge-MOST_RECORDS-clause-reads g c sizes = reads-still (g.H.Host.state c.args.host.now).reads
+
+pub returns-then-records-ge-MOST_RECORDS-clause-most : goal.returns-then-records-ge-MOST_RECORDS-clause-most
+returns-then-records-ge-MOST_RECORDS-clause-most g c sizes = omega arith
 
 pub returns-then-records-ge-MOST_RECORDS-clause-least : goal.returns-then-records-ge-MOST_RECORDS-clause-least
 returns-then-records-ge-MOST_RECORDS-clause-least g c h k =

@@ -20,6 +20,7 @@ use Rattle.kishu_session.specs.Known.{IsHistoryOf}
 use Rattle.kishu_session.specs.Lives.{state_of}
 use Rattle.kishu_session.specs.Prepared.{LeadsOn, StaysWithout, CountsOn}
 use Rattle.kishu_session.specs.TextLists.{texts_of}
+use Rattle.kishu_session.specs.Working.{CountsCell, ReadsNothing}
 use Rattle.kishu_session.specs.declared.prepared.Prepared.{Prepared}
 use Rattle.kishu_session.proofs.CellSteps.{step-large, step-small, charge-run, unrefused, cell-told}
 use Rattle.kishu_session.proofs.Commits.{known-history}
@@ -29,6 +30,7 @@ use Rattle.kishu_session.proofs.LongTexts.{may-commit-one}
 use Rattle.kishu_session.proofs.Outcomes.{always}
 use Rattle.kishu_session.proofs.RanOn.{RanOn, one-ran, has-run, large-known, leaves-known, table-known, told_bytes}
 use Rattle.kishu_session.proofs.Sizes.{found-large, found-small}
+use Rattle.kishu_session.proofs.Work.{nodes-are, reads-still}
 use Rattle.kishu_session.proofs.head.Head.commit_cell.Goals as goal
 
 pub back-requires : goal.back-requires
@@ -70,6 +72,37 @@ returns-in-Some-clause-stays g c =
     found.1 c.back.ensures.answer c.back.ensures.record c.back.ensures.back c.back.ensures.count
     (λ p b. back-stays file place self c.back.new.self (cell text) bytes p b c.args.host.now c.back.new.host)
 
+pub returns-in-Some-clause-reads : goal.returns-in-Some-clause-reads
+returns-in-Some-clause-reads g c =
+    let st = g.H.Host.state in
+    let self = c.args.self.now in
+    let place = c.args.journal.now.place in
+    let text = rc_str_bytes c.args.text.now in
+    let s = state_of self.live in
+    let rows = table_of_rows self.table in
+    let ran = one-ran self.live c.clear_record.new.self c.run.new.self text c.as_str.result.now c.as_str.ensures.value c.clear_record.ensures.state c.clear_record.ensures.accessed c.in_ok-result.ensures.state c.in_ok-result.ensures.accessed in
+    let found = found-large rows (text ∷ []) s (state_of c.run.new.self) c.run.new.self.names.accessed ran.left ran.accessed c.in_ok-found.found c.in_ok-found.ensures.refusal c.in-Some.refusal c.in-Some.is in
+    let bytes = told_bytes place self c.requires.known (text ∷ []) in
+    let file = told_file (st c.args.host.now) in
+    went-back file c.back.result self c.back.new.self c.run.new.self bytes (refusal_of c.in-Some.refusal) (λ p. ReadsNothing (st c.args.host.now) (st c.back.new.host) p.answer)
+    found.1 c.back.ensures.answer c.back.ensures.record c.back.ensures.back c.back.ensures.count
+    (λ p b sizes. absurd (sizes bytes b.answer))
+
+pub returns-in-Some-clause-most : goal.returns-in-Some-clause-most
+returns-in-Some-clause-most g c =
+    let self = c.args.self.now in
+    let place = c.args.journal.now.place in
+    let text = rc_str_bytes c.args.text.now in
+    let s = state_of self.live in
+    let rows = table_of_rows self.table in
+    let ran = one-ran self.live c.clear_record.new.self c.run.new.self text c.as_str.result.now c.as_str.ensures.value c.clear_record.ensures.state c.clear_record.ensures.accessed c.in_ok-result.ensures.state c.in_ok-result.ensures.accessed in
+    let found = found-large rows (text ∷ []) s (state_of c.run.new.self) c.run.new.self.names.accessed ran.left ran.accessed c.in_ok-found.found c.in_ok-found.ensures.refusal c.in-Some.refusal c.in-Some.is in
+    let bytes = told_bytes place self c.requires.known (text ∷ []) in
+    let file = told_file (g.H.Host.state c.args.host.now) in
+    went-back file c.back.result self c.back.new.self c.run.new.self bytes (refusal_of c.in-Some.refusal) (λ p. CountsCell self c.back.new.self text p.answer c.args.steps.now c.too_large.new.steps)
+    found.1 c.back.ensures.answer c.back.ensures.record c.back.ensures.back c.back.ensures.count
+    (λ p b sizes. absurd (sizes bytes b.answer))
+
 pub returns-in-Some-clause-least : goal.returns-in-Some-clause-least
 returns-in-Some-clause-least g c =
     let self = c.args.self.now in
@@ -80,7 +113,7 @@ returns-in-Some-clause-least g c =
     omega (
       arith,
       c.in_ok-result.ensures.least,
-      c.too_large.ensures.counted,
+      c.too_large.ensures.reads.0,
       ap (λ (t : List ℕ). (run One t (state_of c.clear_record.new.self)).charge) c.as_str.ensures.value,
       ap (λ (s : State). (run One text s).charge) c.clear_record.ensures.state,
       charge-run (change_of h.changes) (state_of self.live) h.graph text c.requires.short room,
@@ -168,9 +201,27 @@ returns-clause-least g c h k =
     omega (
       arith,
       c.in_ok-result.ensures.least,
-      c.too_large.ensures.counted,
-      c.commit.ensures.counted,
+      c.too_large.ensures.reads.0,
+      c.commit.ensures.reads.0,
       ap (λ (t : List ℕ). (run One t (state_of c.clear_record.new.self)).charge) c.as_str.ensures.value,
       ap (λ (s : State). (run One text s).charge) c.clear_record.ensures.state,
       charge-run (change_of h.changes) (state_of self.live) h.graph text c.requires.short room,
+    )
+
+pub returns-clause-reads : goal.returns-clause-reads
+returns-clause-reads g c sizes = reads-still (g.H.Host.state c.args.host.now).reads
+
+pub returns-clause-most : goal.returns-clause-most
+returns-clause-most g c sizes =
+    let self = c.args.self.now in
+    let text = rc_str_bytes c.args.text.now in
+    let ran = one-ran self.live c.clear_record.new.self c.run.new.self text c.as_str.result.now c.as_str.ensures.value c.clear_record.ensures.state c.clear_record.ensures.accessed c.in_ok-result.ensures.state c.in_ok-result.ensures.accessed in
+    omega (
+      arith,
+      c.in_ok-result.ensures.most,
+      c.too_large.ensures.reads.1,
+      c.commit.ensures.reads.1,
+      nodes-are self c.commit.new.self c.run.new.self text ran c.commit.ensures.live,
+      ap (λ (t : List ℕ). (run One t (state_of c.clear_record.new.self)).charge) c.as_str.ensures.value,
+      ap (λ (s : State). (run One text s).charge) c.clear_record.ensures.state,
     )

@@ -27,6 +27,7 @@ use Rattle.kishu_session.specs.Lives.{state_of}
 use Rattle.kishu_session.specs.Prepared.{LeadsOn, StaysWithout, CountsOn}
 use Rattle.kishu_session.specs.Running.{AreSameNames, IsGivenBy}
 use Rattle.kishu_session.specs.TextLists.{texts_of, AreShort}
+use Rattle.kishu_session.specs.Working.{ReadsNothing}
 use Rattle.kishu_session.specs.declared.prepared.Prepared.{Prepared}
 use Rattle.kishu_session.proofs.AddFacts.{count-small}
 use Rattle.kishu_session.proofs.CellsSteps.{step-large, step-small, charge-run, unrefused, cells-told}
@@ -38,6 +39,7 @@ use Rattle.kishu_session.proofs.Outcomes.{always}
 use Rattle.kishu_session.proofs.Ran.{taken-some}
 use Rattle.kishu_session.proofs.RanOn.{RanOn, has-run, table-known, told_bytes}
 use Rattle.kishu_session.proofs.Sizes.{tells-size}
+use Rattle.kishu_session.proofs.Work.{reads-still}
 use Rattle.kishu_session.proofs.head.Head.commit_cells.Goals as goal
 
 pub run_cells-requires-clause-short : goal.run_cells-requires-clause-short
@@ -93,6 +95,27 @@ returns-in-TooLarge-clause-stays g c =
     went-back file c.back.result self c.back.new.self c.run_cells.new.live bytes (refusal_of c.in-TooLarge.refusal) (StaysWithout self c.back.new.self c.args.host.now c.back.new.host)
     told c.back.ensures.answer c.back.ensures.record c.back.ensures.back c.back.ensures.count
     (λ p b. back-stays file place self c.back.new.self (cells all) bytes p b c.args.host.now c.back.new.host)
+
+pub returns-in-TooLarge-clause-reads : goal.returns-in-TooLarge-clause-reads
+returns-in-TooLarge-clause-reads g c =
+    let st = g.H.Host.state in
+    let self = c.args.self.now in
+    let place = c.args.journal.now.place in
+    let texts = c.args.texts.now in
+    let all = texts_of texts in
+    let s = state_of self.live in
+    let rows = table_of_rows self.table in
+    let cleared = c.clear_record.ensures.state in
+    let ran = run_of rows all s in
+    let some : 0 < length all = omega (arith, c.requires.some, length-map texts rc_str_bytes) in
+    let given = subst (IsGivenBy self.cells rows c.clear_record.new.self texts) c.in-TooLarge.is c.in_ok-several.ensures.gives in
+    let large : leave_too_large rows ran s ≡ true = subst (λ (x : State). leave_too_large rows (run_of rows all x) x ≡ true) cleared given.large in
+    let bytes = told_bytes place self c.requires.known ran in
+    let told : refusal_of c.in-TooLarge.refusal ≡ state_too_large bytes = given.told ∙ ap (λ (x : State). told_too_large rows (run_of rows all x) x) cleared in
+    let file = told_file (st c.args.host.now) in
+    went-back file c.back.result self c.back.new.self c.run_cells.new.live bytes (refusal_of c.in-TooLarge.refusal) (λ p. ReadsNothing (st c.args.host.now) (st c.back.new.host) p.answer)
+    told c.back.ensures.answer c.back.ensures.record c.back.ensures.back c.back.ensures.count
+    (λ p b sizes. absurd (sizes bytes b.answer))
 
 pub returns-in-TooLarge-clause-least : goal.returns-in-TooLarge-clause-least
 returns-in-TooLarge-clause-least g c =
@@ -255,8 +278,11 @@ returns-clause-least g c h k =
     omega (
       arith,
       c.in_ok-several.ensures.least,
-      c.commit.ensures.counted,
+      c.commit.ensures.reads.0,
       ap (λ (x : State). charge_in One (run_of rows all x) x) cleared,
       ap (λ (x : Table). charge_in One (run_of x all s) s) (table-known place self c.requires.known h k),
       charge-run (change_of h.changes) s h.graph all some c.requires.short room,
     )
+
+pub returns-clause-reads : goal.returns-clause-reads
+returns-clause-reads g c sizes = reads-still (g.H.Host.state c.args.host.now).reads

@@ -1,33 +1,30 @@
-use Rattle.std.proofs.Common.{◌≡◌, ap, subst}
-use Rattle.kishu_store.specs.Graph.{Target}
-use Rattle.kishu_graph.specs.Kept.{Kept}
-use Rattle.kishu_graph.specs.Tables.{table_of_rows}
-use Rattle.kishu_checkout.specs.Loads.{state_restored}
-use Rattle.kishu_session.specs.Known.{IsHistoryOf}
-use Rattle.kishu_session.proofs.LoadFacts.{head-table-is, table-kept, loaded-at, lacks-at, pictures-held}
+use Rattle.std.proofs.Common.{ap, map}
+use Rattle.std.proofs.lemmas.Result.{on_ok_weaker}
+use Rattle.kishu_graph.specs.Kept.{row_of}
+use Rattle.kishu_checkout.specs.Pictures.{told_file}
+use Rattle.kishu_session.specs.Lives.{state_of}
+use Rattle.kishu_session.specs.declared.head.Head.{Head}
+use Rattle.kishu_session.proofs.Anew.{keeps-none, lacks-anew, loaded-anew, never-full, reads-anew}
 use Rattle.kishu_session.proofs.head.Head.load.Goals as goal
 
-pub restore-requires : goal.restore-requires
-restore-requires g c = record { table = table-kept c.args.self.now.graph c.head.result.now.commit (table_of_rows c.in_ok-table.table) c.requires.known c.in_ok-table.ensures }
+pub carry-requires-clause-keeps : goal.carry-requires-clause-keeps
+carry-requires-clause-keeps g c = keeps-none _ (ap (map row_of) c.new-3.ensures.items) c.new.ensures c.new-2.ensures
 
-pub returns-in-Ok-clause-loaded : goal.returns-in-Ok-clause-loaded
-returns-in-Ok-clause-loaded g c h k =
-    let kept = c.args.self.now.graph in
-    let commit = c.head.result.now.commit in
-    let table = table_of_rows c.in_ok-table.table in
-    let u = state_restored c.in-Ok.restored in
-    let at : commit ≡ kept.head.commit = ap (λ (t : Target). t.commit) c.head.ensures.value in
-    let here = subst (λ (x : Kept). IsHistoryOf x h) c.take.ensures.graph k in
-    let taken = c.in_ok-take-in-Ok.ensures in
-    loaded-at (g.H.Host.state c.args.host.now) table u c.take.new.self h (head-table-is kept commit table at c.in_ok-table.ensures h here) taken.live c.in-Ok.ensures.loaded c.in-Ok.ensures.live
-    (ap table_of_rows taken.table) (pictures-held c.take.new.self.kept table u taken.kept c.in-Ok.ensures.fits)
+pub returns-clause-loaded : goal.returns-clause-loaded
+returns-clause-loaded g c =
+    let file = told_file (g.H.Host.state c.args.host.now) in
+    on_ok_weaker c.carry.result (λ k. loaded-anew file _ c.carry.new.self (ap (map row_of) c.new-3.ensures.items) c.new.ensures k) c.carry.ensures.carries
 
-pub returns-in-Err-Damaged-clause-damaged : goal.returns-in-Err-Damaged-clause-damaged
-returns-in-Err-Damaged-clause-damaged g c at err h k =
-    let kept = c.args.self.now.graph in
-    let commit = c.head.result.now.commit in
-    let table = table_of_rows c.in_ok-table.table in
-    let here : commit ≡ kept.head.commit = ap (λ (t : Target). t.commit) c.head.ensures.value in
-    lacks-at (g.H.Host.state c.args.host.now) table at h (head-table-is kept commit table here c.in_ok-table.ensures h k)
-    (c.restore.ensures.damaged at (cc (err, c.in-Err-Damaged.is, c.in-Err-Damaged.field-0-is)))
-    (c.restore.ensures.undamaged at (cc (err, c.in-Err-Damaged.is, c.in-Err-Damaged.field-0-is)))
+pub returns-clause-reads : goal.returns-clause-reads
+returns-clause-reads g c =
+    let st = g.H.Host.state in
+    let old : Head = record { alloc = c.args.self.now.alloc; graph = c.args.self.now.graph; table = record { rows = c.new-3.result }; kept = c.new-2.result; cells = c.args.self.now.cells; live = c.new.result } in
+    reads-anew old (ap (map row_of) c.new-3.ensures.items) (st c.args.host.now) (st c.carry.new.host) c.carry.ensures.reads_most
+
+pub returns-clause-damaged : goal.returns-clause-damaged
+returns-clause-damaged g c at err =
+    let old : Head = record { alloc = c.args.self.now.alloc; graph = c.args.self.now.graph; table = record { rows = c.new-3.result }; kept = c.new-2.result; cells = c.args.self.now.cells; live = c.new.result } in
+    lacks-anew old (ap (map row_of) c.new-3.ensures.items) (g.H.Host.state c.args.host.now) at (c.carry.ensures.damaged at err)
+
+pub returns-clause-not_full : goal.returns-clause-not_full
+returns-clause-not_full g c err = never-full (state_of c.new.result) c.new.ensures (c.carry.ensures.full err)

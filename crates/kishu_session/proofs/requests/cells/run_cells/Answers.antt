@@ -72,7 +72,7 @@ loop-text-preserved g c =
     let next = c.in_ok-ran.ensures.state ∙ ap (λ (y : List ℕ). (run One y s).state) c.as_str.ensures.value in
     let noted = c.in_ok-ran.ensures.accessed ∙ ap (λ (y : List ℕ). with_accesses (run One y s).accessed names) c.as_str.ensures.value in
     let spent : c.loop-text.steps + (run One x s).charge ≤ c.too_large.new.steps =
-    omega (arith, c.in_ok-ran.ensures.least, c.too_large.ensures.counted, ap (λ (y : List ℕ). (run One y s).charge) c.as_str.ensures.value) in
+    omega (arith, c.in_ok-ran.ensures.least, c.too_large.ensures.reads.0, ap (λ (y : List ℕ). (run One y s).charge) c.as_str.ensures.value) in
     let is = next-here t all s0 c.args.before c.args.steps.now (take i all) x rest (map counted_of old) names s c.loop-text.steps going (take (i + 1) all) now left next more noted c.too_large.new.steps spent in
     let same = next-accessed t all s0 c.args.before c.args.steps.now (take i all) x rest (map counted_of old) names s c.loop-text.steps going (take (i + 1) all) now left next more noted c.too_large.new.steps spent in
     let small = found-small t (take (i + 1) all) s0 left more is same c.in_ok-found.found c.in_ok-found.ensures.refusal c.in-None.is in
@@ -111,7 +111,7 @@ returns-then-not-goes_on-clause-gives g c =
     let next = c.in_ok-ran.ensures.state ∙ ap (λ (y : List ℕ). (run One y s).state) c.as_str.ensures.value in
     let noted = c.in_ok-ran.ensures.accessed ∙ ap (λ (y : List ℕ). with_accesses (run One y s).accessed names) c.as_str.ensures.value in
     let spent : c.loop-text.steps + (run One x s).charge ≤ c.too_large.new.steps =
-    omega (arith, c.in_ok-ran.ensures.least, c.too_large.ensures.counted, ap (λ (y : List ℕ). (run One y s).charge) c.as_str.ensures.value) in
+    omega (arith, c.in_ok-ran.ensures.least, c.too_large.ensures.reads.0, ap (λ (y : List ℕ). (run One y s).charge) c.as_str.ensures.value) in
     let is = next-here t all s0 c.args.before c.args.steps.now (take i all) x rest (map counted_of old) names s c.loop-text.steps going (take (i + 1) all) now left next more noted c.too_large.new.steps spent in
     let same = next-accessed t all s0 c.args.before c.args.steps.now (take i all) x rest (map counted_of old) names s c.loop-text.steps going (take (i + 1) all) now left next more noted c.too_large.new.steps spent in
     let small = found-small t (take (i + 1) all) s0 left more is same c.in_ok-found.found c.in_ok-found.ensures.refusal c.in-None.is in
@@ -151,7 +151,7 @@ returns-then-not-goes_on-clause-state g c =
     let next = c.in_ok-ran.ensures.state ∙ ap (λ (y : List ℕ). (run One y s).state) c.as_str.ensures.value in
     let noted = c.in_ok-ran.ensures.accessed ∙ ap (λ (y : List ℕ). with_accesses (run One y s).accessed names) c.as_str.ensures.value in
     let spent : c.loop-text.steps + (run One x s).charge ≤ c.too_large.new.steps =
-    omega (arith, c.in_ok-ran.ensures.least, c.too_large.ensures.counted, ap (λ (y : List ℕ). (run One y s).charge) c.as_str.ensures.value) in
+    omega (arith, c.in_ok-ran.ensures.least, c.too_large.ensures.reads.0, ap (λ (y : List ℕ). (run One y s).charge) c.as_str.ensures.value) in
     let is = next-here t all s0 c.args.before c.args.steps.now (take i all) x rest (map counted_of old) names s c.loop-text.steps going (take (i + 1) all) now left next more noted c.too_large.new.steps spent in
     let same = next-accessed t all s0 c.args.before c.args.steps.now (take i all) x rest (map counted_of old) names s c.loop-text.steps going (take (i + 1) all) now left next more noted c.too_large.new.steps spent in
     let small = found-small t (take (i + 1) all) s0 left more is same c.in_ok-found.found c.in_ok-found.ensures.refusal c.in-None.is in
@@ -185,7 +185,7 @@ returns-then-not-goes_on-clause-accessed g c =
     let next = c.in_ok-ran.ensures.state ∙ ap (λ (y : List ℕ). (run One y s).state) c.as_str.ensures.value in
     let noted = c.in_ok-ran.ensures.accessed ∙ ap (λ (y : List ℕ). with_accesses (run One y s).accessed names) c.as_str.ensures.value in
     let spent : c.loop-text.steps + (run One x s).charge ≤ c.too_large.new.steps =
-    omega (arith, c.in_ok-ran.ensures.least, c.too_large.ensures.counted, ap (λ (y : List ℕ). (run One y s).charge) c.as_str.ensures.value) in
+    omega (arith, c.in_ok-ran.ensures.least, c.too_large.ensures.reads.0, ap (λ (y : List ℕ). (run One y s).charge) c.as_str.ensures.value) in
     let is = next-here t all s0 c.args.before c.args.steps.now (take i all) x rest (map counted_of old) names s c.loop-text.steps going (take (i + 1) all) now left next more noted c.too_large.new.steps spent in
     let same = next-accessed t all s0 c.args.before c.args.steps.now (take i all) x rest (map counted_of old) names s c.loop-text.steps going (take (i + 1) all) now left next more noted c.too_large.new.steps spent in
     let small = found-small t (take (i + 1) all) s0 left more is same c.in_ok-found.found c.in_ok-found.ensures.refusal c.in-None.is in
@@ -219,7 +219,7 @@ returns-then-not-goes_on-clause-least g c =
     let next = c.in_ok-ran.ensures.state ∙ ap (λ (y : List ℕ). (run One y s).state) c.as_str.ensures.value in
     let noted = c.in_ok-ran.ensures.accessed ∙ ap (λ (y : List ℕ). with_accesses (run One y s).accessed names) c.as_str.ensures.value in
     let spent : c.loop-text.steps + (run One x s).charge ≤ c.too_large.new.steps =
-    omega (arith, c.in_ok-ran.ensures.least, c.too_large.ensures.counted, ap (λ (y : List ℕ). (run One y s).charge) c.as_str.ensures.value) in
+    omega (arith, c.in_ok-ran.ensures.least, c.too_large.ensures.reads.0, ap (λ (y : List ℕ). (run One y s).charge) c.as_str.ensures.value) in
     let is = next-here t all s0 c.args.before c.args.steps.now (take i all) x rest (map counted_of old) names s c.loop-text.steps going (take (i + 1) all) now left next more noted c.too_large.new.steps spent in
     let same = next-accessed t all s0 c.args.before c.args.steps.now (take i all) x rest (map counted_of old) names s c.loop-text.steps going (take (i + 1) all) now left next more noted c.too_large.new.steps spent in
     let small = found-small t (take (i + 1) all) s0 left more is same c.in_ok-found.found c.in_ok-found.ensures.refusal c.in-None.is in
@@ -253,7 +253,7 @@ returns-in-Some-clause-gives g c =
     let next = c.in_ok-ran.ensures.state ∙ ap (λ (y : List ℕ). (run One y s).state) c.as_str.ensures.value in
     let noted = c.in_ok-ran.ensures.accessed ∙ ap (λ (y : List ℕ). with_accesses (run One y s).accessed names) c.as_str.ensures.value in
     let spent : c.loop-text.steps + (run One x s).charge ≤ c.too_large.new.steps =
-    omega (arith, c.in_ok-ran.ensures.least, c.too_large.ensures.counted, ap (λ (y : List ℕ). (run One y s).charge) c.as_str.ensures.value) in
+    omega (arith, c.in_ok-ran.ensures.least, c.too_large.ensures.reads.0, ap (λ (y : List ℕ). (run One y s).charge) c.as_str.ensures.value) in
     let is = next-here t all s0 c.args.before c.args.steps.now (take i all) x rest (map counted_of old) names s c.loop-text.steps going (take (i + 1) all) now left next more noted c.too_large.new.steps spent in
     let same = next-accessed t all s0 c.args.before c.args.steps.now (take i all) x rest (map counted_of old) names s c.loop-text.steps going (take (i + 1) all) now left next more noted c.too_large.new.steps spent in
     let found = found-large t (take (i + 1) all) s0 left more is same c.in_ok-found.found c.in_ok-found.ensures.refusal c.in-Some.refusal c.in-Some.is in
@@ -284,7 +284,7 @@ returns-in-Some-clause-state g c =
     let next = c.in_ok-ran.ensures.state ∙ ap (λ (y : List ℕ). (run One y s).state) c.as_str.ensures.value in
     let noted = c.in_ok-ran.ensures.accessed ∙ ap (λ (y : List ℕ). with_accesses (run One y s).accessed names) c.as_str.ensures.value in
     let spent : c.loop-text.steps + (run One x s).charge ≤ c.too_large.new.steps =
-    omega (arith, c.in_ok-ran.ensures.least, c.too_large.ensures.counted, ap (λ (y : List ℕ). (run One y s).charge) c.as_str.ensures.value) in
+    omega (arith, c.in_ok-ran.ensures.least, c.too_large.ensures.reads.0, ap (λ (y : List ℕ). (run One y s).charge) c.as_str.ensures.value) in
     let is = next-here t all s0 c.args.before c.args.steps.now (take i all) x rest (map counted_of old) names s c.loop-text.steps going (take (i + 1) all) now left next more noted c.too_large.new.steps spent in
     let same = next-accessed t all s0 c.args.before c.args.steps.now (take i all) x rest (map counted_of old) names s c.loop-text.steps going (take (i + 1) all) now left next more noted c.too_large.new.steps spent in
     let found = found-large t (take (i + 1) all) s0 left more is same c.in_ok-found.found c.in_ok-found.ensures.refusal c.in-Some.refusal c.in-Some.is in
@@ -312,7 +312,7 @@ returns-in-Some-clause-accessed g c =
     let next = c.in_ok-ran.ensures.state ∙ ap (λ (y : List ℕ). (run One y s).state) c.as_str.ensures.value in
     let noted = c.in_ok-ran.ensures.accessed ∙ ap (λ (y : List ℕ). with_accesses (run One y s).accessed names) c.as_str.ensures.value in
     let spent : c.loop-text.steps + (run One x s).charge ≤ c.too_large.new.steps =
-    omega (arith, c.in_ok-ran.ensures.least, c.too_large.ensures.counted, ap (λ (y : List ℕ). (run One y s).charge) c.as_str.ensures.value) in
+    omega (arith, c.in_ok-ran.ensures.least, c.too_large.ensures.reads.0, ap (λ (y : List ℕ). (run One y s).charge) c.as_str.ensures.value) in
     let is = next-here t all s0 c.args.before c.args.steps.now (take i all) x rest (map counted_of old) names s c.loop-text.steps going (take (i + 1) all) now left next more noted c.too_large.new.steps spent in
     let same = next-accessed t all s0 c.args.before c.args.steps.now (take i all) x rest (map counted_of old) names s c.loop-text.steps going (take (i + 1) all) now left next more noted c.too_large.new.steps spent in
     let found = found-large t (take (i + 1) all) s0 left more is same c.in_ok-found.found c.in_ok-found.ensures.refusal c.in-Some.refusal c.in-Some.is in
@@ -340,7 +340,7 @@ returns-in-Some-clause-least g c =
     let next = c.in_ok-ran.ensures.state ∙ ap (λ (y : List ℕ). (run One y s).state) c.as_str.ensures.value in
     let noted = c.in_ok-ran.ensures.accessed ∙ ap (λ (y : List ℕ). with_accesses (run One y s).accessed names) c.as_str.ensures.value in
     let spent : c.loop-text.steps + (run One x s).charge ≤ c.too_large.new.steps =
-    omega (arith, c.in_ok-ran.ensures.least, c.too_large.ensures.counted, ap (λ (y : List ℕ). (run One y s).charge) c.as_str.ensures.value) in
+    omega (arith, c.in_ok-ran.ensures.least, c.too_large.ensures.reads.0, ap (λ (y : List ℕ). (run One y s).charge) c.as_str.ensures.value) in
     let is = next-here t all s0 c.args.before c.args.steps.now (take i all) x rest (map counted_of old) names s c.loop-text.steps going (take (i + 1) all) now left next more noted c.too_large.new.steps spent in
     let same = next-accessed t all s0 c.args.before c.args.steps.now (take i all) x rest (map counted_of old) names s c.loop-text.steps going (take (i + 1) all) now left next more noted c.too_large.new.steps spent in
     let found = found-large t (take (i + 1) all) s0 left more is same c.in_ok-found.found c.in_ok-found.ensures.refusal c.in-Some.refusal c.in-Some.is in

@@ -1,18 +1,41 @@
-use Rattle.std.proofs.Common.{Err, refl, sym, ◌∙◌, ap, subst}
+use Rattle.std.proofs.Common.{Err, ⊎_elim, ℕ, refl, sym, ◌∙◌, ap, subst}
 use Rattle.std.proofs.lemmas.Bool.{false≢true}
 use Rattle.std.proofs.lemmas.Result.{err_from_is_err_and}
+use Rattle.kishu_host.specs.Host.{ReadsMore}
+use Rattle.kishu_objects.specs.Lists.{In}
+use Rattle.kishu_objects.specs.Sizes.{size_among}
+use Rattle.kishu_replay.specs.Replay.{replay}
+use Rattle.kishu_history.specs.Paths.{stops}
+use Rattle.kishu_history.specs.Versions.{kept, loaded}
 use Rattle.kishu_live_laws.specs.Small.{small_after}
 use Rattle.kishu_journal.specs.Going.{IsQuiet}
+use Rattle.kishu_model.specs.Request.{Request}
+use Rattle.kishu_model.specs.declared.request.Request as rust_request
+use Rattle.kishu_model.specs.Serve.{after}
 use Rattle.kishu_model.specs.Values.{request_of, answer_of}
+use Rattle.kishu_checkout.specs.Pictures.{told_file}
+use Rattle.kishu_session.specs.Applying.{IsCell, IsCheckout, IsIdle, LeavesCounter, StaysLoaded}
+use Rattle.kishu_session.specs.Lives.{state_of}
+use Rattle.kishu_session.specs.Refusing.{IsRefusal, RefusesSize}
+use Rattle.kishu_session.specs.Working.{IsUncounted, ReadsFor}
+use Rattle.kishu_session.specs.declared.session.Session.{Session}
 use Rattle.kishu_session.proofs.Applied.{durable-read, known-after, may-go-on, quiet-good, quiet-here, recorded-most, stop-here}
 use Rattle.kishu_session.proofs.Fuller.{fills-replay}
+use Rattle.kishu_session.proofs.Gone.{nodes-kept, recorded}
 use Rattle.kishu_session.proofs.Halts.{was-damaged, was-disk, was-full, not-closed, only-these, is-error}
+use Rattle.kishu_session.proofs.KeptOld.{names-kept, reads-loaded}
 use Rattle.kishu_session.proofs.LiveFacts.{answer-on-live, goes-on-live}
+use Rattle.kishu_session.proofs.Makes.{makes-few}
 use Rattle.kishu_session.proofs.ReadFacts.{lacks-here}
 use Rattle.kishu_session.proofs.Silent.{refused-silent, known-some}
 use Rattle.kishu_session.proofs.Sizes.{refusal-no-size}
 use Rattle.kishu_session.proofs.Staying.{answer-after, attached-after, at-end-after, back-same, counts-after, lives-after, stop-after}
+use Rattle.kishu_session.proofs.Work.{idle-no-size, idle-reads, idle-uncounted, reads-on, reads-same, reads-still}
 use Rattle.kishu_session.proofs.session.Session.apply.Goals as goal
+
+uncounted : (old : Session) (q : rust_request.Request) → LeavesCounter old q → IsUncounted (request_of q)
+uncounted old q leaves =
+    ⊎_elim (idle-uncounted (request_of q)) (λ (k : IsCheckout q × StaysLoaded old). subst (λ (r : Request). IsUncounted r) (sym k.0.1) tt) leaves
 
 pub record-requires-clause-next : goal.record-requires-clause-next
 record-requires-clause-next g c told1 =
@@ -77,6 +100,21 @@ returns-clause-goes_on g c told g' cs e gives =
     let st = g.H.Host.state in
     goes-on-live c.args.self.now c.prepare.new.self (st c.args.host.now) (request_of c.args.request.now) c.in_ok-prepared.prepared
     c.in_ok-prepared.ensures.leads g' cs e gives (st c.prepare.new.host) c.prepare.ensures.quiet told
+
+pub returns-clause-kept : goal.returns-clause-kept
+returns-clause-kept g c is not few =
+    let st = g.H.Host.state in
+    let self = c.args.self.now in
+    let new = c.prepare.new.self in
+    let s = st c.args.host.now in
+    let q = request_of c.args.request.now in
+    let p = c.in_ok-prepared.prepared in
+    let leads = c.in_ok-prepared.ensures.leads in (
+      nodes-kept self new s q p leads is.0 is.1 not (self.known c.if-self.false),
+      λ told g' a group m x own.
+          names-kept self new s q p leads is.0 is.1 not g' a group
+          (subst (λ (r : Request). In group (kept (stops g' g'.head.commit) (stops g' (after g' r).head.commit))) is.1 m) x own (st c.prepare.new.host) c.prepare.ensures.quiet told,
+    )
 
 pub returns-clause-live : goal.returns-clause-live
 returns-clause-live g c lives =
@@ -147,6 +185,59 @@ returns-clause-stop_here g c told only g' cs e gives =
     c.in_ok-prepared.prepared c.in_ok-prepared.ensures.leads c.prepare.ensures.quiet
     (st c.record.new.host) c.record.ensures.stop told only g' cs e gives
 
+pub returns-clause-makes : goal.returns-clause-makes
+returns-clause-makes g c told g' a =
+    let st = g.H.Host.state in
+    let self = c.args.self.now in
+    let new = c.prepare.new.self in
+    let s = st c.args.host.now in
+    let q = request_of c.args.request.now in
+    makes-few self s q g' a (state_of new.live)
+    (goes-on-live self new s q c.in_ok-prepared.prepared c.in_ok-prepared.ensures.leads g' a.changes a.at_end a.gives (st c.prepare.new.host) c.prepare.ensures.quiet told)
+
+pub returns-clause-loads : goal.returns-clause-loads
+returns-clause-loads g c is not told g' a =
+    let st = g.H.Host.state in
+    let self = c.args.self.now in
+    let new = c.prepare.new.self in
+    let s = st c.args.host.now in
+    let s1 = st c.prepare.new.host in
+    let q = request_of c.args.request.now in
+    let p = c.in_ok-prepared.prepared in
+    let leads = c.in_ok-prepared.ensures.leads in
+    let commit = λ (r : Request). (after g' r).head.commit in
+    subst (λ (n : ℕ). ReadsMore s.reads (st c.record.new.host).reads (size_among (loaded (stops g' g'.head.commit) (stops g' n)) (replay g' n))) (sym (ap commit is.1))
+    (reads-on s.reads s1.reads (st c.record.new.host).reads _
+    (reads-loaded self new s q p leads is.0 is.1 not g' a s1 (subst (λ (r : Request). ReadsFor self.head.graph s s1 r p) is.1 c.in_ok-prepared.ensures.reads)
+    (recorded self new s q p leads is.0 is.1 not (self.known c.if-self.false))) c.in_ok-record.ensures.reads)
+
+pub returns-clause-reads : goal.returns-clause-reads
+returns-clause-reads g c none =
+    let st = g.H.Host.state in
+    let self = c.args.self.now in
+    let s = st c.args.host.now in
+    let s1 = st c.prepare.new.host in
+    let q = request_of c.args.request.now in
+    let p = c.in_ok-prepared.prepared in
+    let reads = c.in_ok-prepared.ensures.reads in
+    reads-on s.reads s1.reads (st c.record.new.host).reads 0
+    (⊎_elim (λ (idle : IsIdle q). idle-reads self.head.graph s s1 q p reads idle
+    (idle-no-size (told_file s) self.journal.place self.head c.prepare.new.self q p c.in_ok-prepared.ensures.leads (self.known c.if-self.false) idle))
+    (λ (one : IsCell q × (IsRefusal (answer_of p.answer) → ⊥) × ((bytes : ℕ) → RefusesSize (answer_of p.answer) bytes → ⊥)).
+    subst (λ (r : Request). ReadsFor self.head.graph s s1 r p) one.0.1 reads one.2) none) c.in_ok-record.ensures.reads
+
+pub returns-clause-idle : goal.returns-clause-idle
+returns-clause-idle g c is =
+    let st = g.H.Host.state in
+    reads-on (st c.args.host.now).reads (st c.prepare.new.host).reads (st c.record.new.host).reads 0
+    (reads-same st c.args.host.now c.prepare.new.host (c.prepare.ensures.idle is)) c.record.ensures.reads
+
+pub returns-clause-still : goal.returns-clause-still
+returns-clause-still g c leaves = c.prepare.ensures.still (uncounted c.args.self.now c.args.request.now leaves)
+
+pub returns-clause-most : goal.returns-clause-most
+returns-clause-most g c text is not sizes few = c.in_ok-prepared.ensures.most text is sizes
+
 pub returns-clause-least : goal.returns-clause-least
 returns-clause-least g c told g' a =
     let st = g.H.Host.state in
@@ -155,6 +246,15 @@ returns-clause-least g c told g' a =
     c.args.steps.now c.prepare.new.steps c.in_ok-prepared.ensures.least
 
 -- ---- where the record wasn't appended
+
+pub returns-in_err-record-clause-idle : goal.returns-in_err-record-clause-idle
+returns-in_err-record-clause-idle g c is =
+    let st = g.H.Host.state in
+    reads-on (st c.args.host.now).reads (st c.prepare.new.host).reads (st c.record.new.host).reads 0
+    (reads-same st c.args.host.now c.prepare.new.host (c.prepare.ensures.idle is)) c.record.ensures.reads
+
+pub returns-in_err-record-clause-still : goal.returns-in_err-record-clause-still
+returns-in_err-record-clause-still g c leaves = c.prepare.ensures.still (uncounted c.args.self.now c.args.request.now leaves)
 
 pub returns-in_err-record-clause-small : goal.returns-in_err-record-clause-small
 returns-in_err-record-clause-small g c g' all = small_after g' all (request_of c.args.request.now)
@@ -174,6 +274,12 @@ returns-in_err-record-clause-stop_here g c told only g' cs e gives =
     (st c.record.new.host) c.record.ensures.stop told only g' cs e gives
 
 -- ---- where nothing was prepared
+
+pub returns-in_err-prepared-clause-idle : goal.returns-in_err-prepared-clause-idle
+returns-in_err-prepared-clause-idle g c is = reads-same g.H.Host.state c.args.host.now c.prepare.new.host (c.prepare.ensures.idle is)
+
+pub returns-in_err-prepared-clause-still : goal.returns-in_err-prepared-clause-still
+returns-in_err-prepared-clause-still g c leaves = c.prepare.ensures.still (uncounted c.args.self.now c.args.request.now leaves)
 
 pub returns-in_err-prepared-clause-small : goal.returns-in_err-prepared-clause-small
 returns-in_err-prepared-clause-small g c g' all = small_after g' all (request_of c.args.request.now)
@@ -205,10 +311,10 @@ returns-in_err-prepared-clause-heap_full g c is =
     c.in_err-prepared.ensures.full (ap Err (was-full c.from_residual.result c.in_err-prepared.field-0.0 p is))
 
 pub returns-in_err-prepared-clause-full : goal.returns-in_err-prepared-clause-full
-returns-in_err-prepared-clause-full g c is told g' a =
+returns-in_err-prepared-clause-full g c is told g' a made few =
     let p = err_from_is_err_and c.from_residual.result c.from_residual.ensures.1 in
     fills-replay c.args.self.now (g.H.Host.state c.args.host.now) g' (request_of c.args.request.now) a
-    (c.in_err-prepared.ensures.full (ap Err (was-full c.from_residual.result c.in_err-prepared.field-0.0 p is)))
+    (c.in_err-prepared.ensures.full (ap Err (was-full c.from_residual.result c.in_err-prepared.field-0.0 p is))) made few
 
 pub returns-in_err-prepared-clause-beyond : goal.returns-in_err-prepared-clause-beyond
 returns-in_err-prepared-clause-beyond g c is =
@@ -238,6 +344,9 @@ returns-in_err-prepared-clause-halted g c = (
 )
 
 -- ---- closed before
+
+pub returns-then-self-clause-idle : goal.returns-then-self-clause-idle
+returns-then-self-clause-idle g c is = reads-still (g.H.Host.state c.args.host.now).reads
 
 pub returns-then-self-clause-small : goal.returns-then-self-clause-small
 returns-then-self-clause-small g c g' all = small_after g' all (request_of c.args.request.now)

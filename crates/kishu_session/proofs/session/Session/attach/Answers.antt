@@ -1,4 +1,4 @@
-use Rattle.std.proofs.Common.{◌≡◌, inr, ℕ, List, Err, refl, sym, ◌∙◌, ap, subst}
+use Rattle.std.proofs.Common.{◌≡◌, ◌*◌, inr, ℕ, List, Err, length, refl, sym, ◌∙◌, ap, subst, arith}
 use Rattle.std.specs.Prelude.{IsErrOf, Option}
 use Rattle.std.proofs.lemmas.Result.{err_from_is_err_and}
 use Rattle.kishu_host.specs.Host.{Only}
@@ -7,13 +7,15 @@ use Rattle.kishu_store_laws.specs.Laws.{one_graph}
 use Rattle.kishu_journal.specs.Found.{entries_of}
 use Rattle.kishu_checkout.specs.Pictures.{told_file}
 use Rattle.kishu_session.specs.Head.{IsLoaded}
+use Rattle.kishu_session.specs.Lives.{state_of}
 use Rattle.kishu_session.specs.declared.halt.Halt.TheVariants.{Damaged, DiskFault}
-use Rattle.kishu_session.proofs.AttachFacts.{loaded-attached}
+use Rattle.kishu_session.proofs.AttachFacts.{loaded-attached, opens-nodes}
 use Rattle.kishu_session.proofs.Halts.{was-damaged}
 use Rattle.kishu_session.proofs.LiveFacts.{head-loaded}
 use Rattle.kishu_session.proofs.LoadFacts.{told-file-same}
-use Rattle.kishu_session.proofs.OpenedFacts.{opened-known, head-known, opened-at-end, opened-history, opened-kept, lacks-is-long, lacks-picture}
+use Rattle.kishu_session.proofs.OpenedFacts.{opened-known, head-known, opened-at-end, opened-history, opened-kept, lacks-is-long, lacks-picture, opening-reads}
 use Rattle.kishu_session.proofs.OpeningFacts.{gave-back, opening-then, opening-held, opening-held-good, opening-bad, opening-settled, opening-settled-good, opening-stop, opening-stop-good, opening-damaged}
+use Rattle.kishu_session.proofs.ReadBytes.{reads-within}
 use Rattle.kishu_session.proofs.session.Session.attach.Goals as goal
 
 -- ---- a store that isn't opened
@@ -22,6 +24,12 @@ pub returns-in_err-journal-clause-bad : goal.returns-in_err-journal-clause-bad
 returns-in_err-journal-clause-bad g c =
     let st = g.H.Host.state in
     opening-bad (IsErrOf c.opened.result DiskFault) (st c.args.host.now) (st c.opened.new.host) c.opened.ensures.opening
+
+pub returns-in_err-journal-clause-reads : goal.returns-in_err-journal-clause-reads
+returns-in_err-journal-clause-reads g c told =
+    let st = g.H.Host.state in
+    let s = st c.args.host.now in
+    reads-within s.reads (st c.opened.new.host).reads (length s.file) (3 * length s.file) (c.opened.ensures.reads told) (omega arith)
 
 pub returns-in_err-journal-clause-damaged_stays : goal.returns-in_err-journal-clause-damaged_stays
 returns-in_err-journal-clause-damaged_stays g c at err told =
@@ -56,6 +64,20 @@ returns-in_err-head-clause-settled_good g c =
     let o = opening-then _ Then (st c.args.host.now) (st c.opened.new.host) (st c.of_store.new.host) (g.met.H.Host.reads_now c.args.host.now) (λ fault. cc (fault)) c.in_ok-journal.ensures.opening c.of_store.ensures.quiet in
     opening-settled-good Then (st c.args.host.now) (st c.of_store.new.host) o
 
+pub returns-in_err-head-clause-stop : goal.returns-in_err-head-clause-stop
+returns-in_err-head-clause-stop g c =
+    let st = g.H.Host.state in
+    let Then = IsErrOf c.from_residual-in_err-head.result DiskFault in
+    let o = opening-then _ Then (st c.args.host.now) (st c.opened.new.host) (st c.of_store.new.host) (g.met.H.Host.reads_now c.args.host.now) (λ fault. cc (fault)) c.in_ok-journal.ensures.opening c.of_store.ensures.quiet in
+    opening-stop Then (st c.args.host.now) (st c.of_store.new.host) o
+
+pub returns-in_err-head-clause-stop_good : goal.returns-in_err-head-clause-stop_good
+returns-in_err-head-clause-stop_good g c =
+    let st = g.H.Host.state in
+    let Then = IsErrOf c.from_residual-in_err-head.result DiskFault in
+    let o = opening-then _ Then (st c.args.host.now) (st c.opened.new.host) (st c.of_store.new.host) (g.met.H.Host.reads_now c.args.host.now) (λ fault. cc (fault)) c.in_ok-journal.ensures.opening c.of_store.ensures.quiet in
+    opening-stop-good Then (st c.args.host.now) (st c.of_store.new.host) o
+
 pub returns-in_err-head-clause-damaged : goal.returns-in_err-head-clause-damaged
 returns-in_err-head-clause-damaged g c at err told =
     let st = g.H.Host.state in
@@ -84,6 +106,12 @@ returns-in_err-head-clause-damaged_stays g c at err told =
     let e = was-damaged c.from_residual-in_err-head.result c.in_err-head.field-0.0 p at err in
     let lacks = c.in_err-head.ensures.damaged at (ap Err e) (opened-history s s1 store opens told) (opened-kept s s1 store opens told) in
     opening-damaged Then s t o (λ fault. cc (fault, err)) told (lacks-is-long s s1 store opens told (opening.long told) (opening.short told) (opening.tells ∙ told) at lacks)
+
+pub returns-in_err-head-clause-reads : goal.returns-in_err-head-clause-reads
+returns-in_err-head-clause-reads g c =
+    let st = g.H.Host.state in
+    let opening = c.in_ok-journal.ensures.opening in
+    opening-reads (st c.args.host.now) (st c.opened.new.host) (st c.of_store.new.host) c.in_ok-journal.field-0 c.in_ok-journal.ensures.opens c.opened.ensures.reads opening.long opening.short c.of_store.ensures.reads
 
 -- ---- a session
 
@@ -179,3 +207,14 @@ returns-clause-attached g c told g' good =
     let here = subst (λ (o : Option (List ℕ)). IsLoaded o c.in_ok-head.head) (sym (told-file-same s1 t quiet.time.tells quiet.keeps.file)) c.in_ok-head.ensures.loaded in
     let durable : Only t.file t.may_leave = λ x left. c.in_ok-journal.ensures.durable told x (quiet.keeps.crash x left) ∙ sym quiet.keeps.file in
     loaded-attached _ t (quiet.time.tells ∙ opening.tells ∙ told) g' (returns-clause-held_good g c told g' good) at_end here refl durable c.in_ok-head.ensures.count
+
+pub returns-clause-makes : goal.returns-clause-makes
+returns-clause-makes g c =
+    let st = g.H.Host.state in
+    opens-nodes (state_of c.in_ok-head.head.live) (st c.args.host.now) (st c.of_store.new.host) (returns-clause-loaded g c) (returns-clause-held_good g c)
+
+pub returns-clause-reads : goal.returns-clause-reads
+returns-clause-reads g c =
+    let st = g.H.Host.state in
+    let opening = c.in_ok-journal.ensures.opening in
+    opening-reads (st c.args.host.now) (st c.opened.new.host) (st c.of_store.new.host) c.in_ok-journal.field-0 c.in_ok-journal.ensures.opens c.opened.ensures.reads opening.long opening.short c.of_store.ensures.reads

@@ -1,0 +1,110 @@
+-- What requests read of the host, and how far they raise the counter.
+use Rattle.std.proofs.Common.{◌≡◌, ℕ, List, [], ◌∷◌, length, Option, Some, None, refl, sym, ◌∙◌, ap, subst, arith}
+use Rattle.std.proofs.lemmas.List.{append-nil}
+use Rattle.std.proofs.Math.Logic.{∥∥₁_elim}
+use Rattle.kishu_host.specs.Host.{State, ReadsMore}
+use Rattle.kishu_language.specs.declared.profile.Profile.TheVariants.{One}
+use Rattle.kishu_meaning.specs.cells.Meaning.{run}
+use Rattle.kishu_meaning.specs.values.Values as values
+use Rattle.kishu_objects.specs.Picture.{order}
+use Rattle.kishu_store.specs.Groups.{Group}
+use Rattle.kishu_store.specs.Histories.{head_table}
+use Rattle.kishu_store.specs.Tables.{Table, groups_in}
+use Rattle.kishu_graph.specs.Kept.{Kept}
+use Rattle.kishu_graph.specs.Tables.{table_of_rows}
+use Rattle.kishu_history.specs.Accessed.{accessed_by}
+use Rattle.kishu_history.specs.Touched.{touched}
+use Rattle.kishu_history_laws.specs.cells.AccessLaws.{touched_same}
+use Rattle.kishu_live_laws.specs.Refusals.{LeavesTooLarge}
+use Rattle.kishu_model.specs.Request.{Request, cell, cells, checkout, branch, log, status, inspect, stored, plan, unreadable}
+use Rattle.kishu_session.specs.Applying.{IsIdle}
+use Rattle.kishu_session.specs.Head.{IsKnown}
+use Rattle.kishu_session.specs.Lives.{state_of}
+use Rattle.kishu_session.specs.Prepared.{LeadsOn, RefusesNoSize}
+use Rattle.kishu_session.specs.Running.{AreSameNames}
+use Rattle.kishu_session.specs.Working.{IsUncounted, ReadsFor, nodes_touched}
+use Rattle.kishu_session.specs.declared.head.Head.{Head}
+use Rattle.kishu_session.specs.declared.live.Live.{Live}
+use Rattle.kishu_session.specs.declared.prepared.Prepared.{Prepared}
+use Rattle.kishu_session.proofs.Committed.{⊥-prop}
+use Rattle.kishu_session.proofs.RanOn.{RanOn}
+
+-- ---- bytes
+
+pub reads-still : (o : Option ℕ) → ReadsMore o o 0
+reads-still None = tt
+reads-still (Some y) = (y, refl, omega arith)
+
+-- Where the host wasn't called nothing is read.
+pub reads-same : {H : Type 0} (st : H → State) (a b : H) → b ≡ a → ReadsMore (st a).reads (st b).reads 0
+reads-same st a b e = subst (λ x. ReadsMore (st a).reads (st x).reads 0) (sym e) (reads-still (st a).reads)
+
+-- What is done after it reads nothing.
+pub reads-on : (a b c : Option ℕ) (n : ℕ) → ReadsMore a b n → ReadsMore b c 0 → ReadsMore a c n
+reads-on a b None n p q = tt
+reads-on a None (Some z) n p q = absurd (cc (q.1))
+reads-on a (Some y) (Some z) n p q =
+    let same : y ≡ q.0 = cc (q.1) in
+    (p.0, p.1, omega (arith, p.2, q.2, same))
+
+-- ---- requests that only tell what is kept, or name it
+
+pub idle-uncounted : (q : Request) → IsIdle q → IsUncounted q
+idle-uncounted unreadable is = is
+idle-uncounted (cell text) is = is
+idle-uncounted (cells texts) is = is
+idle-uncounted (checkout to) is = tt
+idle-uncounted (branch title at) is = tt
+idle-uncounted log is = tt
+idle-uncounted status is = tt
+idle-uncounted inspect is = is
+idle-uncounted (stored of) is = tt
+idle-uncounted (plan to) is = tt
+
+-- They leave nothing too large.
+idle-small : (t : Table) (s : values.State) (q : Request) (bytes : ℕ) → IsIdle q → LeavesTooLarge t s q bytes → ⊥
+idle-small t s unreadable bytes is large = is
+idle-small t s (cell text) bytes is large = is
+idle-small t s (cells texts) bytes is large = is
+idle-small t s (checkout to) bytes is large = is
+idle-small t s (branch title at) bytes is large = large
+idle-small t s log bytes is large = large
+idle-small t s status bytes is large = large
+idle-small t s inspect bytes is large = is
+idle-small t s (stored of) bytes is large = large
+idle-small t s (plan to) bytes is large = large
+
+pub idle-no-size : (file : Option (List ℕ)) (place : ℕ) (old new : Head) (q : Request) (p : Prepared) → LeadsOn file place old new q p → IsKnown old place → IsIdle q
+    → RefusesNoSize p.answer
+idle-no-size file place old new q p leads known is bytes size =
+    ∥∥₁_elim known ⊥-prop (λ k. idle-small (head_table k.0) (state_of old.live) q bytes is ((leads.large bytes size).0 k.0 k.1.kept))
+
+-- They read nothing.
+pub idle-reads : (kept : Kept) (s t : State) (q : Request) (p : Prepared) → ReadsFor kept s t q p → IsIdle q → RefusesNoSize p.answer → ReadsMore s.reads t.reads 0
+idle-reads kept s t unreadable p reads is sizes = absurd is
+idle-reads kept s t (cell text) p reads is sizes = absurd is
+idle-reads kept s t (cells texts) p reads is sizes = absurd is
+idle-reads kept s t (checkout to) p reads is sizes = absurd is
+idle-reads kept s t (branch title at) p reads is sizes = reads sizes
+idle-reads kept s t log p reads is sizes = reads sizes
+idle-reads kept s t status p reads is sizes = reads sizes
+idle-reads kept s t inspect p reads is sizes = absurd is
+idle-reads kept s t (stored of) p reads is sizes = reads sizes
+idle-reads kept s t (plan to) p reads is sizes = reads sizes
+
+-- ---- a cell
+
+-- The names that are noted once it was run touch what its own do.
+noted-touched : (gs : List Group) (s u : values.State) (text : List ℕ) (names : List (List ℕ)) → AreSameNames names (accessed_by One (text ∷ []) s)
+    → touched gs names u ≡ touched gs (run One text s).accessed u
+noted-touched gs s u text names same =
+    touched_same names (accessed_by One (text ∷ []) s) same gs u ∙ ap (λ (l : List (List ℕ)). touched gs l u) (append-nil (run One text s).accessed)
+
+-- So they reach as many nodes of the state that it left, which is the new head's.
+pub nodes-are : (old new : Head) (l : Live) (text : List ℕ) → RanOn old.live l (text ∷ []) → new.live ≡ l
+    → length (order (state_of l) (touched (groups_in (table_of_rows old.table)) l.names.accessed (state_of l))) ≡ nodes_touched old new text
+nodes-are old new l text ran live =
+    let gs = groups_in (table_of_rows old.table) in
+    let s = state_of old.live in
+    ap (λ (xs : List (List ℕ)). length (order (state_of l) xs)) (noted-touched gs s (state_of l) text l.names.accessed ran.accessed)
+    ∙ ap (λ (x : Live). length (order (state_of x) (touched gs (run One text s).accessed (state_of x)))) (sym live)

@@ -1,7 +1,0 @@
-use Rattle.std.proofs.lemmas.Result.{err_from_is_err_and}
-use Rattle.kishu_session.proofs.head.Head.load_moved.Goals as goal
-
-pub returns-in_err-load-clause-damaged : goal.returns-in_err-load-clause-damaged
-returns-in_err-load-clause-damaged g c at err =
-    let p = err_from_is_err_and c.from_residual.result c.from_residual.ensures.1 in
-    c.in_err-load.ensures.damaged at (cc (err, p.1, p.2))

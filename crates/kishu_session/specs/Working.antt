@@ -1,0 +1,90 @@
+-- The work of a request before it is recorded: `s` is the host before, `t` the host after.
+use Rattle.std.specs.Prelude.{◌≡◌, ◌≤◌, ℕ, ◌+◌, ◌*◌, List, length, None}
+use Rattle.kishu_host.specs.Host.{State, ReadsMore}
+use Rattle.kishu_meaning.specs.cells.Meaning.{run}
+use Rattle.kishu_objects.specs.Picture.{order}
+use Rattle.kishu_store.specs.Histories.{History}
+use Rattle.kishu_store.specs.Limits.{newest_profile}
+use Rattle.kishu_store.specs.Tables.{bytes_in, groups_in}
+use Rattle.kishu_history.specs.Touched.{touched}
+use Rattle.kishu_graph.specs.Kept.{Kept}
+use Rattle.kishu_graph.specs.Tables.{table_of_rows}
+use Rattle.kishu_model.specs.declared.answer.Answer as rust_answer
+use Rattle.kishu_model.specs.Request.{Request, cell, cells, checkout, branch, log, status, inspect, stored, plan, unreadable}
+use Rattle.kishu_session.specs.Known.{IsHistoryOf}
+use Rattle.kishu_session.specs.Lives.{state_of}
+use Rattle.kishu_session.specs.Prepared.{RefusesNoSize}
+use Rattle.kishu_session.specs.Reading.{rows_read}
+use Rattle.kishu_session.specs.declared.head.Head.{Head}
+use Rattle.kishu_session.specs.declared.prepared.Prepared.{Prepared}
+
+-- ---- the bytes that are read
+
+-- Those that only tell what is kept, or name it.
+abbrev pub IsIdle : Request → Type 0
+IsIdle unreadable = ⊥
+IsIdle (cell text) = ⊥
+IsIdle (cells texts) = ⊥
+IsIdle (checkout to) = ⊥
+IsIdle (branch name at) = Unit {0}
+IsIdle log = Unit {0}
+IsIdle status = Unit {0}
+IsIdle inspect = ⊥
+IsIdle (stored of) = Unit {0}
+IsIdle (plan to) = Unit {0}
+
+-- It reads none, where no state is refused for its size.
+abbrev pub ReadsNothing : (s t : State) → rust_answer.Answer → Type 0
+ReadsNothing s t a = RefusesNoSize a → ReadsMore s.reads t.reads 0
+
+-- Where it has a record, it reads just the pictures of the rows that a checkout to there loads, in each history that was kept.
+abbrev pub ReadsRows : Kept → (s t : State) → List ℕ → Prepared → Type 0
+ReadsRows kept s t to p =
+    (p.recorded ≡ None → ⊥) → (h : History) → IsHistoryOf kept h → ReadsMore s.reads t.reads (bytes_in (rows_read h (checkout to)))
+
+abbrev pub ReadsFor : Kept → (s t : State) → Request → Prepared → Type 0
+ReadsFor kept s t unreadable p = ReadsNothing s t p.answer
+ReadsFor kept s t (cell text) p = ReadsNothing s t p.answer
+ReadsFor kept s t (cells texts) p = ReadsNothing s t p.answer
+ReadsFor kept s t (checkout to) p = ReadsRows kept s t to p
+ReadsFor kept s t (branch name at) p = ReadsNothing s t p.answer
+ReadsFor kept s t log p = ReadsNothing s t p.answer
+ReadsFor kept s t status p = ReadsNothing s t p.answer
+ReadsFor kept s t inspect p = ReadsNothing s t p.answer
+ReadsFor kept s t (stored of) p = ReadsNothing s t p.answer
+ReadsFor kept s t (plan to) p = ReadsNothing s t p.answer
+
+-- ---- the counter
+
+-- Those that take no step of it: each but those with cells, and `inspect`.
+abbrev pub IsUncounted : Request → Type 0
+IsUncounted unreadable = ⊥
+IsUncounted (cell text) = ⊥
+IsUncounted (cells texts) = ⊥
+IsUncounted (checkout to) = Unit {0}
+IsUncounted (branch name at) = Unit {0}
+IsUncounted log = Unit {0}
+IsUncounted status = Unit {0}
+IsUncounted inspect = ⊥
+IsUncounted (stored of) = Unit {0}
+IsUncounted (plan to) = Unit {0}
+
+-- the most steps of a cell with such a charge, where the names that it touched reach so many nodes
+abbrev pub most_steps : (charge nodes : ℕ) → ℕ
+most_steps charge nodes = 128 + 128 * charge + 8 * nodes
+
+-- the nodes that the names reach in the new state which a cell touched that was run on the old one, by the table of the head before
+abbrev pub nodes_touched : (old new : Head) → List ℕ → ℕ
+nodes_touched old new text =
+    length (order (state_of new.live) (touched (groups_in (table_of_rows old.table)) (run newest_profile text (state_of old.live)).accessed (state_of new.live)))
+
+-- It rose by at most so much.
+abbrev pub CountsUpTo : (old new : Head) → List ℕ → (before now : ℕ) → Type 0
+CountsUpTo old new text before now = now ≤ before + most_steps (run newest_profile text (state_of old.live)).charge (nodes_touched old new text)
+
+-- So it is with a cell whose state isn't refused for its size.
+abbrev pub CountsCell : (old new : Head) → List ℕ → rust_answer.Answer → (before now : ℕ) → Type 0
+CountsCell old new text a before now = RefusesNoSize a → CountsUpTo old new text before now
+
+abbrev pub CountsFor : (old new : Head) → Request → rust_answer.Answer → (before now : ℕ) → Type 0
+CountsFor old new q a before now = (text : List ℕ) → q ≡ cell text → CountsCell old new text a before now
