@@ -4,13 +4,13 @@ use Rattle.std.specs.Prelude.{IsSome}
 use Rattle.std.specs.Str.{is_utf8}
 use Rattle.kishu_host.specs.Source.{SourceState}
 use Rattle.kishu_store.specs.Graph.{Graph}
-use Rattle.kishu_replay.specs.Replay.{replay, IsFull}
 use Rattle.kishu_model.specs.Request.{cell, unreadable}
 use Rattle.kishu_model.specs.Serve.{Item, answered}
 use Rattle.kishu_model.specs.Task.{Form, one_cell, session, notebook, one_request, generated, cell_request, limit_place, session_limits}
 use Rattle.kishu_model.specs.notebooks.Notebook.{Fault}
 use Rattle.kishu_input.specs.Sources.{TakesMoreThan, TakesAtMost}
-use Rattle.kishu_session.specs.Filling.{FillsBy}
+use Rattle.kishu_live_laws.specs.Filling.{FillsBy, IsTooMany}
+use Rattle.kishu_live_laws.specs.Made.{opened_nodes}
 use Rattle.kishu_serve.specs.Asking as asking
 use Rattle.kishu_serve.specs.Filling.{FillsByAny, FillsInForm}
 use Rattle.kishu_serve.specs.Headline.{ReadsWhole, longest_input, most_taken, IsTooLong, HasFault}
@@ -116,20 +116,24 @@ alone-knows (Answers rs) s alone = alone-asks rs s alone
 alone-knows (Runs book) s alone = tt
 alone-knows (Makes script) s alone = tt
 
-module _ (g : Graph) (input : List ℕ) where
-  by-cell : (b : Bool) → FillsBy (replay g g.head.commit) (if b then cell input else unreadable) → IsFull (replay g g.head.commit)
+module _ (made : ℕ) (g : Graph) (input : List ℕ) where
+  by-cell : (b : Bool) → FillsBy made g (if b then cell input else unreadable) → IsTooMany made
   by-cell true full = full
   by-cell false full = absurd full
 
-  full-cell : FillsByAny g (answered (cell_request input) ∷ []) → IsFull (replay g g.head.commit)
+  full-cell : FillsByAny made g (answered (cell_request input) ∷ []) → IsTooMany made
   full-cell (inl full) = by-cell (is_utf8 input) full
   full-cell (inr none) = absurd none
 
-pub fills-form : (f : Form) (work : Work) (old mid : SourceState) (g : Graph) → AsksFor f old work mid → (f ≡ one_cell → IsOneCell work) → still_reads work ≡ is_session f
-    → mid.tells ≡ old.tells → (Knows work mid → FillsByAny g (to_do work g mid.left)) → FillsInForm (Some f) old g
-fills-form one_cell work old mid g asks one lines tells full =
-    full-cell g (one refl).0 (subst (λ (is : List Item). FillsByAny g is) ((one refl).1 g mid.left) (full (alone-knows work mid lines)))
-fills-form session work old mid g asks one lines tells full = λ told. subst (λ (is : List Item). FillsByAny g is) (asks told g) (full (knows-told work mid (tells ∙ told)))
-fills-form (notebook together) work old mid g asks one lines tells full = λ told. subst (λ (is : List Item). FillsByAny g is) (asks told g) (full (knows-told work mid (tells ∙ told)))
-fills-form (one_request q) work old mid g asks one lines tells full = subst (λ (is : List Item). FillsByAny g is) (asks tt g) (full (alone-knows work mid lines))
-fills-form (generated start many) work old mid g asks one lines tells full = subst (λ (is : List Item). FillsByAny g is) (asks tt g) (full (alone-knows work mid lines))
+module _ (work : Work) (old mid : SourceState) (g : Graph) where
+  abbrev opened : ℕ
+  opened = opened_nodes g g.head.commit
+
+  pub fills-form : (f : Form) → AsksFor f old work mid → (f ≡ one_cell → IsOneCell work) → still_reads work ≡ is_session f
+      → mid.tells ≡ old.tells → (Knows work mid → FillsByAny opened g (to_do work g mid.left)) → FillsInForm (Some f) old g
+  fills-form one_cell asks one lines tells full =
+      full-cell opened g (one refl).0 (subst (λ (is : List Item). FillsByAny opened g is) ((one refl).1 g mid.left) (full (alone-knows work mid lines)))
+  fills-form session asks one lines tells full = λ told. subst (λ (is : List Item). FillsByAny opened g is) (asks told g) (full (knows-told work mid (tells ∙ told)))
+  fills-form (notebook together) asks one lines tells full = λ told. subst (λ (is : List Item). FillsByAny opened g is) (asks told g) (full (knows-told work mid (tells ∙ told)))
+  fills-form (one_request q) asks one lines tells full = subst (λ (is : List Item). FillsByAny opened g is) (asks tt g) (full (alone-knows work mid lines))
+  fills-form (generated start many) asks one lines tells full = subst (λ (is : List Item). FillsByAny opened g is) (asks tt g) (full (alone-knows work mid lines))

@@ -4,6 +4,8 @@ mod Forms
 mod Parts
 mod Runs
 mod Damages
+mod Works
+mod Measured
 mod Chain
 mod CellRuns
 mod LiveRuns

@@ -12,7 +12,8 @@ use Rattle.kishu_model.specs.Task.{Form, one_cell, session, notebook, one_reques
 use Rattle.kishu_model.specs.generated.Run.{summary_of}
 use Rattle.kishu_model.specs.notebooks.Run.{cell_requests, with_answers}
 use Rattle.kishu_model.specs.notebooks.Setting.{written}
-use Rattle.kishu_live_laws.specs.OnStates.{head_rows, FillsOn}
+use Rattle.kishu_live_laws.specs.OnStates.{head_rows}
+use Rattle.kishu_live_laws.specs.Refusals.{FillsOn}
 use Rattle.kishu_gen.specs.Scripts.{to_come}
 use Rattle.kishu_notebook.specs.Views.{data_of}
 use Rattle.kishu_serve.specs.Fillable.{asks_for, AsksHere, FillsFile}
@@ -39,7 +40,7 @@ one-asked (Makes script) g left q is =
     absurd (not-answered qs (summary_of (after_all g (map silent qs)) (answers g (map answered qs))) q is)
 
 module _ (file : List ℕ) (cs : List Change) (g : Graph) (u : State) (input : List ℕ) where
-  by-cell : (b : Bool) → FillsOn (head_rows (change_of cs) g) u (if b then cell input else unreadable) → IsFull u
+  by-cell : (b : Bool) → FillsOn (head_rows (change_of cs) g) u g (if b then cell input else unreadable) → IsFull u
   by-cell true full = full
   by-cell false full = absurd full
 

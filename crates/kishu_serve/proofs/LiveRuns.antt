@@ -13,7 +13,8 @@ use Rattle.kishu_history.specs.Stored.{Stored}
 use Rattle.kishu_model.specs.Request.{Request, cell, cells, unreadable}
 use Rattle.kishu_model.specs.Serve.{Item, answered, silent}
 use Rattle.kishu_model.specs.notebooks.Run.{goes_on, all_cells}
-use Rattle.kishu_live_laws.specs.OnStates.{after_on, answer_on, commits_on, head_rows, FillsOn}
+use Rattle.kishu_live_laws.specs.OnStates.{after_on, answer_on, commits_on, head_rows}
+use Rattle.kishu_live_laws.specs.Refusals.{FillsOn}
 use Rattle.kishu_checkout.specs.Pictures.{told_file}
 use Rattle.kishu_session.specs.Attached.{IsAtEnd, StandsAtEnd, LivesIn}
 use Rattle.kishu_session.specs.Becoming.{IsHeadLoaded, IsNextState}
@@ -66,9 +67,9 @@ pub fills-now : (session : Session) (s : State) (q : Request) → session_fillin
 fills-now session s q full told g cs e gives =
     let u = state_of session.head.live in
     let h = at-end-history session s g e in
-    let here : FillsOn (table_at h.history.graph (change_of h.history.changes) h.history.graph.head.commit) u q = full h.history h.kept in
-    let over = subst (λ (x : Graph). FillsOn (table_at x (change_of h.history.changes) x.head.commit) u q) h.graph here in
-    subst (λ (ds : List Change). FillsOn (head_rows (change_of ds) g) u q) (one_changes s.file h.history.changes cs h.gives gives) over
+    let here : FillsOn (table_at h.history.graph (change_of h.history.changes) h.history.graph.head.commit) u h.history.graph q = full h.history h.kept in
+    let over = subst (λ (x : Graph). FillsOn (table_at x (change_of h.history.changes) x.head.commit) u x q) h.graph here in
+    subst (λ (ds : List Change). FillsOn (head_rows (change_of ds) g) u g q) (one_changes s.file h.history.changes cs h.gives gives) over
 
 -- It was applied, and afterwards the file stayed.
 module _ (old new : Session) (s0 s1 s2 : State) (q : Request) (g : Graph) (cs : List Change) (same : s2.file ≡ s1.file) (tells : s2.tells ≡ s1.tells)
@@ -128,7 +129,7 @@ module _ {s0 s : State} {old session : Session} {all rest : List Item} {g : Grap
     (so : FillsAlong s0 s old session all rest g cs) (q : Request) (is : List Item) where
   -- a request that is answered
   module _ (first : rest ≡ answered q ∷ is) where
-    pub answered-full : FillsOn (head_rows (change_of so.changes) so.now) (state_of session.head.live) q → FillsLive s0.file cs g (state_of old.head.live) all
+    pub answered-full : FillsOn (head_rows (change_of so.changes) so.now) (state_of session.head.live) so.now q → FillsLive s0.file cs g (state_of old.head.live) all
     answered-full full = so.fills (subst (λ (js : List Item). FillsLive s.file so.changes so.now (state_of session.head.live) js) (sym first) (inl full))
 
     pub answered-more : (s2 : State) (next : Session) → LeadsOn session next s s2 q so.now so.changes → FillsAlong s0 s2 old next all is g cs
@@ -146,7 +147,7 @@ module _ {s0 s : State} {old session : Session} {all rest : List Item} {g : Grap
 
   -- one for which nothing is written
   module _ (first : rest ≡ silent q ∷ is) where
-    pub silent-full : FillsOn (head_rows (change_of so.changes) so.now) (state_of session.head.live) q → FillsLive s0.file cs g (state_of old.head.live) all
+    pub silent-full : FillsOn (head_rows (change_of so.changes) so.now) (state_of session.head.live) so.now q → FillsLive s0.file cs g (state_of old.head.live) all
     silent-full full = so.fills (subst (λ (js : List Item). FillsLive s.file so.changes so.now (state_of session.head.live) js) (sym first) (inl full))
 
     pub silent-goes : (s2 : State) (next : Session) → LeadsOn session next s s2 q so.now so.changes
@@ -175,7 +176,7 @@ cells-here at texts text here = ap (λ (ts : List (List ℕ)). map silent (map c
 
 -- all in one request
 pub together-here : (file : List ℕ) (cs : List Change) (g : Graph) (u : Live) (texts : List (List ℕ)) → all_cells texts ≡ cells texts ∷ []
-    → FillsOn (head_rows (change_of cs) g) u (cells texts) → FillsLive file cs g u (cells_asked true texts)
+    → FillsOn (head_rows (change_of cs) g) u g (cells texts) → FillsLive file cs g u (cells_asked true texts)
 together-here file cs g u texts some full = subst (λ (qs : List Request). FillsLive file cs g u (map silent qs)) (sym some) (inl full)
 
 -- ---- a whole run

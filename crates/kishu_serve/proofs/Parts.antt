@@ -50,7 +50,6 @@ attached-kept session s0 s1 g same crash a = record {
   changes = a.changes;
   gives = subst (λ (f : List ℕ). Gives f a.changes) (sym same) a.gives;
   states = subst (λ (f : List ℕ). good.IsAttached f g (change_of a.changes) (state_of session.head.live)) (sym same) a.states;
-  few = a.few;
 }
 
 module _ (s : State) (g : Graph) (i : Item) where

@@ -7,7 +7,8 @@ use Rattle.kishu_store.specs.Tables.{Change, change_of}
 use Rattle.kishu_model.specs.Request.{Request}
 use Rattle.kishu_model.specs.Serve.{Item}
 use Rattle.kishu_model.specs.notebooks.Run.{goes_on}
-use Rattle.kishu_live_laws.specs.OnStates.{after_on, answer_on, head_rows, FillsOn}
+use Rattle.kishu_live_laws.specs.OnStates.{after_on, answer_on, head_rows}
+use Rattle.kishu_live_laws.specs.Refusals.{FillsOn}
 use Rattle.kishu_session.specs.Attached.{IsAtEnd, LivesIn}
 use Rattle.kishu_session.specs.Lives.{state_of}
 use Rattle.kishu_session.specs.declared.session.Session.{Session}
@@ -35,9 +36,9 @@ AppliesHere old new s t q = WhereLive old s (LeadsOn old new s t q)
 abbrev pub GoesOnHere : Session → State → Request → (further : Bool) → Type 0
 GoesOnHere session s q further = WhereOpen session s (λ g cs. further ≡ goes_on (answer_on (change_of cs) (state_of session.head.live) g q))
 
--- A cell of the request would begin with too many nodes on the live state, by the head's table.
+-- A cell of the request would begin with too many nodes on the live state, by the head's table, or the loading of a checkout.
 abbrev pub FillsNow : Session → State → Request → Type 0
-FillsNow session s q = WhereOpen session s (λ g cs. FillsOn (head_rows (change_of cs) g) (state_of session.head.live) q)
+FillsNow session s q = WhereOpen session s (λ g cs. FillsOn (head_rows (change_of cs) g) (state_of session.head.live) g q)
 
 -- One of these items fills the heap, from the live state on.
 abbrev pub FillsHere : Session → State → List Item → Type 0

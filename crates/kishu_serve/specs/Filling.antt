@@ -1,5 +1,5 @@
 -- Where a run fills the heap.
-use Rattle.std.specs.Prelude.{◌≡◌, ◌⊎◌, ℕ, Bool, true, false, List, [], ◌∷◌, map, Option, Some, None, Result, Ok, Err}
+use Rattle.std.specs.Prelude.{◌≡◌, ◌⊎◌, ◌+◌, ℕ, Bool, true, false, List, [], ◌∷◌, map, Option, Some, None, Result, Ok, Err}
 use Rattle.serde_json.specs.Data.{Data}
 use Rattle.kishu_host.specs.Source.{SourceState}
 use Rattle.kishu_meaning.specs.values.Values.{State}
@@ -15,31 +15,46 @@ use Rattle.kishu_model.specs.generated.Requests.{generated_requests}
 use Rattle.kishu_model.specs.generated.Run.{generated_run}
 use Rattle.kishu_model.specs.notebooks.Notebook.{Fault, opening, sources_of}
 use Rattle.kishu_model.specs.notebooks.Run.{goes_on, all_cells}
-use Rattle.kishu_replay.specs.Replay.{replay, IsFull}
-use Rattle.kishu_live_laws.specs.Filling.{FillsBy}
-use Rattle.kishu_live_laws.specs.OnStates.{after_on, answer_on, head_rows, FillsOn}
+use Rattle.kishu_replay.specs.Replay.{IsFull}
+use Rattle.kishu_live_laws.specs.Filling.{FillsBy, IsTooMany}
+use Rattle.kishu_live_laws.specs.Made.{made_by, opened_nodes}
+use Rattle.kishu_live_laws.specs.OnStates.{after_on, answer_on, head_rows}
+use Rattle.kishu_live_laws.specs.Refusals.{FillsOn}
 use Rattle.kishu_session.specs.Becoming.{IsHeadLoaded, IsNextState}
 use Rattle.kishu_session.specs.Written.{IsRecorded}
 
--- by an item: by its request
-abbrev pub FillsByItem : Graph → Item → Type 0
-FillsByItem g (answered q) = FillsBy (replay g g.head.commit) q
-FillsByItem g (silent q) = FillsBy (replay g g.head.commit) q
-FillsByItem g (closing bytes) = ⊥
+-- ---- over a good store, by the nodes that the machine makes that replays: those of the cells that are run, and of the pictures that are loaded
 
--- by one of these items
-abbrev pub FillsByAny : Graph → List Item → Type 0
-FillsByAny g [] = ⊥
-FillsByAny g (i ∷ is) = FillsByItem g i ⊎ FillsByAny (after_item g i) is
+-- by an item, where so many were made before: by its request
+abbrev pub FillsByItem : ℕ → Graph → Item → Type 0
+FillsByItem made g (answered q) = FillsBy made g q
+FillsByItem made g (silent q) = FillsBy made g q
+FillsByItem made g (closing bytes) = ⊥
 
--- by what a form asks for; of input that is read for more than one cell it is known where the source tells it
+-- those that an item makes
+abbrev pub made_by_item : Graph → Item → ℕ
+made_by_item g (answered q) = made_by g q
+made_by_item g (silent q) = made_by g q
+made_by_item g (closing bytes) = 0
+
+-- those that all of these make
+abbrev pub made_by_all : Graph → List Item → ℕ
+made_by_all g [] = 0
+made_by_all g (i ∷ is) = made_by_item g i + made_by_all (after_item g i) is
+
+-- by one of these items, with those that the items before it make
+abbrev pub FillsByAny : ℕ → Graph → List Item → Type 0
+FillsByAny made g [] = ⊥
+FillsByAny made g (i ∷ is) = FillsByItem made g i ⊎ FillsByAny (made + made_by_item g i) (after_item g i) is
+
+-- by what a form asks for, once the store is opened; of input that is read for more than one cell it is known where the source tells it
 abbrev pub FillsInForm : Option Form → SourceState → Graph → Type 0
 FillsInForm None s g = ⊥
-FillsInForm (Some one_cell) s g = IsFull (replay g g.head.commit)
-FillsInForm (Some session) s g = s.tells ≡ true → FillsByAny g (task (Some session) g s.left)
-FillsInForm (Some (notebook together)) s g = s.tells ≡ true → FillsByAny g (task (Some (notebook together)) g s.left)
-FillsInForm (Some (one_request q)) s g = FillsByAny g (answered q ∷ [])
-FillsInForm (Some (generated start many)) s g = FillsByAny g (generated_run start many g)
+FillsInForm (Some one_cell) s g = IsTooMany (opened_nodes g g.head.commit)
+FillsInForm (Some session) s g = s.tells ≡ true → FillsByAny (opened_nodes g g.head.commit) g (task (Some session) g s.left)
+FillsInForm (Some (notebook together)) s g = s.tells ≡ true → FillsByAny (opened_nodes g g.head.commit) g (task (Some (notebook together)) g s.left)
+FillsInForm (Some (one_request q)) s g = FillsByAny (opened_nodes g g.head.commit) g (answered q ∷ [])
+FillsInForm (Some (generated start many)) s g = FillsByAny (opened_nodes g g.head.commit) g (generated_run start many g)
 
 -- ---- on every store, by the live state
 
@@ -55,10 +70,10 @@ pub record IsApplied (file : List ℕ) (cs : List Change) (g : Graph) (u : State
 abbrev pub FillsLive : List ℕ → List Change → Graph → State → List Item → Type 0
 FillsLive file cs g u [] = ⊥
 FillsLive file cs g u (answered q ∷ is) =
-    FillsOn (head_rows (change_of cs) g) u q
+    FillsOn (head_rows (change_of cs) g) u g q
     ⊎ ((later : List ℕ) × (more : List Change) × (v : State) × IsApplied file cs g u q later more v × FillsLive later more (after_on (change_of cs) u g q) v is)
 FillsLive file cs g u (silent q ∷ is) =
-    FillsOn (head_rows (change_of cs) g) u q
+    FillsOn (head_rows (change_of cs) g) u g q
     ⊎ ((goes_on (answer_on (change_of cs) u g q) ≡ true)
     × ((later : List ℕ) × (more : List Change) × (v : State) × IsApplied file cs g u q later more v × FillsLive later more (after_on (change_of cs) u g q) v is))
 FillsLive file cs g u (closing bytes ∷ is) = ⊥

@@ -5,6 +5,7 @@ pub mod Work
 pub mod Recorded
 pub mod Headline
 pub mod Filling
+pub mod Efforts
 pub mod Promise
 pub mod Serving
 pub mod EveryStore

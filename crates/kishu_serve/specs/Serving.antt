@@ -1,5 +1,5 @@
 -- What requests do to an open session: where it is attached, and what a stop leaves.
-use Rattle.std.specs.Prelude.{◌≡◌, ◌⊎◌, ℕ, List, ◌++◌, Some}
+use Rattle.std.specs.Prelude.{◌≡◌, ◌≤◌, ◌⊎◌, ℕ, List, ◌++◌, length, Some}
 use Rattle.kishu_host.specs.Host.{State, Told, Elapses, Rises, DuringPut}
 use Rattle.kishu_host.specs.Source.{SourceState}
 use Rattle.kishu_store.specs.Graph.{Graph}
@@ -9,6 +9,7 @@ use Rattle.kishu_model.specs.Serve.{Item, answer_of}
 use Rattle.kishu_model.specs.Values.{answer_of as said_by}
 use Rattle.kishu_model.specs.declared.answer.Answer.{Answer}
 use Rattle.kishu_session.specs.Attached.{IsAttached, StandsAtEnd}
+use Rattle.kishu_session.specs.Lives.{state_of}
 use Rattle.kishu_session.specs.Written.{IsRecorded}
 use Rattle.kishu_session.specs.declared.session.Session.{Session}
 use Rattle.kishu_serve.specs.Headline.{IsPart}
@@ -43,6 +44,10 @@ AnswerGoesOut answer old new = (a : Said) → said_by answer ≡ Some a → GoOu
 abbrev pub WhereAttached : Session → State → (Graph → Type 0) → Type 0
 WhereAttached session host P = Told host ((g : Graph) → IsAttached session host g → P g)
 
+-- The same, of each number of nodes that were made before, no fewer than the live state has.
+abbrev pub WhereMade : Session → State → (ℕ → Graph → Type 0) → Type 0
+WhereMade session host P = WhereAttached session host (λ g. (made : ℕ) → length (state_of session.head.live).nodes ≤ made → P made g)
+
 -- The session stands at the end of the host's file, whether or not that is good.
 abbrev pub IsOpen : Session → State → Type 0
 IsOpen session host = Told host (StandsAtEnd session host)
@@ -69,3 +74,8 @@ StopsInPart old new g items = Elapses old new (IsPart old g items)
 abbrev pub WhereKnown : Work → SourceState → Session → State → (Graph → List Item → Type 0) → Type 0
 WhereKnown work source session host P =
     Told host (Knows work source → (g : Graph) → IsAttached session host g → P g (to_do work g source.left))
+
+-- The same, of each number of nodes that were made before, no fewer than the live state has.
+abbrev pub WhereKnownMade : Work → SourceState → Session → State → (ℕ → Graph → List Item → Type 0) → Type 0
+WhereKnownMade work source session host P =
+    WhereKnown work source session host (λ g items. (made : ℕ) → length (state_of session.head.live).nodes ≤ made → P made g items)

@@ -1,7 +1,6 @@
 // The run of a notebook's code cells, and the writing of the notebook.
 ghost use Rattle.std.specs.Prelude.{◌≡◌, ◌≤◌, ◌<◌, ◌+◌, ◌∷◌, ◌^◌, [], ℕ, List, false, true, not, IfOk, OnOk, IsErrOf, length, map};
 ghost use Rattle.std.specs.Rc.{rc_str_bytes};
-ghost use Rattle.kishu_replay.specs.Replay.{replay};
 ghost use Rattle.kishu_model.specs.Request.{cells};
 ghost use Rattle.kishu_model.specs.requests.Cells.{HasRoom};
 ghost use Rattle.kishu_model.specs.Serve.{after, silent, charges};
@@ -10,6 +9,7 @@ ghost use Rattle.kishu_model.specs.Values.{request_of};
 ghost use Rattle.kishu_model.specs.notebooks.Run.{goes_on};
 ghost use Rattle.kishu_model.specs.notebooks.Setting.{written};
 ghost use Rattle.kishu_notebook.specs.Views.{data_of};
+ghost use Rattle.kishu_session.specs.Applying.{MakesNodes};
 ghost use Rattle.kishu_session.specs.Attached.{IsAttached};
 ghost use Rattle.kishu_session.specs.Filling.{FillsBy};
 ghost use Rattle.kishu_session.specs.Faults.{DiskFailed};
@@ -19,7 +19,7 @@ ghost use Rattle.kishu_serve.specs.Headline.{IsWhole};
 ghost use Rattle.kishu_serve.specs.Notebooks.{IsSet, run_of, texts_of, items_of};
 ghost use Rattle.kishu_serve.specs.Recorded.{Records};
 ghost use Rattle.kishu_serve.specs.Coming.{CellsAreRun};
-ghost use Rattle.kishu_serve.specs.Serving.{OutputFailed, WhereAttached, IsOpen, EndsDamaged, WritesOne, StopsInPart, AreOut, GoOut};
+ghost use Rattle.kishu_serve.specs.Serving.{OutputFailed, WhereAttached, IsOpen, EndsDamaged, WritesOne, StopsInPart, AreOut, GoOut, WhereMade};
 ghost use Rattle.kishu_serve.specs.declared.serving.Stop.TheVariants.{HeapFull, DiskFault, InputFault, OutputFault, TooLong, Damaged};
 
 use crate::book::Book;
@@ -59,8 +59,10 @@ fn run_request<H: Host, L: Ledger>(
     ensures bytes { OnOk result (WritesOne (H.state host.old) (H.state host.new)) }
     ensures least { OnOk result (WhereAttached session.old (H.state host.old) (λ g.
         steps.old + charge_of g (request_of request.now) ≤ steps.new)) }
-    ensures full { IsErrOf result HeapFull → WhereAttached session.old (H.state host.old) (λ g.
-        FillsBy (replay g g.head.commit) (request_of request.now)) }
+    ensures full { IsErrOf result HeapFull → WhereMade session.old (H.state host.old) (λ made g.
+        FillsBy made g (request_of request.now)) }
+    ensures makes { OnOk result
+        (MakesNodes session.old session.new (H.state host.old) (request_of request.now)) }
     ensures applied { OnOk result (AppliesHere session.old session.new (H.state host.old) (H.state host.new)
         (request_of request.now)) }
     ensures goes_on_live { IfOk result (GoesOnHere session.old (H.state host.old) (request_of request.now)) }
@@ -99,16 +101,16 @@ fn run_each<H: Host, L: Ledger>(
     requires stands { IsOpen session.old (H.state host.old) }
     requires few { length texts.now < 2 ^ 32 }
 
-    ensures comes { OnOk result (WhereAttached session.old (H.state host.old) (λ g.
+    ensures comes { OnOk result (WhereMade session.old (H.state host.old) (λ made g.
         CellsAreRun (H.state host.old) (H.state host.new) session.new g
         (run_of false g (map rc_str_bytes texts.now) (data_of notebook.old))
-        notebook.new steps.old steps.new)) }
+        notebook.new made steps.old steps.new)) }
     ensures bytes { OnOk result (Records true (H.state host.old) (H.state host.new)) }
     ensures stop { WhereAttached session.old (H.state host.old) (λ g.
         StopsInPart (H.state host.old) (H.state host.new) g
         (run_of false g (map rc_str_bytes texts.now) (data_of notebook.old))) }
-    ensures full { IsErrOf result HeapFull → WhereAttached session.old (H.state host.old) (λ g.
-        FillsByAny g (run_of false g (map rc_str_bytes texts.now) (data_of notebook.old))) }
+    ensures full { IsErrOf result HeapFull → WhereMade session.old (H.state host.old) (λ made g.
+        FillsByAny made g (run_of false g (map rc_str_bytes texts.now) (data_of notebook.old))) }
     ensures full_live { IsErrOf result HeapFull
         → FillsHere session.old (H.state host.old) (cells_asked false (map rc_str_bytes texts.now)) }
     ensures damaged { (at : ℕ) → IsErrOf result (Damaged at)
@@ -146,16 +148,16 @@ fn run_together<H: Host, L: Ledger>(
     requires stands { IsOpen session.old (H.state host.old) }
     requires room { HasRoom (cells (map rc_str_bytes texts.items)) }
 
-    ensures comes { OnOk result (WhereAttached session.old (H.state host.old) (λ g.
+    ensures comes { OnOk result (WhereMade session.old (H.state host.old) (λ made g.
         CellsAreRun (H.state host.old) (H.state host.new) session.new g
         (run_of true g (map rc_str_bytes texts.items) (data_of notebook.old))
-        notebook.new steps.old steps.new)) }
+        notebook.new made steps.old steps.new)) }
     ensures bytes { OnOk result (Records false (H.state host.old) (H.state host.new)) }
     ensures stop { WhereAttached session.old (H.state host.old) (λ g.
         StopsInPart (H.state host.old) (H.state host.new) g
         (run_of true g (map rc_str_bytes texts.items) (data_of notebook.old))) }
-    ensures full { IsErrOf result HeapFull → WhereAttached session.old (H.state host.old) (λ g.
-        FillsByAny g (run_of true g (map rc_str_bytes texts.items) (data_of notebook.old))) }
+    ensures full { IsErrOf result HeapFull → WhereMade session.old (H.state host.old) (λ made g.
+        FillsByAny made g (run_of true g (map rc_str_bytes texts.items) (data_of notebook.old))) }
     ensures full_live { IsErrOf result HeapFull
         → FillsHere session.old (H.state host.old) (cells_asked true (map rc_str_bytes texts.items)) }
     ensures damaged { (at : ℕ) → IsErrOf result (Damaged at)
@@ -188,16 +190,16 @@ fn run_cells<H: Host, L: Ledger>(
     requires stands { IsOpen session.old (H.state host.old) }
     requires room { HasRoom (cells (map rc_str_bytes texts.items)) }
 
-    ensures comes { OnOk result (WhereAttached session.old (H.state host.old) (λ g.
+    ensures comes { OnOk result (WhereMade session.old (H.state host.old) (λ made g.
         CellsAreRun (H.state host.old) (H.state host.new) session.new g
         (run_of together g (map rc_str_bytes texts.items) (data_of notebook.old))
-        notebook.new steps.old steps.new)) }
+        notebook.new made steps.old steps.new)) }
     ensures bytes { OnOk result (Records (not together) (H.state host.old) (H.state host.new)) }
     ensures stop { WhereAttached session.old (H.state host.old) (λ g.
         StopsInPart (H.state host.old) (H.state host.new) g
         (run_of together g (map rc_str_bytes texts.items) (data_of notebook.old))) }
-    ensures full { IsErrOf result HeapFull → WhereAttached session.old (H.state host.old) (λ g.
-        FillsByAny g (run_of together g (map rc_str_bytes texts.items) (data_of notebook.old))) }
+    ensures full { IsErrOf result HeapFull → WhereMade session.old (H.state host.old) (λ made g.
+        FillsByAny made g (run_of together g (map rc_str_bytes texts.items) (data_of notebook.old))) }
     ensures full_live { IsErrOf result HeapFull
         → FillsHere session.old (H.state host.old) (cells_asked together (map rc_str_bytes texts.items)) }
     ensures damaged { (at : ℕ) → IsErrOf result (Damaged at)
@@ -258,8 +260,8 @@ pub(crate) fn run_notebook<H: Host, L: Ledger>(
     ensures bytes { OnOk result (Records (not book.together) (H.state host.old) (H.state host.new)) }
     ensures least { OnOk result (WhereAttached session.old (H.state host.old) (λ g.
         steps.old + charges g (items_of book g) ≤ steps.new)) }
-    ensures full { IsErrOf result HeapFull → WhereAttached session.old (H.state host.old) (λ g.
-        FillsByAny g (items_of book g)) }
+    ensures full { IsErrOf result HeapFull → WhereMade session.old (H.state host.old) (λ made g.
+        FillsByAny made g (items_of book g)) }
     ensures full_live { IsErrOf result HeapFull
         → FillsHere session.old (H.state host.old) (cells_asked book.together (texts_of book)) }
     ensures damaged { (at : ℕ) → IsErrOf result (Damaged at)

@@ -1,14 +1,17 @@
 // The requests of a run, one after another, over an open session.
 ghost use Rattle.std.specs.Prelude.{ℕ, ◌≡◌, ◌≤◌, ◌⊎◌, ◌+◌, true, false, OnOk, IsOk, IsErrOf};
+ghost use Rattle.kishu_host.specs.Host.{ReadsMore};
 ghost use Rattle.kishu_model.specs.Serve.{charges};
 ghost use Rattle.kishu_input.specs.Sources.{InputFailed};
 ghost use Rattle.kishu_session.specs.Faults.{DiskFailed};
+ghost use Rattle.kishu_session.specs.Sized.{most_kept};
 ghost use Rattle.kishu_serve.specs.Asking.{reads_lines, to_come, HaveRoom, Knows, IsLimited, IsRead, KeepsTaken};
+ghost use Rattle.kishu_serve.specs.Efforts.{AreMeasured, read_by_all, steps_by_all};
 ghost use Rattle.kishu_serve.specs.EveryStore.{FillsHere};
-ghost use Rattle.kishu_serve.specs.Filling.{FillsByAny};
+ghost use Rattle.kishu_serve.specs.Filling.{FillsByAny, made_by_all};
 ghost use Rattle.kishu_serve.specs.Headline.{IsWhole};
 ghost use Rattle.kishu_serve.specs.Recorded.{Records};
-ghost use Rattle.kishu_serve.specs.Serving.{OutputFailed, IsOpen, EndsDamaged, WhereKnown, StopsInPart};
+ghost use Rattle.kishu_serve.specs.Serving.{OutputFailed, IsOpen, EndsDamaged, WhereKnown, StopsInPart, WhereKnownMade};
 ghost use Rattle.kishu_serve.specs.declared.work.Work.TheVariants.{Answers};
 ghost use Rattle.kishu_serve.specs.declared.serving.Stop.TheVariants.{HeapFull, DiskFault, InputFault, OutputFault, TooLong, Damaged};
 
@@ -60,8 +63,20 @@ pub(crate) fn serve_all<H: Host, S: Source, L: Ledger>(
         WhereKnown (Answers requests.old) (S.source source.old) session.old (H.state host.old) (λ g items.
         steps.old + charges g items ≤ steps.new)) }
     ensures full { IsErrOf result HeapFull
-        → WhereKnown (Answers requests.old) (S.source source.old) session.old (H.state host.old) (λ g items.
-        FillsByAny g items) }
+        → WhereKnownMade (Answers requests.old) (S.source source.old) session.old (H.state host.old)
+        (λ made g items. FillsByAny made g items) }
+
+    // Where all are measured they read just the pictures that they load, and take no more steps than they may,
+    // where no heap is loaded anew.
+    ensures loads { OnOk result (
+        WhereKnown (Answers requests.old) (S.source source.old) session.old (H.state host.old) (λ g items.
+        AreMeasured g items
+        → ReadsMore (H.state host.old).reads (H.state host.new).reads (read_by_all g items))) }
+    ensures most { OnOk result (
+        WhereKnownMade (Answers requests.old) (S.source source.old) session.old (H.state host.old)
+        (λ made g items. AreMeasured g items → made + made_by_all g items ≤ most_kept
+        → steps.new ≤ steps.old + steps_by_all g items)) }
+
     ensures full_live { IsErrOf result HeapFull → Knows requests.old (S.source source.old)
         → FillsHere session.old (H.state host.old) (to_come requests.old (S.source source.old).left) }
 

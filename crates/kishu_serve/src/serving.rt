@@ -1,17 +1,19 @@
 // One request of a run: it is applied, and its answer goes out.
 ghost use Rattle.std.specs.Prelude.{◌≡◌, ◌≤◌, ◌+◌, ◌∷◌, [], ℕ, List, false, IsSome, OnOk, IsErrOf};
-ghost use Rattle.kishu_replay.specs.Replay.{replay};
+ghost use Rattle.kishu_host.specs.Host.{ReadsMore};
 ghost use Rattle.kishu_model.specs.requests.Cells.{HasRoom};
 ghost use Rattle.kishu_model.specs.Serve.{after, answered};
 ghost use Rattle.kishu_model.specs.Step.{charge_of};
 ghost use Rattle.kishu_model.specs.Values.{answer_of as said_by};
+ghost use Rattle.kishu_session.specs.Applying.{MakesNodes, StaysLoaded};
 ghost use Rattle.kishu_session.specs.Attached.{IsAttached};
 ghost use Rattle.kishu_session.specs.Filling.{FillsBy};
 ghost use Rattle.kishu_session.specs.Faults.{DiskFailed};
 ghost use Rattle.kishu_session.specs.declared.halt.Halt.TheVariants.{NotAJournal, Closed, Damaged as Broken, DiskFault as NoDisk, HeapFull as Full};
 ghost use Rattle.kishu_serve.specs.Asking.{asked_of};
+ghost use Rattle.kishu_serve.specs.Efforts.{IsMeasured, read_by, steps_by};
 ghost use Rattle.kishu_serve.specs.EveryStore.{AppliesHere, FillsNow};
-ghost use Rattle.kishu_serve.specs.Serving.{OutputFailed, IsAnswerOut, AnswerGoesOut, WhereAttached, IsOpen, EndsDamaged, IsAnswered, WritesOne, StopsInPart};
+ghost use Rattle.kishu_serve.specs.Serving.{OutputFailed, IsAnswerOut, AnswerGoesOut, WhereAttached, IsOpen, EndsDamaged, IsAnswered, WritesOne, StopsInPart, WhereMade};
 ghost use Rattle.kishu_serve.specs.declared.serving.Stop.TheVariants.{HeapFull, DiskFault, InputFault, OutputFault, TooLong, Damaged};
 
 use crate::asking::Asked;
@@ -67,6 +69,7 @@ fn tell<H: Host>(alloc: Global, host: &mut H, answer: &Answer) -> Result<(), Sto
     ensures not_damaged { (at : ℕ) → IsErrOf result (Damaged at) → ⊥ }
     ensures no_input { (IsErrOf result InputFault → ⊥) × (IsErrOf result TooLong → ⊥) }
     ensures output_fault { IsErrOf result OutputFault → OutputFailed (H.state host.old) (H.state host.new) }
+    ensures reads { ReadsMore (H.state host.old).reads (H.state host.new).reads 0 }
     ensures disk { (H.state host.old).disk_faults ≤ (H.state host.new).disk_faults }
     ensures outs { (H.state host.old).out_faults ≤ (H.state host.new).out_faults }
 {
@@ -101,8 +104,17 @@ pub(crate) fn serve<H: Host, L: Ledger>(
     ensures bytes { OnOk result (WritesOne (H.state host.old) (H.state host.new)) }
     ensures least { OnOk result (WhereAttached session.old (H.state host.old) (λ g.
         steps.old + charge_of g (asked_of asked.now) ≤ steps.new)) }
-    ensures full { IsErrOf result HeapFull → WhereAttached session.old (H.state host.old) (λ g.
-        FillsBy (replay g g.head.commit) (asked_of asked.now)) }
+    ensures full { IsErrOf result HeapFull → WhereMade session.old (H.state host.old) (λ made g.
+        FillsBy made g (asked_of asked.now)) }
+    ensures makes { OnOk result
+        (MakesNodes session.old session.new (H.state host.old) (asked_of asked.now)) }
+    // What is measured reads no more than its own, and takes no more steps, where the heap isn't loaded anew.
+    ensures loads { OnOk result (WhereAttached session.old (H.state host.old) (λ g.
+        IsMeasured g (asked_of asked.now) → ReadsMore (H.state host.old).reads (H.state host.new).reads
+        (read_by g (asked_of asked.now)))) }
+    ensures most { OnOk result (WhereAttached session.old (H.state host.old) (λ g.
+        IsMeasured g (asked_of asked.now) → StaysLoaded session.old
+        → steps.new ≤ steps.old + steps_by g (asked_of asked.now))) }
     ensures applied { OnOk result (AppliesHere session.old session.new (H.state host.old) (H.state host.new)
         (asked_of asked.now)) }
     ensures full_live { IsErrOf result HeapFull

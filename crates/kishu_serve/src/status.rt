@@ -31,7 +31,7 @@ pub enum Status {
     /// A line of a session reaches 2^24 bytes before its line feed, its input reaches 2^30 bytes, a
     /// notebook reaches 2^26, or the input of `cell` has more than 1,048,576 bytes.
     InputTooLong,
-    /// A cell would have begun with more than 2^31 nodes.
+    /// A cell, or the loading of a checkout, would have begun with more than 2^31 nodes.
     HeapFull,
 }
 

@@ -1,6 +1,6 @@
 // A whole run.
-ghost use Rattle.std.specs.Prelude.{◌≡◌, ◌≤◌, ◌<◌, ◌⊎◌, ◌+◌, ℕ, length, true, false, Some, None, OnOk, IsOk, IsErrOf, IsSome, Err};
-ghost use Rattle.kishu_host.specs.Host.{Told, Keeps};
+ghost use Rattle.std.specs.Prelude.{◌≡◌, ◌≤◌, ◌<◌, ◌⊎◌, ◌+◌, ◌*◌, ℕ, length, true, false, Some, None, OnOk, IsOk, IsErrOf, IsSome, Err};
+ghost use Rattle.kishu_host.specs.Host.{Told, Keeps, ReadsMore};
 ghost use Rattle.kishu_input.specs.Sources.{InputFailed, TakesMoreThan, TakesAtMost};
 ghost use Rattle.kishu_store.specs.Graph.{Graph};
 ghost use Rattle.kishu_store.specs.Holds.{IsForeign};
@@ -10,16 +10,20 @@ ghost use Rattle.kishu_model.specs.Task.{session as lines};
 ghost use Rattle.kishu_model.specs.notebooks.Notebook.{Fault};
 ghost use Rattle.kishu_notebook.specs.Values.{fault_of};
 ghost use Rattle.kishu_notebook.specs.declared.refusal.NotebookRefusal.{NotebookRefusal};
+ghost use Rattle.kishu_journal.specs.Going.{ReadsAtMost};
+ghost use Rattle.kishu_live_laws.specs.Made.{opened_nodes};
 ghost use Rattle.kishu_session.specs.Faults.{DiskFailed};
+ghost use Rattle.kishu_session.specs.Sized.{most_kept};
 ghost use Rattle.kishu_session.specs.Written.{begun, HoldsNone, Stays};
 ghost use Rattle.kishu_session.specs.declared.halt.Halt.TheVariants.{NotAJournal as Foreign, Damaged as Broken, DiskFault as NoDisk, HeapFull as Full};
 ghost use Rattle.kishu_serve.specs.EveryStore.{FillsHere};
 ghost use Rattle.kishu_serve.specs.Fillable.{asks_for, FillsFile};
-ghost use Rattle.kishu_serve.specs.Filling.{FillsByAny};
+ghost use Rattle.kishu_serve.specs.Efforts.{AreMeasured, read_by_all, steps_by_all};
+ghost use Rattle.kishu_serve.specs.Filling.{FillsByAny, made_by_all};
 ghost use Rattle.kishu_serve.specs.Headline.{IsWhole, IsRead, IsUnopened, ReadsWhole, longest_input, most_taken, writes_many, HasFault};
 ghost use Rattle.kishu_serve.specs.Promise.{OverGood, form_named, asked_by, ReadsInput, EndsInPart, StopsAsPromised, SettlesInPart, HoldsSome, PassesLimit, StaysWithin, RefusesNotebook, RefusesFor, FillsHeap, FillsHeapLive, IsDamaged, OverKnown};
 ghost use Rattle.kishu_serve.specs.Recorded.{Records, IsWritten};
-ghost use Rattle.kishu_serve.specs.Serving.{OutputFailed, IsOpen, EndsDamaged, WhereKnown, StopsInPart};
+ghost use Rattle.kishu_serve.specs.Serving.{OutputFailed, IsOpen, EndsDamaged, WhereKnown, WhereKnownMade, StopsInPart};
 ghost use Rattle.kishu_serve.specs.Work.{HaveRoom, still_reads, records_many, taken_by, Knows, IsLimited, IsRead as IsReadFor};
 ghost use Rattle.kishu_serve.specs.declared.serving.Stop.TheVariants.{HeapFull as StopFull, DiskFault as StopDisk, InputFault as StopInput, OutputFault as StopOutput, TooLong as StopLong, Damaged as StopDamaged};
 ghost use Rattle.kishu_serve.specs.declared.status.Status.TheVariants.{Done, Usage, NotAJournal, Damaged, NotebookRefused, DiskFault, InputFault, OutputFault, NoMemory, InputTooLong, HeapFull};
@@ -123,8 +127,16 @@ fn carry_out<H: Host, S: Source, L: Ledger>(
         WhereKnown work (S.source source.old) session.old (H.state host.old) (λ g items.
         steps.old + charges g items ≤ steps.new)) }
     ensures full { IsErrOf result StopFull
-        → WhereKnown work (S.source source.old) session.old (H.state host.old) (λ g items.
-        FillsByAny g items) }
+        → WhereKnownMade work (S.source source.old) session.old (H.state host.old) (λ made g items.
+        FillsByAny made g items) }
+    ensures loads { OnOk result (
+        WhereKnown work (S.source source.old) session.old (H.state host.old) (λ g items.
+        AreMeasured g items
+        → ReadsMore (H.state host.old).reads (H.state host.new).reads (read_by_all g items))) }
+    ensures most { OnOk result (
+        WhereKnownMade work (S.source source.old) session.old (H.state host.old) (λ made g items.
+        AreMeasured g items → made + made_by_all g items ≤ most_kept
+        → steps.new ≤ steps.old + steps_by_all g items)) }
     ensures full_live { IsErrOf result StopFull → Knows work (S.source source.old)
         → FillsHere session.old (H.state host.old) (asks_for work (S.source source.old).left) }
     ensures damaged { (at : ℕ) → IsErrOf result (StopDamaged at)
@@ -195,9 +207,16 @@ fn run_work<H: Host, S: Source, L: Ledger>(
         → (result ≡ Done) ⊎ (result ≡ NoMemory) ⊎ (result ≡ InputTooLong) ⊎ (result ≡ HeapFull)
         ⊎ (result ≡ DiskFault) ⊎ (result ≡ InputFault) ⊎ (result ≡ OutputFault)) }
     ensures full { result ≡ HeapFull → OverKnown work (S.source source.old) (H.state host.old) (λ g items.
-        FillsByAny g items) }
+        FillsByAny (opened_nodes g g.head.commit) g items) }
     ensures full_live { result ≡ HeapFull → Told (H.state host.old)
         (FillsFile work (S.source source.old) (begun (H.state host.old).file)) }
+    ensures loads { result ≡ Done → OverKnown work (S.source source.old) (H.state host.old) (λ g items.
+        AreMeasured g items
+        → ReadsAtMost (H.state host.old).reads (H.state host.new).reads
+        (3 * length (H.state host.old).file + read_by_all g items)) }
+    ensures most { result ≡ Done → OverKnown work (S.source source.old) (H.state host.old) (λ g items.
+        AreMeasured g items → opened_nodes g g.head.commit + made_by_all g items ≤ most_kept
+        → steps.new ≤ steps.old + steps_by_all g items) }
     ensures counted { result ≡ Done → OverKnown work (S.source source.old) (H.state host.old) (λ g items.
         steps.old + charges g items ≤ steps.new) }
 
@@ -317,13 +336,14 @@ pub fn kishu<H: Host, S: Source, L: Ledger>(
         → HasFault (form_named words.now) (S.source source.old) fault
         → RefusesFor fault result ⊎ (result ≡ InputTooLong) ⊎ (result ≡ InputFault) ⊎ (result ≡ NoMemory) }
 
-    // Over a good store the heap is full only where a cell that a request runs would begin with more than
-    // 2^31 nodes as the machine makes them that replays each commit from empty.
+    // Over a good store the heap is full only where a cell, or the loading of a checkout, would begin with
+    // more than 2^31 nodes made by the pictures that were loaded and the cells that were run in this call, as
+    // the machine makes them that replays each commit from empty.
     ensures heap_full { result ≡ HeapFull
         → FillsHeap (form_named words.now) (H.state host.old) (S.source source.old) }
 
-    // On every store the heap is full only where a cell would begin with more than 2^31 nodes of the pictures
-    // that were loaded and the cells that were run in this call.
+    // On every store the heap is full only where a cell, or the loading of a checkout, would begin with more
+    // than 2^31 nodes of the pictures that were loaded and the cells that were run in this call.
     ensures heap_full_live { result ≡ HeapFull
         → FillsHeapLive (form_named words.now) (H.state host.old) (S.source source.old) }
 
@@ -340,6 +360,21 @@ pub fn kishu<H: Host, S: Source, L: Ledger>(
     ensures good { result ≡ Done → HoldsSome (H.state host.old) }
     ensures bad { Told (H.state host.old)
         (HoldsNone (H.state host.old).file → Stays (H.state host.old) (H.state host.new)) }
+
+    // Done of a session whose lines ask for cells that are committed, for checkouts that aren't refused, and
+    // for what only tells or names what is kept: beside at most three times the bytes that the store had, just
+    // the pictures of the groups were read that the checkouts load; and where at most 8,000,000 nodes are
+    // made, by the opening, the loads and the cells, the counter rose by no more than the cells' bounds.
+    ensures loads { result ≡ Done → form_named words.now ≡ Some lines
+        → OverGood (H.state host.old) (S.source source.old) (λ g.
+        AreMeasured g (asked_by words.now (S.source source.old) g)
+        → ReadsAtMost (H.state host.old).reads (H.state host.new).reads (3 * length (H.state host.old).file
+        + read_by_all g (asked_by words.now (S.source source.old) g))) }
+    ensures most { result ≡ Done → form_named words.now ≡ Some lines
+        → OverGood (H.state host.old) (S.source source.old) (λ g.
+        AreMeasured g (asked_by words.now (S.source source.old) g)
+        → opened_nodes g g.head.commit + made_by_all g (asked_by words.now (S.source source.old) g) ≤ most_kept
+        → steps.new ≤ steps.old + steps_by_all g (asked_by words.now (S.source source.old) g)) }
 
     // Done: each step of the cells that were run is counted. Where the words or an input that is read whole
     // end the run, none is.

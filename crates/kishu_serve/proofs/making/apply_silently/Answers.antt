@@ -56,3 +56,13 @@ pub returns-in-Err-clause-full_live : goal.returns-in-Err-clause-full_live
 returns-in-Err-clause-full_live g c is =
     let full : IsErrOf c.apply.result HeapFull = cc (c.in-Err.is, c.stop_of.ensures.full (cc is)) in
     fills-now c.args.session.now (g.H.Host.state c.args.host.now) (request_of c.args.request.now) (c.apply.ensures.heap_full full)
+
+-- ---- nodes
+
+pub returns-in-Err-clause-full : goal.returns-in-Err-clause-full
+returns-in-Err-clause-full g c is =
+    let full : IsErrOf c.apply.result HeapFull = cc (c.in-Err.is, c.stop_of.ensures.full (cc is)) in
+    c.apply.ensures.full full
+
+pub returns-clause-makes : goal.returns-clause-makes
+returns-clause-makes g c = c.in-Ok.ensures.makes

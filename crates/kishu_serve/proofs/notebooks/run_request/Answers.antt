@@ -58,3 +58,13 @@ returns-in-Err-clause-full_live g c is =
 
 pub returns-clause-goes_on_live : goal.returns-clause-goes_on_live
 returns-clause-goes_on_live g c told g' cs a gives = rw (c.in-Ok.ensures.answered_here told g' cs a gives) at c.goes_on.ensures
+
+-- ---- nodes
+
+pub returns-in-Err-clause-full : goal.returns-in-Err-clause-full
+returns-in-Err-clause-full g c is =
+    let full : IsErrOf c.apply.result HeapFull = cc (c.in-Err.is, c.stop_of.ensures.full (cc is)) in
+    c.apply.ensures.full full
+
+pub returns-clause-makes : goal.returns-clause-makes
+returns-clause-makes g c = c.in-Ok.ensures.makes

@@ -1,8 +1,8 @@
-use Rattle.std.proofs.Common.{◌≡◌, false, Ok, Err, ◌∙◌, ap, arith}
+use Rattle.std.proofs.Common.{◌≡◌, false, Ok, Err, refl, ◌∙◌, ap, arith}
 use Rattle.std.proofs.lemmas.Result.{err_from_is_err_and}
 use Rattle.kishu_serve.specs.Asking.{to_come, asked_of, reads_lines, Knows}
-use Rattle.kishu_serve.proofs.Chain.{Along, known-along, stopped-long, none-recorded, more-recorded, turn-stop, turn-full, served-more, served-whole, served-least}
-use Rattle.kishu_serve.proofs.LiveRuns.{ComesHere, answered-full, answered-more}
+use Rattle.kishu_serve.proofs.Chain.{Along, along-first, known-along, stopped-long, none-recorded, more-recorded, turn-stop, turn-full, served-more, served-along, served-whole, served-least, served-loads, served-most}
+use Rattle.kishu_serve.proofs.LiveRuns.{ComesHere, comes-here, answered-full, answered-more}
 use Rattle.kishu_serve.proofs.running.serve_all.Given.{Over}
 use Rattle.kishu_serve.proofs.running.serve_all.Goals.{In_ok-serve}
 use Rattle.kishu_serve.proofs.running.serve_all.Goals as goal
@@ -22,16 +22,19 @@ turn g c =
       recorded = λ told final w.
           before.recorded told final
           (more-recorded c.loop-asked.requests c.next.new.self (g.H.Host.state c.loop-asked.host).file (g.H.Host.state c.serve.new.host).file final c.next.ensures.lines fewer (c.in_ok-serve.ensures.bytes (before.host_tells ∙ told)) w);
-      served = λ told graph a.
+      served = λ told graph a made0 room.
           let now_told = before.host_tells ∙ told in
-          let served = before.served told graph a in
+          let served = before.served told graph a made0 room in
           let answered = c.in_ok-serve.ensures in
           served-more served (g.H.Host.state c.serve.new.host) (g.S.Source.source c.next.new.source) c.next.new.self c.serve.new.session (asked_of c.in-Some.asked) c.serve.new.steps
           (λ known. (next (known-along before known)).0)
           (answered.attached now_told served.now served.attached)
           (answered.answered now_told served.now served.attached)
           (answered.least now_told served.now served.attached)
-          (c.serve.ensures.stop now_told served.now served.attached);
+          (c.serve.ensures.stop now_told served.now served.attached)
+          (answered.makes now_told served.now served.attached)
+          (answered.loads now_told served.now served.attached)
+          (answered.most now_told served.now served.attached);
       limited = λ known.
           let same = next (known-along before known) in
           (λ limited. same.2 ((before.limited known).0 limited), λ limited. (before.limited known).1 (same.1 limited));
@@ -100,6 +103,23 @@ loop-asked-preserved g c =
     let c = (goal.at.loop-asked-preserved g c).In_ok-serve in
     record { along = turn g c; live = live g c; alone = unread g c }
 
+pub loop-asked-preserved-in_ok-serve-8 : goal.loop-asked-preserved-in_ok-serve-8
+loop-asked-preserved-in_ok-serve-8 g c =
+    let c = (goal.at.loop-asked-preserved-in_ok-serve-8 g c).In_ok-serve in
+    record { along = turn g c; live = live g c; alone = unread g c }
+
+-- ---- before the first turn
+
+pub loop-asked-init : goal.loop-asked-init
+loop-asked-init g c =
+    let s = g.H.Host.state c.args.host.now in
+    let i = g.S.Source.source c.args.source.now in
+    record {
+      along = along-first s i c.args.requests.now c.args.session.now c.args.steps.now c.requires.going c.requires.stands c.requires.room;
+      live = λ known. comes-here s c.args.session.now (to_come c.args.requests.now i.left);
+      alone = λ none. refl;
+    }
+
 pub serve-requires-clause-stands : goal.serve-requires-clause-stands
 serve-requires-clause-stands g c = c.loop-asked.invariant.along.stands
 
@@ -111,19 +131,19 @@ serve-requires-clause-room g c = rw c.in-Some.is at c.in_ok-asked.ensures.asked_
 pub returns-in_err-serve-clause-stop : goal.returns-in_err-serve-clause-stop
 returns-in_err-serve-clause-stop g c told known graph a =
     let before = c.loop-asked.invariant.along in
-    let served = before.served told graph a in
+    let served = served-along before told graph a in
     let next = rw c.in-Some.is at c.in_ok-asked.ensures.next in
     turn-stop served (g.H.Host.state c.serve.new.host) (asked_of c.in-Some.asked) (to_come c.next.new.self (g.S.Source.source c.next.new.source).left) (next (known-along before known)).0 known
     (c.serve.ensures.stop (before.host_tells ∙ told) served.now served.attached)
 
 pub returns-in_err-serve-clause-full : goal.returns-in_err-serve-clause-full
-returns-in_err-serve-clause-full g c is_full told known graph a =
+returns-in_err-serve-clause-full g c is_full told known graph a made room =
     let before = c.loop-asked.invariant.along in
-    let served = before.served told graph a in
+    let served = before.served told graph a made room in
     let next = rw c.in-Some.is at c.in_ok-asked.ensures.next in
     let p = err_from_is_err_and c.from_residual-in_err-serve.result c.from_residual-in_err-serve.ensures.1 in
     turn-full served (g.H.Host.state c.serve.new.host) (asked_of c.in-Some.asked) (to_come c.next.new.self (g.S.Source.source c.next.new.source).left) (next (known-along before known)).0 known
-    (c.in_err-serve.ensures.full (cc (is_full, p.1, p.2)) (before.host_tells ∙ told) served.now served.attached)
+    (c.in_err-serve.ensures.full (cc (is_full, p.1, p.2)) (before.host_tells ∙ told) served.now served.attached served.made served.room)
 
 pub returns-in_err-serve-clause-full_live : goal.returns-in_err-serve-clause-full_live
 returns-in_err-serve-clause-full_live g c is_full known told lives graph cs a gives =
@@ -141,7 +161,7 @@ returns-in_err-serve-clause-damaged g c at is =
     let p = err_from_is_err_and c.from_residual-in_err-serve.result c.from_residual-in_err-serve.ensures.1 in
     let d = c.in_err-serve.ensures.damaged at (cc (is, p.1, p.2)) in (
       λ told. d.0 (before.host_tells ∙ told),
-      λ told graph a. let served = before.served told graph a in d.1 (before.host_tells ∙ told) served.now served.attached,
+      λ told graph a. let served = served-along before told graph a in d.1 (before.host_tells ∙ told) served.now served.attached,
     )
 
 -- ---- no request is to come
@@ -152,19 +172,19 @@ returns-in_err-asked-clause-whole g c long told known graph a =
     let p = err_from_is_err_and c.from_residual.result c.from_residual.ensures.1 in
     let is = stopped-long c.from_residual.result c.in_err-asked.field-0.0 (p.1 ∙ ap Err p.2) long in
     let none = (c.in_err-asked.ensures.too_long (ap Err is)).1 (known-along before known) in
-    served-whole (before.served told graph a) none.0 known
+    served-whole (served-along before told graph a) none.0 known
 
 pub returns-in_err-asked-clause-stop : goal.returns-in_err-asked-clause-stop
-returns-in_err-asked-clause-stop g c told known graph a = ((c.loop-asked.invariant.along.served told graph a).comes known).stop
+returns-in_err-asked-clause-stop g c told known graph a = ((served-along c.loop-asked.invariant.along told graph a).comes known).stop
 
 pub returns-clause-whole : goal.returns-clause-whole
 returns-clause-whole g c done told known graph a =
     let before = c.loop-asked.invariant.along in
     let none = c.in_ok-asked.ensures.end (ap Ok c.in_default.is) (known-along before known) in
-    served-whole (before.served told graph a) none.0 known
+    served-whole (served-along before told graph a) none.0 known
 
 pub returns-clause-stop : goal.returns-clause-stop
-returns-clause-stop g c told known graph a = ((c.loop-asked.invariant.along.served told graph a).comes known).stop
+returns-clause-stop g c told known graph a = ((served-along c.loop-asked.invariant.along told graph a).comes known).stop
 
 pub returns-clause-bytes : goal.returns-clause-bytes
 returns-clause-bytes g c told =
@@ -174,4 +194,18 @@ pub returns-clause-least : goal.returns-clause-least
 returns-clause-least g c told known graph a =
     let before = c.loop-asked.invariant.along in
     let none = c.in_ok-asked.ensures.end (ap Ok c.in_default.is) (known-along before known) in
-    served-least (before.served told graph a) none.0 known
+    served-least (served-along before told graph a) none.0 known
+
+-- ---- the work
+
+pub returns-clause-loads : goal.returns-clause-loads
+returns-clause-loads g c told known graph a measured =
+    let before = c.loop-asked.invariant.along in
+    let none = c.in_ok-asked.ensures.end (ap Ok c.in_default.is) (known-along before known) in
+    served-loads (served-along before told graph a) none.0 known measured
+
+pub returns-clause-most : goal.returns-clause-most
+returns-clause-most g c told known graph a made room measured few =
+    let before = c.loop-asked.invariant.along in
+    let none = c.in_ok-asked.ensures.end (ap Ok c.in_default.is) (known-along before known) in
+    served-most (before.served told graph a made room) none.0 known measured few

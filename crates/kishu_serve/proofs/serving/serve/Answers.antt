@@ -1,5 +1,5 @@
-use Rattle.std.proofs.Common.{◌≡◌, ◌≤◌, ◌+◌, ◌++◌, refl, sym, ◌∙◌, ap, subst, ℕ, List, [], ◌∷◌, IsErrOf}
-use Rattle.kishu_host.specs.Host.{Elapses}
+use Rattle.std.proofs.Common.{◌≡◌, ◌≤◌, ◌+◌, ◌++◌, inl, inr, refl, sym, ◌∙◌, ap, subst, arith, ℕ, List, [], ◌∷◌, IsErrOf}
+use Rattle.kishu_host.specs.Host.{Elapses, ReadsMore}
 use Rattle.kishu_store.specs.Tables.{change_of}
 use Rattle.kishu_model.specs.Answers.{bad_request, refused}
 use Rattle.kishu_model.specs.Request.{Request, unreadable}
@@ -7,15 +7,21 @@ use Rattle.kishu_model.specs.Serve.{after, answer_of, answered}
 use Rattle.kishu_model.specs.Step.{step, charge_of}
 use Rattle.kishu_model.specs.Values.{request_of}
 use Rattle.kishu_live_laws.specs.OnStates.{after_on}
+use Rattle.kishu_session.specs.Applying.{MakesNodes}
 use Rattle.kishu_session.specs.Attached.{IsAttached}
+use Rattle.kishu_session.specs.Filling.{FillsBy}
 use Rattle.kishu_session.specs.Lives.{state_of}
 use Rattle.kishu_session.specs.declared.halt.Halt.TheVariants.{Damaged, HeapFull}
 use Rattle.kishu_serve.specs.Asking.{asked_of}
+use Rattle.kishu_serve.specs.Efforts.{IsMeasured, read_by, steps_by}
 use Rattle.kishu_serve.specs.EveryStore.{LeadsOn, FillsNow}
 use Rattle.kishu_serve.specs.Headline.{IsPart}
+use Rattle.kishu_serve.specs.Serving.{WhereMade}
 use Rattle.kishu_serve.proofs.Damages.{ends-damaged}
 use Rattle.kishu_serve.proofs.LiveRuns.{applied-here, unread-here, fills-now}
+use Rattle.kishu_serve.proofs.Measured.{reads-by, steps-by, not-refused, no-refusal, no-size, cell-counts}
 use Rattle.kishu_serve.proofs.Parts.{attached-kept, at-end-kept, at-end-gives, held, and_then, recorded-kept, told-stop, applied-stop, served-stop}
+use Rattle.kishu_serve.proofs.Works.{reads-both}
 use Rattle.kishu_serve.proofs.serving.serve.Goals as goal
 
 pub returns-in_default-clause-stop : goal.returns-in_default-clause-stop
@@ -155,3 +161,74 @@ returns-in-Err-clause-full_live g c is =
     let s0 = g.H.Host.state c.args.host.now in
     subst (λ (r : Request). FillsNow session s0 r) (sym (ap asked_of c.in-Request.is))
     (fills-now session s0 (request_of c.in-Request.request) (c.apply.ensures.heap_full full))
+
+-- ---- nodes
+
+pub returns-in-Ok-clause-makes : goal.returns-in-Ok-clause-makes
+returns-in-Ok-clause-makes g c =
+    let s0 = g.H.Host.state c.args.host.now in
+    held c.tell-in-Ok.result (subst (λ (r : Request). MakesNodes c.args.session.now c.apply.new.self s0 r) (sym (ap asked_of c.in-Request.is)) c.in-Ok.ensures.makes)
+
+pub returns-in_default-clause-makes : goal.returns-in_default-clause-makes
+returns-in_default-clause-makes g c = held c.tell.result (λ told g' a. omega arith)
+
+pub returns-in-Err-clause-full : goal.returns-in-Err-clause-full
+returns-in-Err-clause-full g c is =
+    let full : IsErrOf c.apply.result HeapFull = cc (c.in-Err.is, c.stop_of.ensures.full (cc is)) in
+    let s0 = g.H.Host.state c.args.host.now in
+    subst (λ (r : Request). WhereMade c.args.session.now s0 (λ made g'. FillsBy made g' r)) (sym (ap asked_of c.in-Request.is)) (c.apply.ensures.full full)
+
+-- ---- work
+
+pub returns-in_default-clause-loads : goal.returns-in_default-clause-loads
+returns-in_default-clause-loads g c =
+    held c.tell.result (λ told g' a is. absurd (subst (λ (r : Request). IsMeasured g' r) (ap asked_of c.in_default.is) is))
+
+pub returns-in_default-clause-most : goal.returns-in_default-clause-most
+returns-in_default-clause-most g c =
+    held c.tell.result (λ told g' a is few. absurd (subst (λ (r : Request). IsMeasured g' r) (ap asked_of c.in_default.is) is))
+
+pub returns-in-Ok-clause-loads : goal.returns-in-Ok-clause-loads
+returns-in-Ok-clause-loads g c =
+    let st = g.H.Host.state in
+    let q = request_of c.in-Request.request in
+    let s0 = st c.args.host.now in
+    let s1 = st c.apply.new.host in
+    let s2 = st c.tell-in-Ok.new.host in
+    let ok = c.in-Ok.ensures in
+    held c.tell-in-Ok.result
+    (λ told g' a is.
+    let measured : IsMeasured g' q = subst (λ (r : Request). IsMeasured g' r) (ap asked_of c.in-Request.is) is in
+    let here = ok.answered_here told g' a.changes a.at_end a.gives in
+    let read =
+    reads-by g' q s0.reads s1.reads measured (λ idle. ok.reads (inl idle))
+    (λ text is_cell more.
+    ok.reads (inr ((text, is_cell), no-refusal c.args.session.now s0 g' a q more _ here, no-size c.args.session.now s0 g' a q more _ here)))
+    (λ to is_checkout none.
+    ok.loads (to, is_checkout)
+    (not-refused _ (step g' q).answer (ok.answered told g' a) none) told g' a) in
+    let all = reads-both s0.reads s1.reads s2.reads (read_by g' q) 0 read c.tell-in-Ok.ensures.reads in
+    subst (λ (r : Request). ReadsMore s0.reads s2.reads (read_by g' r)) (sym (ap asked_of c.in-Request.is))
+    (subst (λ (n : ℕ). ReadsMore s0.reads s2.reads n) (omega arith) all))
+
+pub returns-in-Ok-clause-most : goal.returns-in-Ok-clause-most
+returns-in-Ok-clause-most g c =
+    let st = g.H.Host.state in
+    let q = request_of c.in-Request.request in
+    let old = c.args.session.now in
+    let s0 = st c.args.host.now in
+    let ok = c.in-Ok.ensures in
+    let before = c.args.steps.now in
+    let now = c.apply.new.steps in
+    held c.tell-in-Ok.result
+    (λ told g' a is few.
+    let measured : IsMeasured g' q = subst (λ (r : Request). IsMeasured g' r) (ap asked_of c.in-Request.is) is in
+    let here = ok.answered_here told g' a.changes a.at_end a.gives in
+    let next = ok.goes_on told g' a.changes a.at_end a.gives in
+    let counted =
+    steps-by g' q before now measured (λ idle. ok.still (inl idle))
+    (λ text is_cell more.
+    let most = ok.most text is_cell (no-refusal old s0 g' a q more _ here) (no-size old s0 g' a q more _ here) few in
+    cell-counts old s0 g' a q text is_cell more before now (state_of c.apply.new.self.head.live) next most)
+    (λ to is_checkout. ok.still (inr ((to, is_checkout), few))) in
+    subst (λ (r : Request). now ≤ before + steps_by g' r) (sym (ap asked_of c.in-Request.is)) counted)

@@ -1,13 +1,18 @@
-use Rattle.std.proofs.Common.{◌⊎◌, sym, subst, OnOk, IsOk, IsErrOf}
+use Rattle.std.proofs.Common.{◌⊎◌, ◌≤◌, ◌+◌, sym, subst, OnOk, IsOk, IsErrOf}
+use Rattle.kishu_host.specs.Host.{ReadsMore}
+use Rattle.kishu_session.specs.Sized.{most_kept}
+use Rattle.kishu_serve.specs.Efforts.{AreMeasured, read_by_all, steps_by_all}
 use Rattle.kishu_serve.specs.Headline.{IsWhole}
 use Rattle.kishu_serve.specs.Recorded.{Records}
 use Rattle.kishu_serve.specs.EveryStore.{FillsHere}
 use Rattle.kishu_serve.specs.Fillable.{asks_for}
-use Rattle.kishu_serve.specs.Filling.{FillsByAny}
-use Rattle.kishu_serve.specs.Serving.{WhereKnown, StopsInPart}
+use Rattle.kishu_serve.specs.Filling.{FillsByAny, made_by_all}
+use Rattle.kishu_serve.specs.Serving.{WhereKnown, WhereKnownMade, StopsInPart}
 use Rattle.kishu_serve.specs.Work.{records_many, Knows}
 use Rattle.kishu_serve.specs.declared.serving.Stop.TheVariants.{TooLong, HeapFull}
 use Rattle.kishu_serve.specs.declared.work.Work.{Work}
+use Rattle.kishu_serve.proofs.Parts.{held}
+use Rattle.kishu_serve.proofs.Works.{runs-not-measured, makes-not-measured}
 use Rattle.kishu_serve.proofs.top.carry_out.Goals as goal
 
 -- ---- requests are answered
@@ -79,7 +84,7 @@ returns-in-Answers-clause-full g c =
     let s0 = g.H.Host.state c.args.host.now in
     let i0 = g.S.Source.source c.args.source.now in
     subst
-    (λ (w : Work). IsErrOf c.serve_all.result HeapFull → WhereKnown w i0 c.args.session.now s0 (λ g' items. FillsByAny g' items))
+    (λ (w : Work). IsErrOf c.serve_all.result HeapFull → WhereKnownMade w i0 c.args.session.now s0 (λ made g' items. FillsByAny made g' items))
     (sym c.in-Answers.is) c.serve_all.ensures.full
 
 pub returns-in-Answers-clause-full_live : goal.returns-in-Answers-clause-full_live
@@ -117,3 +122,40 @@ returns-in-Makes-clause-full_live g c =
     subst
     (λ (w : Work). IsErrOf c.run_script.result HeapFull → Knows w i0 → FillsHere c.args.session.now s0 (asks_for w i0.left))
     (sym c.in-Makes.is) (λ is known. c.run_script.ensures.full_live is)
+
+-- ---- the work
+
+pub returns-in-Answers-clause-loads : goal.returns-in-Answers-clause-loads
+returns-in-Answers-clause-loads g c =
+    let st = g.H.Host.state in
+    let s0 = st c.args.host.now in
+    let s1 = st c.serve_all.new.host in
+    let i0 = g.S.Source.source c.args.source.now in
+    subst
+    (λ (w : Work). OnOk c.serve_all.result (WhereKnown w i0 c.args.session.now s0 (λ g' items. AreMeasured g' items → ReadsMore s0.reads s1.reads (read_by_all g' items))))
+    (sym c.in-Answers.is) c.serve_all.ensures.loads
+
+pub returns-in-Answers-clause-most : goal.returns-in-Answers-clause-most
+returns-in-Answers-clause-most g c =
+    let s0 = g.H.Host.state c.args.host.now in
+    let i0 = g.S.Source.source c.args.source.now in
+    subst
+    (λ (w : Work). OnOk c.serve_all.result (WhereKnownMade w i0 c.args.session.now s0
+    (λ made g' items. AreMeasured g' items → made + made_by_all g' items ≤ most_kept → c.serve_all.new.steps ≤ c.args.steps.now + steps_by_all g' items)))
+    (sym c.in-Answers.is) c.serve_all.ensures.most
+
+pub returns-in-Runs-clause-loads : goal.returns-in-Runs-clause-loads
+returns-in-Runs-clause-loads g c =
+    held c.run_notebook.result (λ told known g' a measured. absurd (runs-not-measured _ _ c.in-Runs.is g' _ measured))
+
+pub returns-in-Runs-clause-most : goal.returns-in-Runs-clause-most
+returns-in-Runs-clause-most g c =
+    held c.run_notebook.result (λ told known g' a made room measured few. absurd (runs-not-measured _ _ c.in-Runs.is g' _ measured))
+
+pub returns-in-Makes-clause-loads : goal.returns-in-Makes-clause-loads
+returns-in-Makes-clause-loads g c =
+    held c.run_script.result (λ told known g' a measured. absurd (makes-not-measured _ _ c.in-Makes.is g' _ measured))
+
+pub returns-in-Makes-clause-most : goal.returns-in-Makes-clause-most
+returns-in-Makes-clause-most g c =
+    held c.run_script.result (λ told known g' a made room measured few. absurd (makes-not-measured _ _ c.in-Makes.is g' _ measured))

@@ -1,12 +1,16 @@
-use Rattle.std.proofs.Common.{◌≡◌, ◌⊎◌, ◌<◌, ◌≤◌, ◌+◌, inl, inr, ⊎_elim, refl, sym, ◌∙◌, ap, subst, arith, ℕ, List, [], length, Option, Some}
+use Rattle.std.proofs.Common.{◌≡◌, ◌⊎◌, ◌<◌, ◌≤◌, ◌+◌, ◌*◌, inl, inr, ⊎_elim, refl, sym, ◌∙◌, ap, subst, arith, ℕ, List, [], length, Option, Some}
 use Rattle.kishu_host.specs.Host.{Now, Elapses}
 use Rattle.kishu_model.specs.Serve.{Item, charges}
 use Rattle.kishu_model.specs.Task.{Form, session}
 use Rattle.kishu_input.specs.Sources.{TakesMoreThan, TakesAtMost}
 use Rattle.kishu_notebook.specs.Values.{fault_of}
 use Rattle.kishu_words.specs.Commands.{form_by, form_found}
+use Rattle.kishu_journal.specs.Going.{ReadsAtMost}
+use Rattle.kishu_live_laws.specs.Made.{opened_nodes}
+use Rattle.kishu_session.specs.Sized.{most_kept}
 use Rattle.kishu_session.specs.Written.{begun}
-use Rattle.kishu_serve.specs.Filling.{FillsInForm, FillsFrom}
+use Rattle.kishu_serve.specs.Efforts.{AreMeasured, read_by_all, steps_by_all}
+use Rattle.kishu_serve.specs.Filling.{FillsInForm, FillsFrom, made_by_all}
 use Rattle.kishu_serve.specs.Headline.{IsPart, IsWhole, IsRead, ReadsWhole, longest_input, most_taken, HasFault}
 use Rattle.kishu_serve.specs.Promise.{form_named, PassesLimit, StaysWithin}
 use Rattle.kishu_serve.proofs.Askings.{knows-told, form-told, asked-form, read-form, whole-alone}
@@ -329,7 +333,7 @@ returns-in-Ok-clause-heap_full g c full told g' good =
     let f = form_by c.in-Ok-Some.command in
     let is : Some f ≡ form_named c.args.words.now = sym (ap (λ o. form_found o) c.in-Ok-Some.field-0-is) ∙ c.in-Ok-Some.ensures.form in
     subst (λ (o : Option Form). FillsInForm o (src c.args.source.now) g') is
-    (fills-form f c.in-Ok.work (src c.args.source.now) (src c.of_command.new.source) g' c.in-Ok.ensures.asked c.in-Ok.ensures.cell c.in-Ok.ensures.lines c.of_command.ensures.tells
+    (fills-form c.in-Ok.work (src c.args.source.now) (src c.of_command.new.source) g' f c.in-Ok.ensures.asked c.in-Ok.ensures.cell c.in-Ok.ensures.lines c.of_command.ensures.tells
     (λ knows. c.run_work.ensures.full full told knows g' good))
 
 pub returns-in-Ok-clause-heap_full_live : goal.returns-in-Ok-clause-heap_full_live
@@ -373,3 +377,28 @@ returns-in-Ok-clause-nothing g c none =
     let f = form_by c.in-Ok-Some.command in
     let is : Some f ≡ form_named c.args.words.now = sym (ap (λ o. form_found o) c.in-Ok-Some.field-0-is) ∙ c.in-Ok-Some.ensures.form in
     absurd (cc (is, none))
+
+-- ---- the work
+
+pub returns-in-Ok-clause-loads : goal.returns-in-Ok-clause-loads
+returns-in-Ok-clause-loads g c done named g' given measured =
+    let st = g.H.Host.state in
+    let src = g.S.Source.source in
+    let s0 = st c.args.host.now in
+    let f = form_by c.in-Ok-Some.command in
+    let is : Some f ≡ form_named c.args.words.now = sym (ap (λ o. form_found o) c.in-Ok-Some.field-0-is) ∙ c.in-Ok-Some.ensures.form in
+    let asked = asked-form (form_named c.args.words.now) f g' (src c.args.source.now).left _ is (c.in-Ok.ensures.asked (form-told f (src c.args.source.now) given.source_tells) g') in
+    let knows = knows-told c.in-Ok.work (src c.of_command.new.source) (c.of_command.ensures.tells ∙ given.source_tells) in
+    subst (λ (is : List Item). ReadsAtMost s0.reads (st c.run_work.new.host).reads (3 * length s0.file + read_by_all g' is)) asked
+    (c.run_work.ensures.loads done given.host_tells knows g' given.good (subst (λ (is : List Item). AreMeasured g' is) (sym asked) measured))
+
+pub returns-in-Ok-clause-most : goal.returns-in-Ok-clause-most
+returns-in-Ok-clause-most g c done named g' given measured few =
+    let src = g.S.Source.source in
+    let f = form_by c.in-Ok-Some.command in
+    let is : Some f ≡ form_named c.args.words.now = sym (ap (λ o. form_found o) c.in-Ok-Some.field-0-is) ∙ c.in-Ok-Some.ensures.form in
+    let asked = asked-form (form_named c.args.words.now) f g' (src c.args.source.now).left _ is (c.in-Ok.ensures.asked (form-told f (src c.args.source.now) given.source_tells) g') in
+    let knows = knows-told c.in-Ok.work (src c.of_command.new.source) (c.of_command.ensures.tells ∙ given.source_tells) in
+    subst (λ (is : List Item). c.run_work.new.steps ≤ c.args.steps.now + steps_by_all g' is) asked
+    (c.run_work.ensures.most done given.host_tells knows g' given.good (subst (λ (is : List Item). AreMeasured g' is) (sym asked) measured)
+    (subst (λ (is : List Item). opened_nodes g' g'.head.commit + made_by_all g' is ≤ most_kept) (sym asked) few))

@@ -1,6 +1,7 @@
 use Rattle.std.proofs.Common.{◌⊎◌, arith, inl, inr, ⊎_elim, sym, ◌∙◌, ap, Err, IsOk, IsErrOf}
 use Rattle.kishu_host.specs.Going.{now_has, now_each}
 use Rattle.kishu_store_laws.specs.Laws.{broken-holds, foreign-holds}
+use Rattle.kishu_live_laws.specs.Made.{opened_nodes}
 use Rattle.kishu_session.specs.declared.halt.Halt.{Halt}
 use Rattle.kishu_serve.specs.Work.{to_do}
 use Rattle.kishu_serve.specs.Headline.{IsPart}
@@ -9,6 +10,7 @@ use Rattle.kishu_serve.proofs.Damages.{lacks-picture}
 use Rattle.kishu_serve.proofs.LiveRuns.{fills-file}
 use Rattle.kishu_serve.proofs.Parts.{attached-good}
 use Rattle.kishu_serve.proofs.Runs.{none-done, start-part, opening-stop, part-from, serving-stop, whole-from, succeeded, written}
+use Rattle.kishu_serve.proofs.Works.{reads-bounded}
 use Rattle.kishu_serve.proofs.top.run_work.Goals as goal
 
 pub carry_out-requires-clause-stands : goal.carry_out-requires-clause-stands
@@ -74,6 +76,7 @@ returns-in-Ok-clause-bytes g c done told =
 pub returns-in-Ok-clause-full : goal.returns-in-Ok-clause-full
 returns-in-Ok-clause-full g c is told knows g' good =
     c.carry_out.ensures.full (c.served.ensures.full is) (c.attach.ensures.tells ∙ told) knows g' (c.in-Ok.ensures.attached told g' good)
+    (opened_nodes g' g'.head.commit) (c.in-Ok.ensures.makes told g' good)
 
 pub returns-in-Ok-clause-full_live : goal.returns-in-Ok-clause-full_live
 returns-in-Ok-clause-full_live g c is told =
@@ -165,3 +168,21 @@ returns-in-Err-clause-complete g c told g' good =
         ]
       ]
     ]
+
+-- ---- the work
+
+pub returns-in-Ok-clause-loads : goal.returns-in-Ok-clause-loads
+returns-in-Ok-clause-loads g c done told knows g' holds measured =
+    let st = g.H.Host.state in
+    let told1 = c.attach.ensures.tells ∙ told in
+    let a = c.in-Ok.ensures.attached told g' holds in
+    let ok = c.served.ensures.done done in
+    reads-bounded (st c.args.host.now).reads (st c.attach.new.host).reads (st c.carry_out.new.host).reads _ _ (c.attach.ensures.reads told)
+    (succeeded c.carry_out.result ok c.carry_out.ensures.loads told1 knows g' a measured)
+
+pub returns-in-Ok-clause-most : goal.returns-in-Ok-clause-most
+returns-in-Ok-clause-most g c done told knows g' holds measured few =
+    let told1 = c.attach.ensures.tells ∙ told in
+    let a = c.in-Ok.ensures.attached told g' holds in
+    let ok = c.served.ensures.done done in
+    omega (arith, c.in-Ok.ensures.counted, succeeded c.carry_out.result ok c.carry_out.ensures.most told1 knows g' a (opened_nodes g' g'.head.commit) (c.in-Ok.ensures.makes told g' holds) measured few)
