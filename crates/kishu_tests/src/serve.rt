@@ -1,6 +1,7 @@
 ghost use Rattle.std.specs.Prelude.{◌≡◌, ◌<◌};
 
 mod cells;
+mod checkouts;
 mod generated;
 mod language;
 mod notebooks;

@@ -11,7 +11,7 @@ const SHARED: [u8; 126] =
 
 /// The store of two commits. The first stores the group of `x` and `y` and that of `z`. The second drops the group of
 /// `x` and `y`, and stores one of each.
-const PARTED: [u8; 338] =
+pub(super) const PARTED: [u8; 338] =
     *b"KISHU-JOURNAL-1\n\xa5\0\0\0\0\0\0\0\xac\0\0\0M\x01\0\0\0\0\x01\0\0\0\x01\0\0\0\x19x = [1]; y = [x]; z = [2]\0\0\0\0\0\0\0\x02\0\0\0\x02\x01x\x01y\0\0\0\0\0\0\06\0\0\0\x01\x01z\0\0\0\0\0\0\0%\0\0\0\x02\x01x\x08\0\0\0\0\x01y\x08\0\0\0\x01\0\0\0\x02\x01\0\0\0\x01\x03\0\0\0\0\0\0\0\0\0\0\0\0\0\0\0\x01\x01\0\0\0\x01\x08\0\0\0\0\0\0\0\x01\x01z\x08\0\0\0\0\0\0\0\x01\x01\0\0\0\x01\x03\0\0\0\0\0\0\0\0\0\0\0\0\0\0\0\x02\xa5\0\0\0\0\0\0\0\x83\0\0\0?\x01\0\0\0\x01\x01\0\0\0\x01\0\0\0\x05y = 0\0\0\0\x01\0\0\0\x02\x01x\x01y\0\0\0\x02\0\0\0\x01\x01x\0\0\0\0\0\0\0%\0\0\0\x01\x01y\0\0\0\0\0\0\0\x1b\0\0\0\x01\x01x\x08\0\0\0\0\0\0\0\x01\x01\0\0\0\x01\x03\0\0\0\0\0\0\0\0\0\0\0\0\0\0\0\x01\0\0\0\x01\x01y\x03\0\0\0\0\0\0\0\0\0\0\0\0\0\0\0\0\0\0\0\0\0";
 
 /// The store of one commit with the cell `a = [1]; b = 2`, which has one group of all names, as commits once had.
@@ -164,7 +164,7 @@ fn a_commit_without_groups_has_no_names(rt: HostRuntime) -> Result<(), Fail> {
 }
 
 /// Lines of a session on the store of two commits, and how many bytes it reads besides those of its opening. A commit
-/// reads none, and a checkout the pictures of its commit.
+/// reads none, and a checkout the pictures of the groups that differ.
 const READS: [(&str, u64); 2] = [
     (
         r#"{"op":"cell","text":"x.append(y)"}
@@ -177,7 +177,7 @@ const READS: [(&str, u64); 2] = [
         r#"{"op":"cell","text":"x.append(y)"}
 {"op":"checkout","to":"1"}
 "#,
-        91,
+        54,
     ),
 ];
 

@@ -26,7 +26,7 @@ pub(super) fn run_words(
 }
 
 /// The lines of a session on an empty store, and the lines of its answers.
-const SESSIONS: [(&str, &str); 19] = [
+const SESSIONS: [(&str, &str); 20] = [
     ("", ""),
     (
         r#"{"op":"status"}"#,
@@ -110,6 +110,31 @@ const SESSIONS: [(&str, &str); 19] = [
 {"answer":"stored","commit":0,"dropped":[],"stored":[]}
 {"answer":"refused","number":2,"reason":"NoSuchRef"}
 {"answer":"status","branch":"main","commit":2,"commits":3,"names":["x","y","z"],"records":2}
+"#,
+    ),
+    // What a checkout would do: it keeps the groups that have stood with one picture since the same commit.
+    (
+        r#"{"op":"cell","text":"x = [1]; y = [x]; z = [2]"}
+{"op":"cell","text":"y = 0"}
+{"op":"plan","to":"1"}
+{"op":"plan","to":"main"}
+{"op":"plan","to":"0"}
+{"op":"plan","to":"3"}
+{"op":"checkout","to":"1"}
+{"op":"plan","to":"main"}
+{"op":"cell","text":"print(y[0] is x, z)"}
+{"op":"plan","to":"1"}
+"#,
+        r#"{"answer":"cell","commit":1,"count":1,"outcome":"ok","outputs":[]}
+{"answer":"cell","commit":2,"count":2,"outcome":"ok","outputs":[]}
+{"answer":"plan","commit":1,"drop":[["x"],["y"]],"keep":[["z"]],"load":[["x","y"]]}
+{"answer":"plan","commit":2,"drop":[],"keep":[["x"],["y"],["z"]],"load":[]}
+{"answer":"plan","commit":0,"drop":[["x"],["y"],["z"]],"keep":[],"load":[]}
+{"answer":"refused","number":2,"reason":"NoSuchRef"}
+{"answer":"checkout","commit":1,"head":null}
+{"answer":"plan","commit":2,"drop":[["x","y"]],"keep":[["z"]],"load":[["x"],["y"]]}
+{"answer":"cell","commit":3,"count":2,"outcome":"ok","outputs":[{"name":"stdout","output_type":"stream","text":"True [2]\n"}]}
+{"answer":"plan","commit":1,"drop":[],"keep":[["x","y"],["z"]],"load":[]}
 "#,
     ),
     // A function changes a list that it finds by its name.
