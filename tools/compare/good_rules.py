@@ -68,11 +68,14 @@ def fault(file):
     for commit in range(1, len(graph.parents)):
         before, now = states[graph.parents[commit]], states[commit]
         dropped = sorted(group for group in before if now.get(group) != before[group])
-        stored = sorted(group for group in now if version(graph, states, commit, group) == commit)
+        versions = {group: version(graph, states, commit, group) for group in now}
+        stored = sorted(group for group in now if versions[group] == commit)
         if [*graph.dropped[commit]] != dropped:
             return f"commit {commit} drops {graph.dropped[commit]}, and has to drop {dropped}"
         if [*graph.stored[commit]] != stored:
             return f"commit {commit} stores {graph.stored[commit]}, and has to store {stored}"
+        if {row.names: row.version for row in graph.tables[commit]} != versions:
+            return f"commit {commit} has other versions than {versions}"
         for row in graph.tables[commit]:
             if row.version == commit and digest(file[row.place : row.place + row.length]) != now[row.names]:
                 return f"commit {commit} has another picture of {row.names} at {row.place}"

@@ -10,7 +10,7 @@ Cells: each run commits one cell. After each run the store is opened by a run th
 commits the store held. That number may not be below what was acknowledged, nor above it by more than the one cell that was under way.
 
 Sessions: each run is a session of 40 requests: cells, one or several at once, about some names that share nodes and some that don't,
-checkouts, branches, `log`, `status`, `stored`, and some that are refused. What all of them are answered is known before, by session_rules.py. After each run the output has to be a prefix of these answers, and the file, byte by
+checkouts, branches, `log`, `status`, `stored`, `plan`, and some that are refused. What all of them are answered is known before, by session_rules.py. After each run the output has to be a prefix of these answers, and the file, byte by
 byte as store_rules.py reads it, has to hold the records of the answered requests in order, and at most that of the next request
 besides. Then `log` and `status` by runs that aren't killed have to tell just these. The next session goes on with the same store,
 which is new every 25 runs.
@@ -142,6 +142,7 @@ def random_request(rng, graph, number):
         lambda: {"op": "branch", "name": rng.choice(["main", "9", f"b{len(graph.branches)}"])},
         lambda: {"op": rng.choice(["log", "status", "fly"])},
         lambda: {"op": "stored", "of": rng.choice(["main", str(rng.randint(0, newest + 1))])},
+        lambda: {"op": "plan", "to": rng.choice(["main", str(rng.randint(0, newest + 1))])},
     ])()
 
 

@@ -74,6 +74,7 @@ BAD_LINES = [
     b'{"op":"cell","text":"\xed\xa0\x80"}', b"\xff", b'{"op":"cell","text":"\t"}', b'{"op":"cell","text":"a\x01"}',
     b'{"op":"cell","text":"\\u12"}', b'{"op":"log","op":1}', b'{"op":"log","x":' + b"[" * 127 + b"]" * 127 + b"}", b"[" * 200,
     b'{"op":"stored"}', b'{"op":"stored","of":1}', b'{"op":"stored","to":"1"}', b'{"op":"stored","of":"1","to":"1"}', b'{"op":"stored","of":["1"]}',
+    b'{"op":"plan"}', b'{"op":"plan","to":1}', b'{"op":"plan","of":"1"}', b'{"op":"plan","to":"1","of":"1"}', b'{"op":"plan","to":["1"]}', b'{"op":"plan","to":null}',
     b'{"op":"log"}{"op":"log"}', b'{"op":"checkout","to":"0","to":0}', b'{"op":"log" "x":1}', b'// {"op":"log"}',
     b'{"op":"cell","text":"\\x41"}',
 ]
@@ -82,6 +83,7 @@ ODD_LINES = [
     b' { "op" : "log" } ', b'\t{"op"\r:"status"}\r', b'{"\\u006fp":"l\\u006fg"}', b'{"op":1,"op":"status"}', b'{"op":"status","op":"log"}',
     b'{"op":' + b"[" * 126 + b"]" * 126 + b',"op":"status"}', b'{"op":"fly","op":"log"}',
     b'{"of":"0", "op" :"stored"}', b'{"of":1,"op":"stored","of":"m\\u0061in"}',
+    b'\t{"to" :"0", "op":"plan"}', b'{"to":"1","op":"checkout","op":"plan","to":"m\\u0061in"}',
     b'{"texts":1,"op":"cells","texts":["","#"]}', b'{"to":"0","to":"main","op":"checkout"}', b'{"at":"0","op":"branch","name":"\\u0074ry"}',
 ]
 
@@ -258,7 +260,9 @@ class Player:
             return self.written({"op": "inspect"})
         if chance < 0.26:
             return self.written({"op": "stored", "of": self.reference(session)})
-        chance = (chance - 0.26) * 0.81 / 0.74 + 0.19
+        if chance < 0.32:
+            return self.written({"op": "plan", "to": self.reference(session)})
+        chance = (chance - 0.32) * 0.83 / 0.68 + 0.17
         if chance < 0.28:
             return self.written({"op": "checkout", "to": self.reference(session)})
         if chance < 0.34:

@@ -1,6 +1,7 @@
 """The rules of requests, answers and runs, read a second time: by docs/LINES.md, docs/STORE.md and docs/RULES.md, and by nothing of
 the program. The state at a commit is read of the pictures that its table names; those of a new commit hold what CPython makes of its
-cells, and group_rules.py tells which groups it drops and stores."""
+cells, and group_rules.py tells which groups it drops and stores. A checkout goes by plan: the groups that it keeps stay as they are, and
+the pictures of those that it loads are read beside them."""
 import json
 import re
 
@@ -20,7 +21,7 @@ LONGEST_LINE = 2**24
 REASONS = {1: "BadRequest", 2: "NoSuchRef", 3: "BadName", 4: "NameTaken", 5: "StoreFull", 6: "CellTooLong", 7: "StateTooLarge"}
 KEYS = {
     "cell": ["op", "text"], "cells": ["op", "texts"], "checkout": ["op", "to"], "branch": ["name", "op"], "log": ["op"], "status": ["op"],
-    "inspect": ["op"], "stored": ["of", "op"],
+    "inspect": ["op"], "stored": ["of", "op"], "plan": ["op", "to"],
 }
 USAGE = b"usage: kishu STORE COMMAND\n"
 TOO_LONG = b"input too long\n"
@@ -79,6 +80,7 @@ class Session:
     def __init__(self, file, known=None):
         self.file, self.end, self.graph = opened(file)
         self.known = known
+        self.read = 0  # the bytes of the pictures that were loaded
         self.space = self.loaded(self.graph.commit)
 
     def run(self, text, space, accessed=None):
@@ -87,17 +89,38 @@ class Session:
             raise python_cells.Unlike("the text isn't known")
         return python_cells.run(text, space, accessed)
 
+    def load(self, row, space):
+        """Loads the picture of a row into a namespace. Damaged: the bytes there aren't a picture of its names."""
+        self.read += row.length
+        try:
+            names = picture_rules.load(self.file[row.place : row.place + row.length], space)
+        except picture_rules.NoPicture:
+            raise Damaged(row.place) from None
+        if tuple(names) != row.names:
+            raise Damaged(row.place)
+
     def loaded(self, commit):
-        """The namespace of a commit's table. Damaged: the bytes of a row aren't a picture of its names."""
+        """The namespace of a commit's table."""
         space = python_cells.empty_space()
         for row in self.graph.tables[commit]:
-            try:
-                names = picture_rules.load(self.file[row.place : row.place + row.length], space)
-            except picture_rules.NoPicture:
-                raise Damaged(row.place) from None
-            if tuple(names) != row.names:
-                raise Damaged(row.place)
+            self.load(row, space)
         return space
+
+    def rows_to(self, commit):
+        """The rows of the head's table that a checkout to a commit drops, and those of the commit's that it keeps and loads. It keeps a
+        group that stands in both with one version."""
+        here, there = self.graph.tables[self.graph.commit], self.graph.tables[commit]
+        alike = {(row.names, row.version) for row in here} & {(row.names, row.version) for row in there}
+        return [[row for row in rows if ((row.names, row.version) in alike) == kept] for rows, kept in ((here, False), (there, True), (there, False))]
+
+    def carry(self, commit):
+        """Carries the state to a commit."""
+        dropped, _, loaded = self.rows_to(commit)
+        for row in dropped:
+            for name in row.names:
+                del self.space[name]
+        for row in loaded:
+            self.load(row, self.space)
 
     def record(self, body):
         self.graph.add(entry_of(body), self.end + 9)
@@ -145,7 +168,7 @@ class Session:
             raise Refused(2)
         self.room()
         commit, branch = target
-        self.space = self.loaded(commit)
+        self.carry(commit)
         self.record(move_to_commit_body(commit) if branch is None else move_to_branch_body(branch))
         return {"answer": "checkout", "commit": commit, "head": branch}
 
@@ -188,6 +211,13 @@ class Session:
         commit, graph = target[0], self.graph
         dropped, stored = (list(map(list, groups[commit])) for groups in (graph.dropped, graph.stored))
         return {"answer": "stored", "commit": commit, "dropped": dropped, "stored": stored}
+
+    def plan(self, to):
+        target = self.graph.resolve(to)
+        if target is None:
+            raise Refused(2)
+        drop, keep, load = ([list(row.names) for row in rows] for rows in self.rows_to(target[0]))
+        return {"answer": "plan", "commit": target[0], "drop": drop, "keep": keep, "load": load}
 
     def told(self, request):
         """The answer to a request; None is what isn't one."""

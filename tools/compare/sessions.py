@@ -8,7 +8,7 @@ Usage: tools/compare/sessions.py --program PROGRAM [--cases COUNT] [--seed SEED]
 
 PROGRAM is the built program, crates/kishu_cli/out/kishu_cli. A case is one store and some runs on it: of `session` with lines of
 requests, of `run` with a notebook, and of `cell`, `log`, `status`, `checkout` and `branch`; at the beginning some of `gen`, too. Lines are cells, several cells at once,
-checkouts by number and by branch, branches, `log`, `status`, `inspect` and `stored`, some of them refused, and lines that are no request. Between runs a file may be harmed: cut, a byte changed or
+checkouts by number and by branch, branches, `log`, `status`, `inspect`, `stored` and `plan`, some of them refused, and lines that are no request. Between runs a file may be harmed: cut, a byte changed or
 taken out, the gate at its end opened, a gate before it closed. Before the random cases come some that are always the same, about
 limits and ends of lines, and one session that gets each line when the line before is answered. Case K of a seed depends on these
 two numbers alone, and later cases are longer.
@@ -97,6 +97,20 @@ LARGE_OLDER = [
     STORED % b"1", CELL % b"c = [7]; print(8)", STORED % b"2", CELL % b"c = ['z' * 1000000] * 250", CELLS % (b"c = 8", b"c = ['z' * 1000000] * 260"),
     CELL % b"c = ['z' * 1000000] * 10", STORED % b"3", CELL % b"n", STORED % b"4", CELL % b"a = c", STORED % b"5", CELL % b"t = [t] * 269", STATUS,
 ]
+CHECKOUT, PLAN = b'{"op":"checkout","to":"%s"}', b'{"op":"plan","to":"%s"}'
+# To and fro between ways on which some groups stayed, some joined and fell apart, and some have other pictures.
+WAYS = [
+    PLAN % b"0", CELL % b"x = [1]; y = [x]; z = [2]", PLAN % b"0", PLAN % b"main", CELL % b"y = 0", PLAN % b"1", CHECKOUT % b"1", PLAN % b"2", CELL % b"print(y[0] is x, z)",
+    CELL % b"z.append(x)", PLAN % b"1", PLAN % b"2", CHECKOUT % b"main", INSPECT, CELL % b"print(x, y, z)", PLAN % b"4", PLAN % b"3", CHECKOUT % b"4", INSPECT,
+    CELL % b"z[1] is x and x is y[0]", CHECKOUT % b"1", CELL % b"z = [2]", PLAN % b"1", CHECKOUT % b"1", CELL % b"x.append(3); w = [4]", CHECKOUT % b"2", PLAN % b"main", PLAN % b"7", INSPECT,
+    CELL % b"w", CHECKOUT % b"0", STATUS, CHECKOUT % b"7", CELL % b"y[0].append(w); print(x, w)", CHECKOUT % b"9", CHECKOUT % b"9", PLAN % b"9", CELL % b"x[2] is w",
+    PLAN % b"20", PLAN % b"01", b'{"op":"plan"}', LOG, STATUS,
+]
+# A cell that is refused loads the head's groups anew, and leaves them where a checkout keeps them.
+LARGE_WAYS = [
+    CELL % b"t = 'y' * 1000000; a = [t]; b = [a]", CELL % b"c = [t] * 100", CELL % b"d = [a, t] * 200", PLAN % b"1", CHECKOUT % b"1", CELL % b"print(b[0] is a, len(t))",
+    CELL % b"c = 0", CHECKOUT % b"2", CELLS % (b"a.append(c)", b"d = [t] * 200"), CELL % b"print(b[0] is a, len(a), len(c))", PLAN % b"main", CHECKOUT % b"main", INSPECT, STATUS,
+]
 LONG_CELL = b"#" * LONGEST_CELL
 
 
@@ -109,9 +123,9 @@ def session_case(*lines):
 
 def same_cases():
     """Cases about limits, ends of lines and what a user does first."""
-    for lines in ([b""], [b"", b""], [STATUS], [LOG, b"", b"", b""], SHARED, [*SHARED, b""], RING, DEFAULTS, SPENT, REFUSED, TOGETHER, BOUND, LARGE, GROUPS, GLOBALS, LARGE_GROUPS):
+    for lines in ([b""], [b"", b""], [STATUS], [LOG, b"", b"", b""], SHARED, [*SHARED, b""], RING, DEFAULTS, SPENT, REFUSED, TOGETHER, BOUND, LARGE, GROUPS, GLOBALS, LARGE_GROUPS, WAYS, LARGE_WAYS):
         yield session_case(*lines)
-    for first, lines in (("t = 'y' * 1000000; a = [t] * 20; n = 1", LARGE_OLDER), ("x = [1]; y = [x]; z = [2]", GROUPS), ("x = 1; y = 2", GLOBALS)):
+    for first, lines in (("t = 'y' * 1000000; a = [t] * 20; n = 1", LARGE_OLDER), ("x = [1]; y = [x]; z = [2]", GROUPS), ("x = 1; y = 2", GLOBALS), ("x = 1; z = [2]", WAYS)):
         case = session_case(*lines)
         yield Case(older_stores.whole_store(first), case.steps, case.known)
     by_hand = session_case(*SHARED, b"")

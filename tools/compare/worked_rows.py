@@ -6,8 +6,9 @@ Usage: tools/compare/worked_rows.py [--show]                the rules alone
 
 PROGRAM is the built program, crates/kishu_cli/out/kishu_cli. The answers, the bytes of a store, a picture and the groups of commits were
 written by hand, from the documents. Each store is also looked at whether it is good: that of each row has to be, but for one that begins
-as a file whose commit has one group of all names. With `--show` each row prints its lines with the answers. The script ends with status 1
-where something differs."""
+as a file whose commit has one group of all names, and for one whose stored picture is another than that of its cells. How many bytes of
+the store each line reads is told by the rules, in some rows by hand too, and of the program by the system's count of what it read. With
+`--show` each row prints its lines with the answers. The script ends with status 1 where something differs."""
 import argparse
 import json
 import os
@@ -21,6 +22,7 @@ import older_stores
 import picture_rules
 import python_cells
 import session_rules
+from reads import bytes_read
 
 ONE = bytes.fromhex(
     "4b495348552d4a4f55524e414c2d310a a5 0000000000000026 00000022 01 00000000 01 00000001 0000000c 7072696e742831202b203229 00000000 00000000 00"
@@ -48,7 +50,11 @@ def checkout(to, commit, head):
     return {"op": "checkout", "to": to}, {"answer": "checkout", "commit": commit, "head": head}
 
 
-XY, X, Y, Z, G, P, GP, L, F = ["x", "y"], ["x"], ["y"], ["z"], ["g"], ["p"], ["g", "p"], ["L"], ["f"]
+def plan(to, commit, drop, keep, load):
+    return {"op": "plan", "to": to}, {"answer": "plan", "commit": commit, "drop": drop, "keep": keep, "load": load}
+
+
+A, XY, X, Y, Z, G, P, GP, L, F = ["a"], ["x", "y"], ["x"], ["y"], ["z"], ["g"], ["p"], ["g", "p"], ["L"], ["f"]
 LOG = {
     "answer": "log", "branches": [{"commit": 2, "name": "main"}],
     "path": [
@@ -72,6 +78,19 @@ ROWS = {
     "a group that is split": [
         cell("x = [1]; y = [x]; z = [2]"), stored("1", [], [XY, Z]), cell("y = 0"), stored("2", [XY], [X, Y]), stored("main", [XY], [X, Y], 2), checkout("1", 1, None),
         cell("print(y[0] is x, z)", "True [2]\n"), stored("3", [], []), stored("0", [], []), ({"op": "stored", "of": "7"}, NO_REFERENCE),
+    ],
+    "a checkout that keeps a group": [
+        cell("x = [1]; y = [x]; z = [2]"), cell("y = 0"), plan("1", 1, [X, Y], [Z], [XY]), checkout("1", 1, None), cell("print(y[0] is x, z)", "True [2]\n"),
+        plan("main", 2, [XY], [Z], [X, Y]), checkout("main", 2, "main"), cell("print(x, y, z)", "[1] 0 [2]\n"),
+    ],
+    "a checkout to where the head stands": [
+        cell("a = [1]"), cell("b = [a]"), plan("main", 2, [], [["a", "b"]], []), checkout("main", 2, "main"), ({"op": "status"}, {
+            "answer": "status", "branch": "main", "commit": 2, "commits": 3, "names": ["a", "b"], "records": 3,
+        }), cell("b[0] is a", "True"),
+    ],
+    "a checkout that loads what was left": [
+        cell("a = []"), cell("a.append(a)"), cell("print(a)", "[[...]]\n"), plan("0", 0, [A], [], []), checkout("0", 0, None), plan("main", 3, [], [], [A]),
+        fault("a", "NameError", "name 'a' is not defined"), checkout("main", 3, "main"), plan("2", 2, [], [A], []), cell("print(a, a[0] is a)", "[[...]] True\n"),
     ],
     "a function that changes a global name": [cell("L = []"), cell("def f(): L.append(1)"), cell("f()"), stored("2", [], [F]), stored("3", [L], [L])],
     "a group that joins another": [
@@ -102,6 +121,19 @@ ROWS = {
         }),
     ],
 }
+# A store of one commit with the cell `a = [1]`, whose picture of `a` is that of `a = [2]`.
+OTHER = "another picture than that of its cells"
+# The bytes of the store that the lines of a row read: the picture of x and y has 54, that of the list x 37, that of the number y 27, and
+# that of a list which holds itself 25.
+READ = {
+    "a checkout that keeps a group": [0, 0, 0, 54, 0, 0, 64, 0], "a checkout to where the head stands": [0] * 6,
+    "a checkout that loads what was left": [0, 0, 0, 0, 0, 0, 0, 25, 0, 0], OTHER: [0, 37, 0],
+}
+OTHER_FILE = bytes.fromhex(
+    "4b495348552d4a4f55524e414c2d310a a5 0000000000000054 0000002b 01 00000000 01 00000001 00000007 61203d205b315d 00000000 00000001 00000001 0161 "
+    "0000000000000025 00000001 0161 0800000000 00000001 01 00000001 03 00000000000000000000000000000002 00"
+)
+ROWS[OTHER] = [checkout("0", 0, None), checkout("main", 1, "main"), cell("print(a)", "[2]\n")]
 WHOLE = "one group of all names"
 ROWS[WHOLE] = [
     cell("print(0)", "0\n"), stored("1", [], [XY]), stored("2", [], []), cell("z = 3"), stored("3", [], [Z]), cell("x", "1"), stored("4", [XY], [X, Y]), cell("x = 1"),
@@ -120,34 +152,48 @@ def is_told(answer, wanted):
 
 
 def by_rules(lines, file):
-    """Status, output and file of a session, by the rules."""
-    status, _, out, after = session_rules.expected(["store", "session"], lines, file)
-    return status, out, after
+    """The answers of a session, the bytes that each line read, and the file, by the rules."""
+    session = session_rules.Session(file)
+    answers, counts = [], [session.read]
+    for line in lines:
+        answers.append(session.answer(session_rules.request_of(line)))
+        counts.append(session.read)
+    return answers, counts, session.file
 
 
 def by_program(program, lines, file):
+    """The same by the program, which gets each line when the line before is answered. An empty line is answered first, so that the opening
+    is done when the counting begins."""
     with tempfile.TemporaryDirectory() as folder:
         path = os.path.join(folder, "store")
         if file is not None:
             pathlib.Path(path).write_bytes(file)
-        done = subprocess.run([program, path, "session"], input=lines, capture_output=True)
-        return done.returncode, done.stdout, pathlib.Path(path).read_bytes()
+        child = subprocess.Popen([program, path, "session"], stdin=subprocess.PIPE, stdout=subprocess.PIPE, bufsize=0)
+        answers, counts, taken = [], [], 0
+        for line in [b"", *lines]:
+            child.stdin.write(line + b"\n")
+            answers.append(child.stdout.readline())
+            taken += len(line) + 1
+            counts.append(bytes_read(child) - taken)
+        child.stdin.close()
+        if child.wait() != 0:
+            sys.exit(f"a session ended with {child.returncode}")
+        return answers[1:], counts, pathlib.Path(path).read_bytes()
 
 
 def faults_of(title, row, done, show):
     """What differs in a row that was run."""
-    status, out, file = done
-    answers = [json.loads(line) for line in out.splitlines()]
-    if status != 0 or len(answers) != len(row):
-        yield f"{title}: status {status}, {len(answers)} answers"
-        return
-    for (request, wanted), answer in zip(row, answers):
+    lines, counts, file = done
+    read = [after - before for before, after in zip(counts, counts[1:])]
+    if read != READ.get(title, read):
+        yield f"{title}: its lines read {read} bytes, and not {READ[title]}"
+    for (request, wanted), answer in zip(row, map(json.loads, lines)):
         if show:
             print(f"  {json.dumps(request)}\n    {json.dumps(answer)}")
         if not is_told(answer, wanted):
             yield f"{title}: {request} is answered {answer}, and not {wanted}"
     found = good_rules.fault(file)
-    if (found is None) != (title != WHOLE):
+    if (found is None) != (title not in (WHOLE, OTHER)):
         yield f"{title}: the store is {'good' if found is None else 'not good: ' + found}"
 
 
@@ -183,16 +229,17 @@ def main():
     if given.program is not None:
         runs["the program"] = lambda lines, file: by_program(os.path.abspath(given.program), lines, file)
     faults = [*faults_of_pictures()]
+    begun = {WHOLE: older_stores.whole_store("x = 1; y = 2"), OTHER: OTHER_FILE}
+    files, counts = {name: {} for name in runs}, {name: {} for name in runs}
     for name, run in runs.items():
-        files = {}
         for title, row in ROWS.items():
             if given.show:
                 print(f"{title}, by {name}:")
-            lines = b"".join(json.dumps(request).encode() + b"\n" for request, _ in row)
-            done = run(lines, older_stores.whole_store("x = 1; y = 2") if title == WHOLE else None)
-            files[title] = done[2]
+            done = run([json.dumps(request).encode() for request, _ in row], begun.get(title))
+            counts[name][title], files[name][title] = [count - done[1][0] for count in done[1]], done[2]
             faults += faults_of(title, row, done, given.show)
-        faults += faults_of_bytes(files)
+        faults += faults_of_bytes(files[name])
+    faults += [f"{title}: {told} bytes are read, and not {counts['the rules'][title]}" for name in runs for title, told in counts[name].items() if told != counts["the rules"][title]]
     for found in faults:
         print(f"differs: {found}")
     print(f"{len(ROWS)} rows by {' and '.join(runs)}: {len(faults)} differences")

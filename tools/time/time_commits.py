@@ -24,17 +24,14 @@ import json
 import os
 import pickle
 import statistics
-import subprocess
 import sys
 import tempfile
-import time
 
-from store_runs import memory_folder, memory_of
+from sides import Side, making
+from store_runs import memory_folder
 
 NODES, SMALL, LARGE = 200_000, 1000, 1_000_000
 CELLS, GROUPS, OTHERS = 200, 20, 10
-# A cell makes so many nodes at most, well within its steps.
-NODES_OF_A_CELL = 100_000
 COMMITS_AT_ONCE, TURNS = 100, 60
 LARGEST_SHARE, WORST = 0.1, 1.2
 # The word by which this script is run as the Python process.
@@ -42,13 +39,6 @@ PICKLES = "--pickles"
 
 
 # The cells of the first part.
-
-
-def making(name, nodes):
-    """The cells that make a group of so many nodes: lists in a list."""
-    yield f"{name} = []"
-    for start in range(1, nodes, NODES_OF_A_CELL):
-        yield f"for i in range({start}, {min(nodes, start + NODES_OF_A_CELL)}):\n    {name}.append([i])"
 
 
 def worked_cells(nodes):
@@ -71,42 +61,6 @@ def worked_cells(nodes):
 
 
 # The sides of the first part: each takes a cell, and answers when it is stored.
-
-
-class Side:
-    """A process that gets lines, and answers each by one."""
-
-    def __init__(self, words):
-        self.child = subprocess.Popen(words, stdin=subprocess.PIPE, stdout=subprocess.PIPE)
-
-    def took(self, lines):
-        """The time until all of some lines are answered, by the clock in seconds, and the last answer."""
-        given = b"".join(json.dumps(line).encode() + b"\n" for line in lines)
-        begun = time.perf_counter()
-        self.child.stdin.write(given)
-        self.child.stdin.flush()
-        for _ in lines:
-            answer = self.child.stdout.readline()
-        spent = time.perf_counter() - begun
-        if not answer.endswith(b"\n"):
-            sys.exit(f"a process ended with {self.child.wait()} before all was answered")
-        return spent, json.loads(answer)
-
-    def ran(self, text):
-        """The time of a cell, which has to end well."""
-        spent, answer = self.took([{"op": "cell", "text": text}])
-        if answer.get("outcome") != "ok":
-            sys.exit(f"{text!r} is answered {answer}")
-        return spent
-
-    def memory(self):
-        """The most memory that the process had so far, in MB."""
-        return memory_of(self.child)
-
-    def ended(self):
-        self.child.stdin.close()
-        if self.child.wait() != 0:
-            sys.exit(f"a process ended with {self.child.returncode}")
 
 
 def pickled_file(folder, commit):
