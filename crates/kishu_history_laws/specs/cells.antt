@@ -4,5 +4,6 @@ pub mod InsideLaws
 pub mod LeavesLaws
 pub mod JoinedLaws
 pub mod GroupsAfter
+pub mod TestedLaws
 pub mod LiveLaws
 pub mod SizeLaws

@@ -175,6 +175,65 @@ pub fn cells_stay_live()
     ensures order { (file : Option (List ℕ)) (t : Table) (s u : State) (accessed : List (List ℕ)) (rows : Table) → IsTable t → IsLive (Stored file) t s → IsSoundState u → Leaves accessed s u → groups_in rows ≡ stored_among (groups_in t) (picture s) accessed u → ((r : Row) → In r rows → Stored file r (picture u r.group)) → Rise (map first_name (dropped_among (groups_in t) (picture s) accessed u)) × Rise (map first_in rows) }
 {}
 
+/// So it is whatever test tells which classes of the touched names stay, where each that does is stored for its row with its picture now: the new table is one and tells the live state, and takes what its rows without an accessed name take and the classes; each of its rows is new, or has its picture as it was, or is of a class that passes the test; and what is dropped and stored stands in order.
+pub fn cells_stay_live_by_tests()
+    ensures live { (file : Option (List ℕ)) (t : Table) (s u : State) (accessed : List (List ℕ)) (same : Group → Bool) (rows : Table)
+        → IsTable t → IsLive (Stored file) t s → IsSoundState u → Leaves accessed s u
+        → ((r : Row) → In r t → In r.group (classes (groups_in t) accessed u) → same r.group ≡ true
+        → Stored file r (picture u r.group))
+        → groups_in rows ≡ filter (λ g. not (is_one_of g (groups_in t) && same g)) (classes (groups_in t) accessed u)
+        → ((r : Row) → In r rows → Stored file r (picture u r.group))
+        → IsLive (Stored file) (after (record {
+          dropped = filter (λ g. holds_any accessed g
+              && not (is_one_of g (classes (groups_in t) accessed u) && same g)) (groups_in t);
+          stored = rows;
+        }) t) u }
+    ensures table { (file : Option (List ℕ)) (t : Table) (s u : State) (accessed : List (List ℕ)) (same : Group → Bool) (rows : Table)
+        → IsTable t → IsLive (Stored file) t s → IsSoundState u → Leaves accessed s u
+        → ((r : Row) → In r t → In r.group (classes (groups_in t) accessed u) → same r.group ≡ true
+        → Stored file r (picture u r.group))
+        → groups_in rows ≡ filter (λ g. not (is_one_of g (groups_in t) && same g)) (classes (groups_in t) accessed u)
+        → ((r : Row) → In r rows → Stored file r (picture u r.group))
+        → IsTable (after (record {
+          dropped = filter (λ g. holds_any accessed g
+              && not (is_one_of g (classes (groups_in t) accessed u) && same g)) (groups_in t);
+          stored = rows;
+        }) t) }
+    ensures takes { (file : Option (List ℕ)) (t : Table) (s u : State) (accessed : List (List ℕ)) (same : Group → Bool) (rows : Table)
+        → IsTable t → IsLive (Stored file) t s → IsSoundState u → Leaves accessed s u
+        → ((r : Row) → In r t → In r.group (classes (groups_in t) accessed u) → same r.group ≡ true
+        → Stored file r (picture u r.group))
+        → groups_in rows ≡ filter (λ g. not (is_one_of g (groups_in t) && same g)) (classes (groups_in t) accessed u)
+        → ((r : Row) → In r rows → Stored file r (picture u r.group))
+        → bytes_in (after (record {
+          dropped = filter (λ g. holds_any accessed g
+              && not (is_one_of g (classes (groups_in t) accessed u) && same g)) (groups_in t);
+          stored = rows;
+        }) t)
+        ≡ bytes_in (untouched t accessed) + size_among (classes (groups_in t) accessed u) u }
+    ensures kinds { (file : Option (List ℕ)) (t : Table) (s u : State) (accessed : List (List ℕ)) (same : Group → Bool) (rows : Table)
+        → IsTable t → IsLive (Stored file) t s → IsSoundState u → Leaves accessed s u
+        → ((r : Row) → In r t → In r.group (classes (groups_in t) accessed u) → same r.group ≡ true
+        → Stored file r (picture u r.group))
+        → groups_in rows ≡ filter (λ g. not (is_one_of g (groups_in t) && same g)) (classes (groups_in t) accessed u)
+        → ((r : Row) → In r rows → Stored file r (picture u r.group))
+        → (r : Row) → In r (after (record {
+          dropped = filter (λ g. holds_any accessed g
+              && not (is_one_of g (classes (groups_in t) accessed u) && same g)) (groups_in t);
+          stored = rows;
+        }) t)
+        → In r rows ⊎ ((picture u r.group ≡ picture s r.group)
+        ⊎ (In r.group (classes (groups_in t) accessed u) × (same r.group ≡ true))) }
+    ensures order { (file : Option (List ℕ)) (t : Table) (s u : State) (accessed : List (List ℕ)) (same : Group → Bool) (rows : Table)
+        → IsTable t → IsLive (Stored file) t s → IsSoundState u → Leaves accessed s u
+        → ((r : Row) → In r t → In r.group (classes (groups_in t) accessed u) → same r.group ≡ true
+        → Stored file r (picture u r.group))
+        → groups_in rows ≡ filter (λ g. not (is_one_of g (groups_in t) && same g)) (classes (groups_in t) accessed u)
+        → ((r : Row) → In r rows → Stored file r (picture u r.group))
+        → Rise (map first_name (filter (λ g. holds_any accessed g
+        && not (is_one_of g (classes (groups_in t) accessed u) && same g)) (groups_in t))) × Rise (map first_in rows) }
+{}
+
 /// After a checkout the live state is the one that the target's table tells, on every store; old nodes, of which none is taken out, the names of kept groups and all names that are neither dropped nor loaded are in place. The live state is told also after loading anew from its own pictures, and in a file that has grown.
 pub fn checkouts_stay_live()
     ensures live { (file : Option (List ℕ)) (t u : Table) (s : State) (ps : List State) → IsTable t → IsTable u → AreOfOne t u → IsLive (Stored file) t s → AllZip (IsPictureOf (Stored file)) (to_load t u) ps → IsLive (Stored file) u (carried (to_drop t u) ps s) }
