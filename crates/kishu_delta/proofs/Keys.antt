@@ -19,7 +19,7 @@ use Rattle.kishu_language.specs.tokens.Names.{is_among}
 use Rattle.kishu_names.specs.Record.{texts_of}
 use Rattle.kishu_store.specs.Groups.{Group, is_group, is_one_of}
 use Rattle.kishu_history_laws.specs.Choices.{group_decides}
-use Rattle.kishu_delta.specs.Kept.{group_of, pictures_of, kept_of}
+use Rattle.kishu_delta.specs.Found.{group_of, found, found_as}
 use Rattle.kishu_delta.specs.Sets.{HasNames, HasGroup}
 
 abbrev pub Text : Type 0
@@ -27,9 +27,6 @@ Text = RcStr Global
 
 abbrev pub Texts : Type 0
 Texts = Vec (RcStr Global) Global
-
-abbrev pub Bytes : Type 0
-Bytes = Vec ℕ Global
 
 abbrev pub by_text : Text → Text → Ordering
 by_text x y = slice_cmp nat_cmp (rc_str_bytes x) (rc_str_bytes y)
@@ -127,18 +124,7 @@ pub group_in : (k : Texts) (ks : List Texts) → HasGroup (group_of k) (map grou
 group_in k [] h = refl
 group_in k (q ∷ ks) h = group_by h k q ks (by_group k q) refl (group_in k ks h)
 
--- ---- the map of pictures
-
-abbrev pub Entry : Type 0
-Entry = Texts × Bytes
-
-found_by : (v : Bytes) (rest : Option Bytes) (kept : Option (List ℕ)) (b : Bool) → option_map (λ p. p.items) rest ≡ kept → option_map (λ p. p.items) (cond b (Some v) rest) ≡ (if b then Some v.items else kept)
-found_by v rest kept true e = refl
-found_by v rest kept false e = e
-
-pub finds : (g : List Text) (es : List Entry) → option_map (λ (p : Bytes). p.items) (lookup (is_at (λ k. slice_cmp by_text g k.items)) es) ≡ kept_of (pictures_of es) (texts_of g)
-finds g [] = refl
-finds g (e ∷ es) = rw (same_names g e.0.items) (found_by e.1 _ _ (is_group (texts_of g) (group_of e.0)) (finds g es))
+-- ---- maps from groups
 
 if_twice : {A : Type 0} (b : Bool) (x y z : A) → (if b then x else z) ≡ (if b then x else if b then y else z)
 if_twice true x y z = refl
@@ -156,43 +142,60 @@ not_two h k q e a b =
     let same : is_eq (by_group k q) ≡ true = same_names k.items q.items ∙ (group_decides (group_of k) (group_of q)).1 one in
     false≢true (sym (ap is_eq e) ∙ same)
 
-put_by : (h : Group) (k : Texts) (v : Bytes) (e : Entry) (es : List Entry) (o : Ordering) → by_group k e.0 ≡ o
-    → kept_of (pictures_of (insert_entry by_group es k v)) h ≡ (if is_group h (group_of k) then Some v.items else kept_of (pictures_of es) h)
-    → kept_of (pictures_of (match_ordering o ((k, v) ∷ e ∷ es) ((e.0, v) ∷ es) (e ∷ insert_entry by_group es k v))) h
-    ≡ (if is_group h (group_of k) then Some v.items else if is_group h (group_of e.0) then Some e.1.items else kept_of (pictures_of es) h)
-put_by h k v e es Less o rest = refl
-put_by h k v e es Equal o rest =
-    if_twice (is_group h (group_of e.0)) (Some v.items) (Some e.1.items) (kept_of (pictures_of es) h)
-    ∙ ap (λ (g : Group). if is_group h g then Some v.items else if is_group h (group_of e.0) then Some e.1.items else kept_of (pictures_of es) h) (sym (equal_groups k e.0 o))
-put_by h k v e es Greater o rest =
-    ap (λ (p : Option (List ℕ)). if is_group h (group_of e.0) then Some e.1.items else p) rest
-    ∙ if_swapped (is_group h (group_of e.0)) (is_group h (group_of k)) (Some e.1.items) (Some v.items) (kept_of (pictures_of es) h) (not_two h k e.0 o)
+-- with values that are seen by f
+module _ {V W : Type 0} (f : V → W) where
+  abbrev pub Entry : Type 0
+  Entry = Texts × V
 
--- What is kept once a picture was put in.
-pub puts : (k : Texts) (v : Bytes) (es : List Entry) (h : Group) → kept_of (pictures_of (insert_entry by_group es k v)) h ≡ (if is_group h (group_of k) then Some v.items else kept_of (pictures_of es) h)
-puts k v [] h = refl
-puts k v (e ∷ es) h = put_by h k v e es (by_group k e.0) refl (puts k v es h)
+  found_by : (v : V) (rest : Option V) (is : Option W) (b : Bool) → option_map f rest ≡ is → option_map f (cond b (Some v) rest) ≡ (if b then Some (f v) else is)
+  found_by v rest is true e = refl
+  found_by v rest is false e = e
 
-taken_by : (g h : Group) (e : Entry) (es rest : List Entry) (b : Bool) → is_group g (group_of e.0) ≡ b → is_group h g ≡ false → kept_of (pictures_of rest) h ≡ kept_of (pictures_of es) h
-    → kept_of (pictures_of (cond b es (e ∷ rest))) h ≡ (if is_group h (group_of e.0) then Some e.1.items else kept_of (pictures_of es) h)
-taken_by g h e es rest true b other same =
-    (let f : is_group h (group_of e.0) ≡ false = ap (is_group h) (sym ((group_decides g (group_of e.0)).0 b)) ∙ other in rw f refl)
-taken_by g h e es rest false b other same = ap (λ (p : Option (List ℕ)). if is_group h (group_of e.0) then Some e.1.items else p) same
+  pub finds : (g : List Text) (es : List Entry) → option_map f (lookup (is_at (λ k. slice_cmp by_text g k.items)) es) ≡ found (found_as f es) (texts_of g)
+  finds g [] = refl
+  finds g (e ∷ es) = rw (same_names g e.0.items) (found_by e.1 _ _ (is_group (texts_of g) (group_of e.0)) (finds g es))
 
-takes_others : (g : List Text) (es : List Entry) (h : Group) → is_group h (texts_of g) ≡ false
-    → kept_of (pictures_of (remove_entry (is_at (λ k. slice_cmp by_text g k.items)) es)) h ≡ kept_of (pictures_of es) h
-takes_others g [] h other = refl
-takes_others g (e ∷ es) h other =
-    rw (same_names g e.0.items) (taken_by (texts_of g) h e es _ (is_group (texts_of g) (group_of e.0)) refl other (takes_others g es h other))
+  put_by : (h : Group) (k : Texts) (v : V) (e : Entry) (es : List Entry) (o : Ordering) → by_group k e.0 ≡ o
+      → found (found_as f (insert_entry by_group es k v)) h ≡ (if is_group h (group_of k) then Some (f v) else found (found_as f es) h)
+      → found (found_as f (match_ordering o ((k, v) ∷ e ∷ es) ((e.0, v) ∷ es) (e ∷ insert_entry by_group es k v))) h
+      ≡ (if is_group h (group_of k) then Some (f v) else if is_group h (group_of e.0) then Some (f e.1) else found (found_as f es) h)
+  put_by h k v e es Less o rest = refl
+  put_by h k v e es Equal o rest =
+      if_twice (is_group h (group_of e.0)) (Some (f v)) (Some (f e.1)) (found (found_as f es) h)
+      ∙ ap (λ (g : Group). if is_group h g then Some (f v) else if is_group h (group_of e.0) then Some (f e.1) else found (found_as f es) h) (sym (equal_groups k e.0 o))
+  put_by h k v e es Greater o rest =
+      ap (λ (p : Option W). if is_group h (group_of e.0) then Some (f e.1) else p) rest
+      ∙ if_swapped (is_group h (group_of e.0)) (is_group h (group_of k)) (Some (f e.1)) (Some (f v)) (found (found_as f es) h) (not_two h k e.0 o)
 
--- What is kept once a picture was taken out, of which none is left.
-pub takes : (g : List Text) (es : List Entry) → kept_of (pictures_of (remove_entry (is_at (λ k. slice_cmp by_text g k.items)) es)) (texts_of g) ≡ None
-    → (h : Group) → kept_of (pictures_of (remove_entry (is_at (λ k. slice_cmp by_text g k.items)) es)) h ≡ (if is_group h (texts_of g) then None else kept_of (pictures_of es) h)
-takes g es none h = elim (cases_Bool (is_group h (texts_of g))) [
-  | inl e ↦ (
-      let here : kept_of (pictures_of (remove_entry (is_at (λ k. slice_cmp by_text g k.items)) es)) h ≡ None =
-      ap (kept_of (pictures_of (remove_entry (is_at (λ k. slice_cmp by_text g k.items)) es))) ((group_decides h (texts_of g)).0 e) ∙ none in
-      rw e here
-      )
-  | inr e ↦ rw e (takes_others g es h e)
-]
+  -- What is found once a value was put in.
+  pub puts : (k : Texts) (v : V) (es : List Entry) (h : Group) → found (found_as f (insert_entry by_group es k v)) h ≡ (if is_group h (group_of k) then Some (f v) else found (found_as f es) h)
+  puts k v [] h = refl
+  puts k v (e ∷ es) h = put_by h k v e es (by_group k e.0) refl (puts k v es h)
+
+  taken_by : (g h : Group) (e : Entry) (es rest : List Entry) (b : Bool) → is_group g (group_of e.0) ≡ b → is_group h g ≡ false → found (found_as f rest) h ≡ found (found_as f es) h
+      → found (found_as f (cond b es (e ∷ rest))) h ≡ (if is_group h (group_of e.0) then Some (f e.1) else found (found_as f es) h)
+  taken_by g h e es rest true b other same =
+      (let q : is_group h (group_of e.0) ≡ false = ap (is_group h) (sym ((group_decides g (group_of e.0)).0 b)) ∙ other in rw q refl)
+  taken_by g h e es rest false b other same = ap (λ (p : Option W). if is_group h (group_of e.0) then Some (f e.1) else p) same
+
+  takes_others : (g : List Text) (es : List Entry) (h : Group) → is_group h (texts_of g) ≡ false
+      → found (found_as f (remove_entry (is_at (λ k. slice_cmp by_text g k.items)) es)) h ≡ found (found_as f es) h
+  takes_others g [] h other = refl
+  takes_others g (e ∷ es) h other =
+      rw (same_names g e.0.items) (taken_by (texts_of g) h e es _ (is_group (texts_of g) (group_of e.0)) refl other (takes_others g es h other))
+
+  -- What is found once a value was taken out, of which none is left.
+  pub takes : (g : List Text) (es : List Entry) → found (found_as f (remove_entry (is_at (λ k. slice_cmp by_text g k.items)) es)) (texts_of g) ≡ None
+      → (h : Group) → found (found_as f (remove_entry (is_at (λ k. slice_cmp by_text g k.items)) es)) h ≡ (if is_group h (texts_of g) then None else found (found_as f es) h)
+  takes g es none h = elim (cases_Bool (is_group h (texts_of g))) [
+    | inl e ↦ (
+        let here : found (found_as f (remove_entry (is_at (λ k. slice_cmp by_text g k.items)) es)) h ≡ None =
+        ap (found (found_as f (remove_entry (is_at (λ k. slice_cmp by_text g k.items)) es))) ((group_decides h (texts_of g)).0 e) ∙ none in
+        rw e here
+        )
+    | inr e ↦ rw e (takes_others g es h e)
+  ]
+
+pub seen_alike : {V : Type 0} (o : Option V) → o ≡ option_map (λ v. v) o
+seen_alike None = refl
+seen_alike (Some v) = refl

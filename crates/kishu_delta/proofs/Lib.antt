@@ -1,8 +1,11 @@
 mod Keys
 mod Choosing
 mod Orders
-mod Telling
 mod Alike
 mod Sizes
-mod Chosen
-mod Found
+mod Merges
+mod Drafts
+mod Settles
+mod Exact
+mod Told
+mod ByRows

@@ -8,9 +8,8 @@ use Rattle.kishu_objects.specs.Picture.{order}
 use Rattle.kishu_objects.specs.Sizes.{size_among, most_bytes}
 use Rattle.kishu_store.specs.Groups.{Group}
 use Rattle.kishu_delta.specs.declared.delta.StoredGroup as rust
-use Rattle.kishu_delta.specs.Compared.{pictured, with_pictures}
-use Rattle.kishu_delta.specs.Deltas.{stored_group}
-use Rattle.kishu_delta.specs.Kept.{group_of}
+use Rattle.kishu_delta.specs.Compared.{pictured, stored_group, with_pictures}
+use Rattle.kishu_delta.specs.Found.{group_of}
 use Rattle.kishu_delta.specs.Reaches.{nodes_among}
 use Rattle.kishu_delta.proofs.Keys.{Texts}
 

@@ -1,58 +1,76 @@
--- The pictures that are kept of groups, and when they are those of a state.
-use Rattle.std.specs.Prelude.{◌≡◌, ℕ, Bool, false, if◌then◌else◌, List, [], ◌∷◌, map, Option, Some, None}
+-- The digests that are kept of groups' pictures, and when they are those of a state's.
+use Rattle.std.specs.Prelude.{◌≡◌, ℕ, ◌==◌, Bool, false, ◌&&◌, if◌then◌else◌, List, length, Option, Some, None}
 use Rattle.std.specs.Str.{bytes_eq}
 use Rattle.std.specs.declared.alloc.Global.{Global}
 use Rattle.std.specs.declared.rc.RcStr.{RcStr}
 use Rattle.std.specs.declared.vec.Vec.{Vec}
+use Rattle.sha2.specs.Sha256.{sha256}
 use Rattle.kishu_meaning.specs.values.Values.{State}
-use Rattle.kishu_names.specs.Record.{texts_of}
 use Rattle.kishu_store.specs.Groups.{Group, is_group, is_one_of}
 use Rattle.kishu_store.specs.Tables.{Row, Table}
-use Rattle.kishu_objects.specs.Bytes.{state_bytes, picture_bytes}
+use Rattle.kishu_objects.specs.Bytes.{picture_bytes}
 use Rattle.kishu_objects.specs.Fits.{StateFits}
 use Rattle.kishu_objects.specs.Lists.{In}
 use Rattle.kishu_objects.specs.Picture.{picture}
+use Rattle.kishu_delta.specs.Found.{found, found_as}
+use Rattle.kishu_delta.specs.declared.fingerprint.Fingerprint.{Fingerprint}
 
--- groups with the bytes of their pictures
-abbrev pub Pictures : Type 0
-Pictures = List (Group × List ℕ)
+-- ---- a digest
 
-abbrev pub group_of : Vec (RcStr Global) Global → Group
-group_of v = texts_of v.items
+-- the SHA-256 of a picture, and its length in bytes
+abbrev pub Digest : Type 0
+Digest = List ℕ × ℕ
 
-abbrev pub pictures_of : List (Vec (RcStr Global) Global × Vec ℕ Global) → Pictures
-pictures_of = map (λ e. (group_of e.0, e.1.items))
+-- that of these bytes
+abbrev pub digest_of : List ℕ → Digest
+digest_of bytes = (sha256 bytes, length bytes)
 
--- the picture that is kept of a group
-abbrev pub kept_of : Pictures → Group → Option (List ℕ)
-kept_of [] g = None
-kept_of (e ∷ es) g = if is_group g e.0 then Some e.1 else kept_of es g
+-- whether it is that of these bytes
+abbrev pub is_digest : Digest → List ℕ → Bool
+is_digest d bytes = (d.1 == length bytes) && bytes_eq d.0 (sha256 bytes)
 
--- whether these bytes are the picture
-abbrev pub is_picture : Option (List ℕ) → List ℕ → Bool
-is_picture None bytes = false
-is_picture (Some p) bytes = bytes_eq bytes p
+-- as the program has it
+abbrev pub digest_in : Fingerprint → Digest
+digest_in f = (f.sha256, f.len)
 
--- whether just these bytes are kept of a group
-abbrev pub is_kept : Pictures → Group → List ℕ → Bool
-is_kept kept g bytes = is_picture (kept_of kept g) bytes
+-- ---- what is kept
 
--- Of this group this picture is kept now, or none; of others what was kept of them.
-abbrev pub KeepsPicture : Group → Option (List ℕ) → (old new : Pictures) → Type 0
-KeepsPicture g p old new = (h : Group) → kept_of new h ≡ (if is_group h g then p else kept_of old h)
+-- groups with the digests of their pictures
+abbrev pub Digests : Type 0
+Digests = List (Group × Digest)
 
--- ---- the pictures of a state
+abbrev pub digests_of : List (Vec (RcStr Global) Global × Fingerprint) → Digests
+digests_of = found_as digest_in
 
--- Of each row's group the picture in this state is kept, and it can be told by its bytes.
-pub record KeepsPictures (kept : Pictures) (t : Table) (s : State) : Type 0 where
-  pub bytes : (r : Row) → In r t → kept_of kept r.group ≡ Some (picture_bytes s r.group)
+-- the digest that is kept of a group
+abbrev pub kept_of : Digests → Group → Option Digest
+kept_of = found
+
+-- whether there is one, and it is that of these bytes
+abbrev pub is_some_digest : Option Digest → List ℕ → Bool
+is_some_digest None bytes = false
+is_some_digest (Some d) bytes = is_digest d bytes
+
+-- whether the digest of these bytes is kept of a group
+abbrev pub is_kept : Digests → Group → List ℕ → Bool
+is_kept kept g bytes = is_some_digest (kept_of kept g) bytes
+
+-- Of this group this digest is kept now, or none; of others what was kept of them.
+abbrev pub KeepsDigest : Group → Option Digest → (old new : Digests) → Type 0
+KeepsDigest g d old new = (h : Group) → kept_of new h ≡ (if is_group h g then d else kept_of old h)
+
+-- ---- the digests of a state's pictures
+
+-- Of each row's group the digest of the picture in this state is kept, and this can be told by its bytes.
+pub record KeepsDigests (kept : Digests) (t : Table) (s : State) : Type 0 where
+  pub digests : (r : Row) → In r t → kept_of kept r.group ≡ Some (digest_of (picture_bytes s r.group))
   pub fit : (r : Row) → In r t → StateFits (picture s r.group)
 
--- Just of these groups are pictures kept, of each the one that is told.
-pub record KeepsJustThese (kept : Pictures) (gs : List Group) (pic : Group → State) : Type 0 where
-  pub bytes : (g : Group) → kept_of kept g ≡ (if is_one_of g gs then Some (state_bytes (pic g)) else None)
-  pub fit : (g : Group) → In g gs → StateFits (pic g)
+-- Just of these groups are digests kept, of each that of these bytes.
+abbrev pub KeepsJustThese : Digests → List Group → (Group → List ℕ) → Type 0
+KeepsJustThese kept gs bytes = (g : Group) → kept_of kept g ≡ (if is_one_of g gs then Some (digest_of (bytes g)) else None)
 
--- Just of these groups are pictures kept, of each the one in this state.
-abbrev pub KeepsJust : Pictures → List Group → State → Type 0
-KeepsJust kept gs s = KeepsJustThese kept gs (picture s)
+-- Just of these groups are digests kept, of each that of the picture in this state, which can be told by its bytes.
+pub record KeepsJust (kept : Digests) (gs : List Group) (s : State) : Type 0 where
+  pub digests : KeepsJustThese kept gs (picture_bytes s)
+  pub fit : (g : Group) → In g gs → StateFits (picture s g)

@@ -1,6 +1,9 @@
+pub mod Found
 pub mod Kept
 pub mod Sets
+pub mod Merged
 pub mod Deltas
+pub mod Settled
 pub mod Near
 pub mod Reaches
 pub mod Compared

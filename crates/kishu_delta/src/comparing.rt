@@ -1,19 +1,21 @@
-// The groups of a table and the classes of the touched names, compared.
-ghost use Rattle.std.specs.Prelude.{◌≡◌, not, IfOk, filter};
-ghost use Rattle.kishu_store.specs.Groups.{is_one_of};
-ghost use Rattle.kishu_delta.specs.Kept.{is_kept};
-ghost use Rattle.kishu_delta.specs.Deltas.{all_groups, table_groups};
+// The groups of a table and the classes of the touched names, compared by digests.
+ghost use Rattle.std.specs.Prelude.{◌≡◌, not, List, IfOk, filter, map};
+ghost use Rattle.kishu_graph.specs.Kept.{row_of};
+ghost use Rattle.kishu_store.specs.Groups.{Group, is_one_of};
+ghost use Rattle.kishu_store.specs.Tables.{groups_in};
+ghost use Rattle.kishu_delta.specs.Compared.{AreStanding, AreKnown, IsParted, with_pictures};
+ghost use Rattle.kishu_delta.specs.Deltas.{all_groups};
 ghost use Rattle.kishu_delta.specs.Near.{lent};
-ghost use Rattle.kishu_delta.specs.Compared.{AreStanding, AreKnown, with_pictures};
 
+use crate::asking::Asked;
 use crate::delta::StoredGroup;
 use crate::kept::Kept;
-use crate::sets::{GroupSet, shared};
-use kishu_graph::Table;
+use crate::sets::{GroupSet, Places, shared};
+use kishu_graph::TableRow;
 use std::alloc::{AllocError, Global};
 use std::rc::RcStr;
 
-/// Those of these groups whose kept picture is the one that they have.
+/// Those of these groups of which the digest of their picture is kept.
 pub(crate) fn standing(
     alloc: Global,
     kept: &Kept,
@@ -30,18 +32,19 @@ pub(crate) fn standing(
     Ok(standing)
 }
 
-/// Those of the table's groups that are among these.
+/// Where those of a table's groups stand in it that are among these.
 pub(crate) fn known(
     alloc: Global,
-    table: &Table,
+    rows: &[TableRow],
     standing: &GroupSet,
-) -> Result<GroupSet, AllocError>
-    ensures { IfOk result (λ set. AreKnown (table_groups table.now) standing.now set) }
+) -> Result<Places, AllocError>
+    ensures { IfOk result (λ places. AreKnown (groups_in (map row_of rows.now)) standing.now places) }
 {
-    let mut known = GroupSet::new(alloc);
-    for row in &table.rows {
-        if standing.has(&row.group.names) {
-            known.put(shared(alloc, &row.group.names)?)?;
+    let mut known = Places::new(alloc);
+    for place in 0..rows.len() {
+        let group = &rows[place].group;
+        if standing.has(&group.names) {
+            known.put(shared(alloc, &group.names)?, place)?;
         }
     }
     Ok(known)
@@ -65,20 +68,52 @@ pub(crate) fn dropped(
     Ok(dropped)
 }
 
-/// Those of these groups that aren't known.
-pub(crate) fn stored(
-    alloc: Global,
-    pictured: Vec<StoredGroup>,
-    known: &GroupSet,
-) -> Result<Vec<StoredGroup>, AllocError>
-    ensures { IfOk result (λ v. with_pictures v.items
-        ≡ filter (λ p. not (is_one_of p.0 known.now)) (with_pictures pictured.items)) }
+/// A row once more. It shares the texts of its names.
+fn copied(alloc: Global, row: &TableRow) -> Result<TableRow, AllocError>
+    ensures { IfOk result (λ copy. row_of copy ≡ row_of row.now) }
 {
-    let mut stored = Vec::new(alloc);
+    Ok(TableRow {
+        group: kishu_graph::Group {
+            names: shared(alloc, &row.group.names)?,
+        },
+        version: row.version,
+        place: row.place,
+        len: row.len,
+    })
+}
+
+/// Groups that are stored, and rows that are asked for.
+#[derive(Drop)]
+pub(crate) struct Parts {
+    pub(crate) stored: Vec<StoredGroup>,
+    pub(crate) asked: Vec<Asked>,
+}
+
+/// Of groups with their pictures those that are known in a table are asked for, and the others stored.
+pub(crate) fn parted(
+    alloc: Global,
+    rows: &[TableRow],
+    known: &Places,
+    pictured: Vec<StoredGroup>,
+) -> Result<Parts, AllocError>
+    requires { (stand : List Group) × AreKnown (groups_in (map row_of rows.now)) stand known.now }
+    ensures { IfOk result (λ p. (stand : List Group)
+        → AreKnown (groups_in (map row_of rows.now)) stand known.now
+        → IsParted (map row_of rows.now) stand (with_pictures pictured.items) p.stored.items p.asked.items) }
+{
+    let mut parted = Parts {
+        stored: Vec::new(alloc),
+        asked: Vec::new(alloc),
+    };
     for group in pictured {
-        if !known.has(&group.names) {
-            stored.push(group)?;
+        match known.of(&group.names) {
+            Some(place) => {
+                let row = copied(alloc, &rows[place])?;
+                let bytes = group.bytes;
+                parted.asked.push(Asked { row, bytes })?;
+            }
+            None => parted.stored.push(group)?,
         }
     }
-    Ok(stored)
+    Ok(parted)
 }

@@ -1,66 +1,67 @@
-// The pictures that are kept.
-ghost use Rattle.std.specs.Prelude.{◌≡◌, ◌<◌, OnOk, OnErr, None, Some};
+// The digests that are kept.
+ghost use Rattle.std.specs.Prelude.{◌≡◌, OnOk, OnErr, None, Some};
 ghost use Rattle.kishu_names.specs.Record.{texts_of};
 ghost use Rattle.kishu_store.specs.Groups.{Group};
-ghost use Rattle.kishu_delta.specs.Kept.{kept_of, is_kept, KeepsPicture};
+ghost use Rattle.kishu_delta.specs.Kept.{digest_of, kept_of, is_kept, KeepsDigest};
 
+use crate::fingerprint::{Fingerprint, is_of, print_of};
 use crate::sets::shared;
 use std::alloc::{AllocError, Global};
 use std::collections::BTreeMap;
 use std::marker::Model;
 use std::rc::RcStr;
 
-/// The picture of each group of the head's table.
+/// The digest and the length of the picture of each group of the head's table.
 #[derive(Drop)]
 pub struct Kept {
     alloc: Global,
-    pictures: BTreeMap<Vec<RcStr>, Vec<u8>>,
+    prints: BTreeMap<Vec<RcStr>, Fingerprint>,
 }
 
 impl Model for Kept {
-    ghost use Rattle.kishu_delta.specs.Kept.{Pictures, pictures_of};
+    ghost use Rattle.kishu_delta.specs.Kept.{Digests, digests_of};
 
-    ghost Value = { Pictures };
+    ghost Value = { Digests };
 
-    ghost view = { λ k. pictures_of k.pictures.entries };
+    ghost view = { λ k. digests_of k.prints.entries };
 }
 
 impl Kept {
-    /// No picture is kept.
+    /// Nothing is kept.
     pub fn new(alloc: Global) -> Kept
         ensures { (g : Group) → kept_of result g ≡ None }
     {
         Kept {
             alloc,
-            pictures: BTreeMap::new(alloc),
+            prints: BTreeMap::new(alloc),
         }
     }
 
-    /// Keeps the bytes of a group's picture, in the place of those that were kept of it; other groups
-    /// stay. An error says that no memory is left; then all is as before.
+    /// Keeps the digest and the length of a group's picture, in the place of what was kept of it; other
+    /// groups stay. An error says that no memory is left; then all is as before.
     pub fn hold(&mut self, group: &[RcStr], bytes: &[u8]) -> Result<(), AllocError>
-        ensures ok { OnOk result (KeepsPicture (texts_of group.now) (Some bytes.now) self.old self.new) }
+        ensures ok { OnOk result (KeepsDigest (texts_of group.now) (Some (digest_of bytes.now))
+            self.old self.new) }
         ensures err { OnErr result (self.new ≡ self.old) }
     {
         let names = shared(self.alloc, group)?;
-        let picture = bytes.to_vec(self.alloc)?;
-        self.pictures.insert(names, picture)?;
+        self.prints.insert(names, print_of(bytes))?;
         Ok(())
     }
 
-    /// Forgets the picture of a group, where one is kept; other groups stay.
+    /// Forgets a group, where something is kept of it; other groups stay.
     pub fn forget(&mut self, group: &[RcStr])
-        ensures { KeepsPicture (texts_of group.now) None self.old self.new }
+        ensures { KeepsDigest (texts_of group.now) None self.old self.new }
     {
-        self.pictures.remove(group);
+        self.prints.remove(group);
     }
 
-    /// Whether just these bytes are kept of a group.
+    /// Whether the digest and the length of these bytes are kept of a group.
     pub(crate) fn is_kept(&self, group: &[RcStr], bytes: &[u8]) -> bool
         ensures { result ≡ is_kept self.now (texts_of group.now) bytes.now }
     {
-        match self.pictures.get(group) {
-            Some(picture) => bytes == picture.as_slice(),
+        match self.prints.get(group) {
+            Some(print) => is_of(print, bytes),
             None => false,
         }
     }

@@ -11,7 +11,7 @@ ghost use Rattle.kishu_picture.specs.Lengths.{capped};
 ghost use Rattle.kishu_store.specs.Groups.{Group};
 ghost use Rattle.kishu_delta.specs.Compared.{pictured, with_pictures};
 ghost use Rattle.kishu_delta.specs.Deltas.{all_groups};
-ghost use Rattle.kishu_delta.specs.Kept.{group_of};
+ghost use Rattle.kishu_delta.specs.Found.{group_of};
 ghost use Rattle.kishu_delta.specs.Reaches.{nodes_among};
 
 use crate::delta::StoredGroup;

@@ -1,12 +1,13 @@
-// Names and groups, of which one asks whether one is among them.
-ghost use Rattle.std.specs.Prelude.{◌≡◌, IfOk, OnOk, []};
+// Names and groups, of which one asks whether one is among them, and where.
+ghost use Rattle.std.specs.Prelude.{◌≡◌, IfOk, OnOk, [], None};
 ghost use Rattle.kishu_language.specs.tokens.Names.{is_among};
 ghost use Rattle.kishu_names.specs.Record.{texts_of};
-ghost use Rattle.kishu_store.specs.Groups.{is_one_of};
+ghost use Rattle.kishu_store.specs.Groups.{Group, is_one_of};
+ghost use Rattle.kishu_delta.specs.Found.{found, Puts};
 ghost use Rattle.kishu_delta.specs.Sets.{HasNames, HasGroup};
 
 use std::alloc::{AllocError, Global};
-use std::collections::BTreeSet;
+use std::collections::{BTreeMap, BTreeSet};
 use std::marker::Model;
 use std::rc::RcStr;
 
@@ -69,7 +70,7 @@ pub(crate) struct GroupSet {
 impl Model for GroupSet {
     ghost use Rattle.std.specs.Prelude.{ℕ, List, map};
     ghost use Rattle.kishu_store.specs.Groups.{Group};
-    ghost use Rattle.kishu_delta.specs.Kept.{group_of};
+    ghost use Rattle.kishu_delta.specs.Found.{group_of};
 
     ghost Value = { List Group };
 
@@ -98,6 +99,48 @@ impl GroupSet {
         ensures { OnOk result (HasGroup (texts_of group.items) self.old self.new) }
     {
         self.groups.insert(group)?;
+        Ok(())
+    }
+}
+
+/// Where groups stand in a list.
+#[derive(Drop)]
+pub(crate) struct Places {
+    places: BTreeMap<Vec<RcStr>, usize>,
+}
+
+impl Model for Places {
+    ghost use Rattle.std.specs.Prelude.{ℕ, List};
+    ghost use Rattle.kishu_store.specs.Groups.{Group};
+    ghost use Rattle.kishu_delta.specs.Found.{found_as};
+
+    ghost Value = { List (Group × ℕ) };
+
+    ghost view = { λ p. found_as (λ n. n) p.places.entries };
+}
+
+impl Places {
+    /// No group.
+    pub(crate) fn new(alloc: Global) -> Places
+        ensures { (g : Group) → found result g ≡ None }
+    {
+        Places {
+            places: BTreeMap::new(alloc),
+        }
+    }
+
+    /// Where a group stands.
+    pub(crate) fn of(&self, group: &[RcStr]) -> Option<usize>
+        ensures { result ≡ found self.now (texts_of group.now) }
+    {
+        self.places.get(group).copied()
+    }
+
+    /// Notes where a group stands. An error says that no memory is left.
+    pub(crate) fn put(&mut self, group: Vec<RcStr>, place: usize) -> Result<(), AllocError>
+        ensures { OnOk result (Puts (texts_of group.items) place self.old self.new) }
+    {
+        self.places.insert(group, place)?;
         Ok(())
     }
 }

@@ -2,7 +2,7 @@ use Rattle.std.proofs.Common.{◌≡◌, ◌≤◌, ◌+◌, ◌*◌, ◌-◌, �
 use Rattle.kishu_objects.specs.Sizes.{size_among}
 use Rattle.kishu_picture.specs.Held.{held}
 use Rattle.kishu_picture.specs.Lengths.{capped}
-use Rattle.kishu_delta.specs.Kept.{group_of}
+use Rattle.kishu_delta.specs.Found.{group_of}
 use Rattle.kishu_delta.specs.Reaches.{nodes_among}
 use Rattle.kishu_delta.proofs.picturing.lengths.Given as goal
 

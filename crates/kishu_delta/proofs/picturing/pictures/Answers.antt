@@ -9,7 +9,7 @@ use Rattle.kishu_objects.specs.Lists.{In}
 use Rattle.kishu_objects.specs.Picture.{order, picture}
 use Rattle.kishu_picture.specs.Held.{held, AreBound}
 use Rattle.kishu_store.specs.Groups.{Group}
-use Rattle.kishu_delta.specs.Kept.{group_of}
+use Rattle.kishu_delta.specs.Found.{group_of}
 use Rattle.kishu_delta.proofs.Keys.{Texts}
 use Rattle.kishu_delta.proofs.Sizes.{none_in, short, smaller, reaches, told_more}
 use Rattle.kishu_delta.proofs.picturing.pictures.Goals as goal

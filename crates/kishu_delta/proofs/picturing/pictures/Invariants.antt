@@ -8,7 +8,7 @@ use Rattle.kishu_picture.specs.Held.{held}
 use Rattle.kishu_store.specs.Groups.{Group}
 use Rattle.kishu_delta.specs.Compared.{pictured, with_pictures}
 use Rattle.kishu_delta.specs.Deltas.{all_groups}
-use Rattle.kishu_delta.specs.Kept.{group_of}
+use Rattle.kishu_delta.specs.Found.{group_of}
 use Rattle.kishu_delta.specs.Reaches.{nodes_among}
 use Rattle.kishu_delta.proofs.picturing.pictures.Given as goal
 

@@ -6,7 +6,7 @@ use Rattle.kishu_picture.specs.Lengths.{capped}
 use Rattle.kishu_store.specs.Tables.{Table, bytes_in}
 use Rattle.kishu_store.specs.Groups.{Group}
 use Rattle.kishu_delta.specs.Deltas.{table_groups}
-use Rattle.kishu_delta.specs.Kept.{group_of}
+use Rattle.kishu_delta.specs.Found.{group_of}
 use Rattle.kishu_delta.proofs.Alike.{near_lent, touched_reach, untouched_alike}
 use Rattle.kishu_delta.proofs.Keys.{Texts}
 use Rattle.kishu_delta.proofs.sizing.state_len.Goals as goal

@@ -1,20 +1,20 @@
-use Rattle.std.proofs.Common.{◌∙◌, ℕ, List, ap}
+use Rattle.std.proofs.Common.{◌∙◌, List, ap}
 use Rattle.std.specs.Prelude.{if◌then◌else◌, Some}
 use Rattle.kishu_names.specs.Record.{texts_of}
 use Rattle.kishu_store.specs.Groups.{Group, is_group}
-use Rattle.kishu_delta.specs.Kept.{Pictures, kept_of, pictures_of}
-use Rattle.kishu_delta.proofs.Keys.{Entry, puts}
+use Rattle.kishu_delta.specs.Kept.{Digest, Digests, digest_in, digest_of, digests_of, kept_of}
+use Rattle.kishu_delta.specs.declared.fingerprint.Fingerprint.{Fingerprint}
+use Rattle.kishu_delta.proofs.Keys.{Texts, puts}
 use Rattle.kishu_delta.proofs.kept.Kept.hold.Goals as goal
 
 pub returns-clause-ok : goal.returns-clause-ok
 returns-clause-ok c = λ h.
     let names = c.in_ok-names.names in
-    let picture = c.in_ok-picture.picture in
+    let print = c.print_of.result in
     let group = texts_of c.args.group.now in
-    let old = c.self.inside.pictures.entries in
-    let bytes = c.in_ok-picture.ensures.items_if_clones_equal (λ x y e. e) in
-    ap (λ (es : List Entry). kept_of (pictures_of es) h) c.in_ok-insert.ensures.entries
-    ∙ puts names picture old h
-    ∙ ap (λ (g : Group). if is_group h g then Some picture.items else kept_of (pictures_of old) h) c.in_ok-names.ensures
-    ∙ ap (λ (b : List ℕ). if is_group h group then Some b else kept_of (pictures_of old) h) bytes
-    ∙ ap (λ (k : Pictures). if is_group h group then Some c.args.bytes.now else kept_of k h) c.self.view_is
+    let old = c.self.inside.prints.entries in
+    ap (λ (es : List (Texts × Fingerprint)). kept_of (digests_of es) h) c.in_ok-insert.ensures.entries
+    ∙ puts digest_in names print old h
+    ∙ ap (λ (g : Group). if is_group h g then Some (digest_in print) else kept_of (digests_of old) h) c.in_ok-names.ensures
+    ∙ ap (λ (d : Digest). if is_group h group then Some d else kept_of (digests_of old) h) c.print_of.ensures
+    ∙ ap (λ (k : Digests). if is_group h group then Some (digest_of c.args.bytes.now) else kept_of k h) c.self.view_is

@@ -1,6 +1,6 @@
 use Rattle.std.proofs.Common.{List, map, sym, subst}
 use Rattle.kishu_store.specs.Groups.{Group}
-use Rattle.kishu_delta.specs.Kept.{group_of}
+use Rattle.kishu_delta.specs.Found.{group_of}
 use Rattle.kishu_delta.specs.Sets.{HasGroup}
 use Rattle.kishu_delta.proofs.Keys.{Texts, group_in}
 use Rattle.kishu_delta.proofs.sets.GroupSet.put.Goals as goal
