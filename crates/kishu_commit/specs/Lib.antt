@@ -3,6 +3,7 @@ pub mod LengthLaws
 pub mod RowLaws
 pub mod ApartLaws
 pub mod WritingLaws
+pub mod StayLaws
 pub mod FitLaws
 pub mod LiveLaws
 pub mod RecordedLaws

@@ -21,13 +21,13 @@ use Rattle.kishu_store.specs.Tables.{Table, groups_in, IsKeptTable}
 use Rattle.kishu_store_laws.specs.EntryLaws.{length-commit, length-body}
 use Rattle.kishu_store_laws.specs.TableLaws.{each-picked}
 use Rattle.kishu_model.specs.requests.Cells.{texts_size}
-use Rattle.kishu_history.specs.Alike.{is_state}
 use Rattle.kishu_history.specs.Touched.{holds_any, is_touched, touched, classes, size_told}
 use Rattle.kishu_history_laws.specs.Choices.{rise_chosen}
 use Rattle.kishu_history_laws.specs.tables.FileLaws.{all_in}
 use Rattle.kishu_history_laws.specs.tables.TableLaws.{class_rises, first_inside, firsts_of_rows, groups_rise, rise_picked}
+use Rattle.kishu_delta.specs.Deltas.{dropped_by, stored_by}
 use Rattle.kishu_commit.specs.LengthLaws.{all_stored-take, fewer-take, fewer-pictured}
-use Rattle.kishu_commit.specs.Told.{measured, dropped_told, groups_told, stored_told, told_record, CanBeStored, MayBeCommitted, HasShortNames}
+use Rattle.kishu_commit.specs.Told.{measured, dropped_told, groups_told, is_still, record_by, told_record, AreToldBy, PicturesFit, CanBeStored, MayBeCommitted, HasShortNames}
 
 texts-length : (cells : List (List ℕ)) → length (flat_map text_bytes cells) ≡ texts_size cells
 texts-length [] = refl
@@ -73,9 +73,9 @@ module _ (u : State) where
         sum_by-cons (λ (h : Group). length (picture_bytes u h)) g gs,
       )
 
--- ---- what is told
+-- ---- by a test
 
-module _ (t : Table) (s : State) (accessed : List (List ℕ)) (u : State) where
+module _ (t : Table) (accessed : List (List ℕ)) (u : State) (same : Group → Bool) where
   abbrev gs : List Group
   gs = groups_in t
 
@@ -83,32 +83,35 @@ module _ (t : Table) (s : State) (accessed : List (List ℕ)) (u : State) where
   now = classes gs accessed u
 
   abbrev goes : Group → Bool
-  goes g = holds_any accessed g && not (is_one_of g now && is_state (picture u g) (picture s g))
+  goes g = holds_any accessed g && not (is_one_of g now && same g)
 
   abbrev comes : Group → Bool
-  comes g = not (is_one_of g gs && is_state (picture u g) (picture s g))
+  comes g = not (is_one_of g gs && same g)
+
+  abbrev drops : List Group
+  drops = dropped_by gs accessed u same
 
   -- What is dropped stands in the table.
-  pub dropped-inside : (g : Group) → In g (dropped_told t s accessed u) → In g gs
+  pub dropped-inside : (g : Group) → In g drops → In g gs
   dropped-inside g m = (filter_in goes gs g m).0
 
-  told-dropped : IsKeptTable t → AreGroups (dropped_told t s accessed u)
-  told-dropped kept = record {
+  tested-dropped : IsKeptTable t → AreGroups drops
+  tested-dropped kept = record {
     each = each-picked IsGroup goes gs kept.groups;
     rise = rise_picked first_name goes gs (subst (λ (xs : List (List ℕ)). Rise xs) (sym (firsts_of_rows t)) kept.rise);
   }
 
-  dropped-short : HasShortNames t → length (flat_map group_bytes (dropped_told t s accessed u)) ≤ 2 ^ 28
+  dropped-short : HasShortNames t → length (flat_map group_bytes drops) ≤ 2 ^ 28
   dropped-short short = omega (arith, short, fewer-take goes gs)
 
-  abbrev told : List Group
-  told = groups_told t s accessed u
+  abbrev stores : List Group
+  stores = stored_by gs accessed u same
 
-  told-class : (g : Group) → In g told → In g now
-  told-class g m = (filter_in comes now g m).0
+  stored-class : (g : Group) → In g stores → In g now
+  stored-class g m = (filter_in comes now g m).0
 
-  pub told-fit : ((g : Group) → In g now → StateFits (picture u g)) → CanBeStored t s accessed u
-  told-fit fits = each-in (λ (g : Group). StateFits (picture u g)) told (λ g m. fits g (told-class g m))
+  stores-fit : ((g : Group) → In g now → StateFits (picture u g)) → PicturesFit u stores
+  stores-fit fits = each-in (λ (g : Group). StateFits (picture u g)) stores (λ g m. fits g (stored-class g m))
 
   module _ (is : IsSoundState u) where
     touched-rise : Rise (touched gs accessed u)
@@ -127,50 +130,71 @@ module _ (t : Table) (s : State) (accessed : List (List ℕ)) (u : State) where
       rise = class_rises u is.sound (touched gs accessed u) touched-rise g m;
     }
 
-    told-pictured : size_told t accessed u ≤ most_bytes → size_among told u ≤ 2 ^ 28
-    told-pictured small = omega (arith, small, fewer-pictured u comes now)
+    stores-pictured : size_told t accessed u ≤ most_bytes → size_among stores u ≤ 2 ^ 28
+    stores-pictured small = omega (arith, small, fewer-pictured u comes now)
 
-    told-stored : AllByRecursion IsName (listed u) → size_told t accessed u ≤ most_bytes → AreStored (stored_told t s accessed u)
-    told-stored names small = record {
-      each = each-measured u told (each-in IsGroup told (λ g m. class-group names g (told-class g m))) (λ g m. omega (arith, one-takes u told g m, told-pictured small));
-      rise = subst (λ (xs : List (List ℕ)). Rise xs) (sym (firsts-measured u told)) (rise_picked first_name comes now (groups_rise u is.sound (touched gs accessed u) touched-rise));
+    tested-stored : AllByRecursion IsName (listed u) → size_told t accessed u ≤ most_bytes → AreStored (map (measured u) stores)
+    tested-stored names small = record {
+      each = each-measured u stores (each-in IsGroup stores (λ g m. class-group names g (stored-class g m))) (λ g m. omega (arith, one-takes u stores g m, stores-pictured small));
+      rise = subst (λ (xs : List (List ℕ)). Rise xs) (sym (firsts-measured u stores)) (rise_picked first_name comes now (groups_rise u is.sound (touched gs accessed u) touched-rise));
     }
 
-    stored-short : size_told t accessed u ≤ most_bytes → 2 * length (flat_map stored_bytes (stored_told t s accessed u)) ≤ 3 * 2 ^ 28
+    stored-short : size_told t accessed u ≤ most_bytes → 2 * length (flat_map stored_bytes (map (measured u) stores)) ≤ 3 * 2 ^ 28
     stored-short small =
-        let takes = all_stored-take u told (λ g x m n. bound g x (told-class g m) n) in
-        omega (arith, takes, told-pictured small)
+        let takes = all_stored-take u stores (λ g x m n. bound g x (stored-class g m) n) in
+        omega (arith, takes, stores-pictured small)
 
-module _ (parent : ℕ) (cells : List (List ℕ)) (t : Table) (s u : State) (accessed : List (List ℕ)) (number : parent < 2 ^ 32) (may : MayBeCommitted cells) (kept : IsKeptTable t) (short : HasShortNames t) (is : IsSoundState u)
-    (names : AllByRecursion IsName (listed u)) (small : size_told t accessed u ≤ most_bytes) where
-  pub told-record : IsRecord (told_record parent cells t s accessed u)
-  told-record =
-      let dropped = dropped_told t s accessed u in
-      let stored = stored_told t s accessed u in
-      let told = groups_told t s accessed u in
-      record {
-        rules = record {
-          parent = number;
-          profile = refl;
-          some = may.some;
-          cells = may.cells;
-          dropped = told-dropped t s accessed u kept;
-          stored = told-stored t s accessed u is names small;
-        };
-        pictures = pictures-lengths u told;
-        small =
-            omega (
-              arith,
-              length-body (told_record parent cells t s accessed u),
-              length-commit parent newest_profile cells dropped stored,
-              length-append (four (length cells)) (flat_map text_bytes cells),
-              length-append (four (length dropped)) (flat_map group_bytes dropped),
-              length-append (four (length stored)) (flat_map stored_bytes stored),
-              texts-length cells,
-              may.size,
-              dropped-short t s accessed u short,
-              stored-short t s accessed u is small,
-              pictures-length u told,
-              told-pictured t s accessed u is small,
-            );
-      }
+    module _ (parent : ℕ) (cells : List (List ℕ)) (number : parent < 2 ^ 32) (may : MayBeCommitted cells) (kept : IsKeptTable t) (short : HasShortNames t)
+        (names : AllByRecursion IsName (listed u)) (small : size_told t accessed u ≤ most_bytes) where
+      stores-record : IsRecord (record_by parent cells drops stores u)
+      stores-record =
+          let stored = map (measured u) stores in
+          record {
+            rules = record {
+              parent = number;
+              profile = refl;
+              some = may.some;
+              cells = may.cells;
+              dropped = tested-dropped kept;
+              stored = tested-stored names small;
+            };
+            pictures = pictures-lengths u stores;
+            small =
+                omega (
+                  arith,
+                  length-body (record_by parent cells drops stores u),
+                  length-commit parent newest_profile cells drops stored,
+                  length-append (four (length cells)) (flat_map text_bytes cells),
+                  length-append (four (length drops)) (flat_map group_bytes drops),
+                  length-append (four (length stored)) (flat_map stored_bytes stored),
+                  texts-length cells,
+                  may.size,
+                  dropped-short short,
+                  stored-short small,
+                  pictures-length u stores,
+                  stores-pictured small,
+                );
+          }
+
+-- Bytes can tell the pictures of stored groups where they can tell those of the classes.
+pub tested-fit : (t : Table) (accessed : List (List ℕ)) (u : State) (same : Group → Bool) (dropped stored : List Group) → AreToldBy t accessed u same dropped stored
+    → ((g : Group) → In g (classes (groups_in t) accessed u) → StateFits (picture u g)) → PicturesFit u stored
+tested-fit t accessed u same dropped stored told fits = subst (λ (gs : List Group). PicturesFit u gs) (sym told.1) (stores-fit t accessed u same fits)
+
+pub tested-record : (parent : ℕ) (cells : List (List ℕ)) (t : Table) (u : State) (accessed : List (List ℕ)) (same : Group → Bool) (dropped stored : List Group) → AreToldBy t accessed u same dropped stored
+    → parent < 2 ^ 32 → MayBeCommitted cells → IsKeptTable t → HasShortNames t → IsSoundState u → AllByRecursion IsName (listed u) → size_told t accessed u ≤ most_bytes
+    → IsRecord (record_by parent cells dropped stored u)
+tested-record parent cells t u accessed same dropped stored told number may kept short is names small =
+    subst (λ (ds : List Group). IsRecord (record_by parent cells ds stored u)) (sym told.0)
+    (subst (λ (gs : List Group). IsRecord (record_by parent cells (dropped_by (groups_in t) accessed u same) gs u)) (sym told.1)
+    (stores-record t accessed u same is parent cells number may kept short names small))
+
+-- ---- by the state before
+
+pub told-fit : (t : Table) (s : State) (accessed : List (List ℕ)) (u : State) → ((g : Group) → In g (classes (groups_in t) accessed u) → StateFits (picture u g)) → CanBeStored t s accessed u
+told-fit t s accessed u = stores-fit t accessed u (is_still s u)
+
+pub told-record : (parent : ℕ) (cells : List (List ℕ)) (t : Table) (s u : State) (accessed : List (List ℕ)) → parent < 2 ^ 32 → MayBeCommitted cells → IsKeptTable t → HasShortNames t → IsSoundState u
+    → AllByRecursion IsName (listed u) → size_told t accessed u ≤ most_bytes → IsRecord (told_record parent cells t s accessed u)
+told-record parent cells t s u accessed number may kept short is names small =
+    tested-record parent cells t u accessed (is_still s u) (dropped_told t s accessed u) (groups_told t s accessed u) (refl, refl) number may kept short is names small

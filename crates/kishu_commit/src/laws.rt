@@ -1,5 +1,5 @@
 // What holds of commits that store just what changed, told among the names that their cells accessed.
-ghost use Rattle.std.specs.Prelude.{◌≡◌, ◌↔◌, ◌<◌, ◌≤◌, ◌^◌, ℕ, List, [], ◌∷◌, ◌++◌, map, Option, Some, None};
+ghost use Rattle.std.specs.Prelude.{◌≡◌, ◌↔◌, ◌<◌, ◌≤◌, ◌^◌, ℕ, Bool, List, [], ◌∷◌, ◌++◌, map, Option, Some, None};
 ghost use Rattle.std.specs.List.{AllByRecursion, AllZip};
 ghost use Rattle.kishu_meaning.specs.values.Values.{State};
 ghost use Rattle.kishu_objects.specs.Bytes.{picture_bytes};
@@ -13,7 +13,7 @@ ghost use Rattle.kishu_replay.specs.Replay.{after_cells};
 ghost use Rattle.kishu_store.specs.Entries.{Record};
 ghost use Rattle.kishu_store.specs.Graph.{newest};
 ghost use Rattle.kishu_store.specs.Groups.{Group, IsName};
-ghost use Rattle.kishu_store.specs.Histories.{History, head_table, led, Follows};
+ghost use Rattle.kishu_store.specs.Histories.{History, head_table, led, Follows, FollowsAt};
 ghost use Rattle.kishu_store.specs.Holds.{HasRecords, history_by};
 ghost use Rattle.kishu_store.specs.Limits.{most_records, most_pictured, newest_profile};
 ghost use Rattle.kishu_store.specs.Rules.{IsRecord};
@@ -26,7 +26,9 @@ ghost use Rattle.kishu_history.specs.Sizes.{StaySmall};
 ghost use Rattle.kishu_history.specs.Stored.{Stored, Keeps, KeepsRecords};
 ghost use Rattle.kishu_history.specs.Tables.{IsTable};
 ghost use Rattle.kishu_history.specs.Touched.{classes, change_told, size_told};
-ghost use Rattle.kishu_commit.specs.Told.{dropped_told, groups_told, stored_told, pictures_told, record_with, told_record, next_entry, next_record, next_rows, CanBeStored, MayBeCommitted, HasShortNames};
+ghost use Rattle.kishu_commit.specs.Told.{measured, record_with, record_by, change_by, next_entry_by, rows_by, AreToldBy};
+ghost use Rattle.kishu_commit.specs.Told.{dropped_told, groups_told, stored_told, pictures_told, told_record, next_entry, next_record, next_rows};
+ghost use Rattle.kishu_commit.specs.Told.{PicturesFit, CanBeStored, StayStored, MayBeCommitted, HasShortNames};
 
 /// On every store a commit of what is told fits the table of its parent, whatever its number and wherever its
 /// pictures lie, and the records before it, where what is told to be its state's size isn't too large. Its
@@ -51,6 +53,33 @@ pub fn commits_fit()
     ensures stored { (t : Table) (s u : State) (accessed : List (List ℕ))
         → ((g : Group) → In g (classes (groups_in t) accessed u) → StateFits (picture u g))
         → CanBeStored t s accessed u }
+{}
+
+/// So it is of a commit whose lists are told by any test which classes of the touched names stay, where each
+/// row that stays so has a picture now of its length. It fits wherever its body stands. That its record may
+/// be written doesn't hang on the state before.
+pub fn commits_fit_by_tests()
+    ensures table { (t : Table) → IsTable t → (s u : State) (accessed : List (List ℕ))
+        → IsLive (Stored None) t s → IsSoundState u → Leaves accessed s u → (same : Group → Bool)
+        → StayStored None t accessed u same → (dropped stored : List Group)
+        → AreToldBy t accessed u same dropped stored → PicturesFit u stored
+        → size_told t accessed u ≤ most_bytes → (number place : ℕ)
+        → FitsTable t (change_by dropped (rows_from number place (map (measured u) stored))) }
+    ensures follows { (body : ℕ) (h : History) → IsHistory h → (cells : List (List ℕ)) (s u : State)
+        (accessed : List (List ℕ)) → IsLive (Stored None) (head_table h) s → IsSoundState u
+        → Leaves accessed s u → (same : Group → Bool) → StayStored None (head_table h) accessed u same
+        → (dropped stored : List Group) → AreToldBy (head_table h) accessed u same dropped stored
+        → PicturesFit u stored → size_told (head_table h) accessed u ≤ most_bytes
+        → h.graph.records < most_records → FollowsAt body h (next_entry_by h cells dropped stored u) }
+    ensures rules { (parent : ℕ) (cells : List (List ℕ)) (t : Table) (u : State) (accessed : List (List ℕ))
+        (same : Group → Bool) (dropped stored : List Group) → AreToldBy t accessed u same dropped stored
+        → parent < 2 ^ 32 → MayBeCommitted cells → IsKeptTable t → HasShortNames t → IsSoundState u
+        → AllByRecursion IsName (listed u) → size_told t accessed u ≤ most_bytes
+        → IsRecord (record_by parent cells dropped stored u) }
+    ensures stored { (t : Table) (accessed : List (List ℕ)) (u : State) (same : Group → Bool)
+        (dropped stored : List Group) → AreToldBy t accessed u same dropped stored
+        → ((g : Group) → In g (classes (groups_in t) accessed u) → StateFits (picture u g))
+        → PicturesFit u stored }
 {}
 
 /// A record of the groups that are told, and of the pictures of those that it stores, is that of the commit.
@@ -84,6 +113,25 @@ pub fn commits_tell_states()
         → (grown : List ℕ) → HasRecords grown (rs ++ (next_record (history_by rs) cells s accessed u ∷ []))
         → IsLive (Stored (Some grown))
         (head_table (history_by (rs ++ (next_record (history_by rs) cells s accessed u ∷ [])))) u }
+{}
+
+/// A record of any groups, and of the pictures that those have now which it stores, is told by these lists.
+/// On every store the commit's table is its parent's with them. It tells the state that the commit's cells
+/// left, by the lengths of its pictures, where the lists are told by a test which classes of the touched
+/// names stay, and each row that stays so has a picture now of its length.
+pub fn commits_tell_states_by_tests()
+    ensures record { (parent : ℕ) (cells : List (List ℕ)) (dropped stored : List Group) (u : State)
+        → record_with parent cells dropped stored (map (picture_bytes u) stored)
+        ≡ record_by parent cells dropped stored u }
+    ensures table { (h : History) → IsHistory h → (cells : List (List ℕ)) (dropped stored : List Group)
+        (u : State) → head_table (led h (next_entry_by h cells dropped stored u))
+        ≡ after (change_by dropped (rows_by h cells dropped stored u)) (head_table h) }
+    ensures untold { (h : History) → IsHistory h → (cells : List (List ℕ)) (s u : State)
+        (accessed : List (List ℕ)) → IsLive (Stored None) (head_table h) s → IsSoundState u
+        → Leaves accessed s u → (same : Group → Bool) → StayStored None (head_table h) accessed u same
+        → (dropped stored : List Group) → AreToldBy (head_table h) accessed u same dropped stored
+        → PicturesFit u stored
+        → IsLive (Stored None) (head_table (led h (next_entry_by h cells dropped stored u))) u }
 {}
 
 /// A session that is attached to a good store stays attached with one commit more of the cells that it ran,
