@@ -20,3 +20,4 @@ pub mod LoadedBytes
 pub mod Anew
 pub mod NextMakes
 pub mod Reached
+pub mod Asked

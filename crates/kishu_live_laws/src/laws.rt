@@ -35,6 +35,7 @@ ghost use Rattle.kishu_history.specs.Stored.{Held};
 ghost use Rattle.kishu_history.specs.Tables.{Change, Row, bytes_in, groups_in};
 ghost use Rattle.kishu_history.specs.Versions.{loaded};
 ghost use Rattle.kishu_live_laws.specs.Alike.{OnAttached, OnHeld, OnSame, head_after, head_of};
+ghost use Rattle.kishu_live_laws.specs.Asked.{Test, bytes_by};
 ghost use Rattle.kishu_live_laws.specs.Filling.{FillsBy, FillsMade};
 ghost use Rattle.kishu_live_laws.specs.Made.{loaded_nodes, made_by, made_by_cells, opened_nodes};
 ghost use Rattle.kishu_live_laws.specs.OnStates.{IsNoCheckout, StayTold, after_on, answer_on, charge_on, head_rows, left_of, left_size, ran_by, run_of, state_on};
@@ -134,6 +135,17 @@ pub fn touched_names_reach_alike()
         → (run newest_profile text s).charge ≡ (run newest_profile text (head_of g)).charge) }
     ensures left { OnAttached (λ of s g. (text : List ℕ) → newest g < newest (after g (cell text))
         → state_on of s g (cell text) ≡ (run newest_profile text s).state) }
+{}
+
+/// Of the groups that a cell touched, as the state has them before it and after it, those that pass a test by
+/// the bytes of their pictures then and now take as many bytes on states that are the same; so in a session
+/// that is attached to a good store, by the head's table, as on the replay of the head.
+pub fn pictures_are_asked_alike()
+    ensures same { OnSame (λ s t. (test : Test) (text : List ℕ) (gs : List Group)
+        → bytes_by test gs s text ≡ bytes_by test gs t text) }
+    ensures asked { OnAttached (λ of s g. (test : Test) (text : List ℕ)
+        → bytes_by test (groups_in (head_rows of g)) s text
+        ≡ bytes_by test (groups_of (head_of g)) (head_of g) text) }
 {}
 
 /// Whatever the state is, and whatever the records change: a request makes one commit, of the cells that are
