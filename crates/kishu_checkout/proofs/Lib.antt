@@ -3,7 +3,6 @@ pub mod Calls
 pub mod Same
 pub mod Bytes
 pub mod Nodes
-pub mod RowsRead
 pub mod RowsLeft
 pub mod Tables
 pub mod Unbound

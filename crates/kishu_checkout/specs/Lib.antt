@@ -3,6 +3,7 @@ pub mod Loads
 pub mod Groups
 pub mod Fetched
 pub mod Placed
+pub mod FetchedLaws
 pub mod CarriedLaws
 pub mod Plans
 pub mod Versioned

@@ -14,8 +14,12 @@ use kishu_host::Host;
 use kishu_journal::{Journal, JournalFault};
 use std::alloc::Global;
 
-/// Reads the picture of a row.
-fn fetch_row<H: Host>(
+/// Reads the picture that is stored for a row: as many bytes as it says, at its place.
+///
+/// - `Damaged`: the file ends before them; at the row's place.
+/// - `DiskFault`: a call of the host failed.
+/// - `NoMemory`: there was no memory.
+pub fn fetch_row<H: Host>(
     alloc: Global,
     host: &mut H,
     journal: &Journal,

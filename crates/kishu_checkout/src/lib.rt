@@ -16,5 +16,6 @@ mod unbinding;
 
 pub use carrying::{carry_out, fetch, place};
 pub use fault::CheckoutFault;
+pub use fetching::fetch_row;
 pub use planning::plan;
 pub use plans::Plan;

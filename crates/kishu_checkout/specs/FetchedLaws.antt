@@ -1,19 +1,36 @@
 -- Rows whose pictures are read one after another.
-use Rattle.std.specs.Prelude.{◌≡◌, ℕ, zero, suc, ◌+◌, ◌<◌, ◌≤◌, List, [], ◌∷◌, ◌++◌, length, map, take, get_or}
+use Rattle.std.specs.Prelude.{◌≡◌, ◌<◌, ◌≤◌, ℕ, zero, suc, ◌+◌, List, [], ◌∷◌, ◌++◌, length, map, take, get_or, Option, Some, None}
 use Rattle.std.specs.declared.alloc.Global.{Global}
 use Rattle.std.specs.declared.vec.Vec.{Vec}
 use Rattle.std.proofs.Common.{sym, ap, ◌∙◌, inl, inr, arith}
 use Rattle.std.proofs.Math.Seq.{take-suc}
-use Rattle.std.proofs.lemmas.List.{length-map, get_or-map, take_all, map-append}
+use Rattle.std.proofs.lemmas.List.{length-map, get_or-map, map-append}
 use Rattle.std.proofs.lemmas.List.Sums.{sum_by-append, sum_by-cons, sum_by-take-le}
 use Rattle.kishu_host.specs.Host as host
+use Rattle.kishu_host.specs.Host.{Now, ReadsMore}
+use Rattle.kishu_host.specs.Going.{goes_on}
 use Rattle.kishu_objects.specs.Lists.{In}
 use Rattle.kishu_store.specs.Tables.{Row, Table, bytes_in, bytes_at, len_in}
-use Rattle.kishu_graph.specs.Kept.{row_of}
-use Rattle.kishu_graph.specs.declared.tables.TableRow as rust_row
 use Rattle.kishu_journal.specs.Facts.{IsTaken, LacksPart}
 use Rattle.kishu_journal.specs.Going.{IsQuiet}
 use Rattle.kishu_checkout.specs.Fetched.{contents, AreFetched, LacksBytes}
+
+-- ---- calls that only read
+
+pub quiet_on : (a b c : host.State) → IsQuiet a b → IsQuiet b c → IsQuiet a c
+quiet_on a b c p q = record {
+  keeps = record { file = q.keeps.file ∙ p.keeps.file; out = q.keeps.out ∙ p.keeps.out; crash = λ f h. p.keeps.crash f (q.keeps.crash f h) };
+  time = goes_on a b c (Now a) (Now b) p.time q.time (λ f o h. (p.keeps.crash f h.0, h.1 ∙ p.keeps.out));
+  disk = omega (arith, p.disk, q.disk);
+  outs = omega (arith, p.outs, q.outs);
+}
+
+pub reads_more : (a b c : Option ℕ) (m n all : ℕ) → ReadsMore a b m → ReadsMore b c n → all ≡ m + n → ReadsMore a c all
+reads_more a b None m n all p q e = tt
+reads_more a None (Some z) m n all p q e = absurd (cc (q.1))
+reads_more a (Some y) (Some z) m n all p q e =
+    let same : y ≡ q.0 = cc (q.1) in
+    (p.0, p.1, omega (arith, p.2, q.2, same, e))
 
 -- ---- one row more
 
@@ -43,32 +60,29 @@ row_there (q ∷ t) zero r l e = inl e
 row_there (q ∷ t) (suc i) r l e = inr (row_there t i r (omega (arith, l)) e)
 
 -- the row at a place, behind those before it
-module _ (xs : List rust_row.TableRow) (i : ℕ) (x : rust_row.TableRow) (there : i < length xs) (is : x ≡ get_or xs i x) where
+module _ {A : Type 0} (row : A → Row) (xs : List A) (i : ℕ) (x : A) (there : i < length xs) (is : x ≡ get_or xs i x) where
   abbrev rows : Table
-  rows = map row_of xs
+  rows = map row xs
 
   inside : i < length rows
-  inside = (let e = length-map xs row_of in omega (arith, there, e))
+  inside = (let e = length-map xs row in omega (arith, there, e))
 
-  at_place : row_of x ≡ get_or rows i (row_of x)
-  at_place = ap row_of is ∙ sym (get_or-map row_of xs i x (row_of x) there)
+  at_place : row x ≡ get_or rows i (row x)
+  at_place = ap row is ∙ sym (get_or-map row xs i x (row x) there)
 
-  pub row_in : In (row_of x) rows
-  row_in = row_there rows i (row_of x) inside at_place
+  pub row_in : In (row x) rows
+  row_in = row_there rows i (row x) inside at_place
 
-  pub rows_next : take (i + 1) rows ≡ take i rows ++ (row_of x ∷ [])
+  pub rows_next : take (i + 1) rows ≡ take i rows ++ (row x ∷ [])
   rows_next =
       let next : i + 1 ≡ suc i = omega arith in
-      ap (λ n. take n rows) next ∙ take-suc rows i (row_of x) inside ∙ ap (λ q. take i rows ++ (q ∷ [])) (sym at_place)
+      ap (λ n. take n rows) next ∙ take-suc rows i (row x) inside ∙ ap (λ q. take i rows ++ (q ∷ [])) (sym at_place)
 
-  pub bytes_next : bytes_in (take (i + 1) rows) ≡ bytes_in (take i rows) + x.len
-  bytes_next = ap bytes_in rows_next ∙ sum_by-append len_in (take i rows) (row_of x ∷ []) ∙ ap (λ n. bytes_in (take i rows) + n) (one_row (row_of x))
+  pub bytes_next : bytes_in (take (i + 1) rows) ≡ bytes_in (take i rows) + (row x).len
+  bytes_next = ap bytes_in rows_next ∙ sum_by-append len_in (take i rows) (row x ∷ []) ∙ ap (λ n. bytes_in (take i rows) + n) (one_row (row x))
 
-  pub bytes_most : bytes_in (take i rows) + x.len ≤ bytes_in rows
+  pub bytes_most : bytes_in (take i rows) + (row x).len ≤ bytes_in rows
   bytes_most = (let most = sum_by-take-le len_in rows (i + 1) in let e = bytes_next in omega (arith, most, e))
-
-pub rows_end : (xs : List rust_row.TableRow) (i : ℕ) → length xs ≤ i → take i (map row_of xs) ≡ map row_of xs
-rows_end xs i same = (let e = length-map xs row_of in take_all i (map row_of xs) (omega (arith, same, e)))
 
 -- ---- bytes that aren't there
 
