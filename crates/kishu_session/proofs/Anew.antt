@@ -52,7 +52,7 @@ module _ (head : Head) (none : table_of_rows head.table ≡ []) where
     lives = subst (λ (t : Table). IsLive (Stored None) t (state_of head.live)) (sym none)
         (subst (λ (s : State). IsLive (Stored None) [] s) (sym live) (empty_live (Stored None)));
     pictures = subst (λ (t : Table). KeepsJust head.kept (groups_in t) (state_of head.live)) (sym none)
-        (record { bytes = kept; fit = λ g m. absurd m });
+        (record { digests = kept; fit = λ g m. absurd m });
   }
 
   pub reads-anew : (s t : host.State) → ReadsToLoad head s t → ReadsAtHead head.graph s t

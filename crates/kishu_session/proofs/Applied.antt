@@ -144,7 +144,7 @@ module _ (old : Session) (new : Head) (s s1 : host.State) (q : Request) (p : Pre
           kept = kept-now h is.kept is.place_is;
           place_is = moves h is.place_is;
           count = subst (λ (g : Graph). CountsPath new g) (sym (graph-now h is.kept is.place_is)) (leads.answers h is.kept is.count).count;
-          lives = lives-led (told_file s) old.head new h is.kept.good is.lives r (kept-now h is.kept is.place_is) (kind-now h is.kept is.place_is);
+          lives = lives-led (told_file s) old.head new h is.lives r (kept-now h is.kept is.place_is) (kind-now h is.kept is.place_is);
           held = held-led (told_file s) old.head new h is.held r (kept-now h is.kept is.place_is) (kind-now h is.kept is.place_is);
         },
       ) ∣₁)

@@ -17,7 +17,7 @@ use Rattle.kishu_store.specs.Histories.{History, head_table, table_to}
 use Rattle.kishu_store.specs.Tables.{Row, Table, IsKeptTable, bytes_in, change_of, groups_in, len_in}
 use Rattle.kishu_graph.specs.Kept.{Kept}
 use Rattle.kishu_graph.specs.Tables.{table_of_rows}
-use Rattle.kishu_delta.specs.Kept.{KeepsJust, Pictures, kept_of}
+use Rattle.kishu_delta.specs.Kept.{Digests, KeepsJust, digest_of, kept_of}
 use Rattle.kishu_history.specs.Checkout.{carried, is_row_of, to_drop, to_load}
 use Rattle.kishu_history.specs.Stored.{Stored}
 use Rattle.kishu_history.specs.Tables.{AreOfOne, IsTable}
@@ -110,9 +110,9 @@ module _ (s : host.State) (head : Head) (known : HasHistory head.graph) (keeps :
     abbrev pub carried-on : AreCarried (told_file s) (to_drop t u) (to_load t u) before after
     carried-on = are_carried s (to_drop t u) (to_load t u) bytes before after fetched placed
 
-    pub pictures-on : (new : Pictures)
+    pub pictures-on : (new : Digests)
         → ((pic : Group → List ℕ) → bytes ≡ map (λ r. pic r.group) (to_load t u) → (g : Group)
-        → kept_of new g ≡ (if is_one_of g (groups_in (to_load t u)) then Some (pic g) else (if is_one_of g (to_drop t u) then None else kept_of head.kept g)))
+        → kept_of new g ≡ (if is_one_of g (groups_in (to_load t u)) then Some (digest_of (pic g)) else (if is_one_of g (to_drop t u) then None else kept_of head.kept g)))
         → KeepsJust new (groups_in u) after
     pictures-on new follows =
         let ps = carried-on.pictures in

@@ -1,5 +1,5 @@
 -- What a request leads to whose cells were run and committed.
-use Rattle.std.proofs.Common.{◌≡◌, ◌+◌, ℕ, suc, List, [], ◌∷◌, length, Option, Some, None, refl, sym, ◌∙◌, ap, subst, arith}
+use Rattle.std.proofs.Common.{◌≡◌, ◌+◌, ℕ, suc, List, [], ◌∷◌, length, map, Option, Some, None, refl, sym, ◌∙◌, ap, subst, arith}
 use Rattle.std.proofs.Math.Logic.{∥∥₁_elim}
 use Rattle.std.specs.Coded.{Coded-set, coded_list, coded_ℕ}
 use Rattle.std.specs.Prelude.{option_map}
@@ -15,20 +15,23 @@ use Rattle.kishu_store.specs.Histories.{History, head_table}
 use Rattle.kishu_store.specs.Limits.{newest_profile}
 use Rattle.kishu_store.specs.Tables.{Change, no_change}
 use Rattle.kishu_history.specs.Accessed.{accessed_by}
+use Rattle.kishu_history.specs.Live.{IsLive}
+use Rattle.kishu_history.specs.Stored.{Stored}
 use Rattle.kishu_model.specs.Answers.{Refusal}
 use Rattle.kishu_model.specs.Request.{Request}
 use Rattle.kishu_model.specs.Values.{answer_of}
 use Rattle.kishu_graph.specs.Kept.{StandsFor, KeepsHistory}
-use Rattle.kishu_commit.specs.Told.{next_entry, told_record, dropped_told, stored_told, CanBeStored}
+use Rattle.kishu_graph.specs.Tables.{table_of_rows}
+use Rattle.kishu_commit.specs.Told.{measured, next_entry_by, record_by, told_record, CanBeStored}
 use Rattle.kishu_commit.specs.declared.committing.Record as rust_record
 use Rattle.kishu_live_laws.specs.OnStates.{answer_on}
 use Rattle.kishu_live_laws.specs.RefusalLaws.{refuses_as_step}
 use Rattle.kishu_live_laws.specs.Refusals.{refusal_in}
-use Rattle.kishu_session.specs.Committing.{record_of, Commits}
+use Rattle.kishu_session.specs.Committing.{record_of, Commits, IsTold}
 use Rattle.kishu_session.specs.Head.{CountsPath}
 use Rattle.kishu_session.specs.Known.{IsHistoryOf, HasHistory}
 use Rattle.kishu_session.specs.Lives.{state_of}
-use Rattle.kishu_session.specs.Prepared.{record_in, MayBeRecorded, LeadsTo, led_with, after_by, answer_by, RefusesNoSize, IsCommitOf, TellsBy, Tells, LeadsOn, StaysWithout}
+use Rattle.kishu_session.specs.Prepared.{record_in, MayBeRecorded, LeadsTo, led_with, after_by, answer_by, HasLists, RefusesNoSize, IsCommitOf, TellsBy, Tells, LeadsOn, StaysWithout}
 use Rattle.kishu_session.specs.declared.committing.Committed.{Committed}
 use Rattle.kishu_session.specs.declared.head.Head.{Head}
 use Rattle.kishu_session.specs.declared.live.Live.{Live}
@@ -46,7 +49,7 @@ same-cells : (p q : ℕ) (f g : Profile) (cs bs : List (List ℕ)) (ds es : List
 same-cells p q f g cs bs ds es ss ts e = cc (e)
 
 -- The cells were run on the old live state, and left this one.
-module _ (file : Option (List ℕ)) (place : ℕ) (old new : Head) (l : Live) (q : Request) (cells : List (List ℕ)) (c : Committed) (k : Commits place (state_of old.live) (record old { live = l }) new cells c) where
+module _ (file : Option (List ℕ)) (place : ℕ) (old new : Head) (l : Live) (q : Request) (cells : List (List ℕ)) (c : Committed) (k : Commits file place (state_of old.live) (record old { live = l }) new cells c) where
   abbrev s : State
   s = state_of old.live
 
@@ -57,10 +60,10 @@ module _ (file : Option (List ℕ)) (place : ℕ) (old new : Head) (l : Live) (q
   r = record_of c.recorded
 
   -- what the commit of these cells says
-  abbrev entry-of : History → Entry
-  entry-of h = next_entry h cells s (accessed_by newest_profile cells s) u
+  abbrev entry-of : (h : History) → IsHistoryOf old.graph h → Entry
+  entry-of h kept = next_entry_by h cells (k.each h kept).dropped (k.each h kept).stored u
 
-  entry-is : (h : History) → IsHistoryOf old.graph h → r.entry ≡ entry-of h
+  entry-is : (h : History) (kept : IsHistoryOf old.graph h) → r.entry ≡ entry-of h kept
   entry-is h kept = ap (λ (x : Record). x.entry) (k.each h kept).is
 
   grown : (h : History) → IsHistoryOf old.graph h → changed h.graph r.entry ≡ with_commit newest_profile cells h.graph
@@ -73,41 +76,56 @@ module _ (file : Option (List ℕ)) (place : ℕ) (old new : Head) (l : Live) (q
     now-is = ap state_of live
 
     module _ (parent : ℕ) (profile : Profile) (texts : List (List ℕ)) (dropped : List Group) (stored : List (Group × ℕ)) (is : r.entry ≡ commit parent profile texts dropped stored) where
-      both : (h : History) → IsHistoryOf old.graph h → commit parent profile texts dropped stored ≡ entry-of h
+      both : (h : History) (kept : IsHistoryOf old.graph h) → commit parent profile texts dropped stored ≡ entry-of h kept
       both h kept = sym is ∙ entry-is h kept
 
       texts-in : (h : History) → IsHistoryOf old.graph h → texts ≡ cells
       texts-in h kept =
-          same-cells parent h.graph.head.commit profile newest_profile texts cells dropped (dropped_told (head_table h) s (accessed_by newest_profile cells s) u) stored (stored_told (head_table h) s (accessed_by newest_profile cells s) u)
-          (both h kept)
+          same-cells parent h.graph.head.commit profile newest_profile texts cells dropped (k.each h kept).dropped stored (map (measured u) (k.each h kept).stored) (both h kept)
+
+      parent-in : (h : History) → IsHistoryOf old.graph h → parent ≡ h.graph.head.commit
+      parent-in h kept =
+          same-parent parent h.graph.head.commit profile newest_profile texts cells dropped (k.each h kept).dropped stored (map (measured u) (k.each h kept).stored) (both h kept)
 
       texts-are : texts ≡ cells
       texts-are = ∥∥₁_elim known (Coded-set (coded_list (coded_list coded_ℕ)) _ _) (λ h. texts-in h.0 h.1)
 
-      told : (h : History) → IsHistoryOf old.graph h → r ≡ told_record parent texts (head_table h) s (accessed_by newest_profile texts s) (state_of new.live)
-      told h kept =
-          (k.each h kept).is
-          ∙ ap (λ (p : ℕ). told_record p cells (head_table h) s (accessed_by newest_profile cells s) u)
-          (sym (same-parent parent h.graph.head.commit profile newest_profile texts cells dropped (dropped_told (head_table h) s (accessed_by newest_profile cells s) u) stored (stored_told (head_table h) s (accessed_by newest_profile cells s) u) (both h kept)))
+      lists : (h : History) → IsHistoryOf old.graph h → HasLists r parent texts (state_of new.live)
+      lists h kept =
+          let e = k.each h kept in (
+            e.dropped,
+            e.stored,
+            e.is
+                ∙ ap (λ (p : ℕ). record_by p cells e.dropped e.stored u) (sym (parent-in h kept))
+                ∙ ap (λ (ts : List (List ℕ)). record_by parent ts e.dropped e.stored u) (sym texts-are)
+                ∙ ap (λ (x : State). record_by parent texts e.dropped e.stored x) (sym now-is),
+          )
+
+      told : (h : History) → IsHistoryOf old.graph h → IsTold file (head_table h) s → r ≡ told_record parent texts (head_table h) s (accessed_by newest_profile texts s) (state_of new.live)
+      told h kept there =
+          (k.each h kept).told there
+          ∙ ap (λ (p : ℕ). told_record p cells (head_table h) s (accessed_by newest_profile cells s) u) (sym (parent-in h kept))
           ∙ ap (λ (ts : List (List ℕ)). told_record parent ts (head_table h) s (accessed_by newest_profile ts s) u) (sym texts-are)
           ∙ ap (λ (x : State). told_record parent texts (head_table h) s (accessed_by newest_profile texts s) x) (sym now-is)
 
-      is-commit : IsCommitOf old new r parent texts
+      is-commit : IsCommitOf file old new r parent texts
       is-commit = record {
-        is = told;
+        lists = lists;
+        told = told;
         ran = now-is ∙ left ∙ ap (λ (ts : List (List ℕ)). after_cells newest_profile ts s) (sym texts-are);
         sound = subst IsSoundState (sym now-is) k.sound;
         fits = λ h kept.
             subst (λ (x : State). CanBeStored (head_table h) s (accessed_by newest_profile texts s) x) (sym now-is)
             (subst (λ (ts : List (List ℕ)). CanBeStored (head_table h) s (accessed_by newest_profile ts s) u) (sym texts-are) (k.each h kept).can);
+        lives = subst (λ (x : State). IsLive (Stored None) (table_of_rows new.table) x) (sym now-is) k.lives;
         held = k.held;
       }
 
     no-move : (to : MoveTo) → r.entry ≡ move to → (h : History) → IsHistoryOf old.graph h → ⊥
-    no-move to is h kept = (let e : move to ≡ entry-of h = sym is ∙ entry-is h kept in cc (e))
+    no-move to is h kept = (let e : move to ≡ entry-of h kept = sym is ∙ entry-is h kept in cc (e))
 
     no-name : (title : List ℕ) (number : ℕ) → r.entry ≡ name title number → (h : History) → IsHistoryOf old.graph h → ⊥
-    no-name title number is h kept = (let e : name title number ≡ entry-of h = sym is ∙ entry-is h kept in cc (e))
+    no-name title number is h kept = (let e : name title number ≡ entry-of h kept = sym is ∙ entry-is h kept in cc (e))
 
     tells-by : (e : Entry) → r.entry ≡ e → TellsBy file old new r e
     tells-by (commit parent profile texts dropped stored) is = is-commit parent profile texts dropped stored is
@@ -148,9 +166,9 @@ committed-stays old new host now p r some none sizes = (let e : Some r ≡ None 
 -- ---- one cell
 
 -- It is counted behind those on the path.
-pub cell-counted : (old new : Head) (l : Live) (place : ℕ) (h : History) (cells : List (List ℕ)) (text : List ℕ) (c : Committed) → Commits place (state_of old.live) (record old { live = l }) new cells c → IsHistoryOf old.graph h → cells ≡ text ∷ []
+pub cell-counted : (file : Option (List ℕ)) (old new : Head) (l : Live) (place : ℕ) (h : History) (cells : List (List ℕ)) (text : List ℕ) (c : Committed) → Commits file place (state_of old.live) (record old { live = l }) new cells c → IsHistoryOf old.graph h → cells ≡ text ∷ []
     → CountsPath old h.graph → new.cells ≡ suc (count_of h.graph h.graph.head.commit)
-cell-counted old new l place h cells text c k is one count =
+cell-counted file old new l place h cells text c k is one count =
     let e = k.each h is in
     let more = e.count (record { is = count.is; few = count.few }) in
     let grown : changed h.graph (record_of c.recorded).entry ≡ with_commit newest_profile cells h.graph = ap (λ (x : Record). changed h.graph x.entry) e.is in

@@ -10,7 +10,6 @@ use Rattle.kishu_store.specs.Histories.{History, head_table}
 use Rattle.kishu_store.specs.Holds.{HasRecords, Holds, history_by}
 use Rattle.kishu_store.specs.Limits.{newest_profile}
 use Rattle.kishu_store.specs.Tables.{Table, Change, change_of, groups_in, table_in}
-use Rattle.kishu_store_laws.specs.HistoryLaws.{IsHistory}
 use Rattle.kishu_store_laws.specs.Laws.{has-holds, has-gives, history-graph, history-push}
 use Rattle.kishu_store_laws.specs.PlaceLaws.{pictures-stay, has-history}
 use Rattle.kishu_history.specs.Accessed.{accessed_by}
@@ -25,9 +24,8 @@ use Rattle.kishu_history_laws.specs.tables.FileLaws.{changes_are_rows, stay_keep
 use Rattle.kishu_history_laws.specs.versions.PathLaws.{rows_recorded}
 use Rattle.kishu_objects.specs.Locality.{Leaves}
 use Rattle.kishu_graph.specs.Tables.{table_of_rows}
-use Rattle.kishu_delta.specs.Kept.{Pictures, KeepsJust}
+use Rattle.kishu_delta.specs.Kept.{Digests, KeepsJust}
 use Rattle.kishu_commit.specs.AttachedLaws.{accesses-leave, recorded-attached}
-use Rattle.kishu_commit.specs.LiveLaws.{live-untold}
 use Rattle.kishu_commit.specs.RecordedLaws.{recorded-live}
 use Rattle.kishu_session.specs.Head.{LivesAt, KeepsTable}
 use Rattle.kishu_session.specs.Known.{IsHistoryOf}
@@ -41,7 +39,7 @@ use Rattle.kishu_session.proofs.LoadFacts.{lives-untold}
 
 -- ---- cells that were committed
 
-module _ (old new : Head) (h : History) (r : Option Record) (k : IsCommitted old new h r) where
+module _ (file : Option (List ℕ)) (old new : Head) (h : History) (r : Option Record) (k : IsCommitted file old new h r) where
   -- the names that they accessed
   abbrev pub own : List (List ℕ)
   own = accessed_by newest_profile k.cells (state_of old.live)
@@ -61,7 +59,7 @@ module _ (file : Option (List ℕ)) (old new : Head) (h : History) (held : Keeps
         table = ap table_of_rows k.table ∙ held.table ∙ same;
         pictures =
             subst (λ (t : Table). KeepsJust new.kept (groups_in t) (state_of new.live)) same
-            (subst (λ (p : Pictures). KeepsJust p (groups_in (head_table h)) (state_of new.live)) (sym k.kept)
+            (subst (λ (d : Digests). KeepsJust d (groups_in (head_table h)) (state_of new.live)) (sym k.kept)
             (subst (λ (s : values.State). KeepsJust old.kept (groups_in (head_table h)) s) (sym k.live) held.pictures));
       }
 
@@ -69,30 +67,27 @@ module _ (file : Option (List ℕ)) (old new : Head) (h : History) (held : Keeps
   held-led r kept kind =
       ⊎_elim (still-held (led_with h r))
       (⊎_elim (λ (k : IsMoved file old new h (led_with h r)). carried-held file old new h (led_with h r) k kept)
-      (⊎_elim (λ (k : IsReloaded file new h (led_with h r)). (k.loaded (led_with h r) kept).held)
-      (λ (k : IsCommitted old new h r). k.held (led_with h r) kept))) kind
+      (⊎_elim (λ (k : IsReloaded file new h r (led_with h r)). (k.loaded (led_with h r) kept).held)
+      (λ (k : IsCommitted file old new h r). k.held (led_with h r) kept))) kind
 
 -- ---- whatever the host tells
 
 -- The pictures of the new head's table have the lengths that it tells.
-module _ (file : Option (List ℕ)) (old new : Head) (h : History) (good : IsHistory h) (lives : LivesAt None old h) where
+module _ (file : Option (List ℕ)) (old new : Head) (h : History) (lives : LivesAt None old h) where
   still-untold : (n : History) → IsStill old new h n → LivesAt None new n
   still-untold n k =
       subst (λ (t : Table). IsLive (Stored None) t (state_of new.live)) (sym (same-head-table h n k.same k.head))
       (subst (λ (s : values.State). IsLive (Stored None) (head_table h) s) (sym k.live) lives)
 
-  committed-untold : (r : Option Record) → IsCommitted old new h r → LivesAt None new (led_with h r)
-  committed-untold r k =
-      let s = state_of old.live in
-      subst (λ (o : Option Record). LivesAt None new (led_with h o)) (sym k.is)
-      (live-untold h good k.cells s (state_of new.live) (own old new h r k) k.sound (own-leave old new h r k lives.state) k.fits lives)
+  committed-untold : (n : History) → IsHistoryOf new.graph n → (r : Option Record) → IsCommitted file old new h r → LivesAt None new n
+  committed-untold n kept r k = subst (λ (t : Table). IsLive (Stored None) t (state_of new.live)) (k.held n kept).table k.lives
 
   pub lives-led : (r : Option Record) → IsHistoryOf new.graph (led_with h r) → Kind file old new h r (led_with h r) → LivesAt None new (led_with h r)
   lives-led r kept kind =
       ⊎_elim (still-untold (led_with h r))
       (⊎_elim (λ (k : IsMoved file old new h (led_with h r)). carried-untold file old new h (led_with h r) k kept lives)
-      (⊎_elim (λ (k : IsReloaded file new h (led_with h r)). lives-untold file (head_table (led_with h r)) (state_of new.live)
-      (k.loaded (led_with h r) kept).lives) (committed-untold r))) kind
+      (⊎_elim (λ (k : IsReloaded file new h r (led_with h r)). lives-untold file (head_table (led_with h r)) (state_of new.live)
+      (k.loaded (led_with h r) kept).lives) (committed-untold (led_with h r) kept r))) kind
 
 -- ---- tables in a file that has grown
 
@@ -149,18 +144,19 @@ module _ (file grown : List ℕ) (rs : List Record) (r : Option Record) (has : H
           (subst (λ (s : values.State). IsLive (Stored (Some grown)) (head_table h) s) (sym k.live)
           (stays-there h.graph.head.commit (state_of old.live) lives))
 
-      committed-grown : IsCommitted old new h r → LivesAt (Some grown) new n
+      committed-grown : IsCommitted (Some file) old new h r → LivesAt (Some grown) new n
       committed-grown k =
           let s = state_of old.live in
-          subst (λ (o : Option Record). LivesAt (Some grown) new (history_by (with_new rs o))) (sym k.is)
-          (recorded-live rs k.cells s (state_of new.live) (own old new h r k) file has grown (subst (λ (o : Option Record). HasRecords grown (with_new rs o)) k.is has_grown)
-          lives k.sound (own-leave old new h r k lives.state) k.fits)
+          let is = k.told lives in
+          subst (λ (o : Option Record). LivesAt (Some grown) new (history_by (with_new rs o))) (sym is)
+          (recorded-live rs k.cells s (state_of new.live) (own (Some file) old new h r k) file has grown (subst (λ (o : Option Record). HasRecords grown (with_new rs o)) is has_grown)
+          lives k.sound (own-leave (Some file) old new h r k lives.state) k.fits)
 
       pub lives-grown : IsHistoryOf new.graph n → Kind (Some file) old new h r n → LivesAt (Some grown) new n
       lives-grown kept kind =
           ⊎_elim still-grown
           (⊎_elim (λ (k : IsMoved (Some file) old new h n). head-grown k.same (carried-lives (Some file) old new h n k kept lives))
-          (⊎_elim (λ (k : IsReloaded (Some file) new h n). head-grown k.same (k.loaded n kept).lives) committed-grown)) kind
+          (⊎_elim (λ (k : IsReloaded (Some file) new h r n). head-grown k.same (k.loaded n kept).lives) committed-grown)) kind
 
     -- ---- a good file
 
@@ -183,15 +179,16 @@ module _ (file grown : List ℕ) (rs : List Record) (r : Option Record) (has : H
           (subst (λ (ks : List Commit). IsGoodStore grown ks (change_of n.changes)) (sym same.commits)
           (subst (λ (cs : List Change). IsGoodStore grown h.graph.commits (change_of cs)) (sym same.changes) here))
 
-      committed-good : (k : IsCommitted old new h r) → StaySmall newest_profile k.cells s → IsGoodFileOf grown n.graph
+      committed-good : (k : IsCommitted (Some file) old new h r) → StaySmall newest_profile k.cells s → IsGoodFileOf grown n.graph
       committed-good k small =
-          let next = subst (λ (o : Option Record). HasRecords grown (with_new rs o)) k.is has_grown in
-          let after = recorded-attached rs file has s attached k.cells (state_of new.live) k.ran (own old new h r k) (λ x. (λ m. m, λ m. m)) k.fits small grown next in
+          let is = k.told attached.told in
+          let next = subst (λ (o : Option Record). HasRecords grown (with_new rs o)) is has_grown in
+          let after = recorded-attached rs file has s attached k.cells (state_of new.live) k.ran (own (Some file) old new h r k) (λ x. (λ m. m, λ m. m)) k.fits small grown next in
           good-by (subst (λ (o : Option Record). IsGoodStore grown (history_by (with_new rs o)).graph.commits
-          (change_of (history_by (with_new rs o)).changes)) (sym k.is) after.good)
+          (change_of (history_by (with_new rs o)).changes)) (sym is) after.good)
 
-      pub good-grown : Kind (Some file) old new h r n → ((k : IsCommitted old new h r) → StaySmall newest_profile k.cells s) → IsGoodFileOf grown n.graph
+      pub good-grown : Kind (Some file) old new h r n → ((k : IsCommitted (Some file) old new h r) → StaySmall newest_profile k.cells s) → IsGoodFileOf grown n.graph
       good-grown kind small =
           ⊎_elim (λ (k : IsStill old new h n). same-good k.same)
           (⊎_elim (λ (k : IsMoved (Some file) old new h n). same-good k.same)
-          (⊎_elim (λ (k : IsReloaded (Some file) new h n). same-good k.same) (λ (k : IsCommitted old new h r). committed-good k (small k)))) kind
+          (⊎_elim (λ (k : IsReloaded (Some file) new h r n). same-good k.same) (λ (k : IsCommitted (Some file) old new h r). committed-good k (small k)))) kind

@@ -38,10 +38,10 @@ use Rattle.kishu_model.specs.Values.{answer_of}
 use Rattle.kishu_checkout.specs.Pictures.{told_file}
 use Rattle.kishu_journal.specs.Going.{IsQuiet}
 use Rattle.kishu_session.specs.Attached.{IsAttached}
-use Rattle.kishu_session.specs.Becoming.{IsHeadCarried, IsHeadLoaded, IsNextState}
+use Rattle.kishu_session.specs.Becoming.{IsHeadCarried, IsLoadedAfter, IsNextState}
 use Rattle.kishu_session.specs.Ends.{IsBehind, at-end-behind, at-end-history}
 use Rattle.kishu_session.specs.Lives.{state_of}
-use Rattle.kishu_session.specs.Prepared.{LeadsOn}
+use Rattle.kishu_session.specs.Prepared.{LeadsOn, RefusesNoSize}
 use Rattle.kishu_session.specs.Refusing.{IsRefusal}
 use Rattle.kishu_session.specs.Working.{ReadsRows}
 use Rattle.kishu_session.specs.declared.head.Head.{Head}
@@ -122,10 +122,10 @@ module _ (old : Session) (new : Head) (s : host.State) (q : Request) (p : Prepar
     keeps-by =
         ⊎_elim (λ (e : v ≡ state_on of u g (checkout to)). ap (λ (y : values.State). find x y.names) (e ∙ still_state of u g (checkout to) (when_none of u g (checkout to) none)))
         (⊎_elim (λ (k : (newest now ≤ newest g) × IsHeadCarried s.file of g now u v). carried-keep k.1)
-        (λ (k : (now ≡ g) × IsHeadLoaded s.file g v). absurd (omega (arith, ap (λ (y : Graph). y.records) (sym k.0 ∙ gone.1)))))
+        (λ (k : IsLoadedAfter s.file of g u (checkout to) v). absurd (omega (arith, ap (λ (y : Graph). y.records) (sym k.0 ∙ gone.1)))))
 
-    pub names-kept : (s1 : host.State) → IsQuiet s s1 → s.tells ≡ true → Keeps
-    names-kept s1 quiet told = keeps-by (subst (λ (r : Request). IsNextState s.file of g u r v) is (goes-on-live old new s q p leads g a.changes a.at_end a.gives s1 quiet told))
+    pub names-kept : (s1 : host.State) → IsQuiet s s1 → (p.recorded ≡ None → RefusesNoSize p.answer → new ≡ old.head) → s.tells ≡ true → Keeps
+    names-kept s1 quiet stays told = keeps-by (subst (λ (r : Request). IsNextState s.file of g u r v) is (goes-on-live old new s q p leads g a.changes a.at_end a.gives s1 quiet stays told))
 
   -- ---- bytes
 

@@ -1,4 +1,4 @@
--- What is kept of groups' pictures once a plan was carried out: just those of the new table's groups.
+-- What is kept of groups once a plan was carried out: just the digests of the pictures of the new table's groups.
 use Rattle.std.proofs.Common.{◌≡◌, ⊎_elim, Bool, true, false, if◌then◌else◌, List, Some, None, refl, sym, ◌∙◌, ap, subst}
 use Rattle.std.specs.List.{AllZip}
 use Rattle.std.specs.Prelude.{not, filter}
@@ -10,7 +10,7 @@ use Rattle.kishu_objects.specs.Picture.{picture}
 use Rattle.kishu_objects_laws.specs.ListLaws.{filter_in, in_filter, map_in}
 use Rattle.kishu_store.specs.Groups.{Group, is_one_of}
 use Rattle.kishu_store.specs.Tables.{Row, Table, group_in, groups_in, first_in}
-use Rattle.kishu_delta.specs.Kept.{KeepsJust, Pictures, kept_of}
+use Rattle.kishu_delta.specs.Kept.{Digests, KeepsJust, digest_of, kept_of}
 use Rattle.kishu_history.specs.Checkout.{carried, is_row_of, to_drop, to_load}
 use Rattle.kishu_history.specs.Live.{IsLive, IsPictureOf}
 use Rattle.kishu_history.specs.Stored.{Stored}
@@ -56,26 +56,26 @@ module _ (t u : Table) (s : State) (ps : List State) (it : IsTable t) (iu : IsTa
       let alike : q.0 ≡ r = one-row t it q.0 r f.0 old (sym q.2) in
       not_true (sym (not_false (is_row_of u q.0) f.1) ∙ ap (is_row_of u) alike ∙ of_row u r m)
 
-  -- ---- the pictures that are kept
+  -- ---- the digests that are kept
 
-  module _ (old new : Pictures) (just : KeepsJust old (groups_in t) s)
-      (follows : (g : Group) → kept_of new g ≡ (if is_one_of g (groups_in (to_load t u)) then Some (picture_bytes left g) else (if is_one_of g (to_drop t u) then None else kept_of old g))) where
-    was-kept : (g : Group) → In g (groups_in t) → kept_of old g ≡ Some (picture_bytes s g)
-    was-kept g m = just.bytes g ∙ ap (λ (b : Bool). if b then Some (picture_bytes s g) else None) ((one_of_decides g (groups_in t)).1 m)
+  module _ (old new : Digests) (just : KeepsJust old (groups_in t) s)
+      (follows : (g : Group) → kept_of new g ≡ (if is_one_of g (groups_in (to_load t u)) then Some (digest_of (picture_bytes left g)) else (if is_one_of g (to_drop t u) then None else kept_of old g))) where
+    was-kept : (g : Group) → In g (groups_in t) → kept_of old g ≡ Some (digest_of (picture_bytes s g))
+    was-kept g m = just.digests g ∙ ap (λ (b : Bool). if b then Some (digest_of (picture_bytes s g)) else None) ((one_of_decides g (groups_in t)).1 m)
 
     never-kept : (g : Group) → (In g (groups_in t) → ⊥) → kept_of old g ≡ None
-    never-kept g away = just.bytes g ∙ ap (λ (b : Bool). if b then Some (picture_bytes s g) else None) (not_told (is_one_of g (groups_in t)) (one_of_decides g (groups_in t)) away)
+    never-kept g away = just.digests g ∙ ap (λ (b : Bool). if b then Some (digest_of (picture_bytes s g)) else None) (not_told (is_one_of g (groups_in t)) (one_of_decides g (groups_in t)) away)
 
-    when-loaded : (g : Group) → In g (groups_in (to_load t u)) → kept_of new g ≡ Some (picture_bytes left g)
+    when-loaded : (g : Group) → In g (groups_in (to_load t u)) → kept_of new g ≡ Some (digest_of (picture_bytes left g))
     when-loaded g m =
         follows g
-        ∙ ap (λ (b : Bool). if b then Some (picture_bytes left g) else (if is_one_of g (to_drop t u) then None else kept_of old g))
+        ∙ ap (λ (b : Bool). if b then Some (digest_of (picture_bytes left g)) else (if is_one_of g (to_drop t u) then None else kept_of old g))
         ((one_of_decides g (groups_in (to_load t u))).1 m)
 
     unless-loaded : (g : Group) → (In g (groups_in (to_load t u)) → ⊥) → kept_of new g ≡ (if is_one_of g (to_drop t u) then None else kept_of old g)
     unless-loaded g away =
         follows g
-        ∙ ap (λ (b : Bool). if b then Some (picture_bytes left g) else (if is_one_of g (to_drop t u) then None else kept_of old g))
+        ∙ ap (λ (b : Bool). if b then Some (digest_of (picture_bytes left g)) else (if is_one_of g (to_drop t u) then None else kept_of old g))
         (not_told (is_one_of g (groups_in (to_load t u))) (one_of_decides g (groups_in (to_load t u))) away)
 
     when-dropped : (g : Group) → (In g (groups_in (to_load t u)) → ⊥) → In g (to_drop t u) → kept_of new g ≡ None
@@ -85,21 +85,21 @@ module _ (t u : Table) (s : State) (ps : List State) (it : IsTable t) (iu : IsTa
     when-left g away still = unless-loaded g away ∙ ap (λ (b : Bool). if b then None else kept_of old g) (not_told (is_one_of g (to_drop t u)) (one_of_decides g (to_drop t u)) still)
 
     -- a row of the new table, whether it is one of the old one's
-    row-kept : (r : Row) → In r u → (b : Bool) → is_row_of t r ≡ b → kept_of new r.group ≡ Some (picture_bytes left r.group)
+    row-kept : (r : Row) → In r u → (b : Bool) → is_row_of t r ≡ b → kept_of new r.group ≡ Some (digest_of (picture_bytes left r.group))
     row-kept r m true same =
         let k = row_of t r same in
         let twin : k.0 ≡ r = one k.0 r k.1 m (sym k.2) (sym k.3) in
         let old_row : In r t = subst (λ (x : Row). In x t) twin k.1 in
         when-left r.group (λ there. not_true (sym (loaded-row r m there) ∙ same)) (kept-stays r m same)
         ∙ was-kept r.group (in_map group_in t r old_row)
-        ∙ ap (λ (p : State). Some (state_bytes p)) (sym (kept_pictures (Stored None) t u s ps it iu one lives each r (in_filter (λ (x : Row). is_row_of t x) u r m same)))
+        ∙ ap (λ (p : State). Some (digest_of (state_bytes p))) (sym (kept_pictures (Stored None) t u s ps it iu one lives each r (in_filter (λ (x : Row). is_row_of t x) u r m same)))
     row-kept r m false new_row =
         when-loaded r.group (in_map group_in (to_load t u) r (in_filter (λ (x : Row). not (is_row_of t x)) u r m (ap not new_row)))
 
-    in-new : (g : Group) → In g (groups_in u) → kept_of new g ≡ Some (picture_bytes left g)
+    in-new : (g : Group) → In g (groups_in u) → kept_of new g ≡ Some (digest_of (picture_bytes left g))
     in-new g m =
         let r = map_in group_in u g m in
-        subst (λ (x : Group). kept_of new x ≡ Some (picture_bytes left x)) (sym r.2) (row-kept r.0 r.1 (is_row_of t r.0) refl)
+        subst (λ (x : Group). kept_of new x ≡ Some (digest_of (picture_bytes left x))) (sym r.2) (row-kept r.0 r.1 (is_row_of t r.0) refl)
 
     -- a row of the old table whose group the new one doesn't have
     gone : (q : Row) → In q t → (In q.group (groups_in u) → ⊥) → (b : Bool) → is_row_of u q ≡ b → In q.group (to_drop t u)
@@ -119,16 +119,16 @@ module _ (t u : Table) (s : State) (ps : List State) (it : IsTable t) (iu : IsTa
         still (subst (λ (x : Group). In x (to_drop t u)) (sym q.2) (gone q.0 q.1 (λ m. away (subst (λ (x : Group). In x (groups_in u)) (sym q.2) m)) (is_row_of u q.0) refl))))
         (told (is_one_of g (to_drop t u)) (one_of_decides g (to_drop t u)))
 
-    by-test : (g : Group) → kept_of new g ≡ (if is_one_of g (groups_in u) then Some (picture_bytes left g) else None)
+    by-test : (g : Group) → kept_of new g ≡ (if is_one_of g (groups_in u) then Some (digest_of (picture_bytes left g)) else None)
     by-test g =
         ⊎_elim
-        (λ (m : In g (groups_in u)). in-new g m ∙ sym (ap (λ (b : Bool). if b then Some (picture_bytes left g) else None) ((one_of_decides g (groups_in u)).1 m)))
+        (λ (m : In g (groups_in u)). in-new g m ∙ sym (ap (λ (b : Bool). if b then Some (digest_of (picture_bytes left g)) else None) ((one_of_decides g (groups_in u)).1 m)))
         (λ (away : In g (groups_in u) → ⊥).
-        out-new g away ∙ sym (ap (λ (b : Bool). if b then Some (picture_bytes left g) else None) (not_told (is_one_of g (groups_in u)) (one_of_decides g (groups_in u)) away)))
+        out-new g away ∙ sym (ap (λ (b : Bool). if b then Some (digest_of (picture_bytes left g)) else None) (not_told (is_one_of g (groups_in u)) (one_of_decides g (groups_in u)) away)))
         (told (is_one_of g (groups_in u)) (one_of_decides g (groups_in u)))
 
     pub kept-just : KeepsJust new (groups_in u) left
     kept-just = record {
-      bytes = by-test;
+      digests = by-test;
       fit = λ g m. (let r = map_in group_in u g m in subst (λ (x : Group). StateFits (picture left x)) (sym r.2) (lives-left.pictures r.0 r.1).fits);
     }

@@ -1,3 +1,4 @@
+mod Alone
 mod AttachFacts
 mod Causes
 mod CountFacts
@@ -25,6 +26,7 @@ mod LoadFacts
 mod Anew
 mod ReadBytes
 mod Commits
+mod AskedFacts
 mod RanOn
 mod MoveSteps
 mod MovedFacts
@@ -33,6 +35,7 @@ mod OpeningFacts
 mod RecordFacts
 mod Recordings
 mod RecordKinds
+mod Recorded
 mod Carried
 mod KeptOn
 mod CarryFacts

@@ -1,7 +1,7 @@
 -- What the live state becomes, on every store: after a request that was answered, and where it was loaded as a store was opened.
-use Rattle.std.proofs.Common.{◌≡◌, ◌≤◌, inl, inr, ⊎_elim, ℕ, List, length, refl, sym, ◌∙◌, ap, subst, arith}
+use Rattle.std.proofs.Common.{◌≡◌, ◌≤◌, ◌⊎◌, inl, inr, ⊎_elim, ℕ, List, length, refl, sym, ◌∙◌, ap, subst, arith}
 use Rattle.std.specs.Coded.{Coded-set, coded_ℕ, le_prop}
-use Rattle.std.specs.Prelude.{true, Option, Some}
+use Rattle.std.specs.Prelude.{true, Option, Some, None}
 use Rattle.std.proofs.Math.Logic.{∥∥₁_elim}
 use Rattle.kishu_host.specs.Host as host
 use Rattle.kishu_meaning.specs.values.Values as values
@@ -14,18 +14,22 @@ use Rattle.kishu_store_laws.specs.Laws.{ends-gives, one_changes, one_graph}
 use Rattle.kishu_history.specs.Checkout.{to_load, to_drop}
 use Rattle.kishu_live_laws.specs.OnStates.{answer_on}
 use Rattle.kishu_live_laws.specs.Outcomes.{still_state, when_none}
+use Rattle.kishu_live_laws.specs.Refusals.{LeavesTooLarge}
+use Rattle.kishu_model.specs.Answers.{Answer, ran_cell, ran_cells, checked_out, branched, logged, told_status, inspected, told_stored, told_plan, refused, Refusal, bad_request, cell_too_long, no_such_ref, bad_name, name_taken, store_full, state_too_large}
 use Rattle.kishu_model.specs.Request.{Request}
 use Rattle.kishu_model.specs.Values.{answer_of}
 use Rattle.kishu_journal.specs.Going.{IsQuiet}
 use Rattle.kishu_checkout.specs.Loads.{AreCarried, IsLoadedFrom}
 use Rattle.kishu_checkout.specs.Pictures.{told_file}
+use Rattle.kishu_commit.specs.declared.committing.Record as rust_record
 use Rattle.kishu_session.specs.Attached.{IsAtEnd, StandsAtEnd}
 use Rattle.kishu_session.specs.Becoming.{IsHeadLoaded, IsNextState}
 use Rattle.kishu_session.specs.Ends.{IsBehind, at-end-behind, at-end-history}
 use Rattle.kishu_session.specs.Head.{CountsPath, IsGiven, IsKnown, IsLoaded}
 use Rattle.kishu_session.specs.Known.{IsHistoryOf}
 use Rattle.kishu_session.specs.Lives.{state_of}
-use Rattle.kishu_session.specs.Prepared.{LeadsOn, after_by, led_with, record_in}
+use Rattle.kishu_session.specs.Prepared.{LeadsOn, RefusesNoSize, after_by, led_with, record_in}
+use Rattle.kishu_session.specs.Refusing.{RefusesSize}
 use Rattle.kishu_session.specs.declared.head.Head.{Head}
 use Rattle.kishu_session.specs.declared.prepared.Prepared.{Prepared}
 use Rattle.kishu_session.specs.declared.session.Session.{Session}
@@ -56,7 +60,8 @@ head-loaded session s told stands loaded g holds =
 
 -- From a history that is kept, whose changes a file gives, to the one with the request's record.
 module _ (file : List ℕ) (old new : Head) (h : History) (q : Request) (r : Option Record) (gives : Gives file h.changes)
-    (after : (led_with h r).graph ≡ after_by h (state_of old.live) q) where
+    (after : (led_with h r).graph ≡ after_by h (state_of old.live) q)
+    (large : r ≡ None → (new ≡ old) ⊎ ((bytes : ℕ) × LeavesTooLarge (head_table h) (state_of old.live) q bytes)) where
   abbrev of : ℕ → Change
   of = change_of h.changes
 
@@ -86,8 +91,9 @@ module _ (file : List ℕ) (old new : Head) (h : History) (q : Request) (r : Opt
             (carried-there (Some file) old new h (led_with h r) k kept),
       ))
 
-  reloaded-next : IsHistoryOf new.graph (led_with h r) → IsReloaded (Some file) new h (led_with h r) → IsNextState file of h.graph u q v
-  reloaded-next kept k =
+  loaded-next : IsHistoryOf new.graph (led_with h r) → IsReloaded (Some file) new h r (led_with h r) → ((bytes : ℕ) × LeavesTooLarge (head_table h) u q bytes)
+      → IsNextState file of h.graph u q v
+  loaded-next kept k leaves =
       inr (inr (
         sym after ∙ k.graph,
         record {
@@ -97,9 +103,16 @@ module _ (file : List ℕ) (old new : Head) (h : History) (q : Request) (r : Opt
               subst (λ (t : Table). IsLoadedFrom file t v) (head-table-of (led_with h r) h.graph h.changes k.graph k.same.changes)
               (k.loaded (led_with h r) kept).given;
         },
+        leaves,
       ))
 
-  committed-next : IsCommitted old new h r → IsNextState file of h.graph u q v
+  reloaded-next : IsHistoryOf new.graph (led_with h r) → IsReloaded (Some file) new h r (led_with h r) → IsNextState file of h.graph u q v
+  reloaded-next kept k =
+      ⊎_elim
+      (λ (same : new ≡ old). inl (ap (λ (x : Head). state_of x.live) same ∙ sym (still_state of u h.graph q (when_none of u h.graph q (none-made k.same)))))
+      (loaded-next kept k) (large k.none)
+
+  committed-next : IsCommitted (Some file) old new h r → IsNextState file of h.graph u q v
   committed-next k =
       inl (k.ran ∙ left-on of u h.graph q k.cells (sym after ∙ ap (λ (o : Option Record). (led_with h o).graph) k.is))
 
@@ -113,6 +126,33 @@ counts-known head place h kept known = record {
   few = ∥∥₁_elim known le_prop (λ k. (one-count head.graph k.0 h k.1.kept kept head k.1.count).few);
 }
 
+-- A state is refused for its size, or none is.
+no-size : (r : Refusal) → ((bytes : ℕ) × (r ≡ state_too_large bytes)) ⊎ ((bytes : ℕ) → Some (refused r) ≡ Some (refused (state_too_large bytes)) → ⊥)
+no-size bad_request = inr (λ bytes e. cc (e))
+no-size cell_too_long = inr (λ bytes e. cc (e))
+no-size no_such_ref = inr (λ bytes e. cc (e))
+no-size bad_name = inr (λ bytes e. cc (e))
+no-size name_taken = inr (λ bytes e. cc (e))
+no-size store_full = inr (λ bytes e. cc (e))
+no-size (state_too_large bytes) = inl (bytes, refl)
+
+sized-or-not : (o : Option Answer) → ((bytes : ℕ) × RefusesSize o bytes) ⊎ ((bytes : ℕ) → RefusesSize o bytes → ⊥)
+sized-or-not None = inr (λ bytes e. cc (e))
+sized-or-not (Some (refused r)) = ⊎_elim (λ (k : (bytes : ℕ) × (r ≡ state_too_large bytes)). inl (k.0, ap (λ (x : Refusal). Some (refused x)) k.1)) (λ no. inr no) (no-size r)
+sized-or-not (Some (ran_cell commit count report)) = inr (λ bytes e. cc (e))
+sized-or-not (Some (ran_cells commit results)) = inr (λ bytes e. cc (e))
+sized-or-not (Some (checked_out commit at)) = inr (λ bytes e. cc (e))
+sized-or-not (Some (branched commit title)) = inr (λ bytes e. cc (e))
+sized-or-not (Some (logged branches path)) = inr (λ bytes e. cc (e))
+sized-or-not (Some (told_status t)) = inr (λ bytes e. cc (e))
+sized-or-not (Some (inspected commit names nodes)) = inr (λ bytes e. cc (e))
+sized-or-not (Some (told_stored commit dropped more)) = inr (λ bytes e. cc (e))
+sized-or-not (Some (told_plan commit drop keep load)) = inr (λ bytes e. cc (e))
+
+none-in : (o : Option rust_record.Record) → record_in o ≡ None → o ≡ None
+none-in None e = refl
+none-in (Some x) e = absurd (cc (e))
+
 module _ (old : Session) (new : Head) (s : host.State) (q : Request) (p : Prepared)
     (leads : LeadsOn (told_file s) old.journal.place old.head new q p) where
   abbrev live : values.State
@@ -120,6 +160,13 @@ module _ (old : Session) (new : Head) (s : host.State) (q : Request) (p : Prepar
 
   abbrev r : Option Record
   r = record_in p.recorded
+
+  -- Without a record nothing changes, or the request's cells left a state that is too large.
+  same-or-large : (p.recorded ≡ None → RefusesNoSize p.answer → new ≡ old.head) → (h : History) → IsHistoryOf old.head.graph h → r ≡ None
+      → (new ≡ old.head) ⊎ ((bytes : ℕ) × LeavesTooLarge (head_table h) live q bytes)
+  same-or-large stays h kept none =
+      ⊎_elim (λ (k : (bytes : ℕ) × RefusesSize (answer_of p.answer) bytes). inr (k.0, (leads.large k.0 k.1).0 h kept)) (λ sizes. inl (stays (none-in p.recorded none) sizes))
+      (sized-or-not (answer_of p.answer))
 
   -- of the history that it stands behind, and so of what the file holds and its records change
   module _ (g : Graph) (cs : List Change) (e : IsAtEnd old s g) (gives : Gives s.file cs) where
@@ -138,11 +185,12 @@ module _ (old : Session) (new : Head) (s : host.State) (q : Request) (p : Prepar
         subst (λ (x : Graph). answer_of p.answer ≡ Some (answer_on (change_of cs) live x q)) behind.graph
         (subst (λ (ds : List Change). answer_of p.answer ≡ Some (answer_on (change_of ds) live found.graph q)) changes-are (leads.answers found behind.kept count).answer)
 
-    pub goes-on-live : (s1 : host.State) → IsQuiet s s1 → s.tells ≡ true → IsNextState s.file (change_of cs) g live q (state_of new.live)
-    goes-on-live s1 quiet told =
+    pub goes-on-live : (s1 : host.State) → IsQuiet s s1 → (p.recorded ≡ None → RefusesNoSize p.answer → new ≡ old.head) → s.tells ≡ true
+        → IsNextState s.file (change_of cs) g live q (state_of new.live)
+    goes-on-live s1 quiet stays told =
         let kind = subst (λ (o : Option (List ℕ)). Kind o old.head new found r (led_with found r)) (told-some s told)
         (kind-now old new s s1 q p leads quiet found behind.kept behind.place) in
         subst (λ (x : Graph). IsNextState s.file (change_of cs) x live q (state_of new.live)) behind.graph
         (subst (λ (ds : List Change). IsNextState s.file (change_of ds) found.graph live q (state_of new.live)) changes-are
         (next-state s.file old.head new found q r (ends-gives s.file behind.found behind.at.ends) (graph-now old new s s1 q p leads quiet found behind.kept behind.place)
-        (kept-now old new s s1 q p leads quiet found behind.kept behind.place) kind))
+        (same-or-large stays found behind.kept) (kept-now old new s s1 q p leads quiet found behind.kept behind.place) kind))

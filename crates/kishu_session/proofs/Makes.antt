@@ -18,7 +18,7 @@ use Rattle.kishu_live_laws.specs.NextMakes.{carried_makes, on_makes}
 use Rattle.kishu_live_laws.specs.OnStates.{after_on, head_rows, state_on}
 use Rattle.kishu_model.specs.Request.{Request}
 use Rattle.kishu_session.specs.Attached.{IsAttached}
-use Rattle.kishu_session.specs.Becoming.{IsHeadCarried, IsHeadLoaded, IsNextState}
+use Rattle.kishu_session.specs.Becoming.{IsHeadCarried, IsHeadLoaded, IsLoadedAfter, IsNextState}
 use Rattle.kishu_session.specs.Ends.{at-end-history}
 use Rattle.kishu_session.specs.Lives.{state_of}
 use Rattle.kishu_session.specs.declared.session.Session.{Session}
@@ -62,4 +62,4 @@ module _ (old : Session) (s : host.State) (q : Request) (g : Graph) (a : IsAttac
   pub makes-few : IsNextState s.file of g u q v → Few
   makes-few =
       ⊎_elim left-few
-      (⊎_elim (λ (k : (newest now ≤ newest g) × IsHeadCarried s.file of g now u v). carried-few k.0 k.1) (λ (k : (now ≡ g) × IsHeadLoaded s.file g v). anew-few k.1))
+      (⊎_elim (λ (k : (newest now ≤ newest g) × IsHeadCarried s.file of g now u v). carried-few k.0 k.1) (λ (k : IsLoadedAfter s.file of g u q v). anew-few k.1))

@@ -7,14 +7,18 @@ use Rattle.kishu_store.specs.Branches.{commit_of}
 use Rattle.kishu_store.specs.Entries.{Entry, Record, commit, move, name, MoveTo, to_commit, to_branch}
 use Rattle.kishu_store.specs.Fitting.{GoesOn, on_branch}
 use Rattle.kishu_store.specs.Graph.{Commit, Graph}
+use Rattle.kishu_store.specs.Groups.{Group}
 use Rattle.kishu_store.specs.Histories.{History, head_table, led}
 use Rattle.kishu_store.specs.Limits.{newest_profile}
 use Rattle.kishu_store.specs.Tables.{Change, table_in, change_of}
 use Rattle.kishu_graph.specs.Tables.{table_of_rows}
 use Rattle.kishu_history.specs.Accessed.{accessed_by}
+use Rattle.kishu_history.specs.Live.{IsLive}
+use Rattle.kishu_history.specs.Stored.{Stored}
 use Rattle.kishu_store_laws.specs.HistoryLaws.{IsHistory, led-history}
 use Rattle.kishu_graph.specs.Kept.{Kept, KeepsHistory}
-use Rattle.kishu_commit.specs.Told.{next_record, told_record, CanBeStored}
+use Rattle.kishu_commit.specs.Told.{next_record, next_record_by, record_by, told_record, CanBeStored}
+use Rattle.kishu_session.specs.Committing.{IsTold}
 use Rattle.kishu_session.specs.Head.{Carries, IsLoaded, KeepsTable}
 use Rattle.kishu_session.specs.Known.{IsHistoryOf}
 use Rattle.kishu_session.specs.Lives.{state_of}
@@ -57,23 +61,28 @@ pub record IsMoved (file : Option (List ℕ)) (old new : Head) (h n : History) :
   pub from : table_of_rows old.table ≡ head_table h
   pub carries : Carries file old new
 
--- The graph stays, and so do they; the live state was loaded anew.
-pub record IsReloaded (file : Option (List ℕ)) (new : Head) (h n : History) : Type 0 where
+-- There is no record, the graph stays, and so do they; the live state was loaded anew.
+pub record IsReloaded (file : Option (List ℕ)) (new : Head) (h : History) (r : Option Record) (n : History) : Type 0 where
+  pub none : r ≡ None
   pub same : IsSameStore h n
   pub graph : n.graph ≡ h.graph
   pub loaded : IsLoaded file new
 
--- The record is the commit of these cells, which left the live state, as the head's table tells it among the names that they accessed.
-pub record IsCommitted (old new : Head) (h : History) (r : Option Record) : Type 0 where
+-- The record is the commit of these cells, which left the live state: as the head's table tells it among the names that they accessed, where the file that the host tells holds the pictures of the old one.
+pub record IsCommitted (file : Option (List ℕ)) (old new : Head) (h : History) (r : Option Record) : Type 0 where
   pub cells : List (List ℕ)
-  pub is : r ≡ Some (next_record h cells (state_of old.live) (accessed_by newest_profile cells (state_of old.live)) (state_of new.live))
+  pub dropped : List Group
+  pub stored : List Group
+  pub is : r ≡ Some (next_record_by h cells dropped stored (state_of new.live))
+  pub told : IsTold file (head_table h) (state_of old.live) → r ≡ Some (next_record h cells (state_of old.live) (accessed_by newest_profile cells (state_of old.live)) (state_of new.live))
   pub ran : state_of new.live ≡ after_cells newest_profile cells (state_of old.live)
   pub sound : IsSoundState (state_of new.live)
   pub fits : CanBeStored (head_table h) (state_of old.live) (accessed_by newest_profile cells (state_of old.live)) (state_of new.live)
+  pub lives : IsLive (Stored None) (table_of_rows new.table) (state_of new.live)
   pub held : (j : History) → IsHistoryOf new.graph j → KeepsTable new j
 
 abbrev pub Kind : Option (List ℕ) → (old new : Head) → History → Option Record → History → Type 0
-Kind file old new h r n = IsStill old new h n ⊎ IsMoved file old new h n ⊎ IsReloaded file new h n ⊎ IsCommitted old new h r
+Kind file old new h r n = IsStill old new h n ⊎ IsMoved file old new h n ⊎ IsReloaded file new h r n ⊎ IsCommitted file old new h r
 
 same-commits : (title : List ℕ) (o : Option ℕ) (g : Graph) → (on_branch title o g).commits ≡ g.commits
 same-commits title None g = refl
@@ -87,14 +96,19 @@ module _ (file : Option (List ℕ)) (old new : Head) (h : History) (now : Graph)
   by-entry : (r : Record) (e : Entry) → r.entry ≡ e → Leads h r now → TellsBy file old new r e → Kind file old new h (Some r) (led h r.entry)
   by-entry r (commit p f cells ds ss) is leads tells =
       let parent : p ≡ h.graph.head.commit = subst (λ (e : Entry). GoesOn h.graph e) is leads.fits.graph.goes_on in
+      let lists = tells.lists h kept in
       inr (inr (inr (record {
         cells = cells;
-        is = ap (λ (x : Record). Some x)
-            (tells.is h kept
+        dropped = lists.0;
+        stored = lists.1;
+        is = ap (λ (x : Record). Some x) (lists.2 ∙ ap (λ (n : ℕ). record_by n cells lists.0 lists.1 (state_of new.live)) parent);
+        told = λ there. ap (λ (x : Record). Some x)
+            (tells.told h kept there
             ∙ ap (λ (n : ℕ). told_record n cells (head_table h) (state_of old.live) (accessed_by newest_profile cells (state_of old.live)) (state_of new.live)) parent);
         ran = tells.ran;
         sound = tells.sound;
         fits = tells.fits h kept;
+        lives = tells.lives;
         held = tells.held;
       })))
   by-entry r (move to) is leads tells =
@@ -117,7 +131,7 @@ module _ (file : Option (List ℕ)) (old new : Head) (h : History) (now : Graph)
         table = ap (λ (x : Head). x.table) same;
         kept = ap (λ (x : Head). x.kept) same;
       })
-  kind-of None leads (inr back) = inr (inr (inl (record { same = record { commits = refl; changes = refl }; graph = refl; loaded = back.loaded })))
+  kind-of None leads (inr back) = inr (inr (inl (record { none = refl; same = record { commits = refl; changes = refl }; graph = refl; loaded = back.loaded })))
   kind-of (Some r) leads tells = by-entry r r.entry refl leads tells
 
 -- ---- tables

@@ -27,7 +27,7 @@ use Rattle.kishu_session.specs.declared.prepared.Prepared.{Prepared}
 -- ---- no record
 
 -- A record changes a graph.
-never-same : (h : History) (r : Record) (now : Graph) → Leads h r now → now ≡ h.graph → ⊥
+pub never-same : (h : History) (r : Record) (now : Graph) → Leads h r now → now ≡ h.graph → ⊥
 never-same h r now l same =
     omega (arith, changed-counted h.graph r.entry l.fits.graph, ap (λ (x : Graph). x.records) l.changed_is, ap (λ (x : Graph). x.records) same)
 

@@ -103,7 +103,7 @@ module _ (old : Session) (new : Head) (s s1 : host.State) (q : Request) (p : Pre
       after-is : After h ≡ after h.graph q
       after-is = after_here s.file (change_of h.changes) live h.graph rows states q
 
-      small : (k : IsCommitted old.head new h r) → StaySmall newest_profile k.cells live
+      small : (k : IsCommitted (Some s.file) old.head new h r) → StaySmall newest_profile k.cells live
       small k =
           small-on (change_of h.changes) live h.graph q k.cells
           (sym (graph-now old new s s1 q p leads quiet h kept place) ∙ ap (λ (o : Option Record). (led_with h o).graph) k.is)

@@ -1,4 +1,4 @@
--- What is known merely, that a table tells a state by the lengths of its pictures, or that these are kept, is so.
+-- What is known merely, that a table tells a state by the lengths of its pictures, or that the digests of these are kept, is so.
 use Rattle.std.proofs.Common.{◌≡◌, ◌⊎◌, inl, inr, ⊎_elim, ℕ, if◌then◌else◌, List, [], ◌∷◌, length, refl, subst}
 use Rattle.std.specs.List.{AllByRecursion-prop}
 use Rattle.std.specs.Prelude.{Option, Some, None}
@@ -18,7 +18,7 @@ use Rattle.kishu_store.specs.Histories.{History, head_table}
 use Rattle.kishu_store.specs.Groups.{Group, is_one_of}
 use Rattle.kishu_store.specs.Tables.{Row, Table, groups_in}
 use Rattle.kishu_graph.specs.Tables.{table_of_rows}
-use Rattle.kishu_delta.specs.Kept.{Pictures, KeepsJust, kept_of}
+use Rattle.kishu_delta.specs.Kept.{Digest, Digests, KeepsJust, digest_of, kept_of}
 use Rattle.kishu_history.specs.Live.{IsLive}
 use Rattle.kishu_history.specs.Stored.{Stored, HasLength}
 use Rattle.kishu_history_laws.specs.Choices.{among_decides, told}
@@ -122,16 +122,16 @@ live-there t s merely = record {
 
 -- ---- what is kept of a head's table
 
-pictures-prop : (kept : Pictures) (gs : List Group) (s : State) → IsProp (KeepsJust kept gs s)
+pictures-prop : (kept : Digests) (gs : List Group) (s : State) → IsProp (KeepsJust kept gs s)
 pictures-prop kept gs s x y = λ i. record {
-  bytes = λ g. bytes-set (kept_of kept g) (if is_one_of g gs then Some (picture_bytes s g) else None) (x.bytes g) (y.bytes g) i;
+  digests = λ g. digests-set (kept_of kept g) (if is_one_of g gs then Some (digest_of (picture_bytes s g)) else None) (x.digests g) (y.digests g) i;
   fit = λ g m. fits-prop (picture s g) (x.fit g m) (y.fit g m) i;
 }
   where
-    bytes-set : IsSet (Option (List ℕ))
-    bytes-set = hlevel props
+    digests-set : IsSet (Option Digest)
+    digests-set = hlevel props
 
-pub pictures-there : (kept : Pictures) (gs : List Group) (s : State) → ∥ KeepsJust kept gs s ∥₁ → KeepsJust kept gs s
+pub pictures-there : (kept : Digests) (gs : List Group) (s : State) → ∥ KeepsJust kept gs s ∥₁ → KeepsJust kept gs s
 pictures-there kept gs s merely = ∥∥₁_elim merely (pictures-prop kept gs s) (λ k. k)
 
 pub keeps-prop : (head : Head) (h : History) → IsProp (KeepsTable head h)

@@ -1,32 +1,25 @@
 -- What requests read of the host, and how far they raise the counter.
-use Rattle.std.proofs.Common.{◌≡◌, ℕ, List, [], ◌∷◌, length, Option, Some, None, refl, sym, ◌∙◌, ap, subst, arith}
+use Rattle.std.proofs.Common.{◌≡◌, ℕ, List, [], ◌∷◌, length, Option, Some, None, refl, sym, ◌∙◌, ap, subst, inl, inr, arith}
 use Rattle.std.proofs.lemmas.List.{append-nil}
-use Rattle.std.proofs.Math.Logic.{∥∥₁_elim}
 use Rattle.kishu_host.specs.Host.{State, ReadsMore}
 use Rattle.kishu_language.specs.declared.profile.Profile.TheVariants.{One}
 use Rattle.kishu_meaning.specs.cells.Meaning.{run}
 use Rattle.kishu_meaning.specs.values.Values as values
 use Rattle.kishu_objects.specs.Picture.{order}
 use Rattle.kishu_store.specs.Groups.{Group}
-use Rattle.kishu_store.specs.Histories.{head_table}
-use Rattle.kishu_store.specs.Tables.{Table, groups_in}
-use Rattle.kishu_graph.specs.Kept.{Kept}
+use Rattle.kishu_store.specs.Tables.{groups_in}
 use Rattle.kishu_graph.specs.Tables.{table_of_rows}
 use Rattle.kishu_history.specs.Accessed.{accessed_by}
 use Rattle.kishu_history.specs.Touched.{touched}
 use Rattle.kishu_history_laws.specs.cells.AccessLaws.{touched_same}
-use Rattle.kishu_live_laws.specs.Refusals.{LeavesTooLarge}
 use Rattle.kishu_model.specs.Request.{Request, cell, cells, checkout, branch, log, status, inspect, stored, plan, unreadable}
-use Rattle.kishu_session.specs.Applying.{IsIdle}
-use Rattle.kishu_session.specs.Head.{IsKnown}
+use Rattle.kishu_session.specs.Applying.{HasCells, IsIdle}
 use Rattle.kishu_session.specs.Lives.{state_of}
-use Rattle.kishu_session.specs.Prepared.{LeadsOn, RefusesNoSize}
 use Rattle.kishu_session.specs.Running.{AreSameNames}
-use Rattle.kishu_session.specs.Working.{IsUncounted, ReadsFor, nodes_touched}
+use Rattle.kishu_session.specs.Working.{IsUncounted, ReadsFor, bytes_asked, bytes_asked_by, nodes_touched}
 use Rattle.kishu_session.specs.declared.head.Head.{Head}
 use Rattle.kishu_session.specs.declared.live.Live.{Live}
 use Rattle.kishu_session.specs.declared.prepared.Prepared.{Prepared}
-use Rattle.kishu_session.proofs.Committed.{⊥-prop}
 use Rattle.kishu_session.proofs.RanOn.{RanOn}
 
 -- ---- bytes
@@ -61,36 +54,25 @@ idle-uncounted inspect is = is
 idle-uncounted (stored of) is = tt
 idle-uncounted (plan to) is = tt
 
--- They leave nothing too large.
-idle-small : (t : Table) (s : values.State) (q : Request) (bytes : ℕ) → IsIdle q → LeavesTooLarge t s q bytes → ⊥
-idle-small t s unreadable bytes is large = is
-idle-small t s (cell text) bytes is large = is
-idle-small t s (cells texts) bytes is large = is
-idle-small t s (checkout to) bytes is large = is
-idle-small t s (branch title at) bytes is large = large
-idle-small t s log bytes is large = large
-idle-small t s status bytes is large = large
-idle-small t s inspect bytes is large = is
-idle-small t s (stored of) bytes is large = large
-idle-small t s (plan to) bytes is large = large
+-- ---- cells that are committed
 
-pub idle-no-size : (file : Option (List ℕ)) (place : ℕ) (old new : Head) (q : Request) (p : Prepared) → LeadsOn file place old new q p → IsKnown old place → IsIdle q
-    → RefusesNoSize p.answer
-idle-no-size file place old new q p leads known is bytes size =
-    ∥∥₁_elim known ⊥-prop (λ k. idle-small (head_table k.0) (state_of old.live) q bytes is ((leads.large bytes size).0 k.0 k.1.kept))
+-- Where they are these of the request, and left what they did on the old live state, they read what they asked for.
+pub reads-ran : (old new : Head) (l : Live) (ran : List (List ℕ)) (s t : State) (front : List (List ℕ)) → front ≡ ran → new.live ≡ l
+    → ReadsMore s.reads t.reads (bytes_asked (groups_in (table_of_rows old.table)) (state_of old.live) (accessed_by One front (state_of old.live)) (state_of l))
+    → ReadsMore s.reads t.reads (bytes_asked (groups_in (table_of_rows old.table)) (state_of old.live) (accessed_by One ran (state_of old.live)) (state_of new.live))
+reads-ran old new l ran s t front is live reads =
+    let gs = groups_in (table_of_rows old.table) in
+    let u = state_of old.live in
+    subst (λ (x : Live). ReadsMore s.reads t.reads (bytes_asked gs u (accessed_by One ran u) (state_of x))) (sym live)
+    (subst (λ (ts : List (List ℕ)). ReadsMore s.reads t.reads (bytes_asked gs u (accessed_by One ts u) (state_of l))) is reads)
 
--- They read nothing.
-pub idle-reads : (kept : Kept) (s t : State) (q : Request) (p : Prepared) → ReadsFor kept s t q p → IsIdle q → RefusesNoSize p.answer → ReadsMore s.reads t.reads 0
-idle-reads kept s t unreadable p reads is sizes = absurd is
-idle-reads kept s t (cell text) p reads is sizes = absurd is
-idle-reads kept s t (cells texts) p reads is sizes = absurd is
-idle-reads kept s t (checkout to) p reads is sizes = absurd is
-idle-reads kept s t (branch title at) p reads is sizes = reads sizes
-idle-reads kept s t log p reads is sizes = reads sizes
-idle-reads kept s t status p reads is sizes = reads sizes
-idle-reads kept s t inspect p reads is sizes = absurd is
-idle-reads kept s t (stored of) p reads is sizes = reads sizes
-idle-reads kept s t (plan to) p reads is sizes = reads sizes
+-- So it is with a request that has cells, and a record.
+pub reads-asked : (old new : Head) (s t : State) (q : Request) (p : Prepared) → ReadsFor old new s t q p → HasCells q → (p.recorded ≡ None → ⊥)
+    → ReadsMore s.reads t.reads (bytes_asked_by old new q)
+reads-asked old new s t q p reads (inl is) some =
+    subst (λ (r : Request). ReadsMore s.reads t.reads (bytes_asked_by old new r)) (sym is.1) (subst (λ (r : Request). ReadsFor old new s t r p) is.1 reads some)
+reads-asked old new s t q p reads (inr is) some =
+    subst (λ (r : Request). ReadsMore s.reads t.reads (bytes_asked_by old new r)) (sym is.1) (subst (λ (r : Request). ReadsFor old new s t r p) is.1 reads some)
 
 -- ---- a cell
 

@@ -18,7 +18,7 @@ use Rattle.kishu_replay.specs.Replay.{replay}
 use Rattle.kishu_model.specs.declared.answer.Answer.{Answer}
 use Rattle.kishu_model.specs.declared.request.Request.{Request}
 use Rattle.kishu_model.specs.Request as model
-use Rattle.kishu_model.specs.Request.{cell, checkout}
+use Rattle.kishu_model.specs.Request.{cell, cells, checkout, branch, log, status, inspect, stored, plan, unreadable}
 use Rattle.kishu_model.specs.Serve.{after}
 use Rattle.kishu_model.specs.Step.{step, charge_of}
 use Rattle.kishu_model.specs.Values.{request_of, answer_of}
@@ -33,15 +33,28 @@ use Rattle.kishu_session.specs.Lives.{state_of}
 use Rattle.kishu_session.specs.Reading.{rows_read, MayRead}
 use Rattle.kishu_session.specs.Refusing.{IsRefusal, RefusesSize}
 use Rattle.kishu_session.specs.Sized.{most_kept}
-use Rattle.kishu_session.specs.Working.{CountsUpTo}
-pub use Rattle.kishu_session.specs.Working.{IsIdle, most_steps}
+use Rattle.kishu_session.specs.Working.{CountsUpTo, bytes_asked_by}
+pub use Rattle.kishu_session.specs.Working.{IsIdle, most_steps, bytes_asked}
 use Rattle.kishu_session.specs.Written.{IsRecorded}
 use Rattle.kishu_session.specs.declared.session.Session.{Session}
 
 -- ---- kinds of requests
 
-abbrev pub IsCell : model.Request → Type 0
-IsCell q = (text : List ℕ) × (q ≡ cell text)
+-- Those that tell what is kept or bound.
+abbrev pub TellsAlone : model.Request → Type 0
+TellsAlone unreadable = ⊥
+TellsAlone (cell text) = ⊥
+TellsAlone (cells texts) = ⊥
+TellsAlone (checkout to) = ⊥
+TellsAlone (branch name at) = ⊥
+TellsAlone log = Unit {0}
+TellsAlone status = Unit {0}
+TellsAlone inspect = Unit {0}
+TellsAlone (stored of) = Unit {0}
+TellsAlone (plan to) = Unit {0}
+
+abbrev pub HasCells : model.Request → Type 0
+HasCells q = ((text : List ℕ) × (q ≡ cell text)) ⊎ ((texts : List (List ℕ)) × (q ≡ cells texts))
 
 -- ---- from a session that is attached
 
@@ -140,9 +153,11 @@ ReadsLoaded old s t q a =
     → Told s ((g : Graph) → IsAttached old s g → ReadsMore s.reads t.reads
     (size_among (loaded (stops g g.head.commit) (stops g (after g (request_of q)).head.commit)) (replay g (after g (request_of q)).head.commit)))
 
--- These requests read no byte. Nor does a cell that is committed.
-abbrev pub ReadsNone : Request → Answer → Type 0
-ReadsNone q a = IsIdle (request_of q) ⊎ (IsCell (request_of q) × (IsRefusal (answer_of a) → ⊥) × ((bytes : ℕ) → RefusesSize (answer_of a) bytes → ⊥))
+-- So it did at cells that are committed by just the lengths of the pictures of the touched groups that the tables before and after both have, with pictures of one digest and length.
+abbrev pub ReadsAsked : (old new : Session) → (s t : State) → Request → Answer → Type 0
+ReadsAsked old new s t q a =
+    HasCells (request_of q) → (IsRefusal (answer_of a) → ⊥) → ((bytes : ℕ) → RefusesSize (answer_of a) bytes → ⊥)
+    → ReadsMore s.reads t.reads (bytes_asked_by old.head new.head (request_of q))
 
 -- Each of these leaves the counter as it was: a checkout from a heap that isn't loaded anew, and requests that only tell what is kept.
 abbrev pub LeavesCounter : Session → Request → Type 0

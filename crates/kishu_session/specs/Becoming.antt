@@ -11,6 +11,7 @@ use Rattle.kishu_model.specs.declared.answer.Answer.{Answer}
 use Rattle.kishu_model.specs.declared.request.Request as rust_request
 use Rattle.kishu_history.specs.Checkout.{to_load, to_drop}
 use Rattle.kishu_live_laws.specs.OnStates.{after_on, answer_on, head_rows, state_on}
+use Rattle.kishu_live_laws.specs.Refusals.{LeavesTooLarge}
 use Rattle.kishu_checkout.specs.Loads.{AreCarried, IsLoadedFrom}
 use Rattle.kishu_session.specs.Attached.{IsAtEnd}
 use Rattle.kishu_session.specs.Lives.{state_of}
@@ -30,11 +31,11 @@ IsHeadCarried file changes g now u v = AreCarried (Some file) (to_drop (head_row
 abbrev pub IsCarriedAfter : List ℕ → (ℕ → Change) → Graph → State → Request → State → Type 0
 IsCarriedAfter file changes g u q v = (newest (after_on changes u g q) ≤ newest g) × IsHeadCarried file changes g (after_on changes u g q) u v
 
--- After a request that changes nothing it may be the one that was loaded anew for the head.
+-- After one whose cells left a state that is too large, as the head's table tells it, it may be the one that was loaded anew for the head. The graph stays then.
 abbrev pub IsLoadedAfter : List ℕ → (ℕ → Change) → Graph → State → Request → State → Type 0
-IsLoadedAfter file changes g u q v = (after_on changes u g q ≡ g) × IsHeadLoaded file g v
+IsLoadedAfter file changes g u q v = (after_on changes u g q ≡ g) × IsHeadLoaded file g v × ((bytes : ℕ) × LeavesTooLarge (head_rows changes g) u q bytes)
 
--- Where the records of the commits change this: after a request on a state it is the one that the request's cells left, where they are committed, and the same where none are; or none are, and it was carried on to the head of the graph after it; or nothing changed, and it was loaded anew.
+-- Where the records of the commits change this: after a request on a state it is the one that the request's cells left, where they are committed, and the same where none are; or none are, and it was carried on to the head of the graph after it; or the request's cells left a state that is too large, and it was loaded anew.
 abbrev pub IsNextState : List ℕ → (ℕ → Change) → Graph → State → Request → State → Type 0
 IsNextState file changes g u q v = (v ≡ state_on changes u g q) ⊎ IsCarriedAfter file changes g u q v ⊎ IsLoadedAfter file changes g u q v
 

@@ -44,7 +44,7 @@ LivesAt file head h = IsLive (Stored file) (head_table h) (state_of head.live)
 abbrev pub Lives : Option (List ℕ) → Head → Type 0
 Lives file head = (h : History) → IsHistoryOf head.graph h → LivesAt file head h
 
--- The table of the history's head is kept, and just of its groups the pictures in the live state.
+-- The table of the history's head is kept, and just of its groups the digests of the pictures in the live state.
 pub record KeepsTable (head : Head) (h : History) : Type 0 where
   pub table : table_of_rows head.table ≡ head_table h
   pub pictures : KeepsJust head.kept (groups_in (head_table h)) (state_of head.live)
@@ -58,7 +58,7 @@ abbrev pub IsGiven : Option (List ℕ) → Head → History → Type 0
 IsGiven None head h = Unit {0}
 IsGiven (Some file) head h = IsLoadedFrom file (head_table h) (state_of head.live)
 
--- It was loaded for that table, and this and its pictures are kept.
+-- It was loaded for that table, and this and the digests of its pictures are kept.
 pub record IsLoadedAt (file : Option (List ℕ)) (head : Head) (h : History) : Type 0 where
   pub lives : LivesAt file head h
   pub given : IsGiven file head h
@@ -77,7 +77,7 @@ rows_to_load old new = to_load (table_of_rows old.table) (table_of_rows new.tabl
 abbrev pub groups_to_drop : (old new : Head) → List Group
 groups_to_drop old new = to_drop (table_of_rows old.table) (table_of_rows new.table)
 
--- Now the table of the head's commit is kept, in each history that is kept. Where a host tells this of its file, the live state is the old one with the pictures loaded that are stored for the rows to load, after the names of the groups to drop were unbound; and just of the table's groups the pictures in it are kept.
+-- Now the table of the head's commit is kept, in each history that is kept. Where a host tells this of its file, the live state is the old one with the pictures loaded that are stored for the rows to load, after the names of the groups to drop were unbound; and just of the table's groups the digests of the pictures in it are kept.
 pub record Carries (file : Option (List ℕ)) (old new : Head) : Type 0 where
   pub to : (h : History) → IsHistoryOf new.graph h → table_of_rows new.table ≡ head_table h
   pub state : AreCarried file (groups_to_drop old new) (rows_to_load old new) (state_of old.live) (state_of new.live)
@@ -88,7 +88,7 @@ pub record IsCarried (file : Option (List ℕ)) (old new : Head) : Type 0 where
   pub from : (h : History) → IsHistoryOf old.graph h → table_of_rows old.table ≡ head_table h
   pub carries : Carries file old new
 
--- What is kept of the table of some commit, in each history that is kept: the live state is the one that this table tells, by the lengths of its pictures, and just of its groups the pictures in it are kept.
+-- What is kept of the table of some commit, in each history that is kept: the live state is the one that this table tells, by the lengths of its pictures, and just of its groups the digests of the pictures in it are kept.
 pub record KeepsSome (head : Head) : Type 0 where
   pub commit : ℕ
   pub table : (h : History) → IsHistoryOf head.graph h → table_of_rows head.table ≡ table_to h commit
@@ -122,7 +122,7 @@ ReadsAtHead kept s t = (h : History) → IsHistoryOf kept h → ReadsAtMost s.re
 
 -- ---- whatever the host tells
 
--- The history is kept, its records end at that place, the cells on the path to its head are counted, the live state has the names of the head's table, and pictures of the lengths that this tells; and that table is kept, and these pictures.
+-- The history is kept, its records end at that place, the cells on the path to its head are counted, the live state has the names of the head's table, and pictures of the lengths that this tells; and that table is kept, and the digests of these pictures.
 pub record IsHeadOf (head : Head) (place : ℕ) (h : History) : Type 0 where
   pub kept : IsHistoryOf head.graph h
   pub place_is : h.place ≡ place

@@ -4,6 +4,7 @@ use Rattle.kishu_host.specs.Host.{State}
 use Rattle.kishu_store.specs.Graph.{Graph}
 use Rattle.kishu_store.specs.Entries.{Entry, Record, commit, move, name}
 use Rattle.kishu_store.specs.Fitting.{changed}
+use Rattle.kishu_store.specs.Groups.{Group}
 use Rattle.kishu_store.specs.Histories.{History, Follows, head_table, led}
 use Rattle.kishu_store.specs.Limits.{newest_profile}
 use Rattle.kishu_store.specs.Rules.{IsRecord}
@@ -12,17 +13,20 @@ use Rattle.kishu_meaning.specs.values.Values as values
 use Rattle.kishu_objects.specs.States.{IsSoundState}
 use Rattle.kishu_replay.specs.Replay.{after_cells}
 use Rattle.kishu_history.specs.Accessed.{accessed_by}
+use Rattle.kishu_history.specs.Live.{IsLive}
+use Rattle.kishu_history.specs.Stored.{Stored}
 use Rattle.kishu_model.specs.declared.answer.Answer as rust_answer
 use Rattle.kishu_model.specs.Answers.{Answer}
 use Rattle.kishu_model.specs.Request.{Request}
 use Rattle.kishu_model.specs.Step.{step}
 use Rattle.kishu_model.specs.Values.{answer_of}
 use Rattle.kishu_graph.specs.Kept.{Kept, StandsFor, KeepsHistory}
-use Rattle.kishu_commit.specs.Told.{told_record, CanBeStored}
+use Rattle.kishu_graph.specs.Tables.{table_of_rows}
+use Rattle.kishu_commit.specs.Told.{record_by, told_record, CanBeStored}
 use Rattle.kishu_commit.specs.declared.committing.Record as rust_record
 use Rattle.kishu_live_laws.specs.OnStates.{answer_on, after_on, charge_on}
 use Rattle.kishu_live_laws.specs.Refusals.{LeavesTooLarge}
-use Rattle.kishu_session.specs.Committing.{record_of}
+use Rattle.kishu_session.specs.Committing.{record_of, IsTold}
 use Rattle.kishu_session.specs.Head.{CountsPath, IsCarried, IsLoaded, KeepsTable, Lacks}
 use Rattle.kishu_session.specs.Known.{IsHistoryOf}
 use Rattle.kishu_session.specs.Lives.{state_of}
@@ -109,17 +113,23 @@ pub record KeepsState (old new : Head) : Type 0 where
   pub table : new.table ≡ old.table
   pub kept : new.kept ≡ old.kept
 
--- The commit drops and stores what these cells changed, which left the new state of the old one, as the head's table tells it among the names that they accessed. The new one is a state, bytes can tell the pictures that are stored, and the new head's table is kept, and its pictures.
-pub record IsCommitOf (old new : Head) (r : Record) (parent : ℕ) (cells : List (List ℕ)) : Type 0 where
-  pub is : (h : History) → IsHistoryOf old.graph h → r ≡ told_record parent cells (head_table h) (state_of old.live) (accessed_by newest_profile cells (state_of old.live)) (state_of new.live)
+-- The record drops some groups, and stores some with their pictures in this state.
+abbrev pub HasLists : Record → (parent : ℕ) → (cells : List (List ℕ)) → values.State → Type 0
+HasLists r parent cells u = (dropped : List Group) × (stored : List Group) × (r ≡ record_by parent cells dropped stored u)
+
+-- These cells left the new state of the old one, and the commit stores pictures in the new one. Where the file that the host tells holds the pictures of the old one, it drops and stores what they changed, as the head's table tells it among the names that they accessed. The new one is a state, bytes can tell the pictures that are stored, and the new head's table is kept, which tells the new state by the lengths of its pictures, and the digests of these.
+pub record IsCommitOf (file : Option (List ℕ)) (old new : Head) (r : Record) (parent : ℕ) (cells : List (List ℕ)) : Type 0 where
+  pub lists : (h : History) → IsHistoryOf old.graph h → HasLists r parent cells (state_of new.live)
+  pub told : (h : History) → IsHistoryOf old.graph h → IsTold file (head_table h) (state_of old.live) → r ≡ told_record parent cells (head_table h) (state_of old.live) (accessed_by newest_profile cells (state_of old.live)) (state_of new.live)
   pub ran : state_of new.live ≡ after_cells newest_profile cells (state_of old.live)
   pub sound : IsSoundState (state_of new.live)
   pub fits : (h : History) → IsHistoryOf old.graph h → CanBeStored (head_table h) (state_of old.live) (accessed_by newest_profile cells (state_of old.live)) (state_of new.live)
+  pub lives : IsLive (Stored None) (table_of_rows new.table) (state_of new.live)
   pub held : (h : History) → IsHistoryOf new.graph h → KeepsTable new h
 
 -- To a move belongs a state that was carried on. A branch leaves it.
 abbrev pub TellsBy : Option (List ℕ) → (old new : Head) → Record → Entry → Type 0
-TellsBy file old new r (commit parent profile cells dropped stored) = IsCommitOf old new r parent cells
+TellsBy file old new r (commit parent profile cells dropped stored) = IsCommitOf file old new r parent cells
 TellsBy file old new r (move to) = IsCarried file old new
 TellsBy file old new r (name title number) = KeepsState old new
 

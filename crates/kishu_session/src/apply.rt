@@ -5,7 +5,7 @@ ghost use Rattle.kishu_replay.specs.Replay.{IsFull};
 ghost use Rattle.kishu_model.specs.Values.{request_of, answer_of};
 ghost use Rattle.kishu_model.specs.requests.Cells.{HasRoom};
 ghost use Rattle.kishu_journal.specs.Going.{IsQuiet};
-ghost use Rattle.kishu_session.specs.Applying.{IsAnswer, IsIdle, StaysAttached, Counts, CountsAtMost, StaysAtEnd, StaysLive, IsBackAt, KeepsOld, LacksHere, LeavesCounter, FillsReplay, MakesNodes, ReadsLoaded, ReadsNone, RecordsOne, LeavesBeforeOrAfter, LeavesHere, KeepsSmall};
+ghost use Rattle.kishu_session.specs.Applying.{IsAnswer, IsIdle, StaysAttached, Counts, CountsAtMost, StaysAtEnd, StaysLive, IsBackAt, KeepsOld, LacksHere, LeavesCounter, FillsReplay, MakesNodes, ReadsAsked, ReadsLoaded, RecordsOne, LeavesBeforeOrAfter, LeavesHere, KeepsSmall, TellsAlone};
 ghost use Rattle.kishu_session.specs.Attached.{IsReady};
 ghost use Rattle.kishu_session.specs.Faults.{DiskFailed};
 ghost use Rattle.kishu_session.specs.Filling.{FillsHere};
@@ -32,7 +32,8 @@ impl Session {
     ///
     /// - `Closed`: an earlier call ended the session. The host isn't called.
     /// - `Damaged`: at that place there is no picture of a group that a checkout loads, or of one of the
-    ///   head's, to which cells came back that left a state that is too large.
+    ///   head's, to which cells came back that left a state that is too large, or which cells that are
+    ///   committed left with the digest that it had.
     /// - `DiskFault`: a call of the host failed. The store holds the graph before or after the request.
     /// - `HeapFull`: a cell of the request, or the loading of a checkout, would have begun with more than
     ///   2^31 nodes.
@@ -61,7 +62,7 @@ impl Session {
 
         // So the answer is the one on the live state. That becomes the one that the request's cells left,
         // where they are committed; else it stays, or is carried on to the head of the graph after the
-        // request, or is loaded anew for the head.
+        // request, or is loaded anew for the head, where the request's cells left a state that is too large.
         ensures answered_here { IfOk result (IsAnswerHere self.old (H.state host.old) request.now) }
         ensures goes_on { OnOk result (GoesOnLive self.old self.new (H.state host.old) request.now) }
 
@@ -72,9 +73,9 @@ impl Session {
         // On every store the live state stays the one that the head's table tells.
         ensures live { OnOk result (StaysLive self.old self.new (H.state host.old) (H.state host.new)) }
 
-        // On every host there is a history that is kept, and the live state has the names of its head's table,
-        // no two rows share a node, and each has a picture of its length. This table is kept, and these
-        // pictures.
+        // On every host there is a history that is kept, and the live state has the names of its head's
+        // table, no two rows share a node, and each has a picture of its length. This table is kept, and the
+        // digests of these pictures.
         ensures known { OnOk result (IsKnown self.new.head self.new.journal.place) }
 
         // On every host the answer is one, a request is refused just for the causes that the session's graph
@@ -93,6 +94,10 @@ impl Session {
             × IsQuiet (H.state host.old) (H.state host.new) × (self.new.head.graph ≡ self.old.head.graph)) }
         ensures back { IfOk result (λ a. (bytes : ℕ) → RefusesSize (answer_of a) bytes
             → IsBackAt self.old self.new (H.state host.old)) }
+
+        // What only tells what is kept or bound leaves host, graph, nodes and names as they were.
+        ensures stays { OnOk result (TellsAlone (request_of request.now)
+            → (host.new ≡ host.old) × (self.new.head ≡ self.old.head)) }
 
         // A graph without a replay that is too large becomes one of that kind.
         ensures small { KeepsSmall request.now }
@@ -125,14 +130,15 @@ impl Session {
         ensures makes { OnOk result
             (MakesNodes self.old self.new (H.state host.old) (request_of request.now)) }
 
-        // A checkout reads just the pictures of the groups that it loads. A cell that is committed reads
-        // nothing. Whatever the result is, what only tells or names what is kept reads nothing, and the counter
-        // stays, but at cells, `inspect`, and a checkout from more than 8,000,000 nodes. A cell that is committed
-        // raises it by no more than its bound.
+        // A checkout reads just the pictures of the groups that it loads, and cells that are committed those
+        // of the touched groups that both tables have with one digest and length. Whatever the result is,
+        // what only tells or names what is kept reads nothing, and the counter stays, but at cells,
+        // `inspect`, and a checkout from more than 8,000,000 nodes. A cell that is committed raises it by no
+        // more than its bound.
         ensures loads { IfOk result (λ a.
             ReadsLoaded self.old (H.state host.old) (H.state host.new) request.now a) }
-        ensures reads { IfOk result (λ a. ReadsNone request.now a
-            → ReadsMore (H.state host.old).reads (H.state host.new).reads 0) }
+        ensures reads { IfOk result (λ a.
+            ReadsAsked self.old self.new (H.state host.old) (H.state host.new) request.now a) }
         ensures idle { IsIdle (request_of request.now)
             → ReadsMore (H.state host.old).reads (H.state host.new).reads 0 }
         ensures still { LeavesCounter self.old request.now → steps.new ≡ steps.old }

@@ -71,9 +71,9 @@ impl Session {
         ensures live { IfOk result (λ s. LivesIn s (H.state host.new)) }
         ensures loaded { IfOk result (λ s. LoadsHead s (H.state host.old) (H.state host.new)) }
 
-        // On every host there is a history that is kept, and the live state has the names of its head's table,
-        // no two rows share a node, and each has a picture of its length. This table is kept, and these
-        // pictures.
+        // On every host there is a history that is kept, and the live state has the names of its head's
+        // table, no two rows share a node, and each has a picture of its length. This table is kept, and the
+        // digests of these pictures.
         ensures known { IfOk result (λ s. IsKnown s.head s.journal.place) }
 
         // What a file holds stays, and nothing is put out.

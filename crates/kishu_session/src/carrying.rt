@@ -13,7 +13,7 @@ ghost use Rattle.kishu_session.specs.declared.unprepared.Unprepared.TheVariants.
 
 use crate::counting::count_to;
 use crate::head::Head;
-use crate::keeping::follow;
+use crate::keeping::keep_carried;
 use crate::unprepared::Unprepared;
 use kishu_checkout::{fetch, plan};
 use kishu_host::Host;
@@ -49,7 +49,7 @@ impl Head {
         let plan = plan(self.alloc, &self.table, &table)?;
         let pictures = fetch(self.alloc, host, journal, &plan)?;
         self.live.place(self.alloc, &plan, &pictures)?;
-        follow(&mut self.kept, &plan, pictures)?;
+        keep_carried(&mut self.kept, &plan, &pictures)?;
         self.table = table;
         self.cells = count_to(&self.graph, commit);
         Ok(())

@@ -20,8 +20,8 @@ use kishu_journal::Journal;
 use kishu_model::Refusal;
 use std::alloc::Global;
 
-/// A store's graph, the table of its head with the picture of each group, how many cells are on the path
-/// there, and the state there.
+/// A store's graph, the table of its head with the digest of each group's picture, how many cells are on the
+/// path there, and the state there.
 #[derive(Drop)]
 pub(crate) struct Head {
     pub(crate) alloc: Global,
@@ -82,7 +82,7 @@ impl Head {
         ensures disk_fault { IsErrOf result DiskFault → DiskFailed (H.state host.old) (H.state host.new) }
         ensures not_full { IsErrOf result HeapFull → ⊥ }
     {
-        // The old heap and the pictures kept so far are gone while the new ones are loaded.
+        // The old heap is gone while the new one is loaded.
         self.live = Live::new(self.alloc);
         self.kept = Kept::new(self.alloc);
         self.table = Table {

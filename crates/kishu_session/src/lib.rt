@@ -6,14 +6,16 @@
 //! state is the same as that commit's replay. No old cell is run: a checkout keeps the groups that both tables
 //! have with one version, and loads the pictures of the others beside them (`carrying`). Opening, and the way
 //! back from a state that is too large, do the same from the empty table and an empty heap, and so load the
-//! pictures of all of the head's groups (`head`). Beside the live
-//! state a session keeps the table of its head and just its groups' pictures (`keeping`). By these it
-//! tells, among the names that cells accessed, how much they leave (`live`) and which groups they changed,
-//! and a commit stores just those (`committing`). What a request leads to is worked out on what the session
-//! keeps, before the host is written to (`requests`); then its record is appended (`recording`).
+//! pictures of all of the head's groups (`head`). Beside the live state a session keeps the table of its head
+//! and just the digests of its groups' pictures (`keeping`). By these it tells, among the names that cells
+//! accessed, how much they leave (`live`) and which groups they changed; where a picture has the digest that
+//! is kept, the stored one is read, and tells (`asking`). A commit stores just the groups that changed
+//! (`committing`). What a request leads to is worked out on what the session keeps, before the host is
+//! written to (`requests`); then its record is appended (`recording`).
 #![tactic(auto)]
 
 mod apply;
+mod asking;
 mod attach;
 mod carrying;
 mod committing;

@@ -39,7 +39,7 @@ impl Head {
         ensures stays { IfOk result (StaysWithout self.old self.new host.old host.new) }
         ensures quiet { IsQuiet (H.state host.old) (H.state host.new) }
         ensures least { OnOk result (CountsOn self.old (request_of request.now) steps.old steps.new) }
-        ensures reads { IfOk result (ReadsFor self.old.graph (H.state host.old) (H.state host.new)
+        ensures reads { IfOk result (ReadsFor self.old self.new (H.state host.old) (H.state host.new)
             (request_of request.now)) }
         ensures idle { IsIdle (request_of request.now) → host.new ≡ host.old }
         ensures still { IsUncounted (request_of request.now) → steps.new ≡ steps.old }

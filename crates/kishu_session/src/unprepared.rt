@@ -6,7 +6,7 @@ use std::alloc::AllocError;
 pub(crate) enum Unprepared {
     /// A cell, or the loading of a checkout, would have begun with more than 2^31 nodes.
     HeapFull,
-    /// At this place of the file there is no picture of a group of the commit that was to be loaded.
+    /// At this place of the file there is no picture of a group that was to be loaded, or compared.
     Damaged { at: u64 },
     /// A call of the host failed.
     DiskFault,

@@ -12,7 +12,7 @@ ghost use Rattle.kishu_session.specs.Filling.{FillsHere};
 ghost use Rattle.kishu_session.specs.Head.{IsKnown, LacksAtHead};
 ghost use Rattle.kishu_session.specs.Lives.{state_of};
 ghost use Rattle.kishu_session.specs.Prepared.{LeadsOn, CountsOn, StaysWithout};
-ghost use Rattle.kishu_session.specs.Working.{ReadsNothing, CountsCell};
+ghost use Rattle.kishu_session.specs.Working.{ReadsAsked, CountsCell};
 ghost use Rattle.kishu_session.specs.declared.unprepared.Unprepared.TheVariants.{HeapFull, Damaged, DiskFault};
 
 use crate::head::Head;
@@ -45,8 +45,8 @@ impl Head {
         ensures stays { IfOk result (StaysWithout self.old self.new host.old host.new) }
         ensures quiet { IsQuiet (H.state host.old) (H.state host.new) }
         ensures least { OnOk result (CountsOn self.old (cell_for text.now) steps.old steps.new) }
-        ensures reads { IfOk result
-            (λ p. ReadsNothing (H.state host.old) (H.state host.new) p.answer) }
+        ensures reads { IfOk result (ReadsAsked self.old self.new (H.state host.old) (H.state host.new)
+            (cell_for text.now)) }
         ensures most { IfOk result (λ p. CountsCell self.old self.new (rc_str_bytes text.now) p.answer
             steps.old steps.new) }
         ensures full { IsErrOf result HeapFull → FillsHere self.old (cell_for text.now) }
@@ -58,11 +58,10 @@ impl Head {
         self.live.clear_record();
         let result = self.live.run(self.alloc, text.as_str(), steps)?;
         let found = self.live.too_large(self.alloc, &self.table, steps)?;
-        match found {
-            Some(refusal) => return self.back(host, journal, refusal),
-            None => {}
+        if let Some(refusal) = found {
+            return self.back(host, journal, refusal);
         }
-        let made = self.commit(journal, slice::from_ref(text), steps)?;
+        let made = self.commit(host, journal, slice::from_ref(text), steps)?;
         Ok(Prepared {
             answer: Answer::Cell {
                 commit: made.number,
@@ -88,8 +87,8 @@ impl Head {
         ensures stays { IfOk result (StaysWithout self.old self.new host.old host.new) }
         ensures quiet { IsQuiet (H.state host.old) (H.state host.new) }
         ensures least { OnOk result (CountsOn self.old (cell_for text.now) steps.old steps.new) }
-        ensures reads { IfOk result
-            (λ p. ReadsNothing (H.state host.old) (H.state host.new) p.answer) }
+        ensures reads { IfOk result (ReadsAsked self.old self.new (H.state host.old) (H.state host.new)
+            (cell_for text.now)) }
         ensures most { IfOk result (λ p. CountsCell self.old self.new (rc_str_bytes text.now) p.answer
             steps.old steps.new) }
         ensures full { IsErrOf result HeapFull → FillsHere self.old (cell_for text.now) }

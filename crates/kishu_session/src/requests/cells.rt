@@ -18,7 +18,7 @@ ghost use Rattle.kishu_session.specs.Lives.{state_of, accessed_of_ran, state_aft
 ghost use Rattle.kishu_session.specs.Prepared.{LeadsOn, CountsOn, StaysWithout};
 ghost use Rattle.kishu_session.specs.Running.{IsGivenBy, AreSameNames};
 ghost use Rattle.kishu_session.specs.TextLists.{texts_of, AreShort};
-ghost use Rattle.kishu_session.specs.Working.{ReadsNothing};
+ghost use Rattle.kishu_session.specs.Working.{ReadsAsked};
 ghost use Rattle.kishu_session.specs.declared.unprepared.Unprepared.TheVariants.{HeapFull, Damaged, DiskFault, NoMemory};
 
 use crate::head::Head;
@@ -106,9 +106,8 @@ fn run_cells<L: Ledger>(
     for text in texts {
         let ran = live.run(alloc, text.as_str(), steps)?;
         let found = live.too_large(alloc, table, steps)?;
-        match found {
-            Some(refusal) => return Ok(Several::TooLarge(refusal)),
-            None => {}
+        if let Some(refusal) = found {
+            return Ok(Several::TooLarge(refusal));
         }
         let goes_on = ended_well(&ran);
         push_result(&mut results, before, ran)?;
@@ -139,8 +138,8 @@ impl Head {
         ensures stays { IfOk result (StaysWithout self.old self.new host.old host.new) }
         ensures quiet { IsQuiet (H.state host.old) (H.state host.new) }
         ensures least { OnOk result (CountsOn self.old (cells_for texts.now) steps.old steps.new) }
-        ensures reads { IfOk result
-            (λ p. ReadsNothing (H.state host.old) (H.state host.new) p.answer) }
+        ensures reads { IfOk result (ReadsAsked self.old self.new (H.state host.old) (H.state host.new)
+            (cells_for texts.now)) }
         ensures full { IsErrOf result HeapFull → FillsHere self.old (cells_for texts.now) }
         ensures beyond { IsErrOf result HeapFull → IsFull (state_of self.new.live) }
         ensures damaged { (at : ℕ) → IsErrOf result (Damaged at)
@@ -161,7 +160,7 @@ impl Head {
             Several::TooLarge(refusal) => return self.back(host, journal, refusal),
         };
         let (ran, _) = texts.split_at(results.len());
-        let made = self.commit(journal, ran, steps)?;
+        let made = self.commit(host, journal, ran, steps)?;
         Ok(Prepared {
             answer: Answer::Cells {
                 commit: made.number,
@@ -188,8 +187,8 @@ impl Head {
         ensures stays { IfOk result (StaysWithout self.old self.new host.old host.new) }
         ensures quiet { IsQuiet (H.state host.old) (H.state host.new) }
         ensures least { OnOk result (CountsOn self.old (cells_for texts.now) steps.old steps.new) }
-        ensures reads { IfOk result
-            (λ p. ReadsNothing (H.state host.old) (H.state host.new) p.answer) }
+        ensures reads { IfOk result (ReadsAsked self.old self.new (H.state host.old) (H.state host.new)
+            (cells_for texts.now)) }
         ensures full { IsErrOf result HeapFull → FillsHere self.old (cells_for texts.now) }
         ensures beyond { IsErrOf result HeapFull → IsFull (state_of self.new.live) }
         ensures damaged { (at : ℕ) → IsErrOf result (Damaged at)

@@ -4,7 +4,7 @@ use Rattle.std.specs.declared.vec.Vec.{Vec}
 use Rattle.kishu_store.specs.Graph.{Target}
 use Rattle.kishu_store.specs.Groups.{Group, is_one_of}
 use Rattle.kishu_store.specs.Tables.{Table, bytes_in, groups_in}
-use Rattle.kishu_delta.specs.Kept.{kept_of}
+use Rattle.kishu_delta.specs.Kept.{digest_of, kept_of}
 use Rattle.kishu_history.specs.Checkout.{to_drop, to_load}
 use Rattle.kishu_session.specs.Lives.{state_of}
 use Rattle.kishu_graph.specs.Tables.{table_of_rows}
@@ -92,12 +92,12 @@ returns-clause-carries g c =
     record {
       to = λ h k. head-table-is self.graph commit u (ap (λ (x : Target). x.commit) c.head.ensures.value) c.in_ok-table.ensures h k;
       state = carried-on s self c.requires.known c.requires.keeps u commit is bytes after fetched placed;
-      pictures = pictures-on s self c.requires.known c.requires.keeps u commit is bytes after fetched placed c.follow.new.kept
+      pictures = pictures-on s self c.requires.known c.requires.keeps u commit is bytes after fetched placed c.keep_carried.new.kept
           (subst (λ (gs : List Group). (pic : Group → List ℕ) → bytes ≡ map (λ r. pic r.group) (to_load t u) → (g : Group)
-          → kept_of c.follow.new.kept g ≡ (if is_one_of g (groups_in (to_load t u)) then Some (pic g) else (if is_one_of g gs then None else kept_of self.kept g))) drop
+          → kept_of c.keep_carried.new.kept g ≡ (if is_one_of g (groups_in (to_load t u)) then Some (digest_of (pic g)) else (if is_one_of g gs then None else kept_of self.kept g))) drop
           (subst (λ (x : Table). (pic : Group → List ℕ) → bytes ≡ map (λ r. pic r.group) x → (g : Group)
-          → kept_of c.follow.new.kept g ≡ (if is_one_of g (groups_in x) then Some (pic g) else (if is_one_of g (groups_dropped plan) then None else kept_of self.kept g))) load
-          c.in_ok-follow.ensures));
+          → kept_of c.keep_carried.new.kept g ≡ (if is_one_of g (groups_in x) then Some (digest_of (pic g)) else (if is_one_of g (groups_dropped plan) then None else kept_of self.kept g))) load
+          (λ pic are g'. c.in_ok-keep_carried.ensures pic (ap contents c.deref-2.ensures.value ∙ are) g')));
     }
 
 pub returns-in_err-place-clause-reads_most : goal.returns-in_err-place-clause-reads_most
@@ -109,8 +109,8 @@ returns-in_err-place-clause-reads_most g c =
     reads-rows self s t c.head.result.now.commit u (ap (λ (x : Target). x.commit) c.head.ensures.value) c.in_ok-table.ensures
     (subst (λ (rows : Table). ReadsAtMost s.reads t.reads (bytes_in rows)) c.in_ok-plan.ensures.load c.fetch.ensures.reads)
 
-pub returns-in_err-follow-clause-reads_most : goal.returns-in_err-follow-clause-reads_most
-returns-in_err-follow-clause-reads_most g c =
+pub returns-in_err-keep_carried-clause-reads_most : goal.returns-in_err-keep_carried-clause-reads_most
+returns-in_err-keep_carried-clause-reads_most g c =
     let self = c.args.self.now in
     let s = g.H.Host.state c.args.host.now in
     let t = g.H.Host.state c.fetch.new.host in

@@ -11,7 +11,6 @@ use Rattle.kishu_checkout.specs.Pictures.{told_file}
 use Rattle.kishu_session.specs.Lives.{state_of}
 use Rattle.kishu_session.proofs.CellSteps.{step-long, step-full, charge-long, charge-full}
 use Rattle.kishu_session.proofs.Still.{refused-leads, still-stays}
-use Rattle.kishu_session.proofs.Work.{reads-still}
 use Rattle.kishu_session.proofs.head.Head.cell.Goals as goal
 
 -- ---- a text that is too long
@@ -28,7 +27,7 @@ pub returns-then-len-gt-LONGEST_TEXT-clause-stays : goal.returns-then-len-gt-LON
 returns-then-len-gt-LONGEST_TEXT-clause-stays g c = still-stays c.args.self.now c.args.host.now c.refused.result
 
 pub returns-then-len-gt-LONGEST_TEXT-clause-reads : goal.returns-then-len-gt-LONGEST_TEXT-clause-reads
-returns-then-len-gt-LONGEST_TEXT-clause-reads g c sizes = reads-still (g.H.Host.state c.args.host.now).reads
+returns-then-len-gt-LONGEST_TEXT-clause-reads g c some = absurd (some c.refused.ensures.record)
 
 pub returns-then-len-gt-LONGEST_TEXT-clause-most : goal.returns-then-len-gt-LONGEST_TEXT-clause-most
 returns-then-len-gt-LONGEST_TEXT-clause-most g c sizes = omega arith
@@ -54,7 +53,7 @@ pub returns-then-records-ge-MOST_RECORDS-clause-stays : goal.returns-then-record
 returns-then-records-ge-MOST_RECORDS-clause-stays g c = still-stays c.args.self.now c.args.host.now c.refused-then-records-ge-MOST_RECORDS.result
 
 pub returns-then-records-ge-MOST_RECORDS-clause-reads : goal.returns-then-records-ge-MOST_RECORDS-clause-reads
-returns-then-records-ge-MOST_RECORDS-clause-reads g c sizes = reads-still (g.H.Host.state c.args.host.now).reads
+returns-then-records-ge-MOST_RECORDS-clause-reads g c some = absurd (some c.refused-then-records-ge-MOST_RECORDS.ensures.record)
 
 pub returns-then-records-ge-MOST_RECORDS-clause-most : goal.returns-then-records-ge-MOST_RECORDS-clause-most
 returns-then-records-ge-MOST_RECORDS-clause-most g c sizes = omega arith

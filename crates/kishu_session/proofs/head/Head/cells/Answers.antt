@@ -15,7 +15,6 @@ use Rattle.kishu_session.specs.Lives.{state_of}
 use Rattle.kishu_session.specs.TextLists.{texts_of}
 use Rattle.kishu_session.proofs.CellsSteps.{step-none, step-too-long, step-no-room, charge-none, charge-too-long, charge-no-room}
 use Rattle.kishu_session.proofs.Still.{refused-leads, still-stays}
-use Rattle.kishu_session.proofs.Work.{reads-still}
 use Rattle.kishu_session.proofs.head.Head.cells.Goals as goal
 
 -- ---- none
@@ -33,7 +32,7 @@ pub returns-then-is_empty-clause-stays : goal.returns-then-is_empty-clause-stays
 returns-then-is_empty-clause-stays g c = still-stays c.args.self.now c.args.host.now c.refused.result
 
 pub returns-then-is_empty-clause-reads : goal.returns-then-is_empty-clause-reads
-returns-then-is_empty-clause-reads g c sizes = reads-still (g.H.Host.state c.args.host.now).reads
+returns-then-is_empty-clause-reads g c some = absurd (some c.refused.ensures.record)
 
 pub returns-then-is_empty-clause-least : goal.returns-then-is_empty-clause-least
 returns-then-is_empty-clause-least g c h k =
@@ -58,7 +57,7 @@ pub returns-then-has_long-clause-stays : goal.returns-then-has_long-clause-stays
 returns-then-has_long-clause-stays g c = still-stays c.args.self.now c.args.host.now c.refused-then-has_long.result
 
 pub returns-then-has_long-clause-reads : goal.returns-then-has_long-clause-reads
-returns-then-has_long-clause-reads g c sizes = reads-still (g.H.Host.state c.args.host.now).reads
+returns-then-has_long-clause-reads g c some = absurd (some c.refused-then-has_long.ensures.record)
 
 pub returns-then-has_long-clause-least : goal.returns-then-has_long-clause-least
 returns-then-has_long-clause-least g c h k =
@@ -85,7 +84,7 @@ pub returns-then-records-ge-MOST_RECORDS-clause-stays : goal.returns-then-record
 returns-then-records-ge-MOST_RECORDS-clause-stays g c = still-stays c.args.self.now c.args.host.now c.refused-then-records-ge-MOST_RECORDS.result
 
 pub returns-then-records-ge-MOST_RECORDS-clause-reads : goal.returns-then-records-ge-MOST_RECORDS-clause-reads
-returns-then-records-ge-MOST_RECORDS-clause-reads g c sizes = reads-still (g.H.Host.state c.args.host.now).reads
+returns-then-records-ge-MOST_RECORDS-clause-reads g c some = absurd (some c.refused-then-records-ge-MOST_RECORDS.ensures.record)
 
 pub returns-then-records-ge-MOST_RECORDS-clause-least : goal.returns-then-records-ge-MOST_RECORDS-clause-least
 returns-then-records-ge-MOST_RECORDS-clause-least g c h k =

@@ -20,7 +20,7 @@ use Rattle.kishu_session.specs.Known.{IsHistoryOf}
 use Rattle.kishu_session.specs.Lives.{state_of}
 use Rattle.kishu_session.specs.Prepared.{LeadsOn, StaysWithout, CountsOn}
 use Rattle.kishu_session.specs.TextLists.{texts_of}
-use Rattle.kishu_session.specs.Working.{CountsCell, ReadsNothing}
+use Rattle.kishu_session.specs.Working.{CountsCell, ReadsAsked}
 use Rattle.kishu_session.specs.declared.prepared.Prepared.{Prepared}
 use Rattle.kishu_session.proofs.CellSteps.{step-large, step-small, charge-run, unrefused, cell-told}
 use Rattle.kishu_session.proofs.Commits.{known-history}
@@ -30,7 +30,7 @@ use Rattle.kishu_session.proofs.LongTexts.{may-commit-one}
 use Rattle.kishu_session.proofs.Outcomes.{always}
 use Rattle.kishu_session.proofs.RanOn.{RanOn, one-ran, has-run, large-known, leaves-known, table-known, told_bytes}
 use Rattle.kishu_session.proofs.Sizes.{found-large, found-small}
-use Rattle.kishu_session.proofs.Work.{nodes-are, reads-still}
+use Rattle.kishu_session.proofs.Work.{nodes-are, reads-ran}
 use Rattle.kishu_session.proofs.head.Head.commit_cell.Goals as goal
 
 pub back-requires : goal.back-requires
@@ -84,9 +84,9 @@ returns-in-Some-clause-reads g c =
     let found = found-large rows (text ∷ []) s (state_of c.run.new.self) c.run.new.self.names.accessed ran.left ran.accessed c.in_ok-found.found c.in_ok-found.ensures.refusal c.in-Some.refusal c.in-Some.is in
     let bytes = told_bytes place self c.requires.known (text ∷ []) in
     let file = told_file (st c.args.host.now) in
-    went-back file c.back.result self c.back.new.self c.run.new.self bytes (refusal_of c.in-Some.refusal) (λ p. ReadsNothing (st c.args.host.now) (st c.back.new.host) p.answer)
+    went-back file c.back.result self c.back.new.self c.run.new.self bytes (refusal_of c.in-Some.refusal) (ReadsAsked self c.back.new.self (st c.args.host.now) (st c.back.new.host) (cell text))
     found.1 c.back.ensures.answer c.back.ensures.record c.back.ensures.back c.back.ensures.count
-    (λ p b sizes. absurd (sizes bytes b.answer))
+    (λ p b some. absurd (some b.none))
 
 pub returns-in-Some-clause-most : goal.returns-in-Some-clause-most
 returns-in-Some-clause-most g c =
@@ -150,7 +150,7 @@ commit-requires-clause-ran g c =
     let s = state_of self.live in
     let rows = table_of_rows self.table in
     let ran = one-ran self.live c.clear_record.new.self c.run.new.self text c.as_str.result.now c.as_str.ensures.value c.clear_record.ensures.state c.clear_record.ensures.accessed c.in_ok-result.ensures.state c.in_ok-result.ensures.accessed in
-    let small = found-small rows (text ∷ []) s (state_of c.run.new.self) c.run.new.self.names.accessed ran.left ran.accessed c.in_ok-found.found c.in_ok-found.ensures.refusal c.in-None.is in
+    let small = found-small rows (text ∷ []) s (state_of c.run.new.self) c.run.new.self.names.accessed ran.left ran.accessed c.in_ok-found.found c.in_ok-found.ensures.refusal c.in_default.is in
     let one : texts_of c.from_ref.result.now ≡ text ∷ [] = ap texts_of c.from_ref.ensures.value in
     let front = texts_of c.from_ref.result.now in
     let run_is = has-run place self c.requires.known front c.run.new.self (subst (λ (ts : List (List ℕ)). RanOn self.live c.run.new.self ts) (sym one) ran)
@@ -165,23 +165,24 @@ returns-clause-leads g c =
     let s = state_of self.live in
     let rows = table_of_rows self.table in
     let ran = one-ran self.live c.clear_record.new.self c.run.new.self text c.as_str.result.now c.as_str.ensures.value c.clear_record.ensures.state c.clear_record.ensures.accessed c.in_ok-result.ensures.state c.in_ok-result.ensures.accessed in
-    let small = found-small rows (text ∷ []) s (state_of c.run.new.self) c.run.new.self.names.accessed ran.left ran.accessed c.in_ok-found.found c.in_ok-found.ensures.refusal c.in-None.is in
+    let small = found-small rows (text ∷ []) s (state_of c.run.new.self) c.run.new.self.names.accessed ran.left ran.accessed c.in_ok-found.found c.in_ok-found.ensures.refusal c.in_default.is in
     let one : texts_of c.from_ref.result.now ≡ text ∷ [] = ap texts_of c.from_ref.ensures.value in
     let front = texts_of c.from_ref.result.now in
     let run_is = has-run place self c.requires.known front c.run.new.self (subst (λ (ts : List (List ℕ)). RanOn self.live c.run.new.self ts) (sym one) ran)
     (subst (λ (ts : List (List ℕ)). leave_too_large rows ts s ≡ false) (sym one) small) in
     let room = λ (g' : Graph) (st : StandsFor self.graph g'). subst (λ (n : ℕ). n < most_records) st.shape.records c.requires.room in
     let new = c.commit.new.self in
+    let file = told_file (g.H.Host.state c.args.host.now) in
     let made = c.in_ok-made.ensures.commits s run_is in
     let step = λ (h : History) (k : IsHistoryOf self.graph h). step-small (change_of h.changes) s h.graph text c.requires.short (room h.graph k.keeps.graph)
     (leaves-known place self c.requires.known (text ∷ []) false small h k) in
     let p : Prepared = record { answer = Cell c.in_ok-made.made.number c.commit.new.self.cells c.in_ok-result.result; recorded = Some c.in_ok-made.made.recorded } in
-    committed-leads (told_file (g.H.Host.state c.args.host.now)) place self new c.run.new.self (cell text) front c.in_ok-made.made made
+    committed-leads file place self new c.run.new.self (cell text) front c.in_ok-made.made made
     c.commit.ensures.live (ran.left ∙ ap (λ (ts : List (List ℕ)). after_cells One ts s) (sym one)) (known-history self place c.requires.known) p refl refl (λ bytes size. cc (size))
     (λ h k. ap (λ (x : Stepped). x.graph) (step h k) ∙ ap (λ (ts : List (List ℕ)). with_commit One ts h.graph) (sym one))
     (λ of g' st. unrefused of s g' text c.requires.short (room g' st))
     (λ h k count.
-    let counted : new.cells ≡ suc (count_of h.graph h.graph.head.commit) = cell-counted self new c.run.new.self place h front text c.in_ok-made.made made k one count in
+    let counted : new.cells ≡ suc (count_of h.graph h.graph.head.commit) = cell-counted file self new c.run.new.self place h front text c.in_ok-made.made made k one count in
     let report : report_of c.in_ok-result.result ≡ (run One text s).report =
     c.in_ok-result.ensures.report
     ∙ ap (λ (t : List ℕ). (run One t (state_of c.clear_record.new.self)).report) c.as_str.ensures.value
@@ -191,7 +192,7 @@ returns-clause-leads g c =
 pub returns-clause-stays : goal.returns-clause-stays
 returns-clause-stays g c =
     let p : Prepared = record { answer = Cell c.in_ok-made.made.number c.commit.new.self.cells c.in_ok-result.result; recorded = Some c.in_ok-made.made.recorded } in
-    committed-stays c.args.self.now c.commit.new.self c.args.host.now c.args.host.now p c.in_ok-made.made.recorded refl
+    committed-stays c.args.self.now c.commit.new.self c.args.host.now c.commit.new.host p c.in_ok-made.made.recorded refl
 
 pub returns-clause-least : goal.returns-clause-least
 returns-clause-least g c h k =
@@ -202,14 +203,27 @@ returns-clause-least g c h k =
       arith,
       c.in_ok-result.ensures.least,
       c.too_large.ensures.reads.0,
-      c.commit.ensures.reads.0,
+      c.commit.ensures.counted.0,
       ap (λ (t : List ℕ). (run One t (state_of c.clear_record.new.self)).charge) c.as_str.ensures.value,
       ap (λ (s : State). (run One text s).charge) c.clear_record.ensures.state,
       charge-run (change_of h.changes) (state_of self.live) h.graph text c.requires.short room,
     )
 
 pub returns-clause-reads : goal.returns-clause-reads
-returns-clause-reads g c sizes = reads-still (g.H.Host.state c.args.host.now).reads
+returns-clause-reads g c some =
+    let st = g.H.Host.state in
+    let self = c.args.self.now in
+    let place = c.args.journal.now.place in
+    let text = rc_str_bytes c.args.text.now in
+    let s = state_of self.live in
+    let rows = table_of_rows self.table in
+    let ran = one-ran self.live c.clear_record.new.self c.run.new.self text c.as_str.result.now c.as_str.ensures.value c.clear_record.ensures.state c.clear_record.ensures.accessed c.in_ok-result.ensures.state c.in_ok-result.ensures.accessed in
+    let small = found-small rows (text ∷ []) s (state_of c.run.new.self) c.run.new.self.names.accessed ran.left ran.accessed c.in_ok-found.found c.in_ok-found.ensures.refusal c.in_default.is in
+    let one : texts_of c.from_ref.result.now ≡ text ∷ [] = ap texts_of c.from_ref.ensures.value in
+    let front = texts_of c.from_ref.result.now in
+    let run_is = has-run place self c.requires.known front c.run.new.self (subst (λ (ts : List (List ℕ)). RanOn self.live c.run.new.self ts) (sym one) ran)
+    (subst (λ (ts : List (List ℕ)). leave_too_large rows ts s ≡ false) (sym one) small) in
+    reads-ran self c.commit.new.self c.run.new.self (text ∷ []) (st c.args.host.now) (st c.commit.new.host) front one c.commit.ensures.live (c.in_ok-made.ensures.reads s run_is)
 
 pub returns-clause-most : goal.returns-clause-most
 returns-clause-most g c sizes =
@@ -220,8 +234,25 @@ returns-clause-most g c sizes =
       arith,
       c.in_ok-result.ensures.most,
       c.too_large.ensures.reads.1,
-      c.commit.ensures.reads.1,
+      c.commit.ensures.counted.1,
       nodes-are self c.commit.new.self c.run.new.self text ran c.commit.ensures.live,
       ap (λ (t : List ℕ). (run One t (state_of c.clear_record.new.self)).charge) c.as_str.ensures.value,
       ap (λ (s : State). (run One text s).charge) c.clear_record.ensures.state,
     )
+
+-- ---- a picture that isn't read
+
+pub returns-in_err-made-clause-damaged : goal.returns-in_err-made-clause-damaged
+returns-in_err-made-clause-damaged g c at err =
+    let p = err_from_is_err_and c.from_residual-in_err-made.result c.from_residual-in_err-made.ensures.1 in
+    c.in_err-made.ensures.damaged at (cc (err, p.1, p.2))
+
+pub returns-in_err-made-clause-full : goal.returns-in_err-made-clause-full
+returns-in_err-made-clause-full g c err =
+    let p = err_from_is_err_and c.from_residual-in_err-made.result c.from_residual-in_err-made.ensures.1 in
+    absurd (c.in_err-made.ensures.not_full (cc (err, p.1, p.2)))
+
+pub returns-in_err-made-clause-beyond : goal.returns-in_err-made-clause-beyond
+returns-in_err-made-clause-beyond g c err =
+    let p = err_from_is_err_and c.from_residual-in_err-made.result c.from_residual-in_err-made.ensures.1 in
+    absurd (c.in_err-made.ensures.not_full (cc (err, p.1, p.2)))

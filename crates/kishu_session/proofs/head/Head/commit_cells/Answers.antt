@@ -27,7 +27,7 @@ use Rattle.kishu_session.specs.Lives.{state_of}
 use Rattle.kishu_session.specs.Prepared.{LeadsOn, StaysWithout, CountsOn}
 use Rattle.kishu_session.specs.Running.{AreSameNames, IsGivenBy}
 use Rattle.kishu_session.specs.TextLists.{texts_of, AreShort}
-use Rattle.kishu_session.specs.Working.{ReadsNothing}
+use Rattle.kishu_session.specs.Working.{ReadsAsked}
 use Rattle.kishu_session.specs.declared.prepared.Prepared.{Prepared}
 use Rattle.kishu_session.proofs.AddFacts.{count-small}
 use Rattle.kishu_session.proofs.CellsSteps.{step-large, step-small, charge-run, unrefused, cells-told}
@@ -39,7 +39,7 @@ use Rattle.kishu_session.proofs.Outcomes.{always}
 use Rattle.kishu_session.proofs.Ran.{taken-some}
 use Rattle.kishu_session.proofs.RanOn.{RanOn, has-run, table-known, told_bytes}
 use Rattle.kishu_session.proofs.Sizes.{tells-size}
-use Rattle.kishu_session.proofs.Work.{reads-still}
+use Rattle.kishu_session.proofs.Work.{reads-ran}
 use Rattle.kishu_session.proofs.head.Head.commit_cells.Goals as goal
 
 pub run_cells-requires-clause-short : goal.run_cells-requires-clause-short
@@ -113,9 +113,9 @@ returns-in-TooLarge-clause-reads g c =
     let bytes = told_bytes place self c.requires.known ran in
     let told : refusal_of c.in-TooLarge.refusal ≡ state_too_large bytes = given.told ∙ ap (λ (x : State). told_too_large rows (run_of rows all x) x) cleared in
     let file = told_file (st c.args.host.now) in
-    went-back file c.back.result self c.back.new.self c.run_cells.new.live bytes (refusal_of c.in-TooLarge.refusal) (λ p. ReadsNothing (st c.args.host.now) (st c.back.new.host) p.answer)
+    went-back file c.back.result self c.back.new.self c.run_cells.new.live bytes (refusal_of c.in-TooLarge.refusal) (ReadsAsked self c.back.new.self (st c.args.host.now) (st c.back.new.host) (cells all))
     told c.back.ensures.answer c.back.ensures.record c.back.ensures.back c.back.ensures.count
-    (λ p b sizes. absurd (sizes bytes b.answer))
+    (λ p b some. absurd (some b.none))
 
 pub returns-in-TooLarge-clause-least : goal.returns-in-TooLarge-clause-least
 returns-in-TooLarge-clause-least g c =
@@ -261,7 +261,7 @@ returns-clause-leads g c =
 pub returns-clause-stays : goal.returns-clause-stays
 returns-clause-stays g c =
     let p : Prepared = record { answer = Cells c.in_ok-made.made.number c.in-Shown.results; recorded = Some c.in_ok-made.made.recorded } in
-    committed-stays c.args.self.now c.commit.new.self c.args.host.now c.args.host.now p c.in_ok-made.made.recorded refl
+    committed-stays c.args.self.now c.commit.new.self c.args.host.now c.commit.new.host p c.in_ok-made.made.recorded refl
 
 pub returns-clause-least : goal.returns-clause-least
 returns-clause-least g c h k =
@@ -278,11 +278,54 @@ returns-clause-least g c h k =
     omega (
       arith,
       c.in_ok-several.ensures.least,
-      c.commit.ensures.reads.0,
+      c.commit.ensures.counted.0,
       ap (λ (x : State). charge_in One (run_of rows all x) x) cleared,
       ap (λ (x : Table). charge_in One (run_of x all s) s) (table-known place self c.requires.known h k),
       charge-run (change_of h.changes) s h.graph all some c.requires.short room,
     )
 
 pub returns-clause-reads : goal.returns-clause-reads
-returns-clause-reads g c sizes = reads-still (g.H.Host.state c.args.host.now).reads
+returns-clause-reads g c some =
+    let st = g.H.Host.state in
+    let self = c.args.self.now in
+    let place = c.args.journal.now.place in
+    let texts = c.args.texts.now in
+    let all = texts_of texts in
+    let s = state_of self.live in
+    let rows = table_of_rows self.table in
+    let cleared = c.clear_record.ensures.state in
+    let ran = run_of rows all s in
+    let given = subst (IsGivenBy self.cells rows c.clear_record.new.self texts) c.in-Shown.is c.in_ok-several.ensures.gives in
+    let on : RanOn self.live c.run_cells.new.live ran = record {
+      left = c.in_ok-several.ensures.state ∙ ap (λ (x : State). after_cells One (run_of rows all x) x) cleared;
+      accessed = subst (λ (x : State). AreSameNames c.run_cells.new.live.names.accessed (accessed_by One (run_of rows all x) x)) cleared c.in_ok-several.ensures.accessed;
+    } in
+    let small : leave_too_large rows ran s ≡ false = subst (λ (x : State). leave_too_large rows (run_of rows all x) x ≡ false) cleared given.small in
+    let n : c.len.result ≡ length c.in-Shown.results.items = omega (arith, c.len.ensures, c.in-Shown.results.ok.0) in
+    let front = texts_of c.split_at.result.0.now in
+    let is : front ≡ ran =
+    ap texts_of c.split_at.ensures.front
+    ∙ sym (take-map rc_str_bytes c.len.result texts)
+    ∙ ap (λ (k : ℕ). take k all) n
+    ∙ given.ran
+    ∙ ap (λ (x : State). run_of rows all x) cleared in
+    let run_is = has-run place self c.requires.known front c.run_cells.new.live (subst (λ (ts : List (List ℕ)). RanOn self.live c.run_cells.new.live ts) (sym is) on)
+    (subst (λ (ts : List (List ℕ)). leave_too_large rows ts s ≡ false) (sym is) small) in
+    reads-ran self c.commit.new.self c.run_cells.new.live ran (st c.args.host.now) (st c.commit.new.host) front is c.commit.ensures.live (c.in_ok-made.ensures.reads s run_is)
+
+-- ---- a picture that isn't read
+
+pub returns-in_err-made-clause-damaged : goal.returns-in_err-made-clause-damaged
+returns-in_err-made-clause-damaged g c at err =
+    let p = err_from_is_err_and c.from_residual-in_err-made.result c.from_residual-in_err-made.ensures.1 in
+    c.in_err-made.ensures.damaged at (cc (err, p.1, p.2))
+
+pub returns-in_err-made-clause-full : goal.returns-in_err-made-clause-full
+returns-in_err-made-clause-full g c err =
+    let p = err_from_is_err_and c.from_residual-in_err-made.result c.from_residual-in_err-made.ensures.1 in
+    absurd (c.in_err-made.ensures.not_full (cc (err, p.1, p.2)))
+
+pub returns-in_err-made-clause-beyond : goal.returns-in_err-made-clause-beyond
+returns-in_err-made-clause-beyond g c err =
+    let p = err_from_is_err_and c.from_residual-in_err-made.result c.from_residual-in_err-made.ensures.1 in
+    absurd (c.in_err-made.ensures.not_full (cc (err, p.1, p.2)))

@@ -1,13 +1,16 @@
 use Rattle.std.proofs.Common.{◌≡◌, ◌∙◌, ℕ, List, Result, Ok, Err, sym, ap, subst, arith}
 use Rattle.std.specs.Prelude.{IfOk}
 use Rattle.std.specs.Rc.{rc_str_bytes}
+use Rattle.std.specs.declared.alloc.Global.{Global}
+use Rattle.std.specs.declared.rc.RcStr.{RcStr}
 use Rattle.kishu_model.specs.declared.request.Request.{Request}
 use Rattle.kishu_model.specs.Request.{cell, cells, checkout, inspect, stored, plan}
 use Rattle.kishu_model.specs.Values.{request_of}
 use Rattle.kishu_checkout.specs.Pictures.{told_file}
+use Rattle.kishu_session.specs.Asked.{cells_for}
 use Rattle.kishu_session.specs.Filling.{FillsHere}
 use Rattle.kishu_session.specs.Prepared.{LacksFor, LeadsOn}
-use Rattle.kishu_session.specs.Working.{CountsCell, CountsFor, IsIdle, IsUncounted, ReadsFor, ReadsRows}
+use Rattle.kishu_session.specs.Working.{CountsCell, CountsFor, IsIdle, IsUncounted, ReadsAsked, ReadsFor, ReadsRows}
 use Rattle.kishu_session.proofs.Commits.{known-history}
 use Rattle.kishu_session.proofs.Outcomes.{gives}
 use Rattle.kishu_session.proofs.RanOn.{table-known}
@@ -107,53 +110,57 @@ returns-in_ok-plan-in-Plan-clause-leads g c =
 pub returns-in-Cell-clause-reads : goal.returns-in-Cell-clause-reads
 returns-in-Cell-clause-reads g c =
     let st = g.H.Host.state in
-    subst (λ (r : Request). IfOk c.cell.result (ReadsFor c.args.self.now.graph (st c.args.host.now) (st c.cell.new.host) (request_of r))) (sym c.in-Cell.is)
+    subst (λ (r : Request). IfOk c.cell.result (ReadsFor c.args.self.now c.cell.new.self (st c.args.host.now) (st c.cell.new.host) (request_of r))) (sym c.in-Cell.is)
     c.cell.ensures.reads
 
 pub returns-in-Cells-clause-reads : goal.returns-in-Cells-clause-reads
 returns-in-Cells-clause-reads g c =
     let st = g.H.Host.state in
-    subst (λ (r : Request). IfOk c.cells.result (ReadsFor c.args.self.now.graph (st c.args.host.now) (st c.cells.new.host) (request_of r))) (sym c.in-Cells.is)
-    c.cells.ensures.reads
+    let self = c.args.self.now in
+    let new = c.cells.new.self in
+    let s = st c.args.host.now in
+    let t = st c.cells.new.host in
+    subst (λ (r : Request). IfOk c.cells.result (ReadsFor self new s t (request_of r))) (sym c.in-Cells.is)
+    (subst (λ (ts : List (RcStr Global)). IfOk c.cells.result (ReadsAsked self new s t (cells_for ts))) c.deref.ensures.value c.cells.ensures.reads)
 
 pub returns-in-Checkout-clause-reads : goal.returns-in-Checkout-clause-reads
 returns-in-Checkout-clause-reads g c =
     let st = g.H.Host.state in
-    let kept = c.args.self.now.graph in
+    let self = c.args.self.now in
     let s = st c.args.host.now in
     let t = st c.checkout.new.host in
-    subst (λ (r : Request). IfOk c.checkout.result (ReadsFor kept s t (request_of r))) (sym c.in-Checkout.is)
-    (subst (λ (to : List ℕ). IfOk c.checkout.result (ReadsRows kept s t to)) c.as_str.ensures.value c.checkout.ensures.reads)
+    subst (λ (r : Request). IfOk c.checkout.result (ReadsFor self c.checkout.new.self s t (request_of r))) (sym c.in-Checkout.is)
+    (subst (λ (to : List ℕ). IfOk c.checkout.result (ReadsRows self.graph s t to)) c.as_str.ensures.value c.checkout.ensures.reads)
 
 pub returns-in_ok-branch-in-Branch-clause-reads : goal.returns-in_ok-branch-in-Branch-clause-reads
 returns-in_ok-branch-in-Branch-clause-reads g c =
     let s = g.H.Host.state c.args.host.now in
-    subst (λ (r : Request). ReadsFor c.args.self.now.graph s s (request_of r) c.in_ok-branch-in-Branch.field-0) (sym c.in-Branch.is) (λ sizes. reads-still s.reads)
+    subst (λ (r : Request). ReadsFor c.args.self.now c.branch-self.new.self s s (request_of r) c.in_ok-branch-in-Branch.field-0) (sym c.in-Branch.is) (λ sizes. reads-still s.reads)
 
 pub returns-in_ok-log-in-Log-clause-reads : goal.returns-in_ok-log-in-Log-clause-reads
 returns-in_ok-log-in-Log-clause-reads g c =
     let s = g.H.Host.state c.args.host.now in
-    subst (λ (r : Request). ReadsFor c.args.self.now.graph s s (request_of r) c.in_ok-log-in-Log.field-0) (sym c.in-Log.is) (λ sizes. reads-still s.reads)
+    subst (λ (r : Request). ReadsFor c.args.self.now c.args.self.now s s (request_of r) c.in_ok-log-in-Log.field-0) (sym c.in-Log.is) (λ sizes. reads-still s.reads)
 
 pub returns-in_ok-status-in-Status-clause-reads : goal.returns-in_ok-status-in-Status-clause-reads
 returns-in_ok-status-in-Status-clause-reads g c =
     let s = g.H.Host.state c.args.host.now in
-    subst (λ (r : Request). ReadsFor c.args.self.now.graph s s (request_of r) c.in_ok-status-in-Status.field-0) (sym c.in-Status.is) (λ sizes. reads-still s.reads)
+    subst (λ (r : Request). ReadsFor c.args.self.now c.args.self.now s s (request_of r) c.in_ok-status-in-Status.field-0) (sym c.in-Status.is) (λ sizes. reads-still s.reads)
 
 pub returns-in_ok-inspect-in-Inspect-clause-reads : goal.returns-in_ok-inspect-in-Inspect-clause-reads
 returns-in_ok-inspect-in-Inspect-clause-reads g c =
     let s = g.H.Host.state c.args.host.now in
-    subst (λ (r : Request). ReadsFor c.args.self.now.graph s s (request_of r) c.in_ok-inspect-in-Inspect.field-0) (sym c.in-Inspect.is) (λ sizes. reads-still s.reads)
+    subst (λ (r : Request). ReadsFor c.args.self.now c.args.self.now s s (request_of r) c.in_ok-inspect-in-Inspect.field-0) (sym c.in-Inspect.is) (λ sizes. reads-still s.reads)
 
 pub returns-in_ok-stored-in-Stored-clause-reads : goal.returns-in_ok-stored-in-Stored-clause-reads
 returns-in_ok-stored-in-Stored-clause-reads g c =
     let s = g.H.Host.state c.args.host.now in
-    subst (λ (r : Request). ReadsFor c.args.self.now.graph s s (request_of r) c.in_ok-stored-in-Stored.field-0) (sym c.in-Stored.is) (λ sizes. reads-still s.reads)
+    subst (λ (r : Request). ReadsFor c.args.self.now c.args.self.now s s (request_of r) c.in_ok-stored-in-Stored.field-0) (sym c.in-Stored.is) (λ sizes. reads-still s.reads)
 
 pub returns-in_ok-plan-in-Plan-clause-reads : goal.returns-in_ok-plan-in-Plan-clause-reads
 returns-in_ok-plan-in-Plan-clause-reads g c =
     let s = g.H.Host.state c.args.host.now in
-    subst (λ (r : Request). ReadsFor c.args.self.now.graph s s (request_of r) c.in_ok-plan-in-Plan.field-0) (sym c.in-Plan.is) (λ sizes. reads-still s.reads)
+    subst (λ (r : Request). ReadsFor c.args.self.now c.args.self.now s s (request_of r) c.in_ok-plan-in-Plan.field-0) (sym c.in-Plan.is) (λ sizes. reads-still s.reads)
 
 -- ---- what is counted
 

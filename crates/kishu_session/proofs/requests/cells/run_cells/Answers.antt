@@ -75,7 +75,7 @@ loop-text-preserved g c =
     omega (arith, c.in_ok-ran.ensures.least, c.too_large.ensures.reads.0, ap (λ (y : List ℕ). (run One y s).charge) c.as_str.ensures.value) in
     let is = next-here t all s0 c.args.before c.args.steps.now (take i all) x rest (map counted_of old) names s c.loop-text.steps going (take (i + 1) all) now left next more noted c.too_large.new.steps spent in
     let same = next-accessed t all s0 c.args.before c.args.steps.now (take i all) x rest (map counted_of old) names s c.loop-text.steps going (take (i + 1) all) now left next more noted c.too_large.new.steps spent in
-    let small = found-small t (take (i + 1) all) s0 left more is same c.in_ok-found.found c.in_ok-found.ensures.refusal c.in-None.is in
+    let small = found-small t (take (i + 1) all) s0 left more is same c.in_ok-found.found c.in_ok-found.ensures.refusal c.in_default.is in
     let report = c.in_ok-ran.ensures.report ∙ ap (λ (y : List ℕ). (run One y s).report) c.as_str.ensures.value in
     let results = c.push_result.new.results.items in
     let tells =
@@ -114,7 +114,7 @@ returns-then-not-goes_on-clause-gives g c =
     omega (arith, c.in_ok-ran.ensures.least, c.too_large.ensures.reads.0, ap (λ (y : List ℕ). (run One y s).charge) c.as_str.ensures.value) in
     let is = next-here t all s0 c.args.before c.args.steps.now (take i all) x rest (map counted_of old) names s c.loop-text.steps going (take (i + 1) all) now left next more noted c.too_large.new.steps spent in
     let same = next-accessed t all s0 c.args.before c.args.steps.now (take i all) x rest (map counted_of old) names s c.loop-text.steps going (take (i + 1) all) now left next more noted c.too_large.new.steps spent in
-    let small = found-small t (take (i + 1) all) s0 left more is same c.in_ok-found.found c.in_ok-found.ensures.refusal c.in-None.is in
+    let small = found-small t (take (i + 1) all) s0 left more is same c.in_ok-found.found c.in_ok-found.ensures.refusal c.in_default.is in
     let report = c.in_ok-ran.ensures.report ∙ ap (λ (y : List ℕ). (run One y s).report) c.as_str.ensures.value in
     let results = c.push_result.new.results.items in
     let tells =
@@ -154,7 +154,7 @@ returns-then-not-goes_on-clause-state g c =
     omega (arith, c.in_ok-ran.ensures.least, c.too_large.ensures.reads.0, ap (λ (y : List ℕ). (run One y s).charge) c.as_str.ensures.value) in
     let is = next-here t all s0 c.args.before c.args.steps.now (take i all) x rest (map counted_of old) names s c.loop-text.steps going (take (i + 1) all) now left next more noted c.too_large.new.steps spent in
     let same = next-accessed t all s0 c.args.before c.args.steps.now (take i all) x rest (map counted_of old) names s c.loop-text.steps going (take (i + 1) all) now left next more noted c.too_large.new.steps spent in
-    let small = found-small t (take (i + 1) all) s0 left more is same c.in_ok-found.found c.in_ok-found.ensures.refusal c.in-None.is in
+    let small = found-small t (take (i + 1) all) s0 left more is same c.in_ok-found.found c.in_ok-found.ensures.refusal c.in_default.is in
     let report = c.in_ok-ran.ensures.report ∙ ap (λ (y : List ℕ). (run One y s).report) c.as_str.ensures.value in
     let results = c.push_result.new.results.items in
     let tells =
@@ -188,7 +188,7 @@ returns-then-not-goes_on-clause-accessed g c =
     omega (arith, c.in_ok-ran.ensures.least, c.too_large.ensures.reads.0, ap (λ (y : List ℕ). (run One y s).charge) c.as_str.ensures.value) in
     let is = next-here t all s0 c.args.before c.args.steps.now (take i all) x rest (map counted_of old) names s c.loop-text.steps going (take (i + 1) all) now left next more noted c.too_large.new.steps spent in
     let same = next-accessed t all s0 c.args.before c.args.steps.now (take i all) x rest (map counted_of old) names s c.loop-text.steps going (take (i + 1) all) now left next more noted c.too_large.new.steps spent in
-    let small = found-small t (take (i + 1) all) s0 left more is same c.in_ok-found.found c.in_ok-found.ensures.refusal c.in-None.is in
+    let small = found-small t (take (i + 1) all) s0 left more is same c.in_ok-found.found c.in_ok-found.ensures.refusal c.in_default.is in
     let report = c.in_ok-ran.ensures.report ∙ ap (λ (y : List ℕ). (run One y s).report) c.as_str.ensures.value in
     let results = c.push_result.new.results.items in
     let tells =
@@ -222,7 +222,7 @@ returns-then-not-goes_on-clause-least g c =
     omega (arith, c.in_ok-ran.ensures.least, c.too_large.ensures.reads.0, ap (λ (y : List ℕ). (run One y s).charge) c.as_str.ensures.value) in
     let is = next-here t all s0 c.args.before c.args.steps.now (take i all) x rest (map counted_of old) names s c.loop-text.steps going (take (i + 1) all) now left next more noted c.too_large.new.steps spent in
     let same = next-accessed t all s0 c.args.before c.args.steps.now (take i all) x rest (map counted_of old) names s c.loop-text.steps going (take (i + 1) all) now left next more noted c.too_large.new.steps spent in
-    let small = found-small t (take (i + 1) all) s0 left more is same c.in_ok-found.found c.in_ok-found.ensures.refusal c.in-None.is in
+    let small = found-small t (take (i + 1) all) s0 left more is same c.in_ok-found.found c.in_ok-found.ensures.refusal c.in_default.is in
     let report = c.in_ok-ran.ensures.report ∙ ap (λ (y : List ℕ). (run One y s).report) c.as_str.ensures.value in
     let results = c.push_result.new.results.items in
     let tells =

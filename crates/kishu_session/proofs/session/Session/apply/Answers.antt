@@ -14,11 +14,11 @@ use Rattle.kishu_model.specs.declared.request.Request as rust_request
 use Rattle.kishu_model.specs.Serve.{after}
 use Rattle.kishu_model.specs.Values.{request_of, answer_of}
 use Rattle.kishu_checkout.specs.Pictures.{told_file}
-use Rattle.kishu_session.specs.Applying.{IsCell, IsCheckout, IsIdle, LeavesCounter, StaysLoaded}
+use Rattle.kishu_session.specs.Applying.{IsCheckout, LeavesCounter, StaysLoaded}
 use Rattle.kishu_session.specs.Lives.{state_of}
-use Rattle.kishu_session.specs.Refusing.{IsRefusal, RefusesSize}
-use Rattle.kishu_session.specs.Working.{IsUncounted, ReadsFor}
+use Rattle.kishu_session.specs.Working.{IsUncounted, ReadsFor, bytes_asked_by}
 use Rattle.kishu_session.specs.declared.session.Session.{Session}
+use Rattle.kishu_session.proofs.Alone.{alone-no-size, alone-silent}
 use Rattle.kishu_session.proofs.Applied.{durable-read, known-after, may-go-on, quiet-good, quiet-here, recorded-most, stop-here}
 use Rattle.kishu_session.proofs.Fuller.{fills-replay}
 use Rattle.kishu_session.proofs.Gone.{nodes-kept, recorded}
@@ -27,10 +27,11 @@ use Rattle.kishu_session.proofs.KeptOld.{names-kept, reads-loaded}
 use Rattle.kishu_session.proofs.LiveFacts.{answer-on-live, goes-on-live}
 use Rattle.kishu_session.proofs.Makes.{makes-few}
 use Rattle.kishu_session.proofs.ReadFacts.{lacks-here}
+use Rattle.kishu_session.proofs.Recorded.{cells-recorded}
 use Rattle.kishu_session.proofs.Silent.{refused-silent, known-some}
 use Rattle.kishu_session.proofs.Sizes.{refusal-no-size}
 use Rattle.kishu_session.proofs.Staying.{answer-after, attached-after, at-end-after, back-same, counts-after, lives-after, stop-after}
-use Rattle.kishu_session.proofs.Work.{idle-no-size, idle-reads, idle-uncounted, reads-on, reads-same, reads-still}
+use Rattle.kishu_session.proofs.Work.{idle-uncounted, reads-asked, reads-on, reads-same, reads-still}
 use Rattle.kishu_session.proofs.session.Session.apply.Goals as goal
 
 uncounted : (old : Session) (q : rust_request.Request) → LeavesCounter old q → IsUncounted (request_of q)
@@ -99,7 +100,7 @@ pub returns-clause-goes_on : goal.returns-clause-goes_on
 returns-clause-goes_on g c told g' cs e gives =
     let st = g.H.Host.state in
     goes-on-live c.args.self.now c.prepare.new.self (st c.args.host.now) (request_of c.args.request.now) c.in_ok-prepared.prepared
-    c.in_ok-prepared.ensures.leads g' cs e gives (st c.prepare.new.host) c.prepare.ensures.quiet told
+    c.in_ok-prepared.ensures.leads g' cs e gives (st c.prepare.new.host) c.prepare.ensures.quiet (λ none sizes. (c.in_ok-prepared.ensures.stays none sizes).0) told
 
 pub returns-clause-kept : goal.returns-clause-kept
 returns-clause-kept g c is not few =
@@ -113,7 +114,7 @@ returns-clause-kept g c is not few =
       nodes-kept self new s q p leads is.0 is.1 not (self.known c.if-self.false),
       λ told g' a group m x own.
           names-kept self new s q p leads is.0 is.1 not g' a group
-          (subst (λ (r : Request). In group (kept (stops g' g'.head.commit) (stops g' (after g' r).head.commit))) is.1 m) x own (st c.prepare.new.host) c.prepare.ensures.quiet told,
+          (subst (λ (r : Request). In group (kept (stops g' g'.head.commit) (stops g' (after g' r).head.commit))) is.1 m) x own (st c.prepare.new.host) c.prepare.ensures.quiet (λ none sizes. (c.in_ok-prepared.ensures.stays none sizes).0) told,
     )
 
 pub returns-clause-live : goal.returns-clause-live
@@ -157,6 +158,17 @@ returns-clause-refused g c refusal =
     let stays = c.in_ok-prepared.ensures.stays none (λ bytes size. refusal-no-size (answer_of p.answer) refusal.0 bytes refusal.1 size) in
     (c.in_ok-record.ensures.quiet none ∙ stays.1, stays.0)
 
+pub returns-clause-stays : goal.returns-clause-stays
+returns-clause-stays g c alone =
+    let self = c.args.self.now in
+    let q = request_of c.args.request.now in
+    let p = c.in_ok-prepared.prepared in
+    let leads = c.in_ok-prepared.ensures.leads in
+    let known = self.known c.if-self.false in
+    let none = alone-silent self.journal.place self.head c.prepare.new.self q p known leads.prepares alone in
+    let stays = c.in_ok-prepared.ensures.stays none (alone-no-size (told_file (g.H.Host.state c.args.host.now)) self.journal.place self.head c.prepare.new.self q p leads known alone) in
+    (c.in_ok-record.ensures.quiet none ∙ stays.1, stays.0)
+
 pub returns-clause-too_large : goal.returns-clause-too_large
 returns-clause-too_large g c bytes size =
     let st = g.H.Host.state in
@@ -193,7 +205,8 @@ returns-clause-makes g c told g' a =
     let s = st c.args.host.now in
     let q = request_of c.args.request.now in
     makes-few self s q g' a (state_of new.live)
-    (goes-on-live self new s q c.in_ok-prepared.prepared c.in_ok-prepared.ensures.leads g' a.changes a.at_end a.gives (st c.prepare.new.host) c.prepare.ensures.quiet told)
+    (goes-on-live self new s q c.in_ok-prepared.prepared c.in_ok-prepared.ensures.leads g' a.changes a.at_end a.gives (st c.prepare.new.host) c.prepare.ensures.quiet
+    (λ none sizes. (c.in_ok-prepared.ensures.stays none sizes).0) told)
 
 pub returns-clause-loads : goal.returns-clause-loads
 returns-clause-loads g c is not told g' a =
@@ -208,23 +221,22 @@ returns-clause-loads g c is not told g' a =
     let commit = λ (r : Request). (after g' r).head.commit in
     subst (λ (n : ℕ). ReadsMore s.reads (st c.record.new.host).reads (size_among (loaded (stops g' g'.head.commit) (stops g' n)) (replay g' n))) (sym (ap commit is.1))
     (reads-on s.reads s1.reads (st c.record.new.host).reads _
-    (reads-loaded self new s q p leads is.0 is.1 not g' a s1 (subst (λ (r : Request). ReadsFor self.head.graph s s1 r p) is.1 c.in_ok-prepared.ensures.reads)
+    (reads-loaded self new s q p leads is.0 is.1 not g' a s1 (subst (λ (r : Request). ReadsFor self.head new s s1 r p) is.1 c.in_ok-prepared.ensures.reads)
     (recorded self new s q p leads is.0 is.1 not (self.known c.if-self.false))) c.in_ok-record.ensures.reads)
 
 pub returns-clause-reads : goal.returns-clause-reads
-returns-clause-reads g c none =
+returns-clause-reads g c has not sizes =
     let st = g.H.Host.state in
     let self = c.args.self.now in
+    let new = c.prepare.new.self in
     let s = st c.args.host.now in
     let s1 = st c.prepare.new.host in
     let q = request_of c.args.request.now in
     let p = c.in_ok-prepared.prepared in
-    let reads = c.in_ok-prepared.ensures.reads in
-    reads-on s.reads s1.reads (st c.record.new.host).reads 0
-    (⊎_elim (λ (idle : IsIdle q). idle-reads self.head.graph s s1 q p reads idle
-    (idle-no-size (told_file s) self.journal.place self.head c.prepare.new.self q p c.in_ok-prepared.ensures.leads (self.known c.if-self.false) idle))
-    (λ (one : IsCell q × (IsRefusal (answer_of p.answer) → ⊥) × ((bytes : ℕ) → RefusesSize (answer_of p.answer) bytes → ⊥)).
-    subst (λ (r : Request). ReadsFor self.head.graph s s1 r p) one.0.1 reads one.2) none) c.in_ok-record.ensures.reads
+    reads-on s.reads s1.reads (st c.record.new.host).reads (bytes_asked_by self.head new q)
+    (reads-asked self.head new s s1 q p c.in_ok-prepared.ensures.reads has
+    (cells-recorded (told_file s) self.journal.place self.head new q p c.in_ok-prepared.ensures.leads has not sizes (self.known c.if-self.false)))
+    c.in_ok-record.ensures.reads
 
 pub returns-clause-idle : goal.returns-clause-idle
 returns-clause-idle g c is =
