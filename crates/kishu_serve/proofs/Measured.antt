@@ -1,6 +1,7 @@
 -- What one request reads and counts, where the session is attached.
-use Rattle.std.proofs.Common.{◌≡◌, ◌≤◌, ◌<◌, ◌+◌, inl, inr, ℕ, List, length, Option, Some, None, option_map, refl, sym, ◌∙◌, ap, subst, arith}
+use Rattle.std.proofs.Common.{◌≡◌, ◌≤◌, ◌<◌, ◌+◌, inl, inr, ℕ, List, [], ◌∷◌, length, Option, Some, None, option_map, refl, sym, ◌∙◌, ap, subst, arith}
 use Rattle.std.proofs.Math.Logic.{∥∥₁_elim}
+use Rattle.std.proofs.lemmas.List.{append-nil}
 use Rattle.std.proofs.Props.{props}
 use Rattle.kishu_host.specs.Host.{State, ReadsMore}
 use Rattle.kishu_meaning.specs.cells.Meaning.{run}
@@ -13,6 +14,8 @@ use Rattle.kishu_store.specs.Limits.{newest_profile}
 use Rattle.kishu_store.specs.Tables.{Table, Change, change_of, groups_in, table_at}
 use Rattle.kishu_store_laws.specs.Laws.{one_changes}
 use Rattle.kishu_graph.specs.Tables.{table_of_rows}
+use Rattle.kishu_delta.specs.Kept.{digest_of, is_digest}
+use Rattle.kishu_history.specs.Accessed.{accessed_by}
 use Rattle.kishu_history.specs.Paths.{stops, AreRows}
 use Rattle.kishu_history.specs.Touched.{touched}
 use Rattle.kishu_history.specs.Versions.{loaded}
@@ -22,12 +25,13 @@ use Rattle.kishu_model.specs.Answers.{Answer as Said, refused, state_too_large}
 use Rattle.kishu_model.specs.Request.{Request, cell, cells, checkout, branch, log, status, inspect, stored, plan, unreadable}
 use Rattle.kishu_model.specs.Serve.{after}
 use Rattle.kishu_model.specs.Step.{step}
+use Rattle.kishu_live_laws.specs.Asked.{bytes_here}
 use Rattle.kishu_live_laws.specs.AtHead.{after_here}
-use Rattle.kishu_live_laws.specs.OnStates.{answer_on, after_on, head_rows, state_on}
+use Rattle.kishu_live_laws.specs.OnStates.{answer_on, after_on, head_rows, ran_by, state_on}
 use Rattle.kishu_live_laws.specs.Reached.{charge_alike, reached_here, cell_left}
 use Rattle.kishu_live_laws.specs.RefusalLaws.{refused_stays, graph_refusal_stays}
 use Rattle.kishu_live_laws.specs.Refusals.{refusal_in}
-use Rattle.kishu_session.specs.Applying.{IsIdle, most_steps}
+use Rattle.kishu_session.specs.Applying.{IsIdle, bytes_asked, most_steps}
 use Rattle.kishu_session.specs.Attached.{IsAttached}
 use Rattle.kishu_session.specs.Becoming.{IsNextState}
 use Rattle.kishu_session.specs.Ends.{IsHistoryIn, at-end-history}
@@ -43,9 +47,9 @@ use Rattle.kishu_serve.specs.Efforts.{IsMeasured, read_by, steps_by, reached_nod
 abbrev pub loaded_by : Graph → Request → ℕ
 loaded_by g q = size_among (loaded (stops g g.head.commit) (stops g (after g q).head.commit)) (replay g (after g q).head.commit)
 
--- Where a committed cell and what only tells or names read nothing, and a checkout what it loads, it reads what it may.
+-- Where a committed cell reads what it asks for, a checkout what it loads, and what only tells or names nothing, it reads what it may.
 pub reads-by : (g : Graph) (q : Request) (x y : Option ℕ) → IsMeasured g q → (IsIdle q → ReadsMore x y 0)
-    → ((text : List ℕ) → q ≡ cell text → newest g < newest (after g q) → ReadsMore x y 0)
+    → ((text : List ℕ) → q ≡ cell text → newest g < newest (after g q) → ReadsMore x y (read_by g q))
     → ((to : List ℕ) → q ≡ checkout to → refusal_in (step g q).answer ≡ None → ReadsMore x y (loaded_by g q))
     → ReadsMore x y (read_by g q)
 reads-by g unreadable x y is idle committed loads = absurd is
@@ -167,7 +171,26 @@ module _ (old : Session) (s : State) (g : Graph) (a : IsAttached old s g) where
     bound-is v next =
         ap (λ (n : ℕ). most_steps n (nodes_in v)) charge-is ∙ ap (λ (n : ℕ). most_steps (run newest_profile text head).charge n) (nodes-are v next)
 
+    -- The pictures that it asks for on the live state take as many bytes as on the replay.
+    pub bytes-are : (v : values.State) → IsNextState s.file of g live (cell text) v
+        → bytes_asked (groups_in (table_of_rows old.head.table)) live (accessed_by newest_profile (text ∷ []) live) v ≡ read_by g (cell text)
+    bytes-are v next =
+        ap (λ (a : List (List ℕ)). bytes_asked (groups_in (table_of_rows old.head.table)) live a v) (append-nil (run newest_profile text live).accessed)
+        ∙ ap (λ (t : Table). bytes_asked (groups_in t) live (run newest_profile text live).accessed v) table-is
+        ∙ ap (bytes_asked (groups_in (head_rows of g)) live (run newest_profile text live).accessed) (left-here v next)
+        ∙ bytes_here s.file of live g rows a.states text (λ before now. is_digest (digest_of before) now)
+
   -- the same of a request that is a cell
+  pub cell-reads : (q : Request) (text : List ℕ) → q ≡ cell text → newest g < newest (after g q) → (x y : Option ℕ) (v : values.State)
+      → IsNextState s.file of g live q v
+      → ReadsMore x y (bytes_asked (groups_in (table_of_rows old.head.table)) live (accessed_by newest_profile (ran_by (table_of_rows old.head.table) q live) live) v)
+      → ReadsMore x y (read_by g q)
+  cell-reads q text is more x y v next reads =
+      let here : newest g < newest (after g (cell text)) = subst (λ (r : Request). newest g < newest (after g r)) is more in
+      let bytes = bytes-are text here v (subst (λ (r : Request). IsNextState s.file of g live r v) is next) in
+      let read = subst (λ (r : Request). ReadsMore x y (bytes_asked (groups_in (table_of_rows old.head.table)) live (accessed_by newest_profile (ran_by (table_of_rows old.head.table) r live) live) v)) is reads in
+      subst (λ (r : Request). ReadsMore x y (read_by g r)) (sym is) (subst (λ (n : ℕ). ReadsMore x y n) bytes read)
+
   pub cell-counts : (q : Request) (text : List ℕ) → q ≡ cell text → newest g < newest (after g q) → (before now : ℕ) (v : values.State)
       → IsNextState s.file of g live q v
       → now ≤ before + most_steps (run newest_profile text live).charge

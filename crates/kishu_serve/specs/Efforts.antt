@@ -15,7 +15,7 @@ use Rattle.kishu_model.specs.Request.{Request, cell, cells, checkout, branch, lo
 use Rattle.kishu_model.specs.Serve.{Item, answered, silent, closing, after, after_item}
 use Rattle.kishu_model.specs.Step.{step}
 use Rattle.kishu_live_laws.specs.Refusals.{refusal_in}
-use Rattle.kishu_session.specs.Applying.{most_steps}
+use Rattle.kishu_session.specs.Applying.{bytes_asked, most_steps}
 
 -- ---- which items are measured: cells that are committed, checkouts that aren't refused, and requests that only tell or name what is kept
 
@@ -37,11 +37,15 @@ AreMeasured g (answered q ∷ is) = IsMeasured g q × AreMeasured (after g q) is
 AreMeasured g (silent q ∷ is) = ⊥
 AreMeasured g (closing bytes ∷ is) = ⊥
 
--- ---- the bytes that they read: the pictures of the groups that checkouts load
+-- ---- the bytes that they read: the pictures of the groups that checkouts load, and those that committed cells ask for
+
+-- those that a cell asks for on a state: the pictures of the touched groups that the state has before it and after it, with pictures of one digest and length
+abbrev pub asked_bytes : State → List ℕ → ℕ
+asked_bytes s text = (let ran = run newest_profile text s in bytes_asked (groups_of s) s ran.accessed ran.state)
 
 abbrev pub read_by : Graph → Request → ℕ
 read_by g unreadable = 0
-read_by g (cell text) = 0
+read_by g (cell text) = asked_bytes (replay g g.head.commit) text
 read_by g (cells texts) = 0
 read_by g (checkout to) = (let c = (after g (checkout to)).head.commit in size_among (loaded (stops g g.head.commit) (stops g c)) (replay g c))
 read_by g (branch name at) = 0

@@ -66,8 +66,8 @@ pub(crate) fn serve_all<H: Host, S: Source, L: Ledger>(
         → WhereKnownMade (Answers requests.old) (S.source source.old) session.old (H.state host.old)
         (λ made g items. FillsByAny made g items) }
 
-    // Where all are measured they read just the pictures that they load, and take no more steps than they may,
-    // where no heap is loaded anew.
+    // Where all are measured they read just the pictures that checkouts load and cells ask for, and from at most
+    // 8,000,000 nodes made they take no more steps than they may.
     ensures loads { OnOk result (
         WhereKnown (Answers requests.old) (S.source source.old) session.old (H.state host.old) (λ g items.
         AreMeasured g items

@@ -108,7 +108,7 @@ pub(crate) fn serve<H: Host, L: Ledger>(
         FillsBy made g (asked_of asked.now)) }
     ensures makes { OnOk result
         (MakesNodes session.old session.new (H.state host.old) (asked_of asked.now)) }
-    // What is measured reads no more than its own, and takes no more steps, where the heap isn't loaded anew.
+    // What is measured reads just its own, and from at most 8,000,000 nodes it takes no more steps than it may.
     ensures loads { OnOk result (WhereAttached session.old (H.state host.old) (λ g.
         IsMeasured g (asked_of asked.now) → ReadsMore (H.state host.old).reads (H.state host.new).reads
         (read_by g (asked_of asked.now)))) }

@@ -19,7 +19,7 @@ use Rattle.kishu_serve.specs.Headline.{IsPart}
 use Rattle.kishu_serve.specs.Serving.{WhereMade}
 use Rattle.kishu_serve.proofs.Damages.{ends-damaged}
 use Rattle.kishu_serve.proofs.LiveRuns.{applied-here, unread-here, fills-now}
-use Rattle.kishu_serve.proofs.Measured.{reads-by, steps-by, not-refused, no-refusal, no-size, cell-counts}
+use Rattle.kishu_serve.proofs.Measured.{reads-by, steps-by, not-refused, no-refusal, no-size, cell-counts, cell-reads}
 use Rattle.kishu_serve.proofs.Parts.{attached-kept, at-end-kept, at-end-gives, held, and_then, recorded-kept, told-stop, applied-stop, served-stop}
 use Rattle.kishu_serve.proofs.Works.{reads-both}
 use Rattle.kishu_serve.proofs.serving.serve.Goals as goal
@@ -192,6 +192,7 @@ pub returns-in-Ok-clause-loads : goal.returns-in-Ok-clause-loads
 returns-in-Ok-clause-loads g c =
     let st = g.H.Host.state in
     let q = request_of c.in-Request.request in
+    let old = c.args.session.now in
     let s0 = st c.args.host.now in
     let s1 = st c.apply.new.host in
     let s2 = st c.tell-in-Ok.new.host in
@@ -200,10 +201,12 @@ returns-in-Ok-clause-loads g c =
     (λ told g' a is.
     let measured : IsMeasured g' q = subst (λ (r : Request). IsMeasured g' r) (ap asked_of c.in-Request.is) is in
     let here = ok.answered_here told g' a.changes a.at_end a.gives in
+    let next = ok.goes_on told g' a.changes a.at_end a.gives in
     let read =
-    reads-by g' q s0.reads s1.reads measured (λ idle. ok.reads (inl idle))
+    reads-by g' q s0.reads s1.reads measured c.apply.ensures.idle
     (λ text is_cell more.
-    ok.reads (inr ((text, is_cell), no-refusal c.args.session.now s0 g' a q more _ here, no-size c.args.session.now s0 g' a q more _ here)))
+    cell-reads old s0 g' a q text is_cell more s0.reads s1.reads (state_of c.apply.new.self.head.live) next
+    (ok.reads (inl (text, is_cell)) (no-refusal old s0 g' a q more _ here) (no-size old s0 g' a q more _ here)))
     (λ to is_checkout none.
     ok.loads (to, is_checkout)
     (not-refused _ (step g' q).answer (ok.answered told g' a) none) told g' a) in
