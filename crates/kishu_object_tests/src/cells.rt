@@ -22,8 +22,16 @@ pub(crate) struct State {
 }
 
 impl State {
+    /// What no cell left.
+    pub(crate) fn new(alloc: Global) -> State {
+        State {
+            heap: Heap::new(alloc),
+            names: Names::new(alloc),
+        }
+    }
+
     /// Runs a cell on what the cells before left. One that is too long isn't run.
-    fn run<L: Ledger>(
+    pub(crate) fn run<L: Ledger>(
         &mut self,
         alloc: Global,
         text: &str,
@@ -44,10 +52,7 @@ pub(crate) fn after_cells<L: Ledger>(
     texts: &str,
     steps: &mut Steps<L>,
 ) -> Result<State, AllocError> {
-    let mut state = State {
-        heap: Heap::new(alloc),
-        names: Names::new(alloc),
-    };
+    let mut state = State::new(alloc);
     for text in texts.split('\x1e') {
         state.run(alloc, text, steps)?;
     }

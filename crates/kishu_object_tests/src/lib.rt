@@ -1,10 +1,12 @@
 //! Tests of states: tables of cells, with the groups and the pictures of the names that they leave,
-//! whether they leave the same, and what is loaded from their pictures. They stand in a crate of their
-//! own, since a crate with tests is proved twice. There is nothing else here.
+//! whether they leave the same, what is loaded from their pictures, and which groups they change. They
+//! stand in a crate of their own, since a crate with tests is proved twice. There is nothing else here.
 #![tactic(auto)]
 
 #[cfg(test)]
 mod cells;
+#[cfg(test)]
+mod changes;
 #[cfg(test)]
 mod groups;
 #[cfg(test)]

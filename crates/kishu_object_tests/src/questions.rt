@@ -2,6 +2,7 @@
 ghost use Rattle.std.specs.Prelude.{◌≡◌, ◌<◌};
 
 use crate::cells::after_cells;
+use crate::changes::changes_told;
 use crate::groups::{groups_told, rest_told};
 use crate::loads::loaded_told;
 use crate::pictures::{length_told, order_told, picture_told};
@@ -28,6 +29,10 @@ pub(crate) enum Question {
     Same,
     /// Whether other cells leave the same as what is loaded from the picture of all names.
     Loaded,
+    /// What other cells change.
+    Changes,
+    /// What other cells change, where digests are kept anew before each.
+    ChangesOnceOpened,
 }
 
 fn answer<L: Ledger>(
@@ -51,6 +56,8 @@ fn answer<L: Ledger>(
         Question::Picture => picture_told(alloc, &state, &mut steps),
         Question::Same => same_told(alloc, &state, of.as_str(), &mut steps),
         Question::Loaded => loaded_told(alloc, &state, of.as_str(), &mut steps),
+        Question::Changes => changes_told(alloc, state, of.as_str(), false, &mut steps),
+        Question::ChangesOnceOpened => changes_told(alloc, state, of.as_str(), true, &mut steps),
     }
 }
 

@@ -27,7 +27,8 @@ const OTHER: [u8; 110] =
 /// Stores, lines of a session on each, the lines of its answers, and how many bytes it reads besides those of its
 /// opening.
 const CARRIED: [(&[u8], &str, &str, u64); 5] = [
-    // The group of `z` stays where it is, and that of `x` and `y` is loaded. A refused checkout reads nothing.
+    // The group of `z` stays where it is, and that of `x` and `y` is loaded. A refused checkout reads nothing. The
+    // cell reads the pictures of both, which it leaves as they are.
     (
         &PARTED,
         r#"{"op":"plan","to":"1"}
@@ -42,7 +43,7 @@ const CARRIED: [(&[u8], &str, &str, u64); 5] = [
 {"answer":"cell","commit":3,"count":2,"outcome":"ok","outputs":[{"name":"stdout","output_type":"stream","text":"True [2]\n"}]}
 {"answer":"plan","commit":2,"drop":[["x","y"]],"keep":[["z"]],"load":[["x"],["y"]]}
 "#,
-        54,
+        145,
     ),
     // To where the head stands nothing is loaded. The move is recorded.
     (
@@ -70,7 +71,7 @@ const CARRIED: [(&[u8], &str, &str, u64); 5] = [
 {"answer":"checkout","commit":1,"head":null}
 {"answer":"cell","commit":3,"count":2,"outcome":"ok","outputs":[{"name":"stdout","output_type":"stream","text":"True [2]\n"}]}
 "#,
-        91,
+        182,
     ),
     // The state is the one that the picture tells, and not the one that the cell would leave: as the store is
     // opened, and as it is come back to.
@@ -80,7 +81,7 @@ const CARRIED: [(&[u8], &str, &str, u64); 5] = [
 "#,
         r#"{"answer":"cell","commit":2,"count":2,"outcome":"ok","outputs":[{"name":"stdout","output_type":"stream","text":"[2]\n"}]}
 "#,
-        0,
+        37,
     ),
     (
         &OTHER,
@@ -92,7 +93,7 @@ const CARRIED: [(&[u8], &str, &str, u64); 5] = [
 {"answer":"checkout","commit":1,"head":"main"}
 {"answer":"cell","commit":2,"count":2,"outcome":"ok","outputs":[{"name":"stdout","output_type":"stream","text":"[2]\n"}]}
 "#,
-        37,
+        74,
     ),
 ];
 

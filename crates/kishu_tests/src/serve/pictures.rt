@@ -163,27 +163,47 @@ fn a_commit_without_groups_has_no_names(rt: HostRuntime) -> Result<(), Fail> {
     Ok(())
 }
 
-/// Lines of a session on the store of two commits, and how many bytes it reads besides those of its opening. A commit
-/// reads none, and a checkout the pictures of the groups that differ.
-const READS: [(&str, u64); 2] = [
+/// Stores, lines of a session on each, and how many bytes it reads besides those of its opening: a commit the pictures
+/// of the groups that its cells accessed and left as they were, and a checkout those of the groups that differ.
+const READS: [(&[u8], &str, u64); 4] = [
+    // The list has the picture that is stored.
     (
+        b"",
+        r#"{"op":"cell","text":"a = [1]"}
+{"op":"cell","text":"a[0] = 1"}
+"#,
+        37,
+    ),
+    // It has another one, which is told without the stored one.
+    (
+        b"",
+        r#"{"op":"cell","text":"a = [1]"}
+{"op":"cell","text":"a[0] = 2"}
+"#,
+        0,
+    ),
+    // The first cell leaves the number of `y`. The others make one group of all names but that, which they don't
+    // access.
+    (
+        &PARTED,
         r#"{"op":"cell","text":"x.append(y)"}
 {"op":"cells","texts":["z = x","w = [z]"]}
 {"op":"stored","of":"1"}
 "#,
-        0,
+        27,
     ),
     (
+        &PARTED,
         r#"{"op":"cell","text":"x.append(y)"}
 {"op":"checkout","to":"1"}
 "#,
-        54,
+        81,
     ),
 ];
 
 /// How many bytes a session with these lines reads, where it is done.
-fn read_by(alloc: Global, input: &str) -> Result<Option<u64>, Fail> {
-    let mut host = host_over(alloc, &PARTED, Vec::new(alloc), None)?.ok_or("room")?;
+fn read_by(alloc: Global, file: &[u8], input: &str) -> Result<Option<u64>, Fail> {
+    let mut host = host_over(alloc, file, Vec::new(alloc), None)?.ok_or("room")?;
     let status = run_words(alloc, &mut host, &["S", "session"], input.as_bytes())?;
     if status != Status::Done {
         return Ok(None);
@@ -192,20 +212,20 @@ fn read_by(alloc: Global, input: &str) -> Result<Option<u64>, Fail> {
 }
 
 /// Whether it reads so many bytes besides those of its opening.
-fn reads_besides(alloc: Global, row: &(&str, u64)) -> Result<bool, Fail> {
-    let (input, bytes) = row;
-    let Some(opening) = read_by(alloc, "")? else {
+fn reads_besides(alloc: Global, row: &(&[u8], &str, u64)) -> Result<bool, Fail> {
+    let (file, input, bytes) = row;
+    let Some(opening) = read_by(alloc, file, "")? else {
         return Ok(false);
     };
-    let all = read_by(alloc, input)?;
+    let all = read_by(alloc, file, input)?;
     Ok(all == Some(opening.saturating_add(*bytes)))
 }
 
 #[test]
-fn commits_read_no_byte(rt: HostRuntime) -> Result<(), Fail> {
+fn commits_read_what_stays(rt: HostRuntime) -> Result<(), Fail> {
     let alloc = rt.alloc();
     for row in &READS {
-        assert!(rt; reads_besides(alloc, row)?, "{} bytes", row.1);
+        assert!(rt; reads_besides(alloc, row)?, "{}", row.1);
     }
     Ok(())
 }
