@@ -1,7 +1,7 @@
 """Which groups a commit drops and stores, and how many bytes a state takes then, read a second time: by docs/STORE.md and
 docs/PICTURES.md, and by nothing of the program. The whole state is walked, and each group's picture compared with the one that the file
-holds. What a cell accessed is asked of loose rows alone: those whose names aren't one group of the state that the table tells. A good
-store has none."""
+holds. What a cell accessed says nothing of which groups changed, but of loose rows: those whose names aren't one group of the state that
+the table tells. A good store has none. It says which of the others are read again."""
 import bound_rules
 import picture_rules
 import python_cells
@@ -43,3 +43,8 @@ def changes(rows, file, space, still):
     dropped = sorted(group for group, picture in before.items() if now.get(group) != picture)
     stored = sorted((group, picture) for group, picture in now.items() if before.get(group) != picture)
     return dropped, stored
+
+
+def asked(rows, dropped, accessed):
+    """The bytes that a commit reads: those of the pictures of the rows with an accessed name that aren't dropped."""
+    return sum(row.length for row in rows if row.names not in dropped and not accessed.isdisjoint(row.names))

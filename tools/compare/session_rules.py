@@ -1,7 +1,7 @@
 """The rules of requests, answers and runs, read a second time: by docs/LINES.md, docs/STORE.md and docs/RULES.md, and by nothing of
 the program. The state at a commit is read of the pictures that its table names; those of a new commit hold what CPython makes of its
-cells, and group_rules.py tells which groups it drops and stores. A checkout goes by plan: the groups that it keeps stay as they are, and
-the pictures of those that it loads are read beside them."""
+cells, and group_rules.py tells which groups it drops and stores, and whose pictures it reads. A checkout goes by plan: the groups that it
+keeps stay as they are, and the pictures of those that it loads are read beside them."""
 import json
 import re
 
@@ -80,7 +80,7 @@ class Session:
     def __init__(self, file, known=None):
         self.file, self.end, self.graph = opened(file)
         self.known = known
-        self.read = 0  # the bytes of the pictures that were loaded
+        self.read = 0  # the bytes of the pictures that were read
         self.space = self.loaded(self.graph.commit)
 
     def run(self, text, space, accessed=None):
@@ -146,14 +146,16 @@ class Session:
         rows = self.graph.tables[self.graph.commit]
         loose, accessed = group_rules.loose_rows(rows, self.space), set()
         for number, text in enumerate(texts, count + 1):
-            outcome, *told = self.run(text, self.space, accessed if loose else None)
+            outcome, *told = self.run(text, self.space, accessed)
             results.append({"count": number, "outcome": outcome, "outputs": python_cells.outputs_of(*told, number)})
             still = group_rules.untouched(loose, accessed)
             self.fits(still)
             if outcome != "ok":
                 break
         ran = [text.encode() for text in texts[: len(results)]]
-        self.record(commit_body(self.graph.commit, ran, *group_rules.changes(rows, self.file, self.space, still)))
+        dropped, stored = group_rules.changes(rows, self.file, self.space, still)
+        self.read += group_rules.asked(rows, dropped, accessed)
+        self.record(commit_body(self.graph.commit, ran, dropped, stored))
         return results
 
     def cell(self, text):

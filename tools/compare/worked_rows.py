@@ -108,6 +108,7 @@ ROWS = {
         cell("x = [1]; y = [x]; z = [2]"), cell("y = 0"), cell("x[0] = 1"), cell("z.append(x)"), cell("del y"), stored("1", [], [XY, Z]), stored("2", [XY], [X, Y]),
         stored("3", [], []), stored("4", [X, Z], [["x", "z"]]), stored("5", [Y], []),
     ],
+    "another value": [cell("a = [1]"), cell("a[0] = 2"), stored("2", [A], [A])],
     "a value that comes back": [
         cell("a = [1]"), cell("a = [2]"), cell("a = [1]"), stored("3", [["a"]], [["a"]]), ({"op": "cells", "texts": ["a.append(2)", "a.pop()"]}, {"answer": "cells", "commit": 4, "results": [
             {"count": 4, "outcome": "ok", "outputs": []},
@@ -123,11 +124,14 @@ ROWS = {
 }
 # A store of one commit with the cell `a = [1]`, whose picture of `a` is that of `a = [2]`.
 OTHER = "another picture than that of its cells"
-# The bytes of the store that the lines of a row read: the picture of x and y has 54, that of the list x 37, that of the number y 27, and
-# that of a list which holds itself 25.
+# The bytes of the store that the lines of a row read: those of the pictures that a checkout loads, and of those that cells accessed and left
+# as they were. The picture of a list of one number has 37 bytes, with a list that holds it 54, of one list by two names 44, of a number 27,
+# and of a list which holds itself 25.
 READ = {
-    "a checkout that keeps a group": [0, 0, 0, 54, 0, 0, 64, 0], "a checkout to where the head stands": [0] * 6,
-    "a checkout that loads what was left": [0, 0, 0, 0, 0, 0, 0, 25, 0, 0], OTHER: [0, 37, 0],
+    "two ways from one state": [0, 0, 44, 44, 0, 0, 0, 0],
+    "a checkout that keeps a group": [0, 0, 0, 54, 54 + 37, 0, 37 + 27, 37 + 27 + 37], "a checkout to where the head stands": [0, 0, 0, 0, 0, 54],
+    "a checkout that loads what was left": [0, 0, 25, 0, 0, 0, 0, 25, 0, 25], "the same value again": [0, 37, 0, 37, 0, 0, 0, 0],
+    "another value": [0, 0, 0], "what raised is stored": [0, 27, 0, 0], "a value that comes back": [0, 0, 0, 0, 37, 0], OTHER: [0, 37, 37],
 }
 OTHER_FILE = bytes.fromhex(
     "4b495348552d4a4f55524e414c2d310a a5 0000000000000054 0000002b 01 00000000 01 00000001 00000007 61203d205b315d 00000000 00000001 00000001 0161 "

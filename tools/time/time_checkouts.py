@@ -8,9 +8,9 @@ three commits that count: one with all groups made, and two that go on from it, 
 begins `PROGRAM STORE session` and a Python process anew, over files in memory where the system has such a folder. It goes from the first
 commit to the one that differs in one group and back, and to the one that differs in 19 and back. For each of these the Python process
 reads the pickle (protocol 5) of all names as they were there, and loads it by `pickle.loads`; what it had before is let go outside the
-time. Both get a line when the one before is answered, turn about. Told are the median times, and how many bytes each read, by the
-system's count, without the line. Of Kishu these have to be just those of the pictures of the groups that differ, by the rules of
-tools/compare.
+time. Both get a line when the one before is answered, turn about. Told are the median times, how many bytes each read, by the system's
+count, without the line, and the most memory that each had by then. Of Kishu the bytes have to be just those of the pictures of the groups
+that differ, by the rules of tools/compare.
 
 With `--write` the table goes into docs/PERFORMANCE.md, between the two lines that name this script, and the picture into docs/checkouts.svg.
 The script ends with status 1 where a checkout of which one group of 20 differs takes longer than loading the pickle, or reads more bytes.
@@ -112,7 +112,7 @@ def bytes_that_differ(folder, here, there):
 
 
 def gone(program, folder, commits):
-    """A turn: of each number of groups that differ, what both sides took for the way there and the way back."""
+    """A turn: of each number of groups that differ, what both sides took for the way there and the way back, and their memory then."""
     first, *others = commits
     sides = [Side([program, os.path.join(folder, "store"), "session"]), python_side(folder)]
     for side in sides:
@@ -120,26 +120,30 @@ def gone(program, folder, commits):
     found = {}
     for groups, other in zip(DIFFER, others):
         ways = [[side.moved(to) for side in sides] for to in (other, first)]
-        found[groups] = list(zip(*ways))
+        found[groups] = [(side_ways, side.memory()) for side_ways, side in zip(zip(*ways), sides)]
     for side in sides:
         side.ended()
     return found
 
 
 def figures(program, nodes, turns):
-    """Of each number of groups that differ, for each side the median time of a checkout in seconds, and the bytes that it reads."""
+    """Of each number of groups that differ, for each side the median time of a checkout in seconds, the bytes that it reads, and the median
+    of the most memory, in MB."""
     with memory_folder() as folder:
         commits = made(program, folder, nodes)
         runs = [gone(program, folder, commits) for _ in range(turns)]
         for groups, other in zip(DIFFER, commits[1:]):
             wanted = [bytes_that_differ(folder, *way) for way in ((commits[0], other), (other, commits[0]))]
             for run in runs:
-                if [read for _, read in run[groups][0]] != wanted:
-                    sys.exit(f"checkouts read {run[groups][0]}, and the groups that differ have {wanted} bytes")
+                if [read for _, read in run[groups][0][0]] != wanted:
+                    sys.exit(f"checkouts read {run[groups][0][0]}, and the groups that differ have {wanted} bytes")
     told = {}
     for groups in DIFFER:
-        ways = [[way for run in runs for way in run[groups][side]] for side in range(len(NAMES))]
-        told[groups] = [(statistics.median(spent for spent, _ in way), statistics.median(read for _, read in way)) for way in ways]
+        told[groups] = []
+        for side in range(len(NAMES)):
+            ways = [way for run in runs for way in run[groups][side][0]]
+            memory = statistics.median(run[groups][side][1] for run in runs)
+            told[groups].append((*map(statistics.median, zip(*ways)), memory))
     return told
 
 
@@ -152,13 +156,13 @@ def in_ms(seconds):
 
 def table_of(found, turns):
     """The lines of the table."""
-    yield "| Nodes in all | Groups that differ | Kishu | `pickle.loads` of all names | Kishu reads | the pickle has |"
-    yield "|---|---|---|---|---|---|"
+    yield "| Nodes in all | Groups that differ | Kishu | `pickle.loads` of all names | Kishu reads | the pickle has | most memory of Kishu, and of Python |"
+    yield "|---|---|---|---|---|---|---|"
     for nodes, told in found.items():
-        for groups, ((mine, read), (theirs, size)) in told.items():
+        for groups, ((mine, read, memory), (theirs, size, beside)) in told.items():
             yield (
                 f"| {nodes:,} | {groups} of {GROUPS} | {in_ms(mine)}, {mine / theirs:.2f} of the pickle's | {in_ms(theirs)} "
-                f"| {read:,.0f} bytes, {read / size:.2f} of the pickle's | {size:,.0f} bytes |"
+                f"| {read:,.0f} bytes, {read / size:.2f} of the pickle's | {size:,.0f} bytes | {memory:,.0f} MB, {beside:,.0f} MB |"
             )
     yield ""
     yield f"Medians of {2 * turns} checkouts ({datetime.date.today()})."
@@ -199,7 +203,7 @@ def main():
     if given.write:
         write(table, picture_of(found))
     ones = [told[DIFFER[0]] for told in found.values()]
-    sys.exit(1 if any(mine > theirs for sides in ones for mine, theirs in zip(*sides)) else 0)
+    sys.exit(1 if any(mine > theirs for sides in ones for mine, theirs in list(zip(*sides))[:2]) else 0)
 
 
 if __name__ == "__main__":

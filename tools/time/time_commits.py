@@ -9,11 +9,11 @@ The first runs 200 cells over 20 groups, of which one has NODES nodes, most of t
 `PROGRAM STORE session`, and by a Python process that runs each cell by `exec` in one namespace and then writes the pickle of all its
 names to a file of its own, with a sync: so that it could go back to each cell, too. Both get a cell when the one before is answered, turn
 about, on the same disk. Told are the bytes that each wrote, the time of all cells, and the median time of the cells that change a small
-group; the memory that each took; and last a checkout of the first cell and one of the last, beside the reading of those two pickles.
+group; the most memory that each had; and last a checkout of the first cell and one of the last, beside the reading of those two pickles.
 
 The second asks what other groups cost a commit that doesn't touch them. Two sessions on stores in memory, where the system has such a
 folder, have one small group each, and beside it ten groups of SMALL and of LARGE nodes together. Both commit cells that change the small
-group, a hundred at once, turn about; the medians of their times count.
+group, a hundred at once, turn about; the medians of their times count. Told is also the most memory that each had.
 
 The script ends with status 1 where the store has more than a tenth of the pickles' bytes, or where a commit beside the LARGE groups takes
 more than 1.2 times as long as one beside the SMALL ones.
@@ -92,7 +92,7 @@ def bytes_in(folder):
 def show(name, size, times, small, moves, memory):
     print(
         f"{name:<22}{size:>14,} bytes{sum(times):>9.2f} s{statistics.median(small) * 1000:>10.3f} ms a cell of one small group"
-        f"{moves[0] * 1000:>9.1f} ms to the first{moves[1] * 1000:>9.1f} ms to the last{memory:>8.0f} MB",
+        f"{moves[0] * 1000:>9.1f} ms to the first{moves[1] * 1000:>9.1f} ms to the last{memory:>8.1f} MB at most",
         flush=True,
     )
 
@@ -143,12 +143,16 @@ def commits_beside(program, sizes):
             lines = [{"op": "cell", "text": f"small[1][0] = {turn * COMMITS_AT_ONCE + number}"} for number in range(COMMITS_AT_ONCE)]
             for side, spent in zip(sides, times):
                 spent.append(side.took(lines)[0] / COMMITS_AT_ONCE)
+        memories = [side.memory() for side in sides]
         for side in sides:
             side.ended()
         grown = [(os.path.getsize(store) - before) / (TURNS * COMMITS_AT_ONCE) for store, before in zip(stores, begun)]
     medians = [statistics.median(spent) for spent in times]
-    for nodes, median, size in zip(sizes, medians, grown):
-        print(f"a commit of a small group beside {nodes:>9,} nodes: {median * 10**6:.2f} us and {size:.1f} bytes, the median of {TURNS} times {COMMITS_AT_ONCE}")
+    for nodes, median, size, memory in zip(sizes, medians, grown, memories):
+        print(
+            f"a commit of a small group beside {nodes:>9,} nodes: {median * 10**6:.2f} us and {size:.1f} bytes, the median of {TURNS} times {COMMITS_AT_ONCE}; "
+            f"{memory:.1f} MB at most"
+        )
     ratio = medians[1] / medians[0]
     print(f"beside {sizes[1]:,} nodes it takes {ratio:.2f} times as long as beside {sizes[0]:,}")
     return ratio
