@@ -10,10 +10,11 @@ Cells: each run commits one cell. After each run the store is opened by a run th
 commits the store held. That number may not be below what was acknowledged, nor above it by more than the one cell that was under way.
 
 Sessions: each run is a session of 40 requests: cells, one or several at once, about some names that share nodes and some that don't,
-checkouts, branches, `log`, `status`, `stored`, `plan`, and some that are refused. What all of them are answered is known before, by session_rules.py. After each run the output has to be a prefix of these answers, and the file, byte by
-byte as store_rules.py reads it, has to hold the records of the answered requests in order, and at most that of the next request
-besides. Then `log` and `status` by runs that aren't killed have to tell just these. The next session goes on with the same store,
-which is new every 25 runs.
+which are tied together and let go of; checkouts of commits and of branches, new branches, `log`, `status`, `stored`, `plan`, and some
+that are refused. What all of them are answered is known before, by session_rules.py. After each run the output has to be a prefix of
+these answers, and the file, byte by byte as store_rules.py reads it, has to hold the records of the answered requests in order, and at
+most that of the next request besides. Then `log` and `status` by runs that aren't killed have to tell just these. The next session
+goes on with the same store, which is new every 25 runs.
 
 Notebooks: each run takes a notebook of 40 code cells to a store of its own, every other one with `--together`. After the kill the
 store has to hold the commits of the first cells, one each and in order, or together those of all cells or none; all, where any byte
@@ -108,14 +109,14 @@ def kill_cells(program, folder, runs):
 
 
 class Plan:
-    """The lines of a session on a store, its answers, and how many records the store has behind each."""
+    """The lines of a session on a store, its answers, and how many records the store has behind each. Each request is made by a
+    function, of the graph at that point."""
 
-    def __init__(self, file, rng):
+    def __init__(self, file, requests):
         self.session = session_rules.Session(file)
         self.lines, self.answers, self.records = [], [], [self.session.graph.records]
-        for number in range(REQUESTS):
-            request = random_request(rng, self.session.graph, number)
-            self.lines.append(json.dumps(request).encode())
+        for request in requests:
+            self.lines.append(json.dumps(request(self.session.graph)).encode())
             self.answers.append(self.session.answer(session_rules.request_of(self.lines[-1])))
             self.records.append(self.session.graph.records)
 
@@ -126,6 +127,14 @@ class Plan:
         """The bodies of all records that the store has at the end."""
         return bodies_in(self.session.file)[0]
 
+    def moves(self, answered):
+        """How many checkouts and new branches are among the first answers."""
+        return sum(answer.startswith((b'{"answer":"checkout"', b'{"answer":"branch"')) for answer in self.answers[:answered])
+
+
+def random_plan(file, rng):
+    return Plan(file, [lambda graph, number=number: random_request(rng, graph, number) for number in range(REQUESTS)])
+
 
 def random_request(rng, graph, number):
     newest = len(graph.parents) - 1
@@ -135,10 +144,12 @@ def random_request(rng, graph, number):
         *[lambda: {"op": "cell", "text": f"print(seen, {number})"}] * 2,
         *[lambda: {"op": "cell", "text": rng.choice([f"row = [{number}]; pair = [row, seen]", "pair = row = 0", "row.append(x)", "pair = [row, row]"])}] * 3,
         *[lambda: {"op": "cells", "texts": [f"x = {number}", f"print(x, {number})", f"x // {number % 2}", "x"]}] * 2,
-        *[lambda: {"op": "checkout", "to": str(rng.randint(0, newest))}] * 2,
+        *[lambda: {"op": "cell", "text": rng.choice(["ties = {'row': row, 'seen': seen}", "ties = [pair, [x]]", "del ties", "del row, pair"])}] * 2,
+        *[lambda: {"op": "checkout", "to": str(rng.randint(0, newest))}] * 3,
         lambda: {"op": "checkout", "to": rng.choice(["0", "0", "main", "none"])},
-        lambda: {"op": "checkout", "to": rng.choice(list(graph.branches))},
-        lambda: {"op": "branch", "name": f"b{len(graph.branches)}", "at": str(rng.randint(0, newest + 1))},
+        *[lambda: {"op": "checkout", "to": rng.choice(list(graph.branches))}] * 3,
+        *[lambda: {"op": "branch", "name": f"b{len(graph.branches)}", "at": str(rng.randint(0, newest + 1))}] * 2,
+        lambda: {"op": "branch", "name": f"b{len(graph.branches)}"},
         lambda: {"op": "branch", "name": rng.choice(["main", "9", f"b{len(graph.branches)}"])},
         lambda: {"op": rng.choice(["log", "status", "fly"])},
         lambda: {"op": "stored", "of": rng.choice(["main", str(rng.randint(0, newest + 1))])},
@@ -162,7 +173,7 @@ def look_at(plan, out, file):
     if not b"".join(plan.answers).startswith(out):
         raise ValueError("the output isn't a prefix of the answers")
     bodies, least = held_bodies(file), plan.records[answered]
-    most = plan.records[min(answered + 1, REQUESTS)]
+    most = plan.records[min(answered + 1, len(plan.lines))]
     if not least <= len(bodies) <= most:
         raise ValueError(f"{answered} requests were answered, so the store has {least} to {most} records, and it holds {len(bodies)}")
     if bodies != plan.bodies()[: len(bodies)]:
@@ -171,38 +182,43 @@ def look_at(plan, out, file):
 
 
 def kill_session(program, store, rng, span):
-    """Kills one session. How many requests were answered, and how many records the store has besides."""
-    plan = Plan(content(store), rng)
+    """Kills one session. How many requests were answered, how many of these were moves, and how many records the store has besides."""
+    plan = random_plan(content(store), rng)
     out, ended = killed([program, store, "session"], plan.input(), rng.uniform(0, span))
-    told = look_at(plan, out, content(store))
-    if ended and told[0] < REQUESTS:
-        raise ValueError(f"it ended by itself after {told[0]} answers")
+    answered, more = look_at(plan, out, content(store))
+    if ended and answered < REQUESTS:
+        raise ValueError(f"it ended by itself after {answered} answers")
+    look_at_told(program, store)
+    return answered, plan.moves(answered), more
+
+
+def look_at_told(program, store):
+    """Opens a store. ValueError: it tells something else than its file holds."""
     for form in ("log", "status"):
         _, _, wanted, _ = session_rules.expected([store, form], b"", content(store))
         if complete([program, store, form], b"") != wanted:
             raise ValueError(f"`{form}` tells something else than the file holds")
-    return told
 
 
 def kill_sessions(program, folder, runs):
     rng = random.Random()
-    answered = more = cut = 0
+    answered = moved = more = cut = 0
     for i in range(runs):
         if i % RUNS_OF_A_STORE == 0:
             tried, store = (os.path.join(folder, f"{kind}{i}.kishu") for kind in ("tried", "sessions"))
-            span = span_of([program, tried, "session"], Plan(None, rng).input())
+            span = span_of([program, tried, "session"], random_plan(None, rng).input())
         try:
-            count, kept = kill_session(program, store, rng, span)
+            count, moves, kept = kill_session(program, store, rng, span)
         except ValueError as fault:
             sys.exit(f"session {i}: {fault}")
         except Damaged as damage:
             sys.exit(f"session {i}: the store is damaged at {damage}")
-        answered, more, cut = answered + count, more + kept, cut + (count < REQUESTS)
-    if answered == 0 or cut == 0:
-        sys.exit(f"{answered} requests were answered, and {cut} sessions killed before their end: nothing was tried")
+        answered, moved, more, cut = answered + count, moved + moves, more + kept, cut + (count < REQUESTS)
+    if moved == 0 or cut == 0:
+        sys.exit(f"{moved} checkouts and branches were answered, and {cut} sessions killed before their end: nothing was tried")
     print(
-        f"{runs} sessions of {REQUESTS} requests killed, {cut} of them before their end: {answered} requests were acknowledged, "
-        f"{more} more had been stored; no acknowledged request was lost, and all are in order"
+        f"{runs} sessions of {REQUESTS} requests killed, {cut} of them before their end: {answered} requests were acknowledged, {moved} of "
+        f"them checkouts and new branches, and {more} more had been stored; no acknowledged request was lost, and all are in order"
     )
 
 
