@@ -96,7 +96,7 @@ module _ (gs : List Group) (accessed : List (List ℕ)) (s : State) (same : Grou
 abbrev pub agrees : Digests → State → Group → Bool
 agrees kept s g = is_kept kept g (picture_bytes s g)
 
--- By the digests that are kept it tells what changes of this table where no two pictures have one digest: what is dropped then, and stored with its picture now. It asks for each class of the touched names that is a group of the table with the digest that is kept of it: with the table's row, and with its picture now.
+-- Where no two pictures have one digest, the kept digests tell what changes of this table: the draft drops that, and stores that with its picture now. It asks for each class of the touched names that is a group of the table with the digest that is kept of it: with the table's row, and with its picture now.
 pub record IsDraft (kept : Digests) (t : Table) (accessed : List (List ℕ)) (s : State) (d : rust_draft.Draft) : Type 0 where
   pub dropped : drafted_dropped d ≡ dropped_by (groups_in t) accessed s (agrees kept s)
   pub stored : drafted_stored d ≡ pictured s (stored_by (groups_in t) accessed s (agrees kept s))

@@ -10,8 +10,8 @@ pub struct Asked {
     pub bytes: Vec<u8>,
 }
 
-/// What changes of a table for certain, and the rows whose stored pictures have to be asked for. Each list
-/// stands in the order of first names.
+/// What changes of a table for certain, and the rows whose stored pictures have to be asked for. `dropped`
+/// stands in the table's order, `stored` and `asked` in the order of first names.
 #[derive(Drop)]
 pub struct Draft {
     pub dropped: Vec<Vec<RcStr>>,

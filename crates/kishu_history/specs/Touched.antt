@@ -27,9 +27,9 @@ touched gs accessed s = filter (is_touched gs accessed) (listed s)
 abbrev pub classes : List Group → List (List ℕ) → State → List Group
 classes gs accessed s = groups s (touched gs accessed s)
 
--- From the groups of a table, the picture that is kept of each, and the accessed names:
+-- From the groups of a table, the picture that each of them had, and the accessed names:
 module _ (gs : List Group) (pic : Group → State) (accessed : List (List ℕ)) (s : State) where
-  -- the groups that are dropped, which hold an accessed name and aren't classes with their kept picture,
+  -- the groups that are dropped, which hold an accessed name and aren't classes with the picture that they had,
   abbrev pub dropped_among : List Group
   dropped_among = filter (λ g. holds_any accessed g && not (is_one_of g (classes gs accessed s) && is_state (picture s g) (pic g))) gs
 

@@ -109,7 +109,7 @@ pub fn plans_are_exact()
     ensures nothing_to_drop { (t : Table) → to_drop t t ≡ [] }
 {}
 
-/// What is told among the touched names is exact against the whole state, where the other groups stand as they were; and each group is stored or has its kept picture. Whatever test tells which classes of the touched names stay, each stays or is stored, and none does both.
+/// What is told among the touched names is exact against the whole state, where the other groups stand as they were; and each group is stored or has the picture that it had. Whatever test tells which classes of the touched names stay, each stays or is stored, and none does both.
 pub fn detection_is_exact()
     ensures dropped { (gs : List Group) (pic : Group → State) (accessed : List (List ℕ)) (s : State) → IsSoundState s → IsKept gs pic accessed s → dropped_among gs pic accessed s ≡ filter (λ g. not (stands g (pic g) s)) gs }
     ensures stored { (gs : List Group) (pic : Group → State) (accessed : List (List ℕ)) (s : State) → IsSoundState s → IsKept gs pic accessed s → stored_among gs pic accessed s ≡ filter (λ g. not (is_one_of g gs && is_state (picture s g) (pic g))) (groups_of s) }

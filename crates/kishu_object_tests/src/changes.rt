@@ -53,7 +53,7 @@ impl Stored {
         Ok(Table { rows })
     }
 
-    /// The pictures of these rows. Those of groups with one of these names have a byte more.
+    /// The pictures of these rows. Those of groups with one of these names end in another byte.
     fn handed(
         &self,
         alloc: Global,
@@ -64,7 +64,9 @@ impl Stored {
         for asked in asked {
             let mut bytes = picture(&self.pictures, asked.row.place as usize).to_vec(alloc)?;
             if holds_any(others, &asked.row.group.names) {
-                bytes.push(0)?;
+                if let Some(last) = bytes.pop() {
+                    bytes.push(last ^ 1)?;
+                }
             }
             handed.push(bytes)?;
         }

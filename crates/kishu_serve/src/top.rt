@@ -363,8 +363,9 @@ pub fn kishu<H: Host, S: Source, L: Ledger>(
 
     // Done of a session whose lines ask for cells that are committed, for checkouts that aren't refused, and
     // for what only tells or names what is kept: beside at most three times the bytes that the store had, just
-    // the pictures of the groups were read that the checkouts load; and where at most 8,000,000 nodes are
-    // made, by the opening, the loads and the cells, the counter rose by no more than the cells' bounds.
+    // the pictures of the groups were read that the checkouts load, and of those that committed cells touch
+    // and leave with the digests that they had; and where at most 8,000,000 nodes are made, by the opening,
+    // the loads and the cells, the counter rose by no more than the cells' bounds.
     ensures loads { result ≡ Done → form_named words.now ≡ Some lines
         → OverGood (H.state host.old) (S.source source.old) (λ g.
         AreMeasured g (asked_by words.now (S.source source.old) g)

@@ -9,7 +9,7 @@ use Rattle.kishu_graph.specs.Refusals.{unless_there}
 use Rattle.kishu_model.specs.Request.{Request, cell, cells, checkout, branch, log, status, inspect, stored, plan, unreadable}
 use Rattle.kishu_model.specs.Serve.{after}
 
--- the commit whose table a request may read: the one to which a checkout goes, and for cells the head's, to which they may come back
+-- the commit whose table a request may read: the one to which a checkout goes, and for cells the head's, to which they may come back and for whose groups they may ask
 abbrev pub reads_at : Graph → Request → ℕ
 reads_at g unreadable = g.head.commit
 reads_at g (cell text) = g.head.commit

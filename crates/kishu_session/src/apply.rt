@@ -32,8 +32,8 @@ impl Session {
     ///
     /// - `Closed`: an earlier call ended the session. The host isn't called.
     /// - `Damaged`: at that place there is no picture of a group that a checkout loads, or of one of the
-    ///   head's, to which cells came back that left a state that is too large, or which cells that are
-    ///   committed left with the digest that it had.
+    ///   head's: cells that leave a state that is too large go back to these, and cells that would be
+    ///   committed ask for those that they left with the digests that they had.
     /// - `DiskFault`: a call of the host failed. The store holds the graph before or after the request.
     /// - `HeapFull`: a cell of the request, or the loading of a checkout, would have begun with more than
     ///   2^31 nodes.

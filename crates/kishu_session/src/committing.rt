@@ -47,8 +47,8 @@ const FAR: u64 = 1 << 62;
 impl Head {
     /// Adds the commit of these cells, which were run on the head's state and left the live one. It drops
     /// and stores just the groups that changed: where a group's picture has the digest and the length that
-    /// are kept of it, the stored one is read, and tells. The new head's table is kept then, with just the
-    /// digests of its groups' pictures.
+    /// are kept of it, the stored picture is read, and tells whether the group changed. The new head's table
+    /// is kept then, with just the digests of its groups' pictures.
     pub(crate) fn commit<H: Host, L: Ledger>(
         &mut self,
         host: &mut H,
