@@ -7,3 +7,5 @@ pub mod GroupsAfter
 pub mod TestedLaws
 pub mod LiveLaws
 pub mod SizeLaws
+pub mod Led
+pub mod LedLaws

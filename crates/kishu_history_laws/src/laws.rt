@@ -36,6 +36,7 @@ ghost use Rattle.kishu_history.specs.Stored.{bytes_at, Held, Stored, Keeps, Keep
 ghost use Rattle.kishu_objects.specs.Sizes.{size_among, size, most_bytes};
 ghost use Rattle.kishu_history.specs.Sizes.{StaySmall};
 ghost use Rattle.kishu_history.specs.Good.{IsGoodStore, IsAttached};
+ghost use Rattle.kishu_history_laws.specs.cells.Led.{LeadsTo};
 
 /// The test of two states tells whether they are one, that of a group whether it is among others, and that of a group in a state whether it stands there with a picture. Where pictures fit into bytes, their bytes tell the first.
 pub fn tests_decide()
@@ -175,10 +176,10 @@ pub fn cells_stay_live()
     ensures order { (file : Option (List ℕ)) (t : Table) (s u : State) (accessed : List (List ℕ)) (rows : Table) → IsTable t → IsLive (Stored file) t s → IsSoundState u → Leaves accessed s u → groups_in rows ≡ stored_among (groups_in t) (picture s) accessed u → ((r : Row) → In r rows → Stored file r (picture u r.group)) → Rise (map first_name (dropped_among (groups_in t) (picture s) accessed u)) × Rise (map first_in rows) }
 {}
 
-/// So it is whatever test tells which classes of the touched names stay, where each that does is stored for its row with its picture now: the new table is one and tells the live state, and takes what its rows without an accessed name take and the classes; each of its rows is new, or has its picture as it was, or is of a class that passes the test; and what is dropped and stored stands in order.
+/// So it is whatever test tells which classes of the touched names stay, where each that does is stored for its row with its picture now: the new table is one and tells the live state, and takes what its rows without an accessed name take and the classes; each of its rows is new, or has its picture as it was, or is of a class that passes the test; and what is dropped and stored stands in order. So it is also where the live state is only the same as the one that the cells left.
 pub fn cells_stay_live_by_tests()
     ensures live { (file : Option (List ℕ)) (t : Table) (s u : State) (accessed : List (List ℕ)) (same : Group → Bool) (rows : Table)
-        → IsTable t → IsLive (Stored file) t s → IsSoundState u → Leaves accessed s u
+        → IsTable t → IsLive (Stored file) t s → IsSoundState u → LeadsTo accessed s u
         → ((r : Row) → In r t → In r.group (classes (groups_in t) accessed u) → same r.group ≡ true
         → Stored file r (picture u r.group))
         → groups_in rows ≡ filter (λ g. not (is_one_of g (groups_in t) && same g)) (classes (groups_in t) accessed u)
@@ -189,7 +190,7 @@ pub fn cells_stay_live_by_tests()
           stored = rows;
         }) t) u }
     ensures table { (file : Option (List ℕ)) (t : Table) (s u : State) (accessed : List (List ℕ)) (same : Group → Bool) (rows : Table)
-        → IsTable t → IsLive (Stored file) t s → IsSoundState u → Leaves accessed s u
+        → IsTable t → IsLive (Stored file) t s → IsSoundState u → LeadsTo accessed s u
         → ((r : Row) → In r t → In r.group (classes (groups_in t) accessed u) → same r.group ≡ true
         → Stored file r (picture u r.group))
         → groups_in rows ≡ filter (λ g. not (is_one_of g (groups_in t) && same g)) (classes (groups_in t) accessed u)
@@ -200,7 +201,7 @@ pub fn cells_stay_live_by_tests()
           stored = rows;
         }) t) }
     ensures takes { (file : Option (List ℕ)) (t : Table) (s u : State) (accessed : List (List ℕ)) (same : Group → Bool) (rows : Table)
-        → IsTable t → IsLive (Stored file) t s → IsSoundState u → Leaves accessed s u
+        → IsTable t → IsLive (Stored file) t s → IsSoundState u → LeadsTo accessed s u
         → ((r : Row) → In r t → In r.group (classes (groups_in t) accessed u) → same r.group ≡ true
         → Stored file r (picture u r.group))
         → groups_in rows ≡ filter (λ g. not (is_one_of g (groups_in t) && same g)) (classes (groups_in t) accessed u)
@@ -212,7 +213,7 @@ pub fn cells_stay_live_by_tests()
         }) t)
         ≡ bytes_in (untouched t accessed) + size_among (classes (groups_in t) accessed u) u }
     ensures kinds { (file : Option (List ℕ)) (t : Table) (s u : State) (accessed : List (List ℕ)) (same : Group → Bool) (rows : Table)
-        → IsTable t → IsLive (Stored file) t s → IsSoundState u → Leaves accessed s u
+        → IsTable t → IsLive (Stored file) t s → IsSoundState u → LeadsTo accessed s u
         → ((r : Row) → In r t → In r.group (classes (groups_in t) accessed u) → same r.group ≡ true
         → Stored file r (picture u r.group))
         → groups_in rows ≡ filter (λ g. not (is_one_of g (groups_in t) && same g)) (classes (groups_in t) accessed u)
@@ -225,7 +226,7 @@ pub fn cells_stay_live_by_tests()
         → In r rows ⊎ ((picture u r.group ≡ picture s r.group)
         ⊎ (In r.group (classes (groups_in t) accessed u) × (same r.group ≡ true))) }
     ensures order { (file : Option (List ℕ)) (t : Table) (s u : State) (accessed : List (List ℕ)) (same : Group → Bool) (rows : Table)
-        → IsTable t → IsLive (Stored file) t s → IsSoundState u → Leaves accessed s u
+        → IsTable t → IsLive (Stored file) t s → IsSoundState u → LeadsTo accessed s u
         → ((r : Row) → In r t → In r.group (classes (groups_in t) accessed u) → same r.group ≡ true
         → Stored file r (picture u r.group))
         → groups_in rows ≡ filter (λ g. not (is_one_of g (groups_in t) && same g)) (classes (groups_in t) accessed u)
