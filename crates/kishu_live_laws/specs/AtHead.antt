@@ -1,5 +1,5 @@
 -- In a session that is attached to a good store a request gives just what one step of the machine gives, and leaves the state of the new head.
-use Rattle.std.specs.Prelude.{◌≡◌, ◌≤◌, ◌<◌, ◌+◌, ℕ, suc, nat_lt, false, List, length}
+use Rattle.std.specs.Prelude.{◌≡◌, ◌<◌, ◌+◌, ℕ, suc, nat_lt, false, List, length}
 use Rattle.std.proofs.Common.{ap, sym, ◌∙◌, subst, arith, inl, inr}
 use Rattle.kishu_language.specs.declared.profile.Profile.{Profile}
 use Rattle.kishu_meaning.specs.values.Values.{State, empty}
@@ -18,16 +18,14 @@ use Rattle.kishu_store.specs.Graph.{Commit, Graph, Target, newest, path_in, with
 use Rattle.kishu_store.specs.Holds.{Holds}
 use Rattle.kishu_store.specs.Limits.{newest_profile}
 use Rattle.kishu_store.specs.Tables.{Table, Change, no_change}
-use Rattle.kishu_model.specs.Request.{Request, cell, cells, checkout, branch, log, status, inspect, stored, plan, unreadable, Stepped}
+use Rattle.kishu_model.specs.Request.{Request, Stepped}
 use Rattle.kishu_model.specs.Serve.{after}
 use Rattle.kishu_model.specs.Step.{step, charge_of}
 use Rattle.kishu_model.specs.requests.TooLarge.{is_too_large}
-use Rattle.kishu_live_laws.specs.CellsAlike.{cells_make, fills_made}
-use Rattle.kishu_live_laws.specs.Filling.{FillsBy, FillsMade}
+use Rattle.kishu_live_laws.specs.CellsAlike.{cells_make}
 use Rattle.kishu_live_laws.specs.Made.{made_by_cells}
 use Rattle.kishu_live_laws.specs.OnStates.{ran_by, left_of, head_rows, answer_on, after_on, charge_on, state_on, IsNoCheckout}
 use Rattle.kishu_live_laws.specs.Outcomes.{IsStill, IsMade, goes, still_state, more_state, when_more}
-use Rattle.kishu_live_laws.specs.Refusals.{FillsOn}
 use Rattle.kishu_live_laws.specs.Replays.{ran_in}
 use Rattle.kishu_live_laws.specs.RequestsAlike as alike
 use Rattle.kishu_live_laws.specs.Small.{ran_small}
@@ -169,20 +167,3 @@ module _ (file : List ℕ) (of : ℕ → Change) (s : State) (g : Graph) (rows :
 
     pub replay_stays_small : newest g < newest (after g q) → StaySmall newest_profile (ran_by (head_rows of g) q s) (replay g g.head.commit)
     replay_stays_small more = stay_small_alike newest_profile ran s head here there same (stays_small more)
-
-  -- ---- too many nodes
-
-  -- Where a cell, or the loading of a checkout, would begin with too many nodes, it would with too many made, where no fewer were made before.
-  pub fills_here : (made : ℕ) → length s.nodes ≤ made → (q : Request) → FillsOn (head_rows of g) s g q → FillsBy made g q
-  fills_here made few unreadable fills = fills
-  fills_here made few (cell text) fills = omega (arith, few, fills)
-  fills_here made few (cells texts) fills =
-      subst (λ (l : List (List ℕ)). FillsMade made newest_profile l head) (alike.ran_by_alike file of s g rows attached (cells texts))
-      (fills_made newest_profile (ran_by table (cells texts) s) s head here there same made few fills)
-  fills_here made few (checkout to) fills = (fills.0, omega (arith, few, fills.1))
-  fills_here made few (branch name at) fills = fills
-  fills_here made few log fills = fills
-  fills_here made few status fills = fills
-  fills_here made few inspect fills = fills
-  fills_here made few (stored to) fills = fills
-  fills_here made few (plan to) fills = fills

@@ -1,6 +1,6 @@
 -- Cells can't tell states apart that are the same: as many of them are run, they show the same, take as many steps, and leave states that are the same.
-use Rattle.std.specs.Prelude.{◌≡◌, ◌≤◌, ◌+◌, ◌&&◌, ℕ, suc, min, nat_lt, not, Bool, if◌then◌else◌, List, [], ◌∷◌, length, Some, None, refl}
-use Rattle.std.proofs.Common.{ap, ◌∙◌, subst, arith, inl, inr}
+use Rattle.std.specs.Prelude.{◌≡◌, ◌+◌, ◌&&◌, ℕ, suc, min, nat_lt, not, Bool, if◌then◌else◌, List, [], ◌∷◌, length, Some, None, refl}
+use Rattle.std.proofs.Common.{ap, ◌∙◌, subst, arith}
 use Rattle.kishu_language.specs.declared.profile.Profile.{Profile}
 use Rattle.kishu_meaning.specs.cells.Meaning.{run}
 use Rattle.kishu_meaning.specs.values.Values.{Report, State}
@@ -14,15 +14,12 @@ use Rattle.kishu_pairing_laws.specs.runs.PairedRuns.{same_runs}
 use Rattle.kishu_pairing_laws.specs.runs.SoundRuns.{run_is_state}
 use Rattle.kishu_history_laws.specs.cells.GroupsAfter.{same_size}
 use Rattle.kishu_history_laws.specs.states.SameLaws.{same_listed}
-use Rattle.kishu_session_laws.specs.CellLaws.{cells_leave}
-use Rattle.kishu_replay.specs.Replay.{after_cells, charge_in, FillsIn}
+use Rattle.kishu_replay.specs.Replay.{after_cells, charge_in}
 use Rattle.kishu_model.specs.Answers.{Counted, state_too_large}
 use Rattle.kishu_model.specs.requests.Cells.{cells_run, is_followed, is_ok, results_from}
 use Rattle.kishu_model.specs.requests.Inspect.{told_at}
 use Rattle.kishu_model.specs.requests.Status.{names_in}
 use Rattle.kishu_model.specs.requests.TooLarge.{is_too_large, most_told, too_large}
-use Rattle.kishu_live_laws.specs.Filling.{FillsMade}
-use Rattle.kishu_live_laws.specs.Made.{made_in}
 
 -- ---- what shows of a state
 
@@ -107,13 +104,3 @@ cells_make profile (text ∷ texts) s t here there same =
     let new = (same_runs profile text s t here there same).nodes_new in
     let rest = cells_make profile texts (run profile text s).state (run profile text t).state (run_is_state profile text s here) (run_is_state profile text t there) (left_alike profile text s t here there same) in
     omega (arith, new, rest)
-
--- Where a cell would begin with too many nodes, it would with too many made, where no fewer were made before.
-pub fills_made : (profile : Profile) (texts : List (List ℕ)) (s t : State) → IsSoundState s → IsSoundState t → Same s t → (made : ℕ) → length s.nodes ≤ made → FillsIn profile texts s → FillsMade made profile texts t
-fills_made profile [] s t here there same made few fills = fills
-fills_made profile (text ∷ texts) s t here there same made few (inl full) = inl (omega (arith, few, full))
-fills_made profile (text ∷ texts) s t here there same made few (inr later) =
-    let new = (same_runs profile text s t here there same).nodes_new in
-    let grows = (cells_leave profile (text ∷ []) t there).grows in
-    inr (fills_made profile texts (run profile text s).state (run profile text t).state (run_is_state profile text s here) (run_is_state profile text t there)
-    (left_alike profile text s t here there same) (made + made_in profile (text ∷ []) t) (omega (arith, few, new, grows)) later)

@@ -3,7 +3,6 @@ pub mod OnStates
 pub mod Refusals
 pub mod Replays
 pub mod Made
-pub mod Filling
 pub mod Outcomes
 pub mod Small
 pub mod CellsAlike
@@ -21,3 +20,4 @@ pub mod Anew
 pub mod NextMakes
 pub mod Reached
 pub mod Asked
+pub mod SameRequests

@@ -1,14 +1,10 @@
--- Which refusal of an answer the graph alone decides, when cells leave a state that is too large, and when nodes are too many.
+-- Which refusal of an answer the graph alone decides, and when cells leave a state that is too large.
 use Rattle.std.specs.Prelude.{◌≡◌, ◌<◌, ℕ, min, List, [], ◌∷◌, Option, Some, None}
 use Rattle.kishu_meaning.specs.values.Values.{State}
 use Rattle.kishu_objects.specs.Sizes.{most_bytes}
-use Rattle.kishu_replay.specs.Replay.{FillsIn, IsFull}
-use Rattle.kishu_store.specs.Graph.{Graph}
-use Rattle.kishu_store.specs.Limits.{newest_profile}
 use Rattle.kishu_store.specs.Tables.{Table}
 use Rattle.kishu_model.specs.Answers.{Answer, ran_cell, ran_cells, checked_out, branched, logged, told_status, inspected, told_stored, told_plan, refused, Refusal, bad_request, cell_too_long, no_such_ref, bad_name, name_taken, store_full, state_too_large}
 use Rattle.kishu_model.specs.Request.{Request, cell, cells, checkout, branch, log, status, inspect, stored, plan, unreadable}
-use Rattle.kishu_model.specs.Step.{step}
 use Rattle.kishu_model.specs.requests.TooLarge.{most_told}
 use Rattle.kishu_live_laws.specs.OnStates.{left_size, run_of}
 
@@ -51,18 +47,3 @@ LeavesTooLarge t s status bytes = ⊥
 LeavesTooLarge t s inspect bytes = ⊥
 LeavesTooLarge t s (stored of) bytes = ⊥
 LeavesTooLarge t s (plan to) bytes = ⊥
-
--- ---- when a request would begin a cell, or the loading of a checkout, with too many nodes
-
--- On this state, with this table of the head, over this graph: its own cell, or one of its own that are run, or the loading of a checkout that isn't refused.
-abbrev pub FillsOn : Table → State → Graph → Request → Type 0
-FillsOn t s g unreadable = ⊥
-FillsOn t s g (cell text) = IsFull s
-FillsOn t s g (cells texts) = FillsIn newest_profile (run_of t texts s) s
-FillsOn t s g (checkout to) = (refusal_in (step g (checkout to)).answer ≡ None) × IsFull s
-FillsOn t s g (branch name at) = ⊥
-FillsOn t s g log = ⊥
-FillsOn t s g status = ⊥
-FillsOn t s g inspect = ⊥
-FillsOn t s g (stored of) = ⊥
-FillsOn t s g (plan to) = ⊥

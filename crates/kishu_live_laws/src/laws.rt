@@ -8,7 +8,7 @@ ghost use Rattle.kishu_meaning.specs.values.Values.{State, empty};
 ghost use Rattle.kishu_store.specs.Graph.{Graph, newest, path_in, with_commit};
 ghost use Rattle.kishu_store.specs.Holds.{Holds};
 ghost use Rattle.kishu_store.specs.Limits.{newest_profile};
-ghost use Rattle.kishu_replay.specs.Replay.{FillsIn, after_cells, charge_in, replay};
+ghost use Rattle.kishu_replay.specs.Replay.{after_cells, charge_in, replay};
 ghost use Rattle.kishu_model.specs.Answers.{Refusal, refused, state_too_large};
 ghost use Rattle.kishu_model.specs.Request.{Request, cell};
 ghost use Rattle.kishu_model.specs.requests.Cells.{cells_run, results_from};
@@ -32,15 +32,14 @@ ghost use Rattle.kishu_history.specs.Live.{IsPictureOf, IsStoredPicture};
 ghost use Rattle.kishu_history.specs.Paths.{AreRows, stops, table_at};
 ghost use Rattle.kishu_history.specs.Sizes.{AllStaySmall, StaySmall};
 ghost use Rattle.kishu_history.specs.Stored.{Held};
-ghost use Rattle.kishu_history.specs.Tables.{Change, Row, bytes_in, groups_in};
+ghost use Rattle.kishu_history.specs.Tables.{Change, Row, Table, bytes_in, groups_in};
 ghost use Rattle.kishu_history.specs.Versions.{loaded};
 ghost use Rattle.kishu_live_laws.specs.Alike.{OnAttached, OnHeld, OnSame, head_after, head_of};
 ghost use Rattle.kishu_live_laws.specs.Asked.{Test, bytes_by};
-ghost use Rattle.kishu_live_laws.specs.Filling.{FillsBy, FillsMade};
 ghost use Rattle.kishu_live_laws.specs.Made.{loaded_nodes, made_by, made_by_cells, opened_nodes};
 ghost use Rattle.kishu_live_laws.specs.OnStates.{IsNoCheckout, StayTold, after_on, answer_on, charge_on, head_rows, left_of, left_size, ran_by, run_of, state_on};
 ghost use Rattle.kishu_live_laws.specs.Reached.{reached_by};
-ghost use Rattle.kishu_live_laws.specs.Refusals.{FillsOn, LeavesTooLarge, refusal_in};
+ghost use Rattle.kishu_live_laws.specs.Refusals.{LeavesTooLarge, refusal_in};
 
 /// Where a session is attached to a good store, what is told of its cells by the head's table is what they
 /// leave: so just those are run that end well and leave no state that is too large.
@@ -68,9 +67,8 @@ pub fn live_states_step()
 
 /// Where a session is attached to a good store, a request that makes a commit makes as many nodes as its
 /// cells make on the replay of the head; an opening makes as many as the pictures of the head's groups have,
-/// and a checkout as many as those of the groups that it loads. Where a cell, or the loading of a checkout,
-/// would begin with too many nodes, too many were made, where no fewer were made before than the state has.
-/// Cells make as many nodes on states that are the same. A picture has no more nodes than its state.
+/// and a checkout as many as those of the groups that it loads. Cells make as many nodes on states that are
+/// the same. A picture has no more nodes than its state.
 pub fn requests_make_nodes()
     ensures committed { OnAttached (λ of s g. (q : Request) → newest g < newest (after g q)
         → length (state_on of s g q).nodes ≡ length s.nodes + made_by_cells g q) }
@@ -83,10 +81,6 @@ pub fn requests_make_nodes()
         → AllZip (IsPictureOf (Held file)) (to_load (table_at g of h) (table_at g of c)) ps
         → (gs : List Group) (s : State)
         → length (carried gs ps s).nodes ≡ length s.nodes + loaded_nodes g h c }
-    ensures fills { OnAttached (λ of s g. (q : Request) (made : ℕ) → length s.nodes ≤ made
-        → FillsOn (head_rows of g) s g q → FillsBy made g q) }
-    ensures cells { (profile : Profile) (texts : List (List ℕ)) → OnSame (λ s t. (made : ℕ)
-        → length s.nodes ≤ made → FillsIn profile texts s → FillsMade made profile texts t) }
     ensures same { (profile : Profile) (texts : List (List ℕ)) → OnSame (λ s t.
         length (after_cells profile texts s).nodes + length t.nodes
         ≡ length (after_cells profile texts t).nodes + length s.nodes) }
@@ -213,6 +207,23 @@ pub fn cells_run_alike()
     ensures left { (profile : Profile) (texts : List (List ℕ)) → OnSame (λ s t.
         Same (after_cells profile (cells_run profile texts s) s)
         (after_cells profile (cells_run profile texts t) t)) }
+{}
+
+/// A request can't tell states apart that are the same, whatever the records change: as many of its cells are
+/// run, they leave states that are the same, of which as much is told by a table; and its answer, the graph
+/// after it and the steps of its cells are those on the other.
+pub fn requests_run_alike()
+    ensures ran { OnSame (λ s t. (rows : Table) (q : Request) → ran_by rows q s ≡ ran_by rows q t) }
+    ensures size { OnSame (λ s t. (rows : Table) (texts : List (List ℕ))
+        → left_size rows texts s ≡ left_size rows texts t) }
+    ensures answer { (of : ℕ → Change) → OnSame (λ s t. (g : Graph) (q : Request)
+        → answer_on of s g q ≡ answer_on of t g q) }
+    ensures after { (of : ℕ → Change) → OnSame (λ s t. (g : Graph) (q : Request)
+        → after_on of s g q ≡ after_on of t g q) }
+    ensures charge { (of : ℕ → Change) → OnSame (λ s t. (g : Graph) (q : Request)
+        → charge_on of s g q ≡ charge_on of t g q) }
+    ensures left { (of : ℕ → Change) → OnSame (λ s t. (g : Graph) (q : Request)
+        → Same (state_on of s g q) (state_on of t g q)) }
 {}
 
 /// States that are the same are told alike: their names, what is bound in them, and whether they are too

@@ -1,5 +1,5 @@
 -- The machine that replays each commit's whole path of cells from empty.
-use Rattle.std.specs.Prelude.{ℕ, ◌<◌, ◌+◌, ◌^◌, ◌⊎◌, List, [], ◌∷◌, length}
+use Rattle.std.specs.Prelude.{ℕ, ◌+◌, List, [], ◌∷◌}
 use Rattle.kishu_language.specs.declared.profile.Profile.{Profile}
 use Rattle.kishu_meaning.specs.values.Values.{State, empty}
 use Rattle.kishu_meaning.specs.cells.Meaning.{run}
@@ -32,21 +32,3 @@ charge_on (k ∷ ks) state = charge_in k.profile k.cells state + charge_on ks (a
 -- those of a commit's replay
 abbrev pub replay_charge : Graph → ℕ → ℕ
 replay_charge g c = charge_on (path g c) empty
-
--- A cell isn't begun with more nodes than this: the run ends there.
-abbrev pub IsFull : State → Type 0
-IsFull state = 2 ^ 31 < length state.nodes
-
--- one of these cells would begin so
-abbrev pub FillsIn : Profile → List (List ℕ) → State → Type 0
-FillsIn profile [] state = ⊥
-FillsIn profile (cell ∷ cells) state = IsFull state ⊎ FillsIn profile cells (run profile cell state).state
-
--- one of the cells of these commits would
-abbrev pub FillsOn : List Commit → State → Type 0
-FillsOn [] state = ⊥
-FillsOn (k ∷ ks) state = FillsIn k.profile k.cells state ⊎ FillsOn ks (after_cells k.profile k.cells state)
-
--- one of the cells that lead to the head, or the next one
-abbrev pub Fills : Graph → Type 0
-Fills g = FillsOn (path g g.head.commit) empty ⊎ IsFull (replay g g.head.commit)
