@@ -17,8 +17,9 @@ use Rattle.kishu_history.specs.Live.{IsLive}
 use Rattle.kishu_history.specs.Stored.{Stored}
 use Rattle.kishu_history.specs.Tables.{IsTable}
 use Rattle.kishu_history.specs.Touched.{classes, untouched, change_told, size_told}
+use Rattle.kishu_history_laws.specs.cells.Led.{LeadsTo}
+use Rattle.kishu_history_laws.specs.cells.LedLaws.{leads_here, table_after}
 use Rattle.kishu_history_laws.specs.cells.SizeLaws.{tested_takes}
-use Rattle.kishu_history_laws.specs.cells.TestedLaws.{table_after}
 use Rattle.kishu_history_laws.specs.tables.FileLaws.{kept_is_table}
 use Rattle.kishu_delta.specs.Deltas.{dropped_by, stored_by}
 use Rattle.kishu_commit.specs.ApartLaws.{table-apart, each-among}
@@ -29,7 +30,7 @@ use Rattle.kishu_commit.specs.WritingLaws.{dropped-inside}
 
 -- ---- by a test
 
-module _ (t : Table) (is : IsTable t) (s u : State) (accessed : List (List ℕ)) (live : IsLive (Stored None) t s) (there : IsSoundState u) (leaves : Leaves accessed s u)
+module _ (t : Table) (is : IsTable t) (s u : State) (accessed : List (List ℕ)) (live : IsLive (Stored None) t s) (there : IsSoundState u) (leads : LeadsTo accessed s u)
     (same : Group → Bool) (stay : StayStored None t accessed u same) (dropped stored : List Group) (told : AreToldBy t accessed u same dropped stored)
     (can : PicturesFit u stored) (small : size_told t accessed u ≤ most_bytes) (number place : ℕ) where
   abbrev rows : Table
@@ -50,7 +51,7 @@ module _ (t : Table) (is : IsTable t) (s u : State) (accessed : List (List ℕ))
   is-table : IsTable (after (change_by dropped rows) t)
   is-table =
       subst (λ (ds : List Group). IsTable (after (change_by ds rows) t)) (sym told.0)
-      (table_after (Stored None) t is s u live there accessed leaves same stay rows stores new)
+      (table_after (Stored None) t is s u live there accessed leads same stay rows stores new)
 
   takes : bytes_in (after (change_by dropped rows) t) ≡ bytes_in (untouched t accessed) + size_among (classes (groups_in t) accessed u) u
   takes =
@@ -66,18 +67,18 @@ module _ (t : Table) (is : IsTable t) (s u : State) (accessed : List (List ℕ))
   }
 
 -- The commit fits behind records, wherever its body stands, where there is room for one more.
-pub tested-follows-at : (body : ℕ) (h : History) → IsHistory h → (cells : List (List ℕ)) (s u : State) (accessed : List (List ℕ)) → IsLive (Stored None) (head_table h) s → IsSoundState u → Leaves accessed s u
+pub tested-follows-at : (body : ℕ) (h : History) → IsHistory h → (cells : List (List ℕ)) (s u : State) (accessed : List (List ℕ)) → IsLive (Stored None) (head_table h) s → IsSoundState u → LeadsTo accessed s u
     → (same : Group → Bool) → StayStored None (head_table h) accessed u same → (dropped stored : List Group) → AreToldBy (head_table h) accessed u same dropped stored → PicturesFit u stored
     → size_told (head_table h) accessed u ≤ most_bytes → h.graph.records < most_records → FollowsAt body h (next_entry_by h cells dropped stored u)
-tested-follows-at body h k cells s u accessed live there leaves same stay dropped stored told can small room =
+tested-follows-at body h k cells s u accessed live there leads same stay dropped stored told can small room =
     let is = kept_is_table (head_table h) (k.changes.tables h.graph.head.commit) in
     let place = body + before_pictures (next_entry_by h cells dropped stored u) in
     record {
       graph = record { room = room; goes_on = refl };
-      table = (tested-fits (head_table h) is s u accessed live there leaves same stay dropped stored told can small (suc (newest h.graph)) place, tt);
+      table = (tested-fits (head_table h) is s u accessed live there leads same stay dropped stored told can small (suc (newest h.graph)) place, tt);
     }
 
-pub tested-follows : (h : History) → IsHistory h → (cells : List (List ℕ)) (s u : State) (accessed : List (List ℕ)) → IsLive (Stored None) (head_table h) s → IsSoundState u → Leaves accessed s u
+pub tested-follows : (h : History) → IsHistory h → (cells : List (List ℕ)) (s u : State) (accessed : List (List ℕ)) → IsLive (Stored None) (head_table h) s → IsSoundState u → LeadsTo accessed s u
     → (same : Group → Bool) → StayStored None (head_table h) accessed u same → (dropped stored : List Group) → AreToldBy (head_table h) accessed u same dropped stored → PicturesFit u stored
     → size_told (head_table h) accessed u ≤ most_bytes → h.graph.records < most_records → Follows h (next_entry_by h cells dropped stored u)
 tested-follows h = tested-follows-at (h.place + before_body) h
@@ -87,13 +88,13 @@ tested-follows h = tested-follows-at (h.place + before_body) h
 pub told-fits : (t : Table) → IsTable t → (s u : State) (accessed : List (List ℕ)) → IsLive (Stored None) t s → IsSoundState u → Leaves accessed s u
     → CanBeStored t s accessed u → size_told t accessed u ≤ most_bytes → (number place : ℕ) → FitsTable t (change_told t s accessed u (rows_of u number place (groups_told t s accessed u)))
 told-fits t is s u accessed live there leaves can small number place =
-    tested-fits t is s u accessed live there leaves (is_still s u) (told-stay None t s u accessed live) (dropped_told t s accessed u) (groups_told t s accessed u) (refl, refl) can small number place
+    tested-fits t is s u accessed live there (leads_here accessed s u there leaves) (is_still s u) (told-stay None t s u accessed live) (dropped_told t s accessed u) (groups_told t s accessed u) (refl, refl) can small number place
 
 pub told-follows-at : (body : ℕ) (h : History) → IsHistory h → (cells : List (List ℕ)) (s u : State) (accessed : List (List ℕ)) → IsLive (Stored None) (head_table h) s → IsSoundState u → Leaves accessed s u
     → CanBeStored (head_table h) s accessed u → size_told (head_table h) accessed u ≤ most_bytes → h.graph.records < most_records → FollowsAt body h (next_entry h cells s accessed u)
 told-follows-at body h k cells s u accessed live there leaves can small room =
     let t = head_table h in
-    tested-follows-at body h k cells s u accessed live there leaves (is_still s u) (told-stay None t s u accessed live) (dropped_told t s accessed u) (groups_told t s accessed u) (refl, refl) can small room
+    tested-follows-at body h k cells s u accessed live there (leads_here accessed s u there leaves) (is_still s u) (told-stay None t s u accessed live) (dropped_told t s accessed u) (groups_told t s accessed u) (refl, refl) can small room
 
 pub told-follows : (h : History) → IsHistory h → (cells : List (List ℕ)) (s u : State) (accessed : List (List ℕ)) → IsLive (Stored None) (head_table h) s → IsSoundState u → Leaves accessed s u
     → CanBeStored (head_table h) s accessed u → size_told (head_table h) accessed u ≤ most_bytes → h.graph.records < most_records → Follows h (next_entry h cells s accessed u)

@@ -20,7 +20,8 @@ use Rattle.kishu_history.specs.Live.{IsLive}
 use Rattle.kishu_history.specs.Stored.{Stored, Keeps}
 use Rattle.kishu_history.specs.Tables.{IsTable}
 use Rattle.kishu_history.specs.Touched.{change_told}
-use Rattle.kishu_history_laws.specs.cells.TestedLaws.{live_after}
+use Rattle.kishu_history_laws.specs.cells.Led.{LeadsTo}
+use Rattle.kishu_history_laws.specs.cells.LedLaws.{leads_here, live_after}
 use Rattle.kishu_history_laws.specs.stores.StoreLaws.{live_still}
 use Rattle.kishu_history_laws.specs.tables.FileLaws.{kept_is_table}
 use Rattle.kishu_delta.specs.Deltas.{stored_by}
@@ -92,7 +93,7 @@ module _ (h : History) (k : IsHistory h) (cells : List (List ℕ)) (dropped stor
   is-table : IsTable before
   is-table = kept_is_table before (k.changes.tables h.graph.head.commit)
 
-  module _ (s : State) (accessed : List (List ℕ)) (same : Group → Bool) (told : AreToldBy before accessed u same dropped stored) (there : IsSoundState u) (leaves : Leaves accessed s u) (can : PicturesFit u stored) where
+  module _ (s : State) (accessed : List (List ℕ)) (same : Group → Bool) (told : AreToldBy before accessed u same dropped stored) (there : IsSoundState u) (leads : LeadsTo accessed s u) (can : PicturesFit u stored) where
     stores : groups_in rows ≡ stored_by (groups_in before) accessed u same
     stores = rows-groups u number place stored ∙ told.1
 
@@ -101,7 +102,7 @@ module _ (h : History) (k : IsHistory h) (cells : List (List ℕ)) (dropped stor
     tested-live at live stay new =
         subst (λ (t : Table). IsLive (Stored at) t u) (sym table-by)
         (subst (λ (ds : List Group). IsLive (Stored at) (after (change_by ds rows) before) u) (sym told.0)
-        (live_after (Stored at) before is-table s u live there accessed leaves same stay rows stores new))
+        (live_after (Stored at) before is-table s u live there accessed leads same stay rows stores new))
 
     -- What is known of a file that isn't told.
     pub tested-untold : IsLive (Stored None) before s → StayStored None before accessed u same → IsLive (Stored None) (head_table (led h (next_entry_by h cells dropped stored u))) u
@@ -129,10 +130,10 @@ module _ (h : History) (k : IsHistory h) (cells : List (List ℕ)) (s u : State)
 
   module _ (there : IsSoundState u) (leaves : Leaves accessed s u) (can : CanBeStored t s accessed u) where
     pub live-untold : IsLive (Stored None) t s → IsLive (Stored None) (head_table (led h (next_entry h cells s accessed u))) u
-    live-untold live = tested-untold h k cells drops comes u s accessed (is_still s u) (refl, refl) there leaves can live (told-stay None t s u accessed live)
+    live-untold live = tested-untold h k cells drops comes u s accessed (is_still s u) (refl, refl) there (leads_here accessed s u there leaves) can live (told-stay None t s u accessed live)
 
     pub live-held : (file grown : List ℕ) → IsLive (Stored (Some file)) t s → Keeps file grown t → AllZip (λ r p. bytes_at grown r ≡ p) (next_rows h cells s accessed u) (pictures_told t s accessed u)
         → IsLive (Stored (Some grown)) (head_table (led h (next_entry h cells s accessed u))) u
     live-held file grown live keeps lie =
         let stay = told-stay (Some grown) t s u accessed (live_still file grown t s keeps live) in
-        tested-held h k cells drops comes u s accessed (is_still s u) (refl, refl) there leaves can file grown live stay keeps lie
+        tested-held h k cells drops comes u s accessed (is_still s u) (refl, refl) there (leads_here accessed s u there leaves) can file grown live stay keeps lie

@@ -26,6 +26,7 @@ ghost use Rattle.kishu_history.specs.Sizes.{StaySmall};
 ghost use Rattle.kishu_history.specs.Stored.{Stored, Keeps, KeepsRecords};
 ghost use Rattle.kishu_history.specs.Tables.{IsTable};
 ghost use Rattle.kishu_history.specs.Touched.{classes, change_told, size_told};
+ghost use Rattle.kishu_history_laws.specs.cells.Led.{LeadsTo};
 ghost use Rattle.kishu_commit.specs.Told.{measured, record_with, record_by, change_by, next_entry_by, rows_by, AreToldBy};
 ghost use Rattle.kishu_commit.specs.Told.{dropped_told, groups_told, stored_told, pictures_told, told_record, next_entry, next_record, next_rows};
 ghost use Rattle.kishu_commit.specs.Told.{PicturesFit, CanBeStored, StayStored, MayBeCommitted, HasShortNames};
@@ -56,18 +57,19 @@ pub fn commits_fit()
 {}
 
 /// So it is of a commit whose lists are told by any test which classes of the touched names stay, where each
-/// row that stays so has a picture now of its length. It fits wherever its body stands. That its record may
-/// be written doesn't hang on the state before.
+/// row that stays so has a picture now of its length, also where the state is only the same as the one that
+/// its cells left. It fits wherever its body stands. That its record may be written doesn't hang on the state
+/// before.
 pub fn commits_fit_by_tests()
     ensures table { (t : Table) → IsTable t → (s u : State) (accessed : List (List ℕ))
-        → IsLive (Stored None) t s → IsSoundState u → Leaves accessed s u → (same : Group → Bool)
+        → IsLive (Stored None) t s → IsSoundState u → LeadsTo accessed s u → (same : Group → Bool)
         → StayStored None t accessed u same → (dropped stored : List Group)
         → AreToldBy t accessed u same dropped stored → PicturesFit u stored
         → size_told t accessed u ≤ most_bytes → (number place : ℕ)
         → FitsTable t (change_by dropped (rows_from number place (map (measured u) stored))) }
     ensures follows { (body : ℕ) (h : History) → IsHistory h → (cells : List (List ℕ)) (s u : State)
         (accessed : List (List ℕ)) → IsLive (Stored None) (head_table h) s → IsSoundState u
-        → Leaves accessed s u → (same : Group → Bool) → StayStored None (head_table h) accessed u same
+        → LeadsTo accessed s u → (same : Group → Bool) → StayStored None (head_table h) accessed u same
         → (dropped stored : List Group) → AreToldBy (head_table h) accessed u same dropped stored
         → PicturesFit u stored → size_told (head_table h) accessed u ≤ most_bytes
         → h.graph.records < most_records → FollowsAt body h (next_entry_by h cells dropped stored u) }
@@ -117,8 +119,8 @@ pub fn commits_tell_states()
 
 /// A record of any groups, and of the pictures that those have now which it stores, is told by these lists.
 /// On every store the commit's table is its parent's with them. It tells the state that the commit's cells
-/// left, by the lengths of its pictures, where the lists are told by a test which classes of the touched
-/// names stay, and each row that stays so has a picture now of its length.
+/// left, and each that is the same, by the lengths of its pictures, where the lists are told by a test which
+/// classes of the touched names stay, and each row that stays so has a picture now of its length.
 pub fn commits_tell_states_by_tests()
     ensures record { (parent : ℕ) (cells : List (List ℕ)) (dropped stored : List Group) (u : State)
         → record_with parent cells dropped stored (map (picture_bytes u) stored)
@@ -128,7 +130,7 @@ pub fn commits_tell_states_by_tests()
         ≡ after (change_by dropped (rows_by h cells dropped stored u)) (head_table h) }
     ensures untold { (h : History) → IsHistory h → (cells : List (List ℕ)) (s u : State)
         (accessed : List (List ℕ)) → IsLive (Stored None) (head_table h) s → IsSoundState u
-        → Leaves accessed s u → (same : Group → Bool) → StayStored None (head_table h) accessed u same
+        → LeadsTo accessed s u → (same : Group → Bool) → StayStored None (head_table h) accessed u same
         → (dropped stored : List Group) → AreToldBy (head_table h) accessed u same dropped stored
         → PicturesFit u stored
         → IsLive (Stored None) (head_table (led h (next_entry_by h cells dropped stored u))) u }

@@ -9,7 +9,6 @@ use Rattle.kishu_objects.specs.Bytes.{picture_bytes, state_bytes}
 use Rattle.kishu_objects.specs.Fits.{StateFits}
 use Rattle.kishu_objects.specs.Groups.{groups_of}
 use Rattle.kishu_objects.specs.Lists.{In}
-use Rattle.kishu_objects.specs.Locality.{Leaves}
 use Rattle.kishu_objects.specs.Picture.{listed, picture}
 use Rattle.kishu_objects_laws.specs.ListLaws.{filter_in, in_filter, map_in}
 use Rattle.kishu_store.specs.Groups.{Group, first_name, is_one_of}
@@ -21,7 +20,8 @@ use Rattle.kishu_history.specs.Stored.{Stored}
 use Rattle.kishu_history.specs.Tables.{IsTable}
 use Rattle.kishu_history.specs.Touched.{holds_any, classes, IsKept}
 use Rattle.kishu_history_laws.specs.Choices.{filter_same, in_map, not_false, not_told, one_of_decides, rise_one}
-use Rattle.kishu_history_laws.specs.cells.LeavesLaws.{still_picture}
+use Rattle.kishu_history_laws.specs.cells.Led.{LeadsTo}
+use Rattle.kishu_history_laws.specs.cells.LedLaws.{led_picture}
 use Rattle.kishu_history_laws.specs.cells.TouchLaws.{class_group, dropped_exact, stored_exact}
 use Rattle.kishu_history_laws.specs.checkouts.CheckoutLaws.{live_cut}
 use Rattle.kishu_history_laws.specs.states.AlikeLaws.{and_both, both_and, not_true, state_decides}
@@ -322,11 +322,11 @@ module _ (old new : Digests) (t : Table) (table : IsTable t) (accessed : List (L
 
     -- ---- the digests follow the state
 
-    module _ (before : State) (file : Option (List ℕ)) (live : IsLive (Stored file) t before) (leaves : Leaves accessed before s) (keeps : KeepsDigests old t before)
+    module _ (before : State) (file : Option (List ℕ)) (live : IsLive (Stored file) t before) (led : LeadsTo accessed before s) (keeps : KeepsDigests old t before)
         (rows : List Row) (are : groups_in rows ≡ come)
       where
         still : (r : Row) → In r t → holds_any accessed r.group ≡ false → picture before r.group ≡ picture s r.group
-        still r m e = still_picture gs accessed before s live.state is.sound (live_cut (Stored file) t before table live) leaves r.group (in_map group_in t r m) e
+        still r m e = led_picture gs accessed before s live.state is.sound (live_cut (Stored file) t before table live) led r.group (in_map group_in t r m) e
 
         staying : (r : Row) → In r t → is_one_of r.group gone ≡ false → holds_any accessed r.group ≡ true → Stays t accessed d r.group
         staying r m n e = record { row = in_map group_in t r m; holds = e; stays = λ k. not_true (sym n ∙ (one_of_decides r.group gone).1 k) }

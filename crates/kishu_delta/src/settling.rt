@@ -4,8 +4,8 @@ ghost use Rattle.kishu_meaning.specs.values.Values.{State};
 ghost use Rattle.kishu_history.specs.Live.{IsLive};
 ghost use Rattle.kishu_history.specs.Stored.{Stored};
 ghost use Rattle.kishu_history.specs.Tables.{IsTable};
+ghost use Rattle.kishu_history_laws.specs.cells.Led.{LeadsTo};
 ghost use Rattle.kishu_objects.specs.Bytes.{picture_bytes};
-ghost use Rattle.kishu_objects.specs.Locality.{Leaves};
 ghost use Rattle.kishu_store.specs.Groups.{Group};
 ghost use Rattle.kishu_store.specs.Tables.{Row, Table, after, groups_in};
 ghost use Rattle.kishu_delta.specs.Compared.{Forgets, Holds, HoldsHalves, half, asked_pictures, contents, differing, groups_with, with_pictures};
@@ -133,15 +133,15 @@ pub fn settle(
 
     // Where the table told the state before and the cells left alone what no accessed name reached, the
     // digests of the new table's groups in the state now are kept, whatever is handed; and just these, where
-    // just those of the table's groups were.
+    // just those of the table's groups were. The state now may be only the same as the one that they left.
     ensures held { IfOk result (λ d. (t : Table) (accessed : List (List ℕ)) (s before : State) → IsTable t
         → IsDraft kept.old t accessed s draft → (file : Option (List ℕ)) → IsLive (Stored file) t before
-        → Leaves accessed before s → KeepsDigests kept.old t before
+        → LeadsTo accessed before s → KeepsDigests kept.old t before
         → (rows : List Row) → groups_in rows ≡ groups_stored d
         → KeepsDigests kept.new (after (change_with d rows) t) s) }
     ensures just { IfOk result (λ d. (t : Table) (accessed : List (List ℕ)) (s before : State) → IsTable t
         → IsDraft kept.old t accessed s draft → (file : Option (List ℕ)) → IsLive (Stored file) t before
-        → Leaves accessed before s → KeepsJust kept.old (groups_in t) before
+        → LeadsTo accessed before s → KeepsJust kept.old (groups_in t) before
         → (rows : List Row) → groups_in rows ≡ groups_stored d
         → KeepsJust kept.new (groups_in (after (change_with d rows) t)) s) }
 {

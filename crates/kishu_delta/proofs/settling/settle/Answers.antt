@@ -54,12 +54,12 @@ returns-clause-told c = λ t accessed s before table is keeps given.
     told c.args.kept.now c.hold_all.new.kept t table accessed s c.args.draft is (contents c.args.stored.now) (delta c) (merges c) then before keeps given
 
 pub returns-clause-held : goal.returns-clause-held
-returns-clause-held c = λ t accessed s before table is file live leaves keeps rows are.
+returns-clause-held c = λ t accessed s before table is file live led keeps rows are.
     let then = follows c.args.kept.now t table accessed s c.args.draft is (contents c.args.stored.now) (delta c) (merges c) c.forget_all.new.kept c.hold_all.new.kept (forgets c) (holds c) in
-    held_there c.args.kept.now c.hold_all.new.kept t table accessed s c.args.draft is (contents c.args.stored.now) (delta c) (merges c) then before file live leaves keeps rows are
+    held_there c.args.kept.now c.hold_all.new.kept t table accessed s c.args.draft is (contents c.args.stored.now) (delta c) (merges c) then before file live led keeps rows are
 
 pub returns-clause-just : goal.returns-clause-just
-returns-clause-just c = λ t accessed s before table is file live leaves just rows are.
+returns-clause-just c = λ t accessed s before table is file live led just rows are.
     let then = follows c.args.kept.now t table accessed s c.args.draft is (contents c.args.stored.now) (delta c) (merges c) c.forget_all.new.kept c.hold_all.new.kept (forgets c) (holds c) in
     let keeps = digests_kept c.args.kept.now t before just in
-    just_there c.args.kept.now c.hold_all.new.kept t table accessed s c.args.draft is (contents c.args.stored.now) (delta c) (merges c) then before file live leaves keeps rows are just
+    just_there c.args.kept.now c.hold_all.new.kept t table accessed s c.args.draft is (contents c.args.stored.now) (delta c) (merges c) then before file live led keeps rows are just
