@@ -5,7 +5,6 @@ use Rattle.std.specs.List.{AllZip}
 use Rattle.std.specs.Prelude.{Option, Some, None}
 use Rattle.kishu_host.specs.Host as host
 use Rattle.kishu_meaning.specs.values.Values.{State, empty}
-use Rattle.kishu_replay.specs.Replay.{IsFull}
 use Rattle.kishu_store.specs.Graph.{Commit}
 use Rattle.kishu_store.specs.Groups.{Group}
 use Rattle.kishu_store.specs.Histories.{History, head_table, table_to}
@@ -60,9 +59,6 @@ module _ (head : Head) (none : table_of_rows head.table ≡ []) where
 
   pub lacks-anew : (s : host.State) (at : ℕ) → LacksToLoad head s at → LacksAtHead head.graph s at
   lacks-anew s at lacks h k = subst (λ (rows : Table). Lacks s rows at) (loads-all (head_table h)) (lacks h k)
-
-pub never-full : (s : State) → s ≡ empty → IsFull s → ⊥
-never-full s is full = (let none = ap (λ (x : State). length x.nodes) is in omega (arith, full, none))
 
 -- ---- what is loaded
 

@@ -68,7 +68,7 @@ module _ (of : ℕ → Change) (s : values.State) (g : Graph) (q : Request) (cel
   more-commits = (let e : newest (after_on of s g q) ≡ suc (newest g) = ap newest is in omega (arith, e))
 
   -- Those of the commit are the request's, which left the state after it.
-  cells-are : ran_by (head_rows of g) q s ≡ cells
+  pub cells-are : ran_by (head_rows of g) q s ≡ cells
   cells-are = ap (λ (x : Graph). first_cells x.commits) (sym (when_more of s g q more-commits).graph ∙ is)
 
   pub left-on : after_cells newest_profile cells s ≡ state_on of s g q

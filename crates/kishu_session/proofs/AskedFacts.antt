@@ -1,5 +1,5 @@
 -- The pictures that a commit asks for: which they are, how many bytes they have, what they tell, and what is lacking where one isn't there.
-use Rattle.std.proofs.Common.{◌≡◌, inl, inr, ℕ, Bool, true, false, ◌&&◌, List, [], ◌∷◌, length, map, Option, Some, None, refl, sym, ◌∙◌, ap, subst, arith}
+use Rattle.std.proofs.Common.{◌≡◌, inl, inr, ℕ, Bool, true, ◌&&◌, List, [], ◌∷◌, length, map, Option, Some, None, refl, sym, ◌∙◌, ap, subst, arith}
 use Rattle.std.proofs.lemmas.Bool.{cases_Bool}
 use Rattle.std.proofs.lemmas.Bool.Decides.{Decides-eqb}
 use Rattle.std.proofs.lemmas.List.{length-map}
@@ -14,7 +14,6 @@ use Rattle.kishu_objects.specs.Bytes.{picture_bytes}
 use Rattle.kishu_objects.specs.Lists.{In}
 use Rattle.kishu_objects_laws.specs.ListLaws.{filter_in}
 use Rattle.kishu_store.specs.Groups.{Group, is_one_of}
-use Rattle.kishu_store.specs.Histories.{History, head_table}
 use Rattle.kishu_store.specs.Limits.{newest_profile}
 use Rattle.kishu_store.specs.Tables.{Row, Table, bytes_at, bytes_in, group_in, groups_in, len_in}
 use Rattle.kishu_graph.specs.Tables.{table_of_rows}
@@ -22,24 +21,23 @@ use Rattle.kishu_history.specs.Accessed.{accessed_by}
 use Rattle.kishu_history.specs.Live.{IsLive}
 use Rattle.kishu_history.specs.Stored.{Stored}
 use Rattle.kishu_history.specs.Touched.{classes}
-use Rattle.kishu_history_laws.specs.Choices.{in_map, one_of_decides}
+use Rattle.kishu_history_laws.specs.Choices.{in_map}
 use Rattle.kishu_history_laws.specs.cells.AccessLaws.{classes_same}
 use Rattle.kishu_history_laws.specs.states.AlikeLaws.{and_both}
 use Rattle.kishu_checkout.specs.CarriedLaws.{bytes_lack}
 use Rattle.kishu_checkout.specs.Fetched.{contents, AreFetched, LacksBytes}
 use Rattle.kishu_checkout.specs.Pictures.{LacksAt, LacksSome, told_file}
-use Rattle.kishu_delta.specs.Compared.{Pictures, asked_pictures, asked_row, groups_with, pictured}
+use Rattle.kishu_delta.specs.Compared.{asked_pictures, asked_row, groups_with, pictured}
 use Rattle.kishu_delta.specs.Deltas.{IsDraft, agrees, groups_asked as groups_drafted, rows_asked, stays_by}
 use Rattle.kishu_delta.specs.Kept.{Digest, digest_of, is_digest, is_some_digest}
 use Rattle.kishu_delta.specs.declared.asking.Asked.{Asked}
 use Rattle.kishu_delta.specs.declared.asking.Draft.{Draft}
 use Rattle.kishu_session.specs.Committing.{HasRun, IsTold}
 use Rattle.kishu_session.specs.Head.{Lacks, LacksAtHead}
-use Rattle.kishu_session.specs.Known.{IsHistoryOf}
 use Rattle.kishu_session.specs.Lives.{state_of}
 use Rattle.kishu_session.specs.Working.{bytes_asked, groups_asked}
 use Rattle.kishu_session.specs.declared.head.Head.{Head}
-use Rattle.kishu_session.proofs.Commits.{kept-before, table-here}
+use Rattle.kishu_session.proofs.Commits.{table-here}
 
 -- ---- lists of rows and of groups
 

@@ -21,6 +21,7 @@ use Rattle.kishu_session.specs.Known.{IsHistoryOf}
 use Rattle.kishu_session.specs.Lives.{state_of}
 use Rattle.kishu_session.specs.declared.head.Head.{Head}
 use Rattle.kishu_session.proofs.RecordKinds.{IsMoved, same-table}
+use Rattle.kishu_session.proofs.Renewals.{starts-live}
 
 -- ---- where the host tells no file, the lengths of the pictures are known
 
@@ -50,7 +51,7 @@ module _ (file : Option (List ℕ)) (old new : Head) (h n : History) (k : IsMove
   u = head_table n
 
   abbrev drops : Table → Table → Type 0
-  drops a b = AreCarried file (to_drop a b) (to_load a b) (state_of old.live) (state_of new.live)
+  drops a b = AreCarried file (to_drop a b) (to_load a b) k.start (state_of new.live)
 
   pub carried-there : drops t u
   carried-there = subst (λ (x : Table). drops x u) k.from (subst (drops (table_of_rows old.table)) (k.carries.to n kept) k.carries.state)
@@ -75,7 +76,7 @@ module _ (file : Option (List ℕ)) (old new : Head) (h n : History) (k : IsMove
   lives-by : (at : Option (List ℕ)) → AllZip (IsPictureOf (Stored at)) (to_load t u) carried-there.pictures → LivesAt at old h → LivesAt at new n
   lives-by at each lives =
       subst (λ (s : State). IsLive (Stored at) u s) (sym carried-there.is)
-      (carried_live (Stored at) t u (state_of old.live) carried-there.pictures was-table is-table of-one lives each)
+      (carried_live (Stored at) t u k.start carried-there.pictures was-table is-table of-one (starts-live (Stored at) t (state_of old.live) k.start k.starts lives) each)
 
   pub carried-lives : LivesAt file old h → LivesAt file new n
   carried-lives = lives-by file carried-there.each

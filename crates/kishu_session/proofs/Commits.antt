@@ -8,10 +8,11 @@ use Rattle.kishu_meaning.specs.values.Values.{State}
 use Rattle.kishu_objects.specs.Bytes.{picture_bytes}
 use Rattle.kishu_objects.specs.Fits.{StateFits}
 use Rattle.kishu_objects.specs.Lists.{In}
-use Rattle.kishu_objects.specs.Locality.{Leaves}
 use Rattle.kishu_objects.specs.Picture.{listed, picture}
 use Rattle.kishu_objects.specs.Sizes.{size_among, most_bytes}
 use Rattle.kishu_objects.specs.States.{IsSoundState}
+use Rattle.kishu_objects_laws.specs.SameLaws.{same_turned}
+use Rattle.kishu_replay.specs.Replay.{after_cells}
 use Rattle.kishu_store.specs.Entries.{Record}
 use Rattle.kishu_store.specs.Fitting.{changed}
 use Rattle.kishu_store.specs.Graph.{Target, newest}
@@ -31,6 +32,7 @@ use Rattle.kishu_history.specs.Tables.{IsTable}
 use Rattle.kishu_history.specs.Touched.{classes, size_told}
 use Rattle.kishu_history_laws.specs.Choices.{in_map, one_of_decides}
 use Rattle.kishu_history_laws.specs.cells.AccessLaws.{classes_same, dropped_same, stored_same}
+use Rattle.kishu_history_laws.specs.cells.Led.{LeadsTo}
 use Rattle.kishu_history_laws.specs.tables.FileLaws.{kept_is_table}
 use Rattle.kishu_session_laws.specs.CellLaws.{cells_keep}
 use Rattle.kishu_journal.specs.Following.{IsKept, GoesOn}
@@ -122,13 +124,21 @@ module _ (place : ℕ) (before : State) (old : Head) (cells : List (List ℕ)) (
   table-here h kept = ∥∥₁_elim ran.known (table-set rows (head_table h)) (λ k. k.3 ∙ one-head-table old.graph k.0 h k.1 kept)
 
   pub sound-now : IsSoundState u
-  sound-now = subst IsSoundState (sym ran.left) (cells_keep newest_profile cells before ran.told.state)
+  sound-now = ran.sound
 
-  pub leaves-noted : Leaves noted before u
-  leaves-noted = subst (λ (x : State). Leaves noted before x) (sym ran.left) (accesses-leave cells before ran.told.state noted ran.accessed)
+  -- They left it, or one that is the same.
+  pub leaves-noted : LeadsTo noted before u
+  leaves-noted =
+      let x = after_cells newest_profile cells before in
+      record {
+        state = x;
+        leaves = accesses-leave cells before ran.told.state noted ran.accessed;
+        sound = cells_keep newest_profile cells before ran.told.state;
+        same = same_turned _ u x ran.left.same;
+      }
 
   size-noted : size_told rows noted u ≤ most_bytes
-  size-noted = (let is = sizes-are rows cells before u noted ran.left ran.accessed in subst (λ (n : ℕ). n ≤ most_bytes) (sym is) ran.small)
+  size-noted = (let is = sizes-are rows cells before u ran.told.state ran.sound noted ran.left ran.accessed in subst (λ (n : ℕ). n ≤ most_bytes) (sym is) ran.small)
 
   pub classes-small : size_among (classes (groups_in rows) noted u) u ≤ most_bytes
   classes-small = omega (arith, size-noted)

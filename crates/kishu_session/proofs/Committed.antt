@@ -6,7 +6,6 @@ use Rattle.std.specs.Prelude.{option_map}
 use Rattle.kishu_language.specs.declared.profile.Profile.{Profile}
 use Rattle.kishu_meaning.specs.values.Values.{State}
 use Rattle.kishu_objects.specs.States.{IsSoundState}
-use Rattle.kishu_replay.specs.Replay.{after_cells}
 use Rattle.kishu_store.specs.Entries.{Entry, commit, move, name, MoveTo, Record}
 use Rattle.kishu_store.specs.Fitting.{changed}
 use Rattle.kishu_store.specs.Graph.{Graph, with_commit, count_of}
@@ -32,6 +31,7 @@ use Rattle.kishu_session.specs.Head.{CountsPath}
 use Rattle.kishu_session.specs.Known.{IsHistoryOf, HasHistory}
 use Rattle.kishu_session.specs.Lives.{state_of}
 use Rattle.kishu_session.specs.Prepared.{record_in, MayBeRecorded, LeadsTo, led_with, after_by, answer_by, HasLists, RefusesNoSize, IsCommitOf, TellsBy, Tells, LeadsOn, StaysWithout}
+use Rattle.kishu_session.specs.Renewing.{IsLeft}
 use Rattle.kishu_session.specs.declared.committing.Committed.{Committed}
 use Rattle.kishu_session.specs.declared.head.Head.{Head}
 use Rattle.kishu_session.specs.declared.live.Live.{Live}
@@ -71,7 +71,7 @@ module _ (file : Option (List ℕ)) (place : ℕ) (old new : Head) (l : Live) (q
 
   -- ---- its record tells the new state
 
-  module _ (live : new.live ≡ l) (left : u ≡ after_cells newest_profile cells s) (known : HasHistory old.graph) where
+  module _ (live : new.live ≡ l) (left : IsLeft cells s u) (known : HasHistory old.graph) where
     now-is : state_of new.live ≡ u
     now-is = ap state_of live
 
@@ -112,7 +112,7 @@ module _ (file : Option (List ℕ)) (place : ℕ) (old new : Head) (l : Live) (q
       is-commit = record {
         lists = lists;
         told = told;
-        ran = now-is ∙ left ∙ ap (λ (ts : List (List ℕ)). after_cells newest_profile ts s) (sym texts-are);
+        ran = subst (λ (x : State). IsLeft texts s x) (sym now-is) (subst (λ (ts : List (List ℕ)). IsLeft ts s u) (sym texts-are) left);
         sound = subst IsSoundState (sym now-is) k.sound;
         fits = λ h kept.
             subst (λ (x : State). CanBeStored (head_table h) s (accessed_by newest_profile texts s) x) (sym now-is)

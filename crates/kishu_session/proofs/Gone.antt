@@ -23,11 +23,12 @@ use Rattle.kishu_model.specs.Step.{step}
 use Rattle.kishu_model.specs.Values.{answer_of}
 use Rattle.kishu_live_laws.specs.Refusals.{refusal_in}
 use Rattle.kishu_checkout.specs.Pictures.{told_file}
-use Rattle.kishu_session.specs.Head.{Carries, IsKnown, groups_to_drop}
+use Rattle.kishu_session.specs.Head.{CarriesFrom, IsCarried, IsKnown, groups_to_drop}
 use Rattle.kishu_session.specs.Known.{IsHistoryOf}
 use Rattle.kishu_session.specs.Lives.{state_of}
 use Rattle.kishu_session.specs.Prepared.{Leads, LeadsOn, LeadsTo, Tells, TellsBy, after_by, record_in}
 use Rattle.kishu_session.specs.Refusing.{IsRefusal, RefusesAs}
+use Rattle.kishu_session.specs.Renewing.{StaysHere}
 use Rattle.kishu_session.specs.declared.head.Head.{Head}
 use Rattle.kishu_session.specs.declared.prepared.Prepared.{Prepared}
 use Rattle.kishu_session.specs.declared.session.Session.{Session}
@@ -100,23 +101,24 @@ module _ (old : Session) (new : Head) (s : host.State) (q : Request) (p : Prepar
     -- ---- the live state
 
     abbrev CarriesOrStays : Type 0
-    CarriesOrStays = (v ≡ u) ⊎ Carries (told_file s) old.head new
+    CarriesOrStays = (v ≡ u) ⊎ IsCarried (told_file s) old.head new
 
     by-entry : (r : Record) (e : Entry) → record_in p.recorded ≡ Some r → r.entry ≡ e → TellsBy (told_file s) old.head new r e → CarriesOrStays
     by-entry r (commit parent profile cells dropped stored) some entry tells =
         absurd (∥∥₁_elim known ⊥-prop (λ k. no-commit r some parent profile cells dropped stored entry k.0 k.1.kept k.1.place_is))
-    by-entry r (move target) some entry tells = inr tells.carries
+    by-entry r (move target) some entry tells = inr tells
     by-entry r (name title number) some entry tells = inl (ap state_of tells.live)
 
     by-record : (o : Option Record) → record_in p.recorded ≡ o → Tells (told_file s) old.head new o → CarriesOrStays
     by-record None none tells = absurd (∥∥₁_elim known ⊥-prop (λ k. no-record none k.0 k.1.kept k.1.place_is))
     by-record (Some r) some tells = by-entry r r.entry some refl tells
 
-    -- The old nodes are there under their numbers.
-    pub nodes-kept : (i : ℕ) → i < length u.nodes → (i < length v.nodes) × (node_at u.nodes i ≡ node_at v.nodes i)
-    nodes-kept i within =
+    -- The old nodes are there under their numbers, where the state wasn't loaded anew.
+    pub nodes-kept : StaysHere old.head → (i : ℕ) → i < length u.nodes → (i < length v.nodes) × (node_at u.nodes i ≡ node_at v.nodes i)
+    nodes-kept stays i within =
         ⊎_elim (λ (e : v ≡ u). (subst (λ (x : values.State). i < length x.nodes) (sym e) within, ap (λ (x : values.State). node_at x.nodes i) (sym e)))
-        (λ (k : Carries (told_file s) old.head new).
+        (λ (c : IsCarried (told_file s) old.head new).
+        let k = subst (λ (x : values.State). CarriesFrom (told_file s) x old.head new) (c.starts.stays stays) c.carries in
         let grown = carried_grow (groups_to_drop old.head new) k.state.pictures u in (
           omega (arith, within, grown, ap (λ (x : values.State). length x.nodes) k.state.is),
           carried_nodes (table_of_rows old.head.table) (table_of_rows new.table) k.state.pictures u i within

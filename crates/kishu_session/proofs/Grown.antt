@@ -19,14 +19,19 @@ use Rattle.kishu_history.specs.Paths.{AreRows}
 use Rattle.kishu_history.specs.Sizes.{StaySmall}
 use Rattle.kishu_history.specs.Stored.{Stored, Keeps, KeepsRecords}
 use Rattle.kishu_history_laws.specs.stores.AttachedLaws.{attached_still}
+use Rattle.kishu_history_laws.specs.stores.BackLaws.{same_live}
 use Rattle.kishu_history_laws.specs.stores.StoreLaws.{live_still}
 use Rattle.kishu_history_laws.specs.tables.FileLaws.{changes_are_rows, stay_keeps}
 use Rattle.kishu_history_laws.specs.versions.PathLaws.{rows_recorded}
 use Rattle.kishu_objects.specs.Locality.{Leaves}
+use Rattle.kishu_replay.specs.Replay.{after_cells}
+use Rattle.kishu_session_laws.specs.CellLaws.{cells_keep}
 use Rattle.kishu_graph.specs.Tables.{table_of_rows}
 use Rattle.kishu_delta.specs.Kept.{Digests, KeepsJust}
 use Rattle.kishu_commit.specs.AttachedLaws.{accesses-leave, recorded-attached}
 use Rattle.kishu_commit.specs.RecordedLaws.{recorded-live}
+use Rattle.kishu_commit.specs.Told.{next_record, CanBeStored}
+use Rattle.kishu_session.specs.Committing.{IsTold}
 use Rattle.kishu_session.specs.Head.{LivesAt, KeepsTable}
 use Rattle.kishu_session.specs.Known.{IsHistoryOf}
 use Rattle.kishu_session.specs.Lives.{state_of}
@@ -36,18 +41,30 @@ use Rattle.kishu_session.specs.declared.head.Head.{Head}
 use Rattle.kishu_session.proofs.RecordKinds.{IsSameStore, IsStill, IsMoved, IsReloaded, IsCommitted, Kind, same-table, same-head-table}
 use Rattle.kishu_session.proofs.Carried.{carried-held, carried-lives, carried-untold}
 use Rattle.kishu_session.proofs.LoadFacts.{lives-untold}
+use Rattle.kishu_session.proofs.SameRecords.{fits-same, record-same}
 
 -- ---- cells that were committed
 
-module _ (file : Option (List ℕ)) (old new : Head) (h : History) (r : Option Record) (k : IsCommitted file old new h r) where
-  -- the names that they accessed
+module _ (file : Option (List ℕ)) (old new : Head) (h : History) (r : Option Record) (k : IsCommitted file old new h r) (sound : IsSoundState (state_of old.live)) where
+  -- the names that they accessed, and what they left of the old live state
   abbrev pub own : List (List ℕ)
   own = accessed_by newest_profile k.cells (state_of old.live)
 
-  pub own-leave : IsSoundState (state_of old.live) → Leaves own (state_of old.live) (state_of new.live)
-  own-leave sound =
-      subst (λ (x : values.State). Leaves own (state_of old.live) x) (sym k.ran)
-      (accesses-leave k.cells (state_of old.live) sound own (λ x. (λ m. m, λ m. m)))
+  abbrev pub left : values.State
+  left = after_cells newest_profile k.cells (state_of old.live)
+
+  pub left-sound : IsSoundState left
+  left-sound = cells_keep newest_profile k.cells (state_of old.live) sound
+
+  pub own-leave : Leaves own (state_of old.live) left
+  own-leave = accesses-leave k.cells (state_of old.live) sound own (λ x. (λ m. m, λ m. m))
+
+  -- The record says what it would of that.
+  pub told-left : IsTold file (head_table h) (state_of old.live) → r ≡ Some (next_record h k.cells (state_of old.live) own left)
+  told-left told = k.told told ∙ ap (λ (x : Record). Some x) (record-same (state_of old.live) own (state_of new.live) left k.sound left-sound k.ran.same h k.cells)
+
+  pub left-fits : CanBeStored (head_table h) (state_of old.live) own left
+  left-fits = fits-same (state_of old.live) own (state_of new.live) left k.sound left-sound k.ran.same (head_table h) k.fits
 
 -- ---- what is kept of the head's table
 
@@ -147,10 +164,14 @@ module _ (file grown : List ℕ) (rs : List Record) (r : Option Record) (has : H
       committed-grown : IsCommitted (Some file) old new h r → LivesAt (Some grown) new n
       committed-grown k =
           let s = state_of old.live in
-          let is = k.told lives in
+          let x = left (Some file) old new h r k lives.state in
+          let names = own (Some file) old new h r k lives.state in
+          let is = told-left (Some file) old new h r k lives.state lives in
+          let sound = left-sound (Some file) old new h r k lives.state in
           subst (λ (o : Option Record). LivesAt (Some grown) new (history_by (with_new rs o))) (sym is)
-          (recorded-live rs k.cells s (state_of new.live) (own (Some file) old new h r k) file has grown (subst (λ (o : Option Record). HasRecords grown (with_new rs o)) is has_grown)
-          lives k.sound (own-leave (Some file) old new h r k lives.state) k.fits)
+          (same_live (Stored (Some grown)) (head_table (history_by (with_new rs (Some (next_record h k.cells s names x))))) (state_of new.live) x k.sound
+          (recorded-live rs k.cells s x names file has grown (subst (λ (o : Option Record). HasRecords grown (with_new rs o)) is has_grown) lives sound (own-leave (Some file) old new h r k lives.state) (left-fits (Some file) old new h r k lives.state))
+          k.ran.same)
 
       pub lives-grown : IsHistoryOf new.graph n → Kind (Some file) old new h r n → LivesAt (Some grown) new n
       lives-grown kept kind =
@@ -181,9 +202,11 @@ module _ (file grown : List ℕ) (rs : List Record) (r : Option Record) (has : H
 
       committed-good : (k : IsCommitted (Some file) old new h r) → StaySmall newest_profile k.cells s → IsGoodFileOf grown n.graph
       committed-good k small =
-          let is = k.told attached.told in
+          let x = left (Some file) old new h r k attached.told.state in
+          let names = own (Some file) old new h r k attached.told.state in
+          let is = told-left (Some file) old new h r k attached.told.state attached.told in
           let next = subst (λ (o : Option Record). HasRecords grown (with_new rs o)) is has_grown in
-          let after = recorded-attached rs file has s attached k.cells (state_of new.live) k.ran (own (Some file) old new h r k) (λ x. (λ m. m, λ m. m)) k.fits small grown next in
+          let after = recorded-attached rs file has s attached k.cells x refl names (λ x. (λ m. m, λ m. m)) (left-fits (Some file) old new h r k attached.told.state) small grown next in
           good-by (subst (λ (o : Option Record). IsGoodStore grown (history_by (with_new rs o)).graph.commits
           (change_of (history_by (with_new rs o)).changes)) (sym is) after.good)
 

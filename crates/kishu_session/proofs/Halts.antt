@@ -5,39 +5,29 @@ use Rattle.kishu_session.specs.Halting.{halt_by}
 use Rattle.kishu_session.specs.declared.halt.Halt.{Halt}
 use Rattle.kishu_session.specs.declared.halt.Halt.TheVariants as halts
 use Rattle.kishu_session.specs.declared.unprepared.Unprepared.{Unprepared}
-use Rattle.kishu_session.specs.declared.unprepared.Unprepared.TheVariants.{HeapFull, Damaged, DiskFault, NoMemory}
+use Rattle.kishu_session.specs.declared.unprepared.Unprepared.TheVariants.{Damaged, DiskFault, NoMemory}
 
 -- ---- which cause it was
 
 by-damaged : (e : Unprepared) (at : ℕ) → halt_by e ≡ halts.Damaged at → e ≡ Damaged at
-by-damaged HeapFull at is = absurd (cc (is))
 by-damaged (Damaged n) at is = (let same : n ≡ at = cc (is) in ap Damaged same)
 by-damaged DiskFault at is = absurd (cc (is))
 by-damaged NoMemory at is = absurd (cc (is))
 
 by-disk : (e : Unprepared) → halt_by e ≡ halts.DiskFault → e ≡ DiskFault
-by-disk HeapFull is = absurd (cc (is))
 by-disk (Damaged n) is = absurd (cc (is))
 by-disk DiskFault is = refl
 by-disk NoMemory is = absurd (cc (is))
 
-by-full : (e : Unprepared) → halt_by e ≡ halts.HeapFull → e ≡ HeapFull
-by-full HeapFull is = refl
-by-full (Damaged n) is = absurd (cc (is))
-by-full DiskFault is = absurd (cc (is))
-by-full NoMemory is = absurd (cc (is))
-
 by-closed : (e : Unprepared) → halt_by e ≡ halts.Closed → ⊥
-by-closed HeapFull is = cc (is)
 by-closed (Damaged n) is = cc (is)
 by-closed DiskFault is = cc (is)
 by-closed NoMemory is = cc (is)
 
 abbrev pub OnlyThese : Halt → Type 0
-OnlyThese h = ((at : ℕ) × (h ≡ halts.Damaged at)) ⊎ (h ≡ halts.DiskFault) ⊎ (h ≡ halts.NoMemory) ⊎ (h ≡ halts.HeapFull) ⊎ (h ≡ halts.Closed)
+OnlyThese h = ((at : ℕ) × (h ≡ halts.Damaged at)) ⊎ (h ≡ halts.DiskFault) ⊎ (h ≡ halts.NoMemory) ⊎ (h ≡ halts.Closed)
 
 by-these : (e : Unprepared) → OnlyThese (halt_by e)
-by-these HeapFull = inr (inr (inr (inl refl)))
 by-these (Damaged n) = inl (n, refl)
 by-these DiskFault = inr (inl refl)
 by-these NoMemory = inr (inr (inl refl))
@@ -60,9 +50,6 @@ module _ {T : Type 0} (r : Result T Halt) (e : Unprepared) (by : EndsBy r e) whe
 
   pub was-disk : IsErrOf r halts.DiskFault → e ≡ DiskFault
   was-disk is = by-disk e (halt-is halts.DiskFault is)
-
-  pub was-full : IsErrOf r halts.HeapFull → e ≡ HeapFull
-  was-full is = by-full e (halt-is halts.HeapFull is)
 
   pub not-closed : IsErrOf r halts.Closed → ⊥
   not-closed is = by-closed e (halt-is halts.Closed is)

@@ -30,7 +30,7 @@ use Rattle.kishu_history_laws.specs.stores.StoreLaws.{tables_of_one}
 use Rattle.kishu_history_laws.specs.tables.FileLaws.{changes_are_tables}
 use Rattle.kishu_session_laws.specs.CellLaws.{replays_are_states}
 use Rattle.kishu_live_laws.specs.LoadedBytes.{moved_bytes}
-use Rattle.kishu_live_laws.specs.OnStates.{head_rows, state_on}
+use Rattle.kishu_live_laws.specs.OnStates.{head_rows}
 use Rattle.kishu_live_laws.specs.Outcomes.{still_state, when_none}
 use Rattle.kishu_model.specs.Request.{Request, Stepped, checkout}
 use Rattle.kishu_model.specs.Serve.{after}
@@ -38,11 +38,12 @@ use Rattle.kishu_model.specs.Values.{answer_of}
 use Rattle.kishu_checkout.specs.Pictures.{told_file}
 use Rattle.kishu_journal.specs.Going.{IsQuiet}
 use Rattle.kishu_session.specs.Attached.{IsAttached}
-use Rattle.kishu_session.specs.Becoming.{IsHeadCarried, IsLoadedAfter, IsNextState}
+use Rattle.kishu_session.specs.Becoming.{IsCarriedAfter, IsHeadCarried, IsLeftBy, IsLoadedAfter, IsNextState}
 use Rattle.kishu_session.specs.Ends.{IsBehind, at-end-behind, at-end-history}
 use Rattle.kishu_session.specs.Lives.{state_of}
 use Rattle.kishu_session.specs.Prepared.{LeadsOn, RefusesNoSize}
 use Rattle.kishu_session.specs.Refusing.{IsRefusal}
+use Rattle.kishu_session.specs.Renewing.{StaysHere}
 use Rattle.kishu_session.specs.Working.{ReadsRows}
 use Rattle.kishu_session.specs.declared.head.Head.{Head}
 use Rattle.kishu_session.specs.declared.prepared.Prepared.{Prepared}
@@ -118,14 +119,15 @@ module _ (old : Session) (new : Head) (s : host.State) (q : Request) (p : Prepar
         ap (λ (y : values.State). find x y.names) (k.is ∙ ap (λ (l : Table). carried (to_drop t l) k.pictures u) table)
         ∙ carried_names (Held s.file) t w k.pictures u (are-tables g.head.commit) (are-tables c) of-one zip row.0 x row.1 (subst (λ (h : Group). In x h) row.2 own)
 
-    keeps-by : IsNextState s.file of g u (checkout to) v → Keeps
-    keeps-by =
-        ⊎_elim (λ (e : v ≡ state_on of u g (checkout to)). ap (λ (y : values.State). find x y.names) (e ∙ still_state of u g (checkout to) (when_none of u g (checkout to) none)))
-        (⊎_elim (λ (k : (newest now ≤ newest g) × IsHeadCarried s.file of g now u v). carried-keep k.1)
+    -- It didn't load the state anew before.
+    keeps-by : StaysHere old.head → IsNextState s.file of g u (checkout to) v → Keeps
+    keeps-by few =
+        ⊎_elim (λ (k : IsLeftBy of g u (checkout to) v). ap (λ (y : values.State). find x y.names) (k.exact tt ∙ still_state of u g (checkout to) (when_none of u g (checkout to) none)))
+        (⊎_elim (λ (k : IsCarriedAfter s.file of g u (checkout to) v). carried-keep (subst (λ (y : values.State). IsHeadCarried s.file of g now y v) (k.starts.stays few) k.carried))
         (λ (k : IsLoadedAfter s.file of g u (checkout to) v). absurd (omega (arith, ap (λ (y : Graph). y.records) (sym k.0 ∙ gone.1)))))
 
-    pub names-kept : (s1 : host.State) → IsQuiet s s1 → (p.recorded ≡ None → RefusesNoSize p.answer → new ≡ old.head) → s.tells ≡ true → Keeps
-    names-kept s1 quiet stays told = keeps-by (subst (λ (r : Request). IsNextState s.file of g u r v) is (goes-on-live old new s q p leads g a.changes a.at_end a.gives s1 quiet stays told))
+    pub names-kept : StaysHere old.head → (s1 : host.State) → IsQuiet s s1 → (p.recorded ≡ None → RefusesNoSize p.answer → new ≡ old.head) → s.tells ≡ true → Keeps
+    names-kept few s1 quiet stays told = keeps-by few (subst (λ (r : Request). IsNextState s.file of g u r v) is (goes-on-live old new s q p leads g a.changes a.at_end a.gives s1 quiet stays told))
 
   -- ---- bytes
 

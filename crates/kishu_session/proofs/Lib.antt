@@ -18,7 +18,6 @@ mod CellSteps
 mod CellsSteps
 mod Large
 mod Committed
-mod Fuller
 mod Untold
 mod OneTable
 mod PutFacts
@@ -53,3 +52,11 @@ mod Work
 mod Gone
 mod KeptOld
 mod Makes
+mod LeftBy
+mod RunAnew
+mod Renewals
+mod Smalls
+mod SameRecords
+mod Placing
+mod BoundedFacts
+mod BadFiles

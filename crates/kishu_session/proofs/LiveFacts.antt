@@ -5,6 +5,8 @@ use Rattle.std.specs.Prelude.{true, Option, Some, None}
 use Rattle.std.proofs.Math.Logic.{∥∥₁_elim}
 use Rattle.kishu_host.specs.Host as host
 use Rattle.kishu_meaning.specs.values.Values as values
+use Rattle.kishu_objects.specs.Same.{Same}
+use Rattle.kishu_objects_laws.specs.SameLaws.{same_self}
 use Rattle.kishu_store.specs.Entries.{Record}
 use Rattle.kishu_store.specs.Graph.{Graph, newest}
 use Rattle.kishu_store.specs.Histories.{History, head_table}
@@ -12,7 +14,7 @@ use Rattle.kishu_store.specs.Holds.{Holds, Gives, history_by}
 use Rattle.kishu_store.specs.Tables.{Table, Change, change_of}
 use Rattle.kishu_store_laws.specs.Laws.{ends-gives, one_changes, one_graph}
 use Rattle.kishu_history.specs.Checkout.{to_load, to_drop}
-use Rattle.kishu_live_laws.specs.OnStates.{answer_on}
+use Rattle.kishu_live_laws.specs.OnStates.{answer_on, state_on}
 use Rattle.kishu_live_laws.specs.Outcomes.{still_state, when_none}
 use Rattle.kishu_live_laws.specs.Refusals.{LeavesTooLarge}
 use Rattle.kishu_model.specs.Answers.{Answer, ran_cell, ran_cells, checked_out, branched, logged, told_status, inspected, told_stored, told_plan, refused, Refusal, bad_request, cell_too_long, no_such_ref, bad_name, name_taken, store_full, state_too_large}
@@ -23,17 +25,18 @@ use Rattle.kishu_checkout.specs.Loads.{AreCarried, IsLoadedFrom}
 use Rattle.kishu_checkout.specs.Pictures.{told_file}
 use Rattle.kishu_commit.specs.declared.committing.Record as rust_record
 use Rattle.kishu_session.specs.Attached.{IsAtEnd, StandsAtEnd}
-use Rattle.kishu_session.specs.Becoming.{IsHeadLoaded, IsNextState}
+use Rattle.kishu_session.specs.Becoming.{IsHeadLoaded, IsLeftBy, IsNextState}
 use Rattle.kishu_session.specs.Ends.{IsBehind, at-end-behind, at-end-history}
 use Rattle.kishu_session.specs.Head.{CountsPath, IsGiven, IsKnown, IsLoaded}
 use Rattle.kishu_session.specs.Known.{IsHistoryOf}
 use Rattle.kishu_session.specs.Lives.{state_of}
 use Rattle.kishu_session.specs.Prepared.{LeadsOn, RefusesNoSize, after_by, led_with, record_in}
 use Rattle.kishu_session.specs.Refusing.{RefusesSize}
+use Rattle.kishu_session.specs.Renewing.{BeginKept}
 use Rattle.kishu_session.specs.declared.head.Head.{Head}
 use Rattle.kishu_session.specs.declared.prepared.Prepared.{Prepared}
 use Rattle.kishu_session.specs.declared.session.Session.{Session}
-use Rattle.kishu_session.proofs.Applied.{graph-now, kept-now, kind-now, left-on}
+use Rattle.kishu_session.proofs.Applied.{cells-are, graph-now, kept-now, kind-now, left-on}
 use Rattle.kishu_session.proofs.AttachFacts.{head-table-of, told-some}
 use Rattle.kishu_session.proofs.Carried.{carried-there}
 use Rattle.kishu_session.proofs.OneTable.{one-count}
@@ -74,6 +77,14 @@ module _ (file : List ℕ) (old new : Head) (h : History) (q : Request) (r : Opt
   abbrev now : Graph
   now = after_by h u q
 
+  -- Where it is just what the request's cells left, it is that, and the same.
+  left-exactly : v ≡ state_on of u h.graph q → IsLeftBy of h.graph u q v
+  left-exactly e = record {
+    same = subst (λ (x : values.State). Same x (state_on of u h.graph q)) (sym e) (same_self _ (state_on of u h.graph q));
+    few = (let n = ap (λ (x : values.State). length x.nodes) e in omega (arith, n));
+    exact = λ kept. e;
+  }
+
   -- where the commits stay, the request makes none
   none-made : IsSameStore h (led_with h r) → newest now ≤ newest h.graph
   none-made k =
@@ -81,15 +92,18 @@ module _ (file : List ℕ) (old new : Head) (h : History) (q : Request) (r : Opt
       omega (arith, same, ap newest after)
 
   still-next : IsStill old new h (led_with h r) → IsNextState file of h.graph u q v
-  still-next k = inl (k.live ∙ sym (still_state of u h.graph q (when_none of u h.graph q (none-made k.same))))
+  still-next k = inl (left-exactly (k.live ∙ sym (still_state of u h.graph q (when_none of u h.graph q (none-made k.same)))))
 
   moved-next : IsHistoryOf new.graph (led_with h r) → IsMoved (Some file) old new h (led_with h r) → IsNextState file of h.graph u q v
   moved-next kept k =
-      inr (inl (
-        none-made k.same,
-        subst (λ (t : Table). AreCarried (Some file) (to_drop (head_table h) t) (to_load (head_table h) t) u v) (head-table-of (led_with h r) now h.changes after k.same.changes)
-            (carried-there (Some file) old new h (led_with h r) k kept),
-      ))
+      inr (inl (record {
+        none = none-made k.same;
+        start = k.start;
+        starts = k.starts;
+        carried =
+            subst (λ (t : Table). AreCarried (Some file) (to_drop (head_table h) t) (to_load (head_table h) t) k.start v) (head-table-of (led_with h r) now h.changes after k.same.changes)
+            (carried-there (Some file) old new h (led_with h r) k kept);
+      }))
 
   loaded-next : IsHistoryOf new.graph (led_with h r) → IsReloaded (Some file) new h r (led_with h r) → ((bytes : ℕ) × LeavesTooLarge (head_table h) u q bytes)
       → IsNextState file of h.graph u q v
@@ -109,12 +123,18 @@ module _ (file : List ℕ) (old new : Head) (h : History) (q : Request) (r : Opt
   reloaded-next : IsHistoryOf new.graph (led_with h r) → IsReloaded (Some file) new h r (led_with h r) → IsNextState file of h.graph u q v
   reloaded-next kept k =
       ⊎_elim
-      (λ (same : new ≡ old). inl (ap (λ (x : Head). state_of x.live) same ∙ sym (still_state of u h.graph q (when_none of u h.graph q (none-made k.same)))))
+      (λ (same : new ≡ old). inl (left-exactly (ap (λ (x : Head). state_of x.live) same ∙ sym (still_state of u h.graph q (when_none of u h.graph q (none-made k.same))))))
       (loaded-next kept k) (large k.none)
 
   committed-next : IsCommitted (Some file) old new h r → IsNextState file of h.graph u q v
   committed-next k =
-      inl (k.ran ∙ left-on of u h.graph q k.cells (sym after ∙ ap (λ (o : Option Record). (led_with h o).graph) k.is))
+      let grown = sym after ∙ ap (λ (o : Option Record). (led_with h o).graph) k.is in
+      let left = left-on of u h.graph q k.cells grown in
+      inl (record {
+        same = subst (λ (x : values.State). Same v x) left k.ran.same;
+        few = subst (λ (x : values.State). length v.nodes ≤ length x.nodes) left k.ran.few;
+        exact = λ kept. k.ran.exact (subst (λ (texts : List (List ℕ)). BeginKept texts u) (cells-are of u h.graph q k.cells grown) kept) ∙ left;
+      })
 
   next-state : IsHistoryOf new.graph (led_with h r) → Kind (Some file) old new h r (led_with h r) → IsNextState file of h.graph u q v
   next-state kept kind = ⊎_elim still-next (⊎_elim (moved-next kept) (⊎_elim (reloaded-next kept) committed-next)) kind

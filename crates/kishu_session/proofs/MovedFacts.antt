@@ -24,7 +24,6 @@ use Rattle.kishu_graph.specs.Tables.{table_of_rows}
 use Rattle.kishu_history.specs.Checkout.{to_load}
 use Rattle.kishu_graph.specs.declared.fault.GraphFault.{GraphFault}
 use Rattle.kishu_graph.specs.declared.fault.GraphFault.TheVariants.{NoMemory}
-use Rattle.kishu_replay.specs.Replay.{IsFull}
 use Rattle.kishu_model.specs.Answers.{Refusal, refused, checked_out}
 use Rattle.kishu_model.specs.Request.{Stepped, checkout, refused_with}
 use Rattle.kishu_model.specs.requests.Checkout.{went_to}
@@ -32,10 +31,8 @@ use Rattle.kishu_model.specs.Serve.{after}
 use Rattle.kishu_model.specs.Step.{step}
 use Rattle.kishu_model.specs.Values.{answer_of}
 use Rattle.kishu_live_laws.specs.Refusals.{refusal_in}
-use Rattle.kishu_session.specs.Filling.{FillsHere}
-use Rattle.kishu_session.specs.Head.{Carries, CountsPath, IsKnown, KeepsSome, Lacks, LacksToLoad, rows_to_load}
+use Rattle.kishu_session.specs.Head.{CountsPath, IsKnown, KeepsSome, Lacks, LacksToLoad, rows_to_load}
 use Rattle.kishu_session.specs.Known.{HasHistory, IsHistoryOf}
-use Rattle.kishu_session.specs.Lives.{state_of}
 use Rattle.kishu_session.specs.Moves.{move_by, move_to, IsMoved}
 use Rattle.kishu_session.specs.Prepared.{Leads, LeadsTo, LeadsOn, LeadsAlone, LacksFor, IsPrepared, IsAnswered, MayBeRecorded, StaysWithout, Tells, led_with, record_in}
 use Rattle.kishu_session.specs.Reading.{rows_read}
@@ -179,20 +176,13 @@ module _ (place : ℕ) (head : Head) (known : IsKnown head place) (new : Kept) (
       )
 
   -- The rows that are loaded are those that the request reads.
-  pub rows-moved : (file : Option (List ℕ)) (after : Head) → after.graph ≡ new → Carries file (record head { graph = new }) after → (h : History) → IsHistoryOf head.graph h
+  pub rows-moved : (after : Head) → after.graph ≡ new → ((n : History) → IsHistoryOf after.graph n → table_of_rows after.table ≡ head_table n) → (h : History) → IsHistoryOf head.graph h
       → rows_to_load (record head { graph = new }) after ≡ rows_read h (checkout to)
-  rows-moved file after same carries h k =
+  rows-moved after same there h k =
       let m = moves h.graph k.keeps.graph.shape in
       ap (λ (t : Table). to_load t (table_of_rows after.table)) (table-known place head known h k)
       ∙ ap (λ (t : Table). to_load (head_table h) t)
-      (carries.to (after_move h) (subst (λ (x : Kept). IsHistoryOf x (after_move h)) (sym same) (on-move h k)) ∙ moved-table h to c head.graph new m)
-
--- Where the heap is too full for the loading, it is so for the checkout.
-pub fills-moved : (head : Head) (new : Kept) (to : List ℕ) (c : ℕ) → ((g : Graph) → HasShapeOf head.graph g → HasMoved (resolve g to) g c head.graph new) → IsFull (state_of head.live) → FillsHere head (checkout to)
-fills-moved head new to c moves full h k = (
-  ap refusal_in (ap (λ (x : Stepped). x.answer) (stepped h.graph to c head.graph new (moves h.graph k.keeps.graph.shape))),
-  full,
-)
+      (there (after_move h) (subst (λ (x : Kept). IsHistoryOf x (after_move h)) (sym same) (on-move h k)) ∙ moved-table h to c head.graph new m)
 
 -- ---- what the request leads to
 
@@ -229,7 +219,7 @@ module _ (file : Option (List ℕ)) (place : ℕ) (old new : Head) (kept : Kept)
     rules = subst MayBeRecorded (sym is.recorded) is.rules;
     refuses = λ g s. ap (option_map refusal_in) (answered g s);
     answers = λ h k count. answered-here h k;
-    tells = subst (λ (o : Option Record). Tells file old new o) (sym is.recorded) (record { from = table-known place old known; carries = record { to = is.carries.to; state = is.carries.state; pictures = is.carries.pictures } });
+    tells = subst (λ (o : Option Record). Tells file old new o) (sym is.recorded) (record { from = table-known place old known; start = is.start; starts = is.starts; carries = record { to = is.carries.to; state = is.carries.state; pictures = is.carries.pictures } });
     large = λ bytes size. absurd (cc (sym is.answer ∙ size));
   }
 

@@ -1,8 +1,8 @@
 -- What kinds of records there are, by what they make of the graph, of the tables and of the live state.
 use Rattle.std.proofs.Common.{◌≡◌, ◌⊎◌, inl, inr, ℕ, List, refl, sym, ◌∙◌, ap, subst}
 use Rattle.std.specs.Prelude.{Option, Some, None}
+use Rattle.kishu_meaning.specs.values.Values as values
 use Rattle.kishu_objects.specs.States.{IsSoundState}
-use Rattle.kishu_replay.specs.Replay.{after_cells}
 use Rattle.kishu_store.specs.Branches.{commit_of}
 use Rattle.kishu_store.specs.Entries.{Entry, Record, commit, move, name, MoveTo, to_commit, to_branch}
 use Rattle.kishu_store.specs.Fitting.{GoesOn, on_branch}
@@ -19,10 +19,11 @@ use Rattle.kishu_store_laws.specs.HistoryLaws.{IsHistory, led-history}
 use Rattle.kishu_graph.specs.Kept.{Kept, KeepsHistory}
 use Rattle.kishu_commit.specs.Told.{next_record, next_record_by, record_by, told_record, CanBeStored}
 use Rattle.kishu_session.specs.Committing.{IsTold}
-use Rattle.kishu_session.specs.Head.{Carries, IsLoaded, KeepsTable}
+use Rattle.kishu_session.specs.Head.{CarriesFrom, IsLoaded, KeepsTable}
 use Rattle.kishu_session.specs.Known.{IsHistoryOf}
 use Rattle.kishu_session.specs.Lives.{state_of}
 use Rattle.kishu_session.specs.Prepared.{Leads, LeadsTo, led_with, Tells, TellsBy}
+use Rattle.kishu_session.specs.Renewing.{IsLeft, Starts}
 use Rattle.kishu_session.specs.declared.head.Head.{Head}
 
 -- ---- histories
@@ -55,11 +56,13 @@ pub record IsStill (old new : Head) (h n : History) : Type 0 where
   pub table : new.table ≡ old.table
   pub kept : new.kept ≡ old.kept
 
--- They do, and the live state was carried on from the table of the head before.
+-- They do, and the live state, loaded anew or not, was carried on from the table of the head before.
 pub record IsMoved (file : Option (List ℕ)) (old new : Head) (h n : History) : Type 0 where
   pub same : IsSameStore h n
   pub from : table_of_rows old.table ≡ head_table h
-  pub carries : Carries file old new
+  pub start : values.State
+  pub starts : Starts (state_of old.live) start
+  pub carries : CarriesFrom file start old new
 
 -- There is no record, the graph stays, and so do they; the live state was loaded anew.
 pub record IsReloaded (file : Option (List ℕ)) (new : Head) (h : History) (r : Option Record) (n : History) : Type 0 where
@@ -68,14 +71,14 @@ pub record IsReloaded (file : Option (List ℕ)) (new : Head) (h : History) (r :
   pub graph : n.graph ≡ h.graph
   pub loaded : IsLoaded file new
 
--- The record is the commit of these cells, which left the live state: as the head's table tells it among the names that they accessed, where the file that the host tells holds the pictures of the old one.
+-- The record is the commit of these cells, which left the live state, or one that is the same: as the head's table tells it among the names that they accessed, where the file that the host tells holds the pictures of the old one.
 pub record IsCommitted (file : Option (List ℕ)) (old new : Head) (h : History) (r : Option Record) : Type 0 where
   pub cells : List (List ℕ)
   pub dropped : List Group
   pub stored : List Group
   pub is : r ≡ Some (next_record_by h cells dropped stored (state_of new.live))
   pub told : IsTold file (head_table h) (state_of old.live) → r ≡ Some (next_record h cells (state_of old.live) (accessed_by newest_profile cells (state_of old.live)) (state_of new.live))
-  pub ran : state_of new.live ≡ after_cells newest_profile cells (state_of old.live)
+  pub ran : IsLeft cells (state_of old.live) (state_of new.live)
   pub sound : IsSoundState (state_of new.live)
   pub fits : CanBeStored (head_table h) (state_of old.live) (accessed_by newest_profile cells (state_of old.live)) (state_of new.live)
   pub lives : IsLive (Stored None) (table_of_rows new.table) (state_of new.live)
@@ -112,7 +115,7 @@ module _ (file : Option (List ℕ)) (old new : Head) (h : History) (now : Graph)
         held = tells.held;
       })))
   by-entry r (move to) is leads tells =
-      inr (inl (record { same = subst (λ (e : Entry). IsSameStore h (led h e)) (sym is) (moved-same h to); from = tells.from h kept; carries = tells.carries }))
+      inr (inl (record { same = subst (λ (e : Entry). IsSameStore h (led h e)) (sym is) (moved-same h to); from = tells.from h kept; start = tells.start; starts = tells.starts; carries = tells.carries }))
   by-entry r (name title n) is leads tells =
       inl (record {
         same = subst (λ (e : Entry). IsSameStore h (led h e)) (sym is) (record { commits = refl; changes = refl });

@@ -4,19 +4,23 @@ use Rattle.std.proofs.Common.{◌≡◌, ◌<◌, ◌≤◌, ℕ, Bool, true, fa
 use Rattle.std.proofs.lemmas.Bool.Decides.{nat_tests}
 use Rattle.kishu_meaning.specs.values.Values.{State}
 use Rattle.kishu_objects.specs.Sizes.{most_bytes}
+use Rattle.kishu_objects.specs.States.{IsSoundState}
 use Rattle.kishu_replay.specs.Replay.{after_cells}
 use Rattle.kishu_store.specs.Limits.{newest_profile}
 use Rattle.kishu_store.specs.Tables.{Table}
 use Rattle.kishu_history.specs.Accessed.{accessed_by}
 use Rattle.kishu_history.specs.Touched.{size_told}
 use Rattle.kishu_history_laws.specs.cells.AccessLaws.{size_same}
+use Rattle.kishu_session_laws.specs.CellLaws.{cells_keep}
 use Rattle.kishu_model.specs.Answers.{Answer, Refusal, refused, state_too_large}
 use Rattle.kishu_model.specs.declared.refusal.Refusal as program
 use Rattle.kishu_model.specs.requests.TooLarge.{most_told}
 use Rattle.kishu_model.specs.Values.{refusal_of}
 use Rattle.kishu_live_laws.specs.OnStates.{left_size, leave_too_large, told_too_large}
+use Rattle.kishu_live_laws.specs.SameRequests.{told_size_same}
 use Rattle.kishu_live_laws.specs.Refusals.{by_graph, refusal_in, TellsSize}
 use Rattle.kishu_session.specs.Refusing.{RefusesSize}
+use Rattle.kishu_session.specs.Renewing.{IsLeft}
 use Rattle.kishu_session.specs.Running.{AreSameNames}
 use Rattle.kishu_session.specs.Sized.{size_refused}
 
@@ -43,12 +47,12 @@ module _ (bytes : ℕ) where
   small-found : (found : Option program.Refusal) → found ≡ None → option_map refusal_of found ≡ size_refused bytes → large ≡ false
   small-found found none is = small-by large (sym (ap (option_map refusal_of) none) ∙ is)
 
--- Cells were run from a state, and left this one; the names that they accessed are recorded. What is told of its size by the record is what they leave.
-module _ (t : Table) (cells : List (List ℕ)) (s u : State) (names : List (List ℕ)) (left : u ≡ after_cells newest_profile cells s)
+-- Cells were run from a state, and left this one, which is loaded anew before some of them or not; the names that they accessed are recorded. What is told of its size by the record is what they leave.
+module _ (t : Table) (cells : List (List ℕ)) (s u : State) (sound : IsSoundState s) (is-sound : IsSoundState u) (names : List (List ℕ)) (left : IsLeft cells s u)
     (same : AreSameNames names (accessed_by newest_profile cells s)) where
   pub sizes-are : size_told t names u ≡ left_size t cells s
   sizes-are =
-      ap (λ (x : State). size_told t names x) left
+      told_size_same u (after_cells newest_profile cells s) is-sound (cells_keep newest_profile cells s sound) left.same t names
       ∙ size_same names (accessed_by newest_profile cells s) same t (after_cells newest_profile cells s)
 
   module _ (found : Option program.Refusal) (is : option_map refusal_of found ≡ size_refused (size_told t names u)) where

@@ -12,11 +12,11 @@ use Rattle.kishu_graph.specs.Tables.{table_of_rows}
 use Rattle.kishu_history.specs.Accessed.{accessed_by}
 use Rattle.kishu_history.specs.Touched.{touched}
 use Rattle.kishu_history_laws.specs.cells.AccessLaws.{touched_same}
-use Rattle.kishu_model.specs.Request.{Request, cell, cells, checkout, branch, log, status, inspect, stored, plan, unreadable}
-use Rattle.kishu_session.specs.Applying.{HasCells, IsIdle}
+use Rattle.kishu_model.specs.Request.{Request}
+use Rattle.kishu_session.specs.Applying.{HasCells}
 use Rattle.kishu_session.specs.Lives.{state_of}
 use Rattle.kishu_session.specs.Running.{AreSameNames}
-use Rattle.kishu_session.specs.Working.{IsUncounted, ReadsFor, bytes_asked, bytes_asked_by, nodes_touched}
+use Rattle.kishu_session.specs.Working.{ReadsFor, bytes_asked, bytes_asked_by, nodes_touched}
 use Rattle.kishu_session.specs.declared.head.Head.{Head}
 use Rattle.kishu_session.specs.declared.live.Live.{Live}
 use Rattle.kishu_session.specs.declared.prepared.Prepared.{Prepared}
@@ -39,20 +39,6 @@ reads-on a None (Some z) n p q = absurd (cc (q.1))
 reads-on a (Some y) (Some z) n p q =
     let same : y ≡ q.0 = cc (q.1) in
     (p.0, p.1, omega (arith, p.2, q.2, same))
-
--- ---- requests that only tell what is kept, or name it
-
-pub idle-uncounted : (q : Request) → IsIdle q → IsUncounted q
-idle-uncounted unreadable is = is
-idle-uncounted (cell text) is = is
-idle-uncounted (cells texts) is = is
-idle-uncounted (checkout to) is = tt
-idle-uncounted (branch title at) is = tt
-idle-uncounted log is = tt
-idle-uncounted status is = tt
-idle-uncounted inspect is = is
-idle-uncounted (stored of) is = tt
-idle-uncounted (plan to) is = tt
 
 -- ---- cells that are committed
 

@@ -26,13 +26,12 @@ use Rattle.kishu_live_laws.specs.Made.{made_by}
 use Rattle.kishu_live_laws.specs.OnStates.{after_on}
 use Rattle.kishu_checkout.specs.Pictures.{LacksAt}
 use Rattle.kishu_session.specs.Attached.{IsAtEnd, IsAttached, LivesIn}
-use Rattle.kishu_session.specs.Filling.{FillsBy}
 use Rattle.kishu_session.specs.Journals.{BeforeOrAfter, GoodBeforeOrAfter}
 use Rattle.kishu_session.specs.Known.{IsHistoryOf}
 use Rattle.kishu_session.specs.Lives.{state_of}
 use Rattle.kishu_session.specs.Reading.{rows_read, MayRead}
 use Rattle.kishu_session.specs.Refusing.{IsRefusal, RefusesSize}
-use Rattle.kishu_session.specs.Sized.{most_kept}
+use Rattle.kishu_session.specs.Renewing.{StaysHere}
 use Rattle.kishu_session.specs.Working.{CountsUpTo, bytes_asked_by}
 pub use Rattle.kishu_session.specs.Working.{IsIdle, most_steps, bytes_asked}
 use Rattle.kishu_session.specs.Written.{IsRecorded}
@@ -110,11 +109,7 @@ pub record LacksHere (old : Session) (s : State) (q : Request) (at : ℕ) : Type
   pub lacks : (h : History) → IsHistoryOf old.head.graph h → MayRead h.graph (request_of q) × LacksAt s (rows_read h (request_of q)) at
   pub never : Told s ((g : Graph) → IsAttached old s g → ⊥)
 
--- ---- where the heap is full
-
--- Where so many nodes were made before, no fewer than the live state has, a cell of the request or the loading of a checkout would begin with more than 2^31 made.
-abbrev pub FillsReplay : Session → State → Request → Type 0
-FillsReplay old s q = Told s ((g : Graph) → IsAttached old s g → (made : ℕ) → length (state_of old.head.live).nodes ≤ made → FillsBy made g (request_of q))
+-- ---- the nodes that are made
 
 -- The live state has at most as many more nodes as the request makes by one step of the machine that replays.
 abbrev pub MakesNodes : (old new : Session) → State → model.Request → Type 0
@@ -139,7 +134,7 @@ KeepsNames old new s q =
 
 -- From so many nodes at most nothing but the groups that differ is loaded.
 abbrev pub StaysLoaded : Session → Type 0
-StaysLoaded session = length (state_of session.head.live).nodes ≤ most_kept
+StaysLoaded session = StaysHere session.head
 
 abbrev pub KeepsOld : (old new : Session) → State → Request → Answer → Type 0
 KeepsOld old new s q a = IsCheckout q → (IsRefusal (answer_of a) → ⊥) → StaysLoaded old → KeepsNodes old new × KeepsNames old new s q

@@ -10,7 +10,6 @@ use Rattle.kishu_store.specs.Rules.{IsRecord}
 use Rattle.kishu_store.specs.Tables.{Table}
 use Rattle.kishu_objects.specs.Sizes.{most_bytes}
 use Rattle.kishu_objects.specs.States.{IsSoundState}
-use Rattle.kishu_replay.specs.Replay.{after_cells}
 use Rattle.kishu_history.specs.Accessed.{accessed_by}
 use Rattle.kishu_history.specs.Live.{IsLive}
 use Rattle.kishu_history.specs.Stored.{Stored}
@@ -25,6 +24,7 @@ use Rattle.kishu_commit.specs.declared.committing.Record as rust
 use Rattle.kishu_session.specs.Head.{CountsPath, KeepsTable}
 use Rattle.kishu_session.specs.Known.{IsHistoryOf}
 use Rattle.kishu_session.specs.Lives.{state_of}
+use Rattle.kishu_session.specs.Renewing.{IsLeft}
 use Rattle.kishu_session.specs.Running.{AreSameNames}
 use Rattle.kishu_session.specs.declared.committing.Committed.{Committed}
 use Rattle.kishu_session.specs.declared.head.Head.{Head}
@@ -43,12 +43,13 @@ IsNextNumber kept number = (g : Graph) → HasShapeOf kept g → number ≡ suc 
 abbrev pub HasTable : Head → (place : ℕ) → Type 0
 HasTable head place = ∥ ((h : History) × IsHistoryOf head.graph h × (h.place ≡ place) × (table_of_rows head.table ≡ head_table h)) ∥₁
 
--- The cells ran from a state that the table tells, and just of the table's groups the digests of the pictures in it are kept. They accessed the names that are recorded, and left the live state, which isn't too large as the table tells it.
+-- The cells ran from a state that the table tells, and just of the table's groups the digests of the pictures in it are kept. They accessed the names that are recorded, and left a state that is the same as the live one, which isn't too large as the table tells it.
 pub record HasRun (place : ℕ) (before : State) (head : Head) (cells : List (List ℕ)) : Type 0 where
   pub known : HasTable head place
   pub told : IsLive (Stored None) (table_of_rows head.table) before
   pub pictures : KeepsJust head.kept (table_groups head.table) before
-  pub left : state_of head.live ≡ after_cells newest_profile cells before
+  pub left : IsLeft cells before (state_of head.live)
+  pub sound : IsSoundState (state_of head.live)
   pub accessed : AreSameNames head.live.names.accessed (accessed_by newest_profile cells before)
   pub small : left_size (table_of_rows head.table) cells before ≤ most_bytes
 

@@ -4,10 +4,9 @@ use Rattle.kishu_checkout.specs.declared.fault.CheckoutFault.TheVariants as faul
 use Rattle.kishu_session.specs.declared.halt.Halt.{Halt}
 use Rattle.kishu_session.specs.declared.halt.Halt.TheVariants as halts
 use Rattle.kishu_session.specs.declared.unprepared.Unprepared.{Unprepared}
-use Rattle.kishu_session.specs.declared.unprepared.Unprepared.TheVariants.{HeapFull, Damaged, DiskFault, NoMemory}
+use Rattle.kishu_session.specs.declared.unprepared.Unprepared.TheVariants.{Damaged, DiskFault, NoMemory}
 
 abbrev pub halt_by : Unprepared → Halt
-halt_by HeapFull = halts.HeapFull
 halt_by (Damaged at) = halts.Damaged at
 halt_by DiskFault = halts.DiskFault
 halt_by NoMemory = halts.NoMemory

@@ -1,6 +1,7 @@
 -- What a session keeps of its store, and the state at its head.
 use Rattle.std.specs.Prelude.{◌≡◌, ◌≤◌, ◌*◌, ◌^◌, ℕ, List, Option, Some, None}
 use Rattle.kishu_host.specs.Host.{State}
+use Rattle.kishu_meaning.specs.values.Values as values
 use Rattle.kishu_store.specs.Graph.{Graph, newest, count_of}
 use Rattle.kishu_store.specs.Groups.{Group}
 use Rattle.kishu_store.specs.Histories.{History, head_table, table_to}
@@ -16,6 +17,7 @@ use Rattle.kishu_checkout.specs.Loads.{AreCarried, IsLoadedFrom}
 use Rattle.kishu_checkout.specs.Pictures.{LacksAt, LacksSome}
 use Rattle.kishu_session.specs.Known.{IsHistoryOf}
 use Rattle.kishu_session.specs.Lives.{state_of}
+use Rattle.kishu_session.specs.Renewing.{Starts}
 use Rattle.kishu_session.specs.declared.head.Head.{Head}
 
 -- ---- the cells on the path
@@ -77,16 +79,22 @@ rows_to_load old new = to_load (table_of_rows old.table) (table_of_rows new.tabl
 abbrev pub groups_to_drop : (old new : Head) → List Group
 groups_to_drop old new = to_drop (table_of_rows old.table) (table_of_rows new.table)
 
--- Now the table of the head's commit is kept, in each history that is kept. Where a host tells this of its file, the live state is the old one with the pictures loaded that are stored for the rows to load, after the names of the groups to drop were unbound; and just of the table's groups the digests of the pictures in it are kept.
-pub record Carries (file : Option (List ℕ)) (old new : Head) : Type 0 where
+-- Now the table of the head's commit is kept, in each history that is kept. Where a host tells this of its file, the live state is this one with the pictures loaded that are stored for the rows to load, after the names of the groups to drop were unbound; and just of the table's groups the digests of the pictures in it are kept.
+pub record CarriesFrom (file : Option (List ℕ)) (start : values.State) (old new : Head) : Type 0 where
   pub to : (h : History) → IsHistoryOf new.graph h → table_of_rows new.table ≡ head_table h
-  pub state : AreCarried file (groups_to_drop old new) (rows_to_load old new) (state_of old.live) (state_of new.live)
+  pub state : AreCarried file (groups_to_drop old new) (rows_to_load old new) start (state_of new.live)
   pub pictures : KeepsJust new.kept (groups_in (table_of_rows new.table)) (state_of new.live)
 
--- So it came from the table of the head before, which was kept.
+-- So it is from the live state.
+abbrev pub Carries : Option (List ℕ) → (old new : Head) → Type 0
+Carries file old new = CarriesFrom file (state_of old.live) old new
+
+-- So it came from the table of the head before, which was kept, and from the state before, loaded anew or not.
 pub record IsCarried (file : Option (List ℕ)) (old new : Head) : Type 0 where
   pub from : (h : History) → IsHistoryOf old.graph h → table_of_rows old.table ≡ head_table h
-  pub carries : Carries file old new
+  pub start : values.State
+  pub starts : Starts (state_of old.live) start
+  pub carries : CarriesFrom file start old new
 
 -- What is kept of the table of some commit, in each history that is kept: the live state is the one that this table tells, by the lengths of its pictures, and just of its groups the digests of the pictures in it are kept.
 pub record KeepsSome (head : Head) : Type 0 where

@@ -4,11 +4,12 @@ pub mod OneTable
 pub mod Lives
 pub mod Running
 pub mod Sized
+pub mod Renewing
 pub mod Asked
 pub mod Refusing
-pub mod Filling
 pub mod Reading
 pub mod Head
+pub mod Bounded
 pub mod Committing
 pub mod Prepared
 pub mod Working

@@ -8,7 +8,7 @@ use Rattle.kishu_meaning.specs.values.Values.{Ran, State}
 use Rattle.kishu_interp.specs.Running.{state_in}
 use Rattle.kishu_model.specs.Answers.{Counted}
 use Rattle.kishu_model.specs.requests.Cells.{results_from}
-use Rattle.kishu_replay.specs.Replay.{after_cells, charge_in, FillsIn}
+use Rattle.kishu_replay.specs.Replay.{after_cells, charge_in}
 use Rattle.kishu_store.specs.Tables.{Table}
 use Rattle.kishu_history.specs.Accessed.{accessed_by}
 use Rattle.kishu_live_laws.specs.OnStates.{run_of}
@@ -32,7 +32,7 @@ module _ (t : Table) (live : Live) (texts : List (RcStr Global)) where
   abbrev pub shown_of : (before : ℕ) → List Counted
   shown_of before = results_from (suc before) One ran_of (state_of live)
 
-  -- the names that they access, the state after them, the steps that they take, and whether one of them would begin with too many nodes
+  -- the names that they access, the state after them, and the steps that they take
   abbrev pub accessed_of_ran : List (List ℕ)
   accessed_of_ran = accessed_by One ran_of (state_of live)
 
@@ -41,6 +41,3 @@ module _ (t : Table) (live : Live) (texts : List (RcStr Global)) where
 
   abbrev pub charge_of_ran : ℕ
   charge_of_ran = charge_in One ran_of (state_of live)
-
-  abbrev pub FillsRan : Type 0
-  FillsRan = FillsIn One ran_of (state_of live)

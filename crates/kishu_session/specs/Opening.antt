@@ -1,5 +1,5 @@
 -- What the opening of a store leaves of its host, whatever it answers.
-use Rattle.std.specs.Prelude.{◌≡◌, ◌≤◌, ◌⊎◌, ℕ}
+use Rattle.std.specs.Prelude.{◌≡◌, ◌≤◌, ◌⊎◌, ℕ, Result, IsErrOf}
 use Rattle.kishu_host.specs.Host.{State}
 use Rattle.kishu_journal.specs.Facts.{KeepsLong, StaysShort, Settles, StopsAtOpening}
 use Rattle.kishu_session.specs.declared.halt.Halt.{Halt}
@@ -19,3 +19,7 @@ pub record IsOpening (Failed : Type 0) (s t : State) : Type 0 where
 -- why there is no store
 abbrev pub IsUnopened : Halt → Type 0
 IsUnopened e = (e ≡ NotAJournal) ⊎ ((at : ℕ) × (e ≡ Damaged at)) ⊎ (e ≡ DiskFault) ⊎ (e ≡ NoMemory)
+
+-- it ends by this halt, or the disk or want of memory comes between
+abbrev pub HaltsBy : {A : Type 0} → Halt → Result A Halt → Type 0
+HaltsBy halt result = IsErrOf result halt ⊎ IsErrOf result DiskFault ⊎ IsErrOf result NoMemory

@@ -11,7 +11,6 @@ use Rattle.kishu_store.specs.Rules.{IsRecord}
 use Rattle.kishu_store.specs.Tables.{change_of}
 use Rattle.kishu_meaning.specs.values.Values as values
 use Rattle.kishu_objects.specs.States.{IsSoundState}
-use Rattle.kishu_replay.specs.Replay.{after_cells}
 use Rattle.kishu_history.specs.Accessed.{accessed_by}
 use Rattle.kishu_history.specs.Live.{IsLive}
 use Rattle.kishu_history.specs.Stored.{Stored}
@@ -32,6 +31,7 @@ use Rattle.kishu_session.specs.Known.{IsHistoryOf}
 use Rattle.kishu_session.specs.Lives.{state_of}
 use Rattle.kishu_session.specs.Reading.{rows_read, MayRead}
 use Rattle.kishu_session.specs.Refusing.{RefusesAs, RefusesSize}
+use Rattle.kishu_session.specs.Renewing.{IsLeft}
 use Rattle.kishu_session.specs.declared.head.Head.{Head}
 use Rattle.kishu_session.specs.declared.prepared.Prepared.{Prepared}
 
@@ -117,11 +117,11 @@ pub record KeepsState (old new : Head) : Type 0 where
 abbrev pub HasLists : Record → (parent : ℕ) → (cells : List (List ℕ)) → values.State → Type 0
 HasLists r parent cells u = (dropped : List Group) × (stored : List Group) × (r ≡ record_by parent cells dropped stored u)
 
--- These cells left the new state of the old one, and the commit stores pictures in the new one. Where the file that the host tells holds the pictures of the old one, it drops and stores what they changed, as the head's table tells it among the names that they accessed. The new one is a state, bytes can tell the pictures that are stored, and the new head's table is kept, which tells the new state by the lengths of its pictures, and the digests of these.
+-- These cells left the new state of the old one, or one that is the same, and the commit stores pictures in the new one. Where the file that the host tells holds the pictures of the old one, it drops and stores what they changed, as the head's table tells it among the names that they accessed. The new one is a state, bytes can tell the pictures that are stored, and the new head's table is kept, which tells the new state by the lengths of its pictures, and the digests of these.
 pub record IsCommitOf (file : Option (List ℕ)) (old new : Head) (r : Record) (parent : ℕ) (cells : List (List ℕ)) : Type 0 where
   pub lists : (h : History) → IsHistoryOf old.graph h → HasLists r parent cells (state_of new.live)
   pub told : (h : History) → IsHistoryOf old.graph h → IsTold file (head_table h) (state_of old.live) → r ≡ told_record parent cells (head_table h) (state_of old.live) (accessed_by newest_profile cells (state_of old.live)) (state_of new.live)
-  pub ran : state_of new.live ≡ after_cells newest_profile cells (state_of old.live)
+  pub ran : IsLeft cells (state_of old.live) (state_of new.live)
   pub sound : IsSoundState (state_of new.live)
   pub fits : (h : History) → IsHistoryOf old.graph h → CanBeStored (head_table h) (state_of old.live) (accessed_by newest_profile cells (state_of old.live)) (state_of new.live)
   pub lives : IsLive (Stored None) (table_of_rows new.table) (state_of new.live)

@@ -1,4 +1,4 @@
--- When a state is refused for the bytes that it takes, and with how many nodes a heap goes on.
+-- When a state is refused for the bytes that it takes.
 use Rattle.std.specs.Prelude.{ℕ, nat_lt, min, if◌then◌else◌, Option, Some, None}
 use Rattle.kishu_objects.specs.Sizes.{most_bytes}
 use Rattle.kishu_model.specs.Answers.{Refusal, state_too_large}
@@ -7,7 +7,3 @@ use Rattle.kishu_model.specs.requests.TooLarge.{most_told}
 -- the refusal of a state that takes so many, where they are too many
 abbrev pub size_refused : ℕ → Option Refusal
 size_refused bytes = if nat_lt most_bytes bytes then Some (state_too_large (min bytes most_told)) else None
-
--- from so many nodes at most a checkout and a cell go on with the heap that is there
-abbrev pub most_kept : ℕ
-most_kept = 8000000

@@ -1,5 +1,5 @@
 -- The work of a request before it is recorded: `s` is the host before, `t` the host after.
-use Rattle.std.specs.Prelude.{◌≡◌, ◌≤◌, ℕ, ◌+◌, ◌*◌, List, length, None}
+use Rattle.std.specs.Prelude.{◌≡◌, ◌≤◌, ◌⊎◌, ℕ, ◌+◌, ◌*◌, List, length, None}
 use Rattle.kishu_host.specs.Host.{State, ReadsMore}
 use Rattle.kishu_meaning.specs.cells.Meaning.{run}
 use Rattle.kishu_meaning.specs.values.Values as values
@@ -23,6 +23,7 @@ use Rattle.kishu_session.specs.Known.{IsHistoryOf}
 use Rattle.kishu_session.specs.Lives.{state_of}
 use Rattle.kishu_session.specs.Prepared.{RefusesNoSize}
 use Rattle.kishu_session.specs.Reading.{rows_read}
+use Rattle.kishu_session.specs.Renewing.{StaysHere}
 use Rattle.kishu_session.specs.declared.head.Head.{Head}
 use Rattle.kishu_session.specs.declared.prepared.Prepared.{Prepared}
 
@@ -83,18 +84,9 @@ ReadsFor old new s t (plan to) p = ReadsNothing s t p.answer
 
 -- ---- the counter
 
--- Those that take no step of it: each but those with cells, and `inspect`.
-abbrev pub IsUncounted : Request → Type 0
-IsUncounted unreadable = ⊥
-IsUncounted (cell text) = ⊥
-IsUncounted (cells texts) = ⊥
-IsUncounted (checkout to) = Unit {0}
-IsUncounted (branch name at) = Unit {0}
-IsUncounted log = Unit {0}
-IsUncounted status = Unit {0}
-IsUncounted inspect = ⊥
-IsUncounted (stored of) = Unit {0}
-IsUncounted (plan to) = Unit {0}
+-- It takes no step of it: what only tells what is kept, or names it, and a checkout from a heap that isn't loaded anew.
+abbrev pub LeavesSteps : Head → Request → Type 0
+LeavesSteps head q = IsIdle q ⊎ (((to : List ℕ) × (q ≡ checkout to)) × StaysHere head)
 
 -- the most steps of a cell with such a charge, where the names that it touched reach so many nodes
 abbrev pub most_steps : (charge nodes : ℕ) → ℕ
@@ -109,9 +101,9 @@ nodes_touched old new text =
 abbrev pub CountsUpTo : (old new : Head) → List ℕ → (before now : ℕ) → Type 0
 CountsUpTo old new text before now = now ≤ before + most_steps (run newest_profile text (state_of old.live)).charge (nodes_touched old new text)
 
--- So it is with a cell whose state isn't refused for its size.
+-- So it is with a cell whose state isn't refused for its size, from a heap that isn't loaded anew.
 abbrev pub CountsCell : (old new : Head) → List ℕ → rust_answer.Answer → (before now : ℕ) → Type 0
-CountsCell old new text a before now = RefusesNoSize a → CountsUpTo old new text before now
+CountsCell old new text a before now = RefusesNoSize a → StaysHere old → CountsUpTo old new text before now
 
 abbrev pub CountsFor : (old new : Head) → Request → rust_answer.Answer → (before now : ℕ) → Type 0
 CountsFor old new q a before now = (text : List ℕ) → q ≡ cell text → CountsCell old new text a before now

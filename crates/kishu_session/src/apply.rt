@@ -1,20 +1,19 @@
 // The answering of requests.
 ghost use Rattle.std.specs.Prelude.{ℕ, ◌≡◌, ◌≤◌, ◌⊎◌, ◌↔◌, true, IfOk, IfErr, OnOk, IsErr, IsErrOf, IsSome};
 ghost use Rattle.kishu_host.specs.Host.{ReadsMore};
-ghost use Rattle.kishu_replay.specs.Replay.{IsFull};
 ghost use Rattle.kishu_model.specs.Values.{request_of, answer_of};
 ghost use Rattle.kishu_model.specs.requests.Cells.{HasRoom};
 ghost use Rattle.kishu_journal.specs.Going.{IsQuiet};
-ghost use Rattle.kishu_session.specs.Applying.{IsAnswer, IsIdle, StaysAttached, Counts, CountsAtMost, StaysAtEnd, StaysLive, IsBackAt, KeepsOld, LacksHere, LeavesCounter, FillsReplay, MakesNodes, ReadsAsked, ReadsLoaded, RecordsOne, LeavesBeforeOrAfter, LeavesHere, KeepsSmall, TellsAlone};
+ghost use Rattle.kishu_session.specs.Applying.{IsAnswer, IsIdle, StaysAttached, Counts, CountsAtMost, StaysAtEnd, StaysLive, IsBackAt, KeepsOld, LacksHere, LeavesCounter, MakesNodes, ReadsAsked, ReadsLoaded, RecordsOne, LeavesBeforeOrAfter, LeavesHere, KeepsSmall, TellsAlone};
 ghost use Rattle.kishu_session.specs.Attached.{IsReady};
+ghost use Rattle.kishu_session.specs.Bounded.{IsBounded};
 ghost use Rattle.kishu_session.specs.Faults.{DiskFailed};
-ghost use Rattle.kishu_session.specs.Filling.{FillsHere};
 ghost use Rattle.kishu_session.specs.Head.{IsKnown};
 ghost use Rattle.kishu_session.specs.Becoming.{GoesOnLive, IsAnswerHere};
-ghost use Rattle.kishu_session.specs.Lives.{state_of};
 ghost use Rattle.kishu_session.specs.Prepared.{RefusesFor, LeavesLarge};
+ghost use Rattle.kishu_session.specs.Recording.{StaysDurable};
 ghost use Rattle.kishu_session.specs.Refusing.{IsRefusal, RefusesSize};
-ghost use Rattle.kishu_session.specs.declared.halt.Halt.TheVariants.{DiskFault, Damaged, NoMemory, HeapFull, Closed};
+ghost use Rattle.kishu_session.specs.declared.halt.Halt.TheVariants.{DiskFault, Damaged, NoMemory, Closed};
 
 use crate::recording::record;
 use crate::{Halt, Session};
@@ -24,6 +23,9 @@ use std::sync::ledger::Ledger;
 
 impl Session {
     /// Answers a request, and records it where it changes the store. A refusal is an answer.
+    ///
+    /// Before a cell runs, and before a checkout that isn't refused loads, a live state of more than 8,000,000
+    /// nodes is loaded anew from its own pictures. No answer shows it.
     ///
     /// Unless an earlier call ended it, the session stands at the end of the file that the host tells. The
     /// texts of `cells`, each with four bytes more, have together at most 2^26 bytes.
@@ -35,8 +37,6 @@ impl Session {
     ///   head's: cells that leave a state that is too large go back to these, and cells that would be
     ///   committed ask for those that they left with the digests that they had.
     /// - `DiskFault`: a call of the host failed. The store holds the graph before or after the request.
-    /// - `HeapFull`: a cell of the request, or the loading of a checkout, would have begun with more than
-    ///   2^31 nodes.
     /// - `NoMemory`: there was no memory.
     pub fn apply<H: Host, L: Ledger>(
         &mut self,
@@ -60,9 +60,10 @@ impl Session {
             (StaysAtEnd self.old self.new (H.state host.old) (H.state host.new) request.now) }
         ensures bytes { OnOk result (RecordsOne self.old (H.state host.old) (H.state host.new)) }
 
-        // So the answer is the one on the live state. That becomes the one that the request's cells left,
-        // where they are committed; else it stays, or is carried on to the head of the graph after the
-        // request, or is loaded anew for the head, where the request's cells left a state that is too large.
+        // So the answer is the one on the live state. That becomes the same as the one that the request's cells
+        // left, where they are committed, and just that one where it wasn't loaded anew before one of them;
+        // else it stays, or is carried on to the head of the graph after the request, or is loaded anew for
+        // the head, where the request's cells left a state that is too large.
         ensures answered_here { IfOk result (IsAnswerHere self.old (H.state host.old) request.now) }
         ensures goes_on { OnOk result (GoesOnLive self.old self.new (H.state host.old) request.now) }
 
@@ -77,6 +78,9 @@ impl Session {
         // table, no two rows share a node, and each has a picture of its length. This table is kept, and the
         // digests of these pictures.
         ensures known { OnOk result (IsKnown self.new.head self.new.journal.place) }
+
+        // So these pictures have together at most 2^28 bytes.
+        ensures bounded { OnOk result (IsBounded self.new.head) }
 
         // On every host the answer is one, a request is refused just for the causes that the session's graph
         // gives, or for a state's size, and a refusal for such a cause leaves host, graph, nodes and names as
@@ -103,9 +107,11 @@ impl Session {
         ensures small { KeepsSmall request.now }
 
         // A stop at any moment leaves the graph before or after the request, and no output: from an attached
-        // session, where the file that it leaves is good, and from one that stands at the file's end.
+        // session, where the file that it leaves is good, and from one that stands at the file's end. Where
+        // a stop before left the file alone, so it does afterwards.
         ensures stop { LeavesBeforeOrAfter self.old (H.state host.old) (H.state host.new) request.now }
         ensures stop_here { LeavesHere self.old (H.state host.old) (H.state host.new) request.now }
+        ensures durable { OnOk result (StaysDurable (H.state host.old) (H.state host.new)) }
         ensures out { (H.state host.new).out ≡ (H.state host.old).out }
         ensures tells { (H.state host.new).tells ≡ (H.state host.old).tells }
 
@@ -118,11 +124,8 @@ impl Session {
         ensures damaged_stays { (at : ℕ) → IsErrOf result (Damaged at)
             → (H.state host.new).file ≡ (H.state host.old).file }
         ensures disk_fault { IsErrOf result DiskFault → DiskFailed (H.state host.old) (H.state host.new) }
-        ensures heap_full { IsErrOf result HeapFull → FillsHere self.old.head (request_of request.now) }
-        ensures full { IsErrOf result HeapFull → FillsReplay self.old (H.state host.old) request.now }
-        ensures beyond { IsErrOf result HeapFull → IsFull (state_of self.new.head.live) }
         ensures only_these { IfErr result (λ e. ((at : ℕ) × (e ≡ Damaged at))
-            ⊎ (e ≡ DiskFault) ⊎ (e ≡ NoMemory) ⊎ (e ≡ HeapFull) ⊎ (e ≡ Closed)) }
+            ⊎ (e ≡ DiskFault) ⊎ (e ≡ NoMemory) ⊎ (e ≡ Closed)) }
         ensures disk { (H.state host.old).disk_faults ≤ (H.state host.new).disk_faults }
         ensures outs { (H.state host.old).out_faults ≤ (H.state host.new).out_faults }
 

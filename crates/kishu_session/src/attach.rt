@@ -1,17 +1,18 @@
 // The opening of a session.
 ghost use Rattle.std.specs.Prelude.{◌≡◌, ◌≤◌, ◌*◌, ℕ, false, length, IfOk, IfErr, OnOk, IsErrOf};
 ghost use Rattle.kishu_host.specs.Host.{Told};
-ghost use Rattle.kishu_journal.specs.Facts.{KeepsTables, IsOfHistory, BeginsShort, IsDurable, ReadsFile, WasBroken};
+ghost use Rattle.kishu_journal.specs.Facts.{KeepsTables, IsOfHistory, BeginsShort, IsDurable, ReadsFile, WasBroken, WhereForeign, WhereBroken};
 ghost use Rattle.kishu_journal.specs.Going.{ReadsAtMost};
 ghost use Rattle.kishu_journal.specs.Stores.{Opens};
 ghost use Rattle.kishu_session.specs.Attached.{StandsAtEnd, LivesIn};
 ghost use Rattle.kishu_session.specs.Attaching.{Attaches, IsBegun, OpensNodes, KeepsGraphs, KeepsGood, KeepsBad, KeepsDamaged, SettlesUnless, SettlesGood, LeavesGraph, LeavesGood, FindsForeign, FindsDamage};
+ghost use Rattle.kishu_session.specs.Bounded.{IsBounded};
 ghost use Rattle.kishu_session.specs.Faults.{DiskFailed};
 ghost use Rattle.kishu_session.specs.Becoming.{LoadsHead};
 ghost use Rattle.kishu_session.specs.Head.{IsKnown};
-ghost use Rattle.kishu_session.specs.Opening.{IsOpening, IsUnopened};
+ghost use Rattle.kishu_session.specs.Opening.{HaltsBy, IsOpening, IsUnopened};
 ghost use Rattle.kishu_session.specs.Written.{HoldsSome};
-ghost use Rattle.kishu_session.specs.declared.halt.Halt.TheVariants.{NotAJournal, Damaged, DiskFault, HeapFull, Closed};
+ghost use Rattle.kishu_session.specs.declared.halt.Halt.TheVariants.{NotAJournal, Damaged, DiskFault, Closed};
 
 use crate::head::Head;
 use crate::{Halt, Session};
@@ -34,6 +35,8 @@ fn opened<H: Host>(alloc: Global, host: &mut H) -> Result<OpenStore, Halt>
     ensures foreign { IsErrOf result NotAJournal → FindsForeign (H.state host.old) }
     ensures damaged { (at : ℕ) → IsErrOf result (Damaged at) → WasBroken (H.state host.old) at }
     ensures disk_fault { IsErrOf result DiskFault → DiskFailed (H.state host.old) (H.state host.new) }
+    ensures foreign_file { WhereForeign (H.state host.old) (HaltsBy NotAJournal result) }
+    ensures broken_file { WhereBroken (H.state host.old) (λ at. HaltsBy (Damaged at) result) }
     ensures only_these { IfErr result IsUnopened }
 {
     match Journal::open_store(alloc, host) {
@@ -60,12 +63,13 @@ impl Session {
         steps: &mut Steps<L>,
     ) -> Result<Session, Halt>
         // Over a good file the session is attached to the graph that it holds. It opens no file that holds
-        // none, and has what `apply` asks for.
+        // none, and has what `apply` asks for. A stop then leaves the file alone.
         ensures attached { IfOk result (λ s. Attaches s (H.state host.old) (H.state host.new)) }
         ensures good { OnOk result (Told (H.state host.old) (HoldsSome (H.state host.old).file)) }
         ensures at_end { IfOk result (λ s. Told (H.state host.old) (StandsAtEnd s (H.state host.new))) }
         ensures going { IfOk result (λ s. s.halted ≡ false) }
         ensures begun { OnOk result (IsBegun (H.state host.old) (H.state host.new)) }
+        ensures durable { OnOk result (IsDurable (H.state host.old) (H.state host.new)) }
 
         // On every store the live state is the one that the head's table tells, and was loaded for it.
         ensures live { IfOk result (λ s. LivesIn s (H.state host.new)) }
@@ -75,6 +79,9 @@ impl Session {
         // table, no two rows share a node, and each has a picture of its length. This table is kept, and the
         // digests of these pictures.
         ensures known { IfOk result (λ s. IsKnown s.head s.journal.place) }
+
+        // So these pictures have together at most 2^28 bytes.
+        ensures bounded { IfOk result (λ s. IsBounded s.head) }
 
         // What a file holds stays, and nothing is put out.
         ensures held { KeepsGraphs (H.state host.old) (H.state host.new) }
@@ -93,8 +100,13 @@ impl Session {
         ensures damaged_stays { (at : ℕ) → IsErrOf result (Damaged at)
             → KeepsDamaged (H.state host.old) (H.state host.new) }
         ensures disk_fault { IsErrOf result DiskFault → DiskFailed (H.state host.old) (H.state host.new) }
-        ensures not_full { IsErrOf result HeapFull → ⊥ }
         ensures not_closed { IsErrOf result Closed → ⊥ }
+
+        // What it answers over a file that holds no graph, where want of memory and the disk don't come
+        // between.
+        ensures foreign_file { WhereForeign (H.state host.old) (HaltsBy NotAJournal result) }
+        ensures broken_file { WhereBroken (H.state host.old) (λ at. HaltsBy (Damaged at) result) }
+
         ensures disk { (H.state host.old).disk_faults ≤ (H.state host.new).disk_faults }
         ensures outs { (H.state host.old).out_faults ≤ (H.state host.new).out_faults }
 

@@ -18,7 +18,7 @@ ghost use Rattle.kishu_session.specs.Head.{LacksAtHead};
 ghost use Rattle.kishu_session.specs.Lives.{state_of};
 ghost use Rattle.kishu_session.specs.TextLists.{texts_of};
 ghost use Rattle.kishu_session.specs.Working.{bytes_asked};
-ghost use Rattle.kishu_session.specs.declared.unprepared.Unprepared.TheVariants.{HeapFull, Damaged, DiskFault};
+ghost use Rattle.kishu_session.specs.declared.unprepared.Unprepared.TheVariants.{Damaged, DiskFault};
 
 use crate::asking::stored_pictures;
 use crate::head::Head;
@@ -73,7 +73,6 @@ impl Head {
         ensures damaged { (at : ℕ) → IsErrOf result (Damaged at)
             → LacksAtHead self.old.graph (H.state host.old) at }
         ensures disk_fault { IsErrOf result DiskFault → DiskFailed (H.state host.old) (H.state host.new) }
-        ensures not_full { IsErrOf result HeapFull → ⊥ }
         ensures counted { Reads (4 * length (order (state_of self.old.live) (touched
             (groups_in (table_of_rows self.old.table)) self.old.live.names.accessed
             (state_of self.old.live)))) steps.old steps.new }

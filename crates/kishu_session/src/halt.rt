@@ -17,9 +17,6 @@ pub enum Halt {
     /// There was no memory.
     #[error("no memory")]
     NoMemory,
-    /// A cell, or the loading of a checkout, would have begun with more than 2^31 nodes.
-    #[error("heap full")]
-    HeapFull,
     /// An earlier call of the session ended it.
     #[error("closed")]
     Closed,
@@ -33,7 +30,6 @@ impl From<Unprepared> for Halt {
 
     fn from(unprepared: Unprepared) -> Halt {
         match unprepared {
-            Unprepared::HeapFull => Halt::HeapFull,
             Unprepared::Damaged { at } => Halt::Damaged { at },
             Unprepared::DiskFault => Halt::DiskFault,
             Unprepared::NoMemory => Halt::NoMemory,

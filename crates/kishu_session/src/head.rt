@@ -1,5 +1,6 @@
 // What a session keeps of its store's graph, and the state at its head.
 ghost use Rattle.std.specs.Prelude.{◌≡◌, ℕ, Some, None, IfOk, OnOk, IsErrOf};
+ghost use Rattle.kishu_anew.specs.Anew.{IsWhole};
 ghost use Rattle.kishu_checkout.specs.Pictures.{told_file};
 ghost use Rattle.kishu_journal.specs.Going.{IsQuiet};
 ghost use Rattle.kishu_model.specs.Answers.{refused};
@@ -7,8 +8,9 @@ ghost use Rattle.kishu_model.specs.Values.{answer_of, refusal_of};
 ghost use Rattle.kishu_session.specs.Faults.{DiskFailed};
 ghost use Rattle.kishu_session.specs.Head.{Counts, IsLoaded, LacksAtHead, ReadsAtHead};
 ghost use Rattle.kishu_session.specs.Known.{HasHistory};
+ghost use Rattle.kishu_session.specs.Lives.{state_of};
 ghost use Rattle.kishu_session.specs.Prepared.{IsBack};
-ghost use Rattle.kishu_session.specs.declared.unprepared.Unprepared.TheVariants.{HeapFull, Damaged, DiskFault};
+ghost use Rattle.kishu_session.specs.declared.unprepared.Unprepared.TheVariants.{Damaged, DiskFault};
 
 use crate::live::Live;
 use crate::prepared::Prepared;
@@ -44,11 +46,11 @@ impl Head {
         ensures loaded { IfOk result (λ head. IsLoaded (told_file (H.state host.old)) head) }
         ensures count { IfOk result (λ head. Counts head) }
         ensures graph { IfOk result (λ head. head.graph ≡ graph) }
+        ensures whole { IfOk result (λ head. IsWhole (state_of head.live)) }
         ensures quiet { IsQuiet (H.state host.old) (H.state host.new) }
         ensures reads { ReadsAtHead graph (H.state host.old) (H.state host.new) }
         ensures damaged { (at : ℕ) → IsErrOf result (Damaged at) → LacksAtHead graph (H.state host.old) at }
         ensures disk_fault { IsErrOf result DiskFault → DiskFailed (H.state host.old) (H.state host.new) }
-        ensures not_full { IsErrOf result HeapFull → ⊥ }
     {
         let mut head = Head {
             alloc,
@@ -75,12 +77,12 @@ impl Head {
         ensures loaded { OnOk result (IsLoaded (told_file (H.state host.old)) self.new) }
         ensures count { OnOk result (Counts self.new) }
         ensures graph { self.new.graph ≡ self.old.graph }
+        ensures whole { OnOk result (IsWhole (state_of self.new.live)) }
         ensures quiet { IsQuiet (H.state host.old) (H.state host.new) }
         ensures reads { ReadsAtHead self.old.graph (H.state host.old) (H.state host.new) }
         ensures damaged { (at : ℕ) → IsErrOf result (Damaged at)
             → LacksAtHead self.old.graph (H.state host.old) at }
         ensures disk_fault { IsErrOf result DiskFault → DiskFailed (H.state host.old) (H.state host.new) }
-        ensures not_full { IsErrOf result HeapFull → ⊥ }
     {
         // The old heap is gone while the new one is loaded.
         self.live = Live::new(self.alloc);
@@ -103,11 +105,11 @@ impl Head {
         ensures record { IfOk result (λ p. p.recorded ≡ None) }
         ensures back { OnOk result (IsBack (told_file (H.state host.old)) self.old self.new) }
         ensures count { OnOk result (Counts self.new) }
+        ensures whole { OnOk result (IsWhole (state_of self.new.live)) }
         ensures quiet { IsQuiet (H.state host.old) (H.state host.new) }
         ensures damaged { (at : ℕ) → IsErrOf result (Damaged at)
             → LacksAtHead self.old.graph (H.state host.old) at }
         ensures disk_fault { IsErrOf result DiskFault → DiskFailed (H.state host.old) (H.state host.new) }
-        ensures not_full { IsErrOf result HeapFull → ⊥ }
     {
         self.load(host, journal)?;
         Ok(Prepared::refused(refusal))

@@ -1,8 +1,7 @@
 // What cells have left, or what was loaded, and the running of one cell more.
-ghost use Rattle.std.specs.Prelude.{◌≡◌, ◌≤◌, ◌⊎◌, ◌+◌, ◌*◌, ◌^◌, ℕ, [], Some, IsTrue, IfOk, IfErr, OnOk, IsErrOf, length, option_map};
+ghost use Rattle.std.specs.Prelude.{◌≡◌, ◌≤◌, ◌+◌, ◌*◌, ◌^◌, ◌∷◌, ℕ, [], Some, IsTrue, IfOk, OnOk, IsErrOf, length, option_map};
 ghost use Rattle.kishu_meaning.specs.moments.Accesses.{with_accesses};
 ghost use Rattle.kishu_language.specs.Limits.{longest_text};
-ghost use Rattle.kishu_replay.specs.Replay.{IsFull};
 ghost use Rattle.kishu_meaning.specs.values.Sound.{are_sound_names};
 ghost use Rattle.kishu_meaning.specs.values.Values.{empty, report_of};
 ghost use Rattle.kishu_graph.specs.Tables.{table_of_rows};
@@ -12,14 +11,14 @@ ghost use Rattle.kishu_model.specs.Values.{answer_of, refusal_of};
 ghost use Rattle.kishu_model.specs.requests.Inspect.{told_at};
 ghost use Rattle.kishu_objects.specs.Picture.{order, whole};
 ghost use Rattle.kishu_store.specs.Tables.{groups_in};
+ghost use Rattle.kishu_anew.specs.Anew.{IsAnew, IsSmall, IsWhole, most_kept};
 ghost use Rattle.kishu_checkout.specs.Fetched.{contents, taken_by};
 ghost use Rattle.kishu_checkout.specs.Placed.{ArePlaced, FailsAt};
 ghost use Rattle.kishu_checkout.specs.Plans.{groups_dropped, rows_loaded};
 ghost use Rattle.kishu_checkout.specs.declared.fault.CheckoutFault.TheVariants.{Damaged, DiskFault};
 ghost use Rattle.kishu_session.specs.Sized.{size_refused};
-ghost use Rattle.kishu_session.specs.declared.unprepared.Unprepared.TheVariants.{HeapFull, NoMemory};
 
-use crate::unprepared::Unprepared;
+use kishu_anew::load_anew;
 use kishu_checkout::{CheckoutFault, Plan};
 use kishu_delta::state_len;
 use kishu_graph::Table;
@@ -29,9 +28,6 @@ use kishu_model::{Answer, CellResult, Profile, Refusal, Steps};
 use kishu_names::Names;
 use std::alloc::{AllocError, Global};
 use std::sync::ledger::Ledger;
-
-/// The most nodes with which a cell begins, or the loading of a checkout.
-const MOST_NODES: u32 = 1 << 31;
 
 /// The most bytes that the pictures of a state's groups may have.
 const MOST_BYTES: u64 = 1 << 28;
@@ -46,6 +42,7 @@ pub(crate) struct Live {
 
 impl Live {
     ghost use Rattle.kishu_session.specs.Lives.{state_of, run_on};
+    ghost use Rattle.kishu_session.specs.Renewing.{IsLeft};
 
     /// An empty heap and no names.
     pub(crate) fn new(alloc: Global) -> Live
@@ -65,16 +62,20 @@ impl Live {
         self.names.clear_record();
     }
 
-    /// Nothing is run or loaded with more than 2^31 nodes.
-    pub(crate) fn have_room(&self) -> Result<(), Unprepared>
-        ensures room { OnOk result (length self.now.heap ≤ 2 ^ 31) }
-        ensures full { IsErrOf result HeapFull → IsFull (state_of self.now) }
-        ensures only_this { IfErr result (λ e. e ≡ HeapFull) }
+    /// Loads the state anew where its heap has more than 8,000,000 nodes, and leaves at most 2^28.
+    pub(crate) fn renew<L: Ledger>(
+        &mut self,
+        alloc: Global,
+        steps: &mut Steps<L>,
+    ) -> Result<(), AllocError>
+        requires whole { IsWhole (state_of self.old) }
+        requires small { IsSmall (state_of self.old) }
+        ensures anew { OnOk result (IsAnew (state_of self.old) (state_of self.new)) }
+        ensures accessed { OnOk result (self.new.names.accessed ≡ self.old.names.accessed) }
+        ensures counted { steps.old ≤ steps.new }
+        ensures still { length self.old.heap ≤ most_kept → steps.new ≡ steps.old }
     {
-        if self.heap.len() > MOST_NODES {
-            return Err(Unprepared::HeapFull);
-        }
-        Ok(())
+        load_anew(alloc, &mut self.heap, &mut self.names, steps)
     }
 
     /// Unbinds the names that a plan drops, and loads the pictures of the rows that it loads, which stand in
@@ -93,39 +94,39 @@ impl Live {
         ensures damaged { (at : ℕ) → IsErrOf result (Damaged at)
             → FailsAt (rows_loaded plan.now) (contents pictures.now) at }
         ensures no_disk { IsErrOf result DiskFault → ⊥ }
+        ensures whole { OnOk result (IsWhole (state_of self.old) → IsWhole (state_of self.new)) }
     {
         kishu_checkout::place(alloc, plan, pictures, &mut self.heap, &mut self.names)
     }
 
-    /// Runs a cell. A cell isn't begun with more than 2^31 nodes.
+    /// Runs a cell, before which the state is loaded anew where its heap has more than 8,000,000 nodes.
     pub(crate) fn run<L: Ledger>(
         &mut self,
         alloc: Global,
         text: &str,
         steps: &mut Steps<L>,
-    ) -> Result<CellResult, Unprepared>
-        requires { length text.now ≤ longest_text }
+    ) -> Result<CellResult, AllocError>
+        requires short { length text.now ≤ longest_text }
+        requires whole { IsWhole (state_of self.old) }
+        requires small { IsSmall (state_of self.old) }
         ensures report { IfOk result (λ r. report_of r ≡ (run_on self.old text.now).report) }
-        ensures state { OnOk result (state_of self.new ≡ (run_on self.old text.now).state) }
+        ensures left { OnOk result (IsLeft (text.now ∷ []) (state_of self.old) (state_of self.new)) }
         ensures accessed { OnOk result (self.new.names.accessed
             ≡ with_accesses (run_on self.old text.now).accessed self.old.names.accessed) }
         ensures least { OnOk result (steps.old + (run_on self.old text.now).charge ≤ steps.new) }
-        ensures most { OnOk result
-            (steps.new ≤ steps.old + 128 * (run_on self.old text.now).charge + 128) }
-        ensures full { IsErrOf result HeapFull → IsFull (state_of self.old) }
-        ensures beyond { IsErrOf result HeapFull → IsFull (state_of self.new) }
-        ensures only_these { IfErr result (λ e. (e ≡ HeapFull) ⊎ (e ≡ NoMemory)) }
+        ensures most { OnOk result (length self.old.heap ≤ most_kept
+            → steps.new ≤ steps.old + 128 * (run_on self.old text.now).charge + 128) }
+        ensures whole { OnOk result (IsWhole (state_of self.new)) }
     {
-        self.have_room()?;
-        let result = run_cell(
+        self.renew(alloc, steps)?;
+        run_cell(
             alloc,
             Profile::One,
             text,
             &mut self.heap,
             &mut self.names,
             steps,
-        )?;
-        Ok(result)
+        )
     }
 
     /// The refusal of a state that is too large, as the table from before the cells tells it among the names

@@ -1,17 +1,16 @@
 // What a request leads to, whichever it is.
 ghost use Rattle.std.specs.Prelude.{◌≡◌, ℕ, IfOk, OnOk, IsErrOf};
-ghost use Rattle.kishu_replay.specs.Replay.{IsFull};
+ghost use Rattle.kishu_anew.specs.Anew.{IsWhole};
 ghost use Rattle.kishu_checkout.specs.Pictures.{told_file};
 ghost use Rattle.kishu_journal.specs.Going.{IsQuiet};
 ghost use Rattle.kishu_model.specs.Values.{request_of};
 ghost use Rattle.kishu_model.specs.requests.Cells.{HasRoom};
 ghost use Rattle.kishu_session.specs.Faults.{DiskFailed};
-ghost use Rattle.kishu_session.specs.Filling.{FillsHere};
 ghost use Rattle.kishu_session.specs.Head.{IsKnown};
 ghost use Rattle.kishu_session.specs.Lives.{state_of};
 ghost use Rattle.kishu_session.specs.Prepared.{LeadsOn, CountsOn, StaysWithout, LacksFor};
-ghost use Rattle.kishu_session.specs.Working.{CountsFor, IsIdle, IsUncounted, ReadsFor};
-ghost use Rattle.kishu_session.specs.declared.unprepared.Unprepared.TheVariants.{HeapFull, Damaged, DiskFault};
+ghost use Rattle.kishu_session.specs.Working.{CountsFor, IsIdle, LeavesSteps, ReadsFor};
+ghost use Rattle.kishu_session.specs.declared.unprepared.Unprepared.TheVariants.{Damaged, DiskFault};
 
 use crate::head::Head;
 use crate::prepared::Prepared;
@@ -33,6 +32,7 @@ impl Head {
         steps: &mut Steps<L>,
     ) -> Result<Prepared, Unprepared>
         requires known { IsKnown self.old journal.now.place }
+        requires whole { IsWhole (state_of self.old.live) }
         requires room { HasRoom (request_of request.now) }
         ensures leads { IfOk result (LeadsOn (told_file (H.state host.old)) journal.now.place
             self.old self.new (request_of request.now)) }
@@ -42,11 +42,10 @@ impl Head {
         ensures reads { IfOk result (ReadsFor self.old self.new (H.state host.old) (H.state host.new)
             (request_of request.now)) }
         ensures idle { IsIdle (request_of request.now) → host.new ≡ host.old }
-        ensures still { IsUncounted (request_of request.now) → steps.new ≡ steps.old }
+        ensures still { LeavesSteps self.old (request_of request.now) → steps.new ≡ steps.old }
         ensures most { IfOk result (λ p. CountsFor self.old self.new (request_of request.now) p.answer
             steps.old steps.new) }
-        ensures full { IsErrOf result HeapFull → FillsHere self.old (request_of request.now) }
-        ensures beyond { IsErrOf result HeapFull → IsFull (state_of self.new.live) }
+        ensures whole { OnOk result (IsWhole (state_of self.new.live)) }
         ensures damaged { (at : ℕ) → IsErrOf result (Damaged at)
             → LacksFor self.old.graph (H.state host.old) (request_of request.now) at }
         ensures disk_fault { IsErrOf result DiskFault → DiskFailed (H.state host.old) (H.state host.new) }
@@ -54,7 +53,7 @@ impl Head {
         match request {
             Request::Cell { text } => self.cell(host, journal, text, steps),
             Request::Cells { texts } => self.cells(host, journal, texts, steps),
-            Request::Checkout { to } => self.checkout(host, journal, to.as_str()),
+            Request::Checkout { to } => self.checkout(host, journal, to.as_str(), steps),
             Request::Branch { name, at } => Ok(self.branch(name, at)?),
             Request::Log => Ok(self.log()?),
             Request::Status => Ok(self.status()?),

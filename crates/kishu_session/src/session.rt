@@ -1,6 +1,8 @@
 // A session.
 ghost use Rattle.std.specs.Prelude.{◌≡◌, false};
+ghost use Rattle.kishu_anew.specs.Anew.{IsWhole};
 ghost use Rattle.kishu_session.specs.Head.{IsKnown};
+ghost use Rattle.kishu_session.specs.Lives.{state_of};
 
 use crate::head::Head;
 use kishu_graph::Graph;
@@ -18,6 +20,7 @@ pub struct Session {
     pub(crate) halted: bool,
     ghost going: { halted ≡ false → journal.closed ≡ false },
     ghost known: { halted ≡ false → IsKnown head journal.place },
+    ghost whole: { halted ≡ false → IsWhole (state_of head.live) },
 }
 
 impl Session {

@@ -4,8 +4,6 @@ use std::alloc::AllocError;
 /// Why a request isn't prepared.
 #[derive(Clone, Copy, Debug, PartialEq, Eq)]
 pub(crate) enum Unprepared {
-    /// A cell, or the loading of a checkout, would have begun with more than 2^31 nodes.
-    HeapFull,
     /// At this place of the file there is no picture of a group that was to be loaded, or compared.
     Damaged { at: u64 },
     /// A call of the host failed.

@@ -60,6 +60,7 @@ impl Head {
         requires known { HasHistory self.old.graph }
         ensures leads { IfOk result (LeadsAlone self.old self.new (branch_for name.now at.now)) }
         ensures stays { IfOk result (λ p. p.recorded ≡ None → self.new ≡ self.old) }
+        ensures live { self.new.live ≡ self.old.live }
     {
         match add_branch(&mut self.graph, name.as_str(), at) {
             Ok(commit) => branched(self.alloc, commit, name),

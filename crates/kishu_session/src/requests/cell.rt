@@ -3,17 +3,16 @@ ghost use Rattle.std.specs.Prelude.{◌≤◌, ◌<◌, ℕ, length, IfOk, OnOk,
 ghost use Rattle.std.specs.Rc.{rc_str_bytes};
 ghost use Rattle.kishu_language.specs.Limits.{longest_text};
 ghost use Rattle.kishu_store.specs.Limits.{most_records};
-ghost use Rattle.kishu_replay.specs.Replay.{IsFull};
+ghost use Rattle.kishu_anew.specs.Anew.{IsWhole};
 ghost use Rattle.kishu_checkout.specs.Pictures.{told_file};
 ghost use Rattle.kishu_journal.specs.Going.{IsQuiet};
 ghost use Rattle.kishu_session.specs.Asked.{cell_for};
 ghost use Rattle.kishu_session.specs.Faults.{DiskFailed};
-ghost use Rattle.kishu_session.specs.Filling.{FillsHere};
 ghost use Rattle.kishu_session.specs.Head.{IsKnown, LacksAtHead};
 ghost use Rattle.kishu_session.specs.Lives.{state_of};
 ghost use Rattle.kishu_session.specs.Prepared.{LeadsOn, CountsOn, StaysWithout};
 ghost use Rattle.kishu_session.specs.Working.{ReadsAsked, CountsCell};
-ghost use Rattle.kishu_session.specs.declared.unprepared.Unprepared.TheVariants.{HeapFull, Damaged, DiskFault};
+ghost use Rattle.kishu_session.specs.declared.unprepared.Unprepared.TheVariants.{Damaged, DiskFault};
 
 use crate::head::Head;
 use crate::prepared::Prepared;
@@ -38,6 +37,7 @@ impl Head {
         steps: &mut Steps<L>,
     ) -> Result<Prepared, Unprepared>
         requires known { IsKnown self.old journal.now.place }
+        requires whole { IsWhole (state_of self.old.live) }
         requires short { length (rc_str_bytes text.now) ≤ longest_text }
         requires room { self.old.graph.records < most_records }
         ensures leads { IfOk result (LeadsOn (told_file (H.state host.old)) journal.now.place
@@ -49,8 +49,7 @@ impl Head {
             (cell_for text.now)) }
         ensures most { IfOk result (λ p. CountsCell self.old self.new (rc_str_bytes text.now) p.answer
             steps.old steps.new) }
-        ensures full { IsErrOf result HeapFull → FillsHere self.old (cell_for text.now) }
-        ensures beyond { IsErrOf result HeapFull → IsFull (state_of self.new.live) }
+        ensures whole { OnOk result (IsWhole (state_of self.new.live)) }
         ensures damaged { (at : ℕ) → IsErrOf result (Damaged at)
             → LacksAtHead self.old.graph (H.state host.old) at }
         ensures disk_fault { IsErrOf result DiskFault → DiskFailed (H.state host.old) (H.state host.new) }
@@ -82,6 +81,7 @@ impl Head {
         steps: &mut Steps<L>,
     ) -> Result<Prepared, Unprepared>
         requires known { IsKnown self.old journal.now.place }
+        requires whole { IsWhole (state_of self.old.live) }
         ensures leads { IfOk result (LeadsOn (told_file (H.state host.old)) journal.now.place
             self.old self.new (cell_for text.now)) }
         ensures stays { IfOk result (StaysWithout self.old self.new host.old host.new) }
@@ -91,8 +91,7 @@ impl Head {
             (cell_for text.now)) }
         ensures most { IfOk result (λ p. CountsCell self.old self.new (rc_str_bytes text.now) p.answer
             steps.old steps.new) }
-        ensures full { IsErrOf result HeapFull → FillsHere self.old (cell_for text.now) }
-        ensures beyond { IsErrOf result HeapFull → IsFull (state_of self.new.live) }
+        ensures whole { OnOk result (IsWhole (state_of self.new.live)) }
         ensures damaged { (at : ℕ) → IsErrOf result (Damaged at)
             → LacksAtHead self.old.graph (H.state host.old) at }
         ensures disk_fault { IsErrOf result DiskFault → DiskFailed (H.state host.old) (H.state host.new) }

@@ -1,25 +1,28 @@
 // Several cells: they run on the live state, one after another up to the first that doesn't end well, and
 // those that were run are one commit. None is kept where one leaves a state that is too large.
-ghost use Rattle.std.specs.Prelude.{◌≡◌, ◌≤◌, ◌<◌, ◌+◌, ◌^◌, ◌++◌, ◌∷◌, [], ◌⊎◌, ℕ, length, map, suc, false, IfOk, IfErr, OnOk, IsErrOf};
+ghost use Rattle.std.specs.Prelude.{◌≡◌, ◌≤◌, ◌<◌, ◌+◌, ◌^◌, ◌++◌, ◌∷◌, [], ℕ, length, map, suc, false, None, IfOk, OnOk, IsErrOf};
 ghost use Rattle.std.specs.List.{list_any};
 ghost use Rattle.kishu_meaning.specs.values.Values.{report_of};
 ghost use Rattle.kishu_store.specs.Limits.{most_records};
-ghost use Rattle.kishu_replay.specs.Replay.{IsFull};
+ghost use Rattle.kishu_store.specs.Tables.{IsKeptTable};
 ghost use Rattle.kishu_graph.specs.Tables.{table_of_rows};
+ghost use Rattle.kishu_anew.specs.Anew.{IsWhole};
 ghost use Rattle.kishu_checkout.specs.Pictures.{told_file};
+ghost use Rattle.kishu_history.specs.Live.{IsLive};
+ghost use Rattle.kishu_history.specs.Stored.{Stored};
 ghost use Rattle.kishu_journal.specs.Going.{IsQuiet};
 ghost use Rattle.kishu_model.specs.Values.{counted_of};
 ghost use Rattle.kishu_model.specs.requests.Cells.{is_ok, is_too_long, texts_size, largest_texts};
 ghost use Rattle.kishu_session.specs.Asked.{cells_for};
 ghost use Rattle.kishu_session.specs.Faults.{DiskFailed};
-ghost use Rattle.kishu_session.specs.Filling.{FillsHere};
 ghost use Rattle.kishu_session.specs.Head.{IsKnown, LacksAtHead};
-ghost use Rattle.kishu_session.specs.Lives.{state_of, accessed_of_ran, state_after_ran, charge_of_ran, FillsRan};
+ghost use Rattle.kishu_session.specs.Lives.{state_of, ran_of, accessed_of_ran, charge_of_ran};
 ghost use Rattle.kishu_session.specs.Prepared.{LeadsOn, CountsOn, StaysWithout};
+ghost use Rattle.kishu_session.specs.Renewing.{IsLeft};
 ghost use Rattle.kishu_session.specs.Running.{IsGivenBy, AreSameNames};
 ghost use Rattle.kishu_session.specs.TextLists.{texts_of, AreShort};
 ghost use Rattle.kishu_session.specs.Working.{ReadsAsked};
-ghost use Rattle.kishu_session.specs.declared.unprepared.Unprepared.TheVariants.{HeapFull, Damaged, DiskFault, NoMemory};
+ghost use Rattle.kishu_session.specs.declared.unprepared.Unprepared.TheVariants.{Damaged, DiskFault};
 
 use crate::head::Head;
 use crate::live::Live;
@@ -79,7 +82,8 @@ enum Several {
 }
 
 /// Runs cells in order up to the first that doesn't end well or leaves a state that is too large, as this
-/// table tells it. So many cells are on the path before the first of them.
+/// table tells it, which is that of the state before them. So many cells are on the path before the first of
+/// them. Before each of them the state is loaded anew where its heap has more than 8,000,000 nodes.
 fn run_cells<L: Ledger>(
     alloc: Global,
     texts: &[RcStr],
@@ -87,20 +91,21 @@ fn run_cells<L: Ledger>(
     table: &Table,
     live: &mut Live,
     steps: &mut Steps<L>,
-) -> Result<Several, Unprepared>
+) -> Result<Several, AllocError>
     requires short { AreShort texts.now }
     requires some { 0 < length texts.now }
     requires fresh { live.old.names.accessed ≡ [] }
+    requires whole { IsWhole (state_of live.old) }
+    requires fit { IsKeptTable (table_of_rows table.now) }
+    requires told { IsLive (Stored None) (table_of_rows table.now) (state_of live.old) }
     ensures gives { IfOk result (IsGivenBy before (table_of_rows table.now) live.old texts.now) }
-    ensures state { OnOk result
-        (state_of live.new ≡ state_after_ran (table_of_rows table.now) live.old texts.now) }
+    ensures left { OnOk result (IsLeft (ran_of (table_of_rows table.now) live.old texts.now)
+        (state_of live.old) (state_of live.new)) }
+    ensures whole { OnOk result (IsWhole (state_of live.new)) }
     ensures accessed { OnOk result (AreSameNames live.new.names.accessed
         (accessed_of_ran (table_of_rows table.now) live.old texts.now)) }
     ensures least { OnOk result
         (steps.old + charge_of_ran (table_of_rows table.now) live.old texts.now ≤ steps.new) }
-    ensures full { IsErrOf result HeapFull → FillsRan (table_of_rows table.now) live.old texts.now }
-    ensures beyond { IsErrOf result HeapFull → IsFull (state_of live.new) }
-    ensures only_these { IfErr result (λ e. (e ≡ HeapFull) ⊎ (e ≡ NoMemory)) }
 {
     let mut results = Vec::new(alloc);
     for text in texts {
@@ -129,6 +134,7 @@ impl Head {
         steps: &mut Steps<L>,
     ) -> Result<Prepared, Unprepared>
         requires known { IsKnown self.old journal.now.place }
+        requires whole { IsWhole (state_of self.old.live) }
         requires some { 0 < length texts.now }
         requires short { list_any is_too_long (texts_of texts.now) ≡ false }
         requires size { texts_size (texts_of texts.now) ≤ largest_texts }
@@ -140,8 +146,7 @@ impl Head {
         ensures least { OnOk result (CountsOn self.old (cells_for texts.now) steps.old steps.new) }
         ensures reads { IfOk result (ReadsAsked self.old self.new (H.state host.old) (H.state host.new)
             (cells_for texts.now)) }
-        ensures full { IsErrOf result HeapFull → FillsHere self.old (cells_for texts.now) }
-        ensures beyond { IsErrOf result HeapFull → IsFull (state_of self.new.live) }
+        ensures whole { OnOk result (IsWhole (state_of self.new.live)) }
         ensures damaged { (at : ℕ) → IsErrOf result (Damaged at)
             → LacksAtHead self.old.graph (H.state host.old) at }
         ensures disk_fault { IsErrOf result DiskFault → DiskFailed (H.state host.old) (H.state host.new) }
@@ -181,6 +186,7 @@ impl Head {
         steps: &mut Steps<L>,
     ) -> Result<Prepared, Unprepared>
         requires known { IsKnown self.old journal.now.place }
+        requires whole { IsWhole (state_of self.old.live) }
         requires size { texts_size (texts_of texts.now) ≤ largest_texts }
         ensures leads { IfOk result (LeadsOn (told_file (H.state host.old)) journal.now.place
             self.old self.new (cells_for texts.now)) }
@@ -189,8 +195,7 @@ impl Head {
         ensures least { OnOk result (CountsOn self.old (cells_for texts.now) steps.old steps.new) }
         ensures reads { IfOk result (ReadsAsked self.old self.new (H.state host.old) (H.state host.new)
             (cells_for texts.now)) }
-        ensures full { IsErrOf result HeapFull → FillsHere self.old (cells_for texts.now) }
-        ensures beyond { IsErrOf result HeapFull → IsFull (state_of self.new.live) }
+        ensures whole { OnOk result (IsWhole (state_of self.new.live)) }
         ensures damaged { (at : ℕ) → IsErrOf result (Damaged at)
             → LacksAtHead self.old.graph (H.state host.old) at }
         ensures disk_fault { IsErrOf result DiskFault → DiskFailed (H.state host.old) (H.state host.new) }

@@ -18,9 +18,6 @@ use Rattle.kishu_session.proofs.LoadFacts.{head-table-is, table-is}
 use Rattle.kishu_session.proofs.ReadBytes.{reads-nothing, reads-rows}
 use Rattle.kishu_session.proofs.head.Head.carry.Goals as goal
 
-pub returns-in_err-have_room-clause-reads_most : goal.returns-in_err-have_room-clause-reads_most
-returns-in_err-have_room-clause-reads_most g c = reads-nothing c.args.self.now (g.H.Host.state c.args.host.now)
-
 pub returns-in_err-table-clause-reads_most : goal.returns-in_err-table-clause-reads_most
 returns-in_err-table-clause-reads_most g c = reads-nothing c.args.self.now (g.H.Host.state c.args.host.now)
 

@@ -11,7 +11,7 @@ use Rattle.kishu_session.specs.Moves.{IsMoved}
 use Rattle.kishu_session.specs.Prepared.{LeadsOn}
 use Rattle.kishu_session.specs.Working.{ReadsRows}
 use Rattle.kishu_session.proofs.Commits.{known-history}
-use Rattle.kishu_session.proofs.MovedFacts.{fills-moved, keeps-moved, known-moved, lacks-moved, moved-leads-on, rows-moved, title-short, refused-moved}
+use Rattle.kishu_session.proofs.MovedFacts.{keeps-moved, known-moved, lacks-moved, moved-leads-on, rows-moved, title-short, refused-moved}
 use Rattle.kishu_session.proofs.Outcomes.{gives-both}
 use Rattle.kishu_session.proofs.head.Head.checkout.Goals as goal
 
@@ -51,16 +51,12 @@ returns-in-Ok-clause-reads g c =
     gives-both c.carry_moved.result (IsMoved file (record self { graph = kept }) new) (ReadsRows self.graph (st c.args.host.now) (st c.carry_moved.new.host) c.args.to.now)
     (ReadsMore before after (bytes_in (rows_to_load (record self { graph = kept }) new))) c.carry_moved.ensures.moved c.carry_moved.ensures.reads
     (λ p is reads some h k. subst (λ (t : Table). ReadsMore before after (bytes_in t))
-    (rows-moved c.args.journal.now.place self c.requires.known kept c.args.to.now c.in-Ok.field-0 c.in-Ok.ensures.moved file new c.carry_moved.ensures.graph is.carries h k) reads)
+    (rows-moved c.args.journal.now.place self c.requires.known kept c.args.to.now c.in-Ok.field-0 c.in-Ok.ensures.moved new c.carry_moved.ensures.graph is.carries.to h k) reads)
 
 pub returns-in-Ok-clause-damaged : goal.returns-in-Ok-clause-damaged
 returns-in-Ok-clause-damaged g c at err =
     lacks-moved c.args.journal.now.place c.args.self.now c.requires.known c.move_head.new.self c.args.to.now c.in-Ok.field-0 c.in-Ok.ensures.moved
     (g.H.Host.state c.args.host.now) at (c.carry_moved.ensures.damaged at err)
-
-pub returns-in-Ok-clause-full : goal.returns-in-Ok-clause-full
-returns-in-Ok-clause-full g c err =
-    fills-moved c.args.self.now c.move_head.new.self c.args.to.now c.in-Ok.field-0 c.in-Ok.ensures.moved (c.carry_moved.ensures.full err)
 
 pub returns-in_ok-refusal-in-Err-clause-leads : goal.returns-in_ok-refusal-in-Err-clause-leads
 returns-in_ok-refusal-in-Err-clause-leads g c =

@@ -1,16 +1,18 @@
-use Rattle.std.proofs.Common.{◌≡◌, ◌<◌, ℕ, suc, true, false, List, [], ◌∷◌, Some, refl, sym, ◌∙◌, ap, subst, arith}
+use Rattle.std.proofs.Common.{◌≡◌, ◌<◌, ◌≤◌, ℕ, suc, true, false, List, [], ◌∷◌, length, Some, refl, sym, ◌∙◌, ap, subst, arith}
 use Rattle.std.proofs.lemmas.Result.{err_from_is_err_and}
 use Rattle.std.specs.Rc.{rc_str_bytes}
+use Rattle.kishu_language.specs.Limits.{longest_text}
 use Rattle.kishu_language.specs.declared.profile.Profile.TheVariants.{One}
 use Rattle.kishu_meaning.specs.cells.Meaning.{run}
 use Rattle.kishu_meaning.specs.values.Values.{State, report_of}
-use Rattle.kishu_replay.specs.Replay.{IsFull, after_cells}
 use Rattle.kishu_store.specs.Graph.{Graph, count_of, with_commit}
 use Rattle.kishu_store.specs.Histories.{History}
 use Rattle.kishu_store.specs.Limits.{most_records}
 use Rattle.kishu_store.specs.Tables.{Table, change_of}
 use Rattle.kishu_graph.specs.Kept.{StandsFor}
 use Rattle.kishu_graph.specs.Tables.{table_of_rows}
+use Rattle.kishu_anew.specs.Anew.{IsSmall, IsWhole, most_kept}
+use Rattle.kishu_anew.specs.WholeLaws.{whole_sound}
 use Rattle.kishu_model.specs.Request.{Stepped, cell, refused_with}
 use Rattle.kishu_model.specs.Values.{refusal_of}
 use Rattle.kishu_model.specs.declared.answer.Answer.TheVariants.{Cell}
@@ -19,8 +21,10 @@ use Rattle.kishu_live_laws.specs.OnStates.{leave_too_large, told_too_large}
 use Rattle.kishu_session.specs.Known.{IsHistoryOf}
 use Rattle.kishu_session.specs.Lives.{state_of}
 use Rattle.kishu_session.specs.Prepared.{LeadsOn, StaysWithout, CountsOn}
+use Rattle.kishu_session.specs.Renewing.{IsLeft}
 use Rattle.kishu_session.specs.TextLists.{texts_of}
 use Rattle.kishu_session.specs.Working.{CountsCell, ReadsAsked}
+use Rattle.kishu_session.specs.declared.live.Live.{Live}
 use Rattle.kishu_session.specs.declared.prepared.Prepared.{Prepared}
 use Rattle.kishu_session.proofs.CellSteps.{step-large, step-small, charge-run, unrefused, cell-told}
 use Rattle.kishu_session.proofs.Commits.{known-history}
@@ -28,10 +32,20 @@ use Rattle.kishu_session.proofs.Committed.{committed-leads, committed-stays, cel
 use Rattle.kishu_session.proofs.Large.{went-back, back-leads, back-stays}
 use Rattle.kishu_session.proofs.LongTexts.{may-commit-one}
 use Rattle.kishu_session.proofs.Outcomes.{always}
-use Rattle.kishu_session.proofs.RanOn.{RanOn, one-ran, has-run, large-known, leaves-known, table-known, told_bytes}
+use Rattle.kishu_session.proofs.RanOn.{RanOn, one-ran, has-run, known-small, large-known, leaves-known, table-known, told_bytes}
 use Rattle.kishu_session.proofs.Sizes.{found-large, found-small}
 use Rattle.kishu_session.proofs.Work.{nodes-are, reads-ran}
 use Rattle.kishu_session.proofs.head.Head.commit_cell.Goals as goal
+
+pub run-requires : goal.run-requires
+run-requires g c =
+    let self = c.args.self.now in
+    let cleared = c.clear_record.ensures.state in
+    record {
+      short = subst (λ (t : List ℕ). length t ≤ longest_text) (sym c.as_str.ensures.value) c.requires.short;
+      whole = subst IsWhole (sym cleared) c.requires.whole;
+      small = subst IsSmall (sym cleared) (known-small c.args.journal.now.place self c.requires.known);
+    }
 
 pub back-requires : goal.back-requires
 back-requires g c = record { known = known-history c.args.self.now c.args.journal.now.place c.requires.known }
@@ -45,8 +59,11 @@ returns-in-Some-clause-leads g c =
     let text = rc_str_bytes c.args.text.now in
     let s = state_of self.live in
     let rows = table_of_rows self.table in
-    let ran = one-ran self.live c.clear_record.new.self c.run.new.self text c.as_str.result.now c.as_str.ensures.value c.clear_record.ensures.state c.clear_record.ensures.accessed c.in_ok-result.ensures.state c.in_ok-result.ensures.accessed in
-    let found = found-large rows (text ∷ []) s (state_of c.run.new.self) c.run.new.self.names.accessed ran.left ran.accessed c.in_ok-found.found c.in_ok-found.ensures.refusal c.in-Some.refusal c.in-Some.is in
+    let u = state_of c.run.new.self in
+    let sound = whole_sound s c.requires.whole in
+    let is-sound = whole_sound u c.in_ok-result.ensures.whole in
+    let ran = one-ran self.live c.clear_record.new.self c.run.new.self text c.as_str.result.now c.as_str.ensures.value c.clear_record.ensures.state c.clear_record.ensures.accessed c.in_ok-result.ensures.left c.in_ok-result.ensures.accessed in
+    let found = found-large rows (text ∷ []) s u sound is-sound c.run.new.self.names.accessed ran.left ran.accessed c.in_ok-found.found c.in_ok-found.ensures.refusal c.in-Some.refusal c.in-Some.is in
     let bytes = told_bytes place self c.requires.known (text ∷ []) in
     let file = told_file (g.H.Host.state c.args.host.now) in
     let room = λ (g' : Graph) (st : StandsFor self.graph g'). subst (λ (n : ℕ). n < most_records) st.shape.records c.requires.room in
@@ -64,8 +81,11 @@ returns-in-Some-clause-stays g c =
     let text = rc_str_bytes c.args.text.now in
     let s = state_of self.live in
     let rows = table_of_rows self.table in
-    let ran = one-ran self.live c.clear_record.new.self c.run.new.self text c.as_str.result.now c.as_str.ensures.value c.clear_record.ensures.state c.clear_record.ensures.accessed c.in_ok-result.ensures.state c.in_ok-result.ensures.accessed in
-    let found = found-large rows (text ∷ []) s (state_of c.run.new.self) c.run.new.self.names.accessed ran.left ran.accessed c.in_ok-found.found c.in_ok-found.ensures.refusal c.in-Some.refusal c.in-Some.is in
+    let u = state_of c.run.new.self in
+    let sound = whole_sound s c.requires.whole in
+    let is-sound = whole_sound u c.in_ok-result.ensures.whole in
+    let ran = one-ran self.live c.clear_record.new.self c.run.new.self text c.as_str.result.now c.as_str.ensures.value c.clear_record.ensures.state c.clear_record.ensures.accessed c.in_ok-result.ensures.left c.in_ok-result.ensures.accessed in
+    let found = found-large rows (text ∷ []) s u sound is-sound c.run.new.self.names.accessed ran.left ran.accessed c.in_ok-found.found c.in_ok-found.ensures.refusal c.in-Some.refusal c.in-Some.is in
     let bytes = told_bytes place self c.requires.known (text ∷ []) in
     let file = told_file (g.H.Host.state c.args.host.now) in
     went-back file c.back.result self c.back.new.self c.run.new.self bytes (refusal_of c.in-Some.refusal) (StaysWithout self c.back.new.self c.args.host.now c.back.new.host)
@@ -80,8 +100,11 @@ returns-in-Some-clause-reads g c =
     let text = rc_str_bytes c.args.text.now in
     let s = state_of self.live in
     let rows = table_of_rows self.table in
-    let ran = one-ran self.live c.clear_record.new.self c.run.new.self text c.as_str.result.now c.as_str.ensures.value c.clear_record.ensures.state c.clear_record.ensures.accessed c.in_ok-result.ensures.state c.in_ok-result.ensures.accessed in
-    let found = found-large rows (text ∷ []) s (state_of c.run.new.self) c.run.new.self.names.accessed ran.left ran.accessed c.in_ok-found.found c.in_ok-found.ensures.refusal c.in-Some.refusal c.in-Some.is in
+    let u = state_of c.run.new.self in
+    let sound = whole_sound s c.requires.whole in
+    let is-sound = whole_sound u c.in_ok-result.ensures.whole in
+    let ran = one-ran self.live c.clear_record.new.self c.run.new.self text c.as_str.result.now c.as_str.ensures.value c.clear_record.ensures.state c.clear_record.ensures.accessed c.in_ok-result.ensures.left c.in_ok-result.ensures.accessed in
+    let found = found-large rows (text ∷ []) s u sound is-sound c.run.new.self.names.accessed ran.left ran.accessed c.in_ok-found.found c.in_ok-found.ensures.refusal c.in-Some.refusal c.in-Some.is in
     let bytes = told_bytes place self c.requires.known (text ∷ []) in
     let file = told_file (st c.args.host.now) in
     went-back file c.back.result self c.back.new.self c.run.new.self bytes (refusal_of c.in-Some.refusal) (ReadsAsked self c.back.new.self (st c.args.host.now) (st c.back.new.host) (cell text))
@@ -95,8 +118,11 @@ returns-in-Some-clause-most g c =
     let text = rc_str_bytes c.args.text.now in
     let s = state_of self.live in
     let rows = table_of_rows self.table in
-    let ran = one-ran self.live c.clear_record.new.self c.run.new.self text c.as_str.result.now c.as_str.ensures.value c.clear_record.ensures.state c.clear_record.ensures.accessed c.in_ok-result.ensures.state c.in_ok-result.ensures.accessed in
-    let found = found-large rows (text ∷ []) s (state_of c.run.new.self) c.run.new.self.names.accessed ran.left ran.accessed c.in_ok-found.found c.in_ok-found.ensures.refusal c.in-Some.refusal c.in-Some.is in
+    let u = state_of c.run.new.self in
+    let sound = whole_sound s c.requires.whole in
+    let is-sound = whole_sound u c.in_ok-result.ensures.whole in
+    let ran = one-ran self.live c.clear_record.new.self c.run.new.self text c.as_str.result.now c.as_str.ensures.value c.clear_record.ensures.state c.clear_record.ensures.accessed c.in_ok-result.ensures.left c.in_ok-result.ensures.accessed in
+    let found = found-large rows (text ∷ []) s u sound is-sound c.run.new.self.names.accessed ran.left ran.accessed c.in_ok-found.found c.in_ok-found.ensures.refusal c.in-Some.refusal c.in-Some.is in
     let bytes = told_bytes place self c.requires.known (text ∷ []) in
     let file = told_file (g.H.Host.state c.args.host.now) in
     went-back file c.back.result self c.back.new.self c.run.new.self bytes (refusal_of c.in-Some.refusal) (λ p. CountsCell self c.back.new.self text p.answer c.args.steps.now c.too_large.new.steps)
@@ -119,24 +145,6 @@ returns-in-Some-clause-least g c =
       charge-run (change_of h.changes) (state_of self.live) h.graph text c.requires.short room,
     ))
 
-pub returns-in-Some-clause-full : goal.returns-in-Some-clause-full
-returns-in-Some-clause-full g c err = absurd (c.back.ensures.not_full err)
-
-pub returns-in-Some-clause-beyond : goal.returns-in-Some-clause-beyond
-returns-in-Some-clause-beyond g c err = absurd (c.back.ensures.not_full err)
-
--- ---- a run that isn't begun
-
-pub returns-in_err-result-clause-full : goal.returns-in_err-result-clause-full
-returns-in_err-result-clause-full g c err h k =
-    let p = err_from_is_err_and c.from_residual.result c.from_residual.ensures.1 in
-    subst IsFull c.clear_record.ensures.state (c.in_err-result.ensures.full (cc (err, p.1, p.2)))
-
-pub returns-in_err-result-clause-beyond : goal.returns-in_err-result-clause-beyond
-returns-in_err-result-clause-beyond g c err =
-    let p = err_from_is_err_and c.from_residual.result c.from_residual.ensures.1 in
-    c.in_err-result.ensures.beyond (cc (err, p.1, p.2))
-
 -- ---- a commit
 
 pub commit-requires-clause-cells : goal.commit-requires-clause-cells
@@ -149,11 +157,14 @@ commit-requires-clause-ran g c =
     let text = rc_str_bytes c.args.text.now in
     let s = state_of self.live in
     let rows = table_of_rows self.table in
-    let ran = one-ran self.live c.clear_record.new.self c.run.new.self text c.as_str.result.now c.as_str.ensures.value c.clear_record.ensures.state c.clear_record.ensures.accessed c.in_ok-result.ensures.state c.in_ok-result.ensures.accessed in
-    let small = found-small rows (text ∷ []) s (state_of c.run.new.self) c.run.new.self.names.accessed ran.left ran.accessed c.in_ok-found.found c.in_ok-found.ensures.refusal c.in_default.is in
+    let u = state_of c.run.new.self in
+    let sound = whole_sound s c.requires.whole in
+    let is-sound = whole_sound u c.in_ok-result.ensures.whole in
+    let ran = one-ran self.live c.clear_record.new.self c.run.new.self text c.as_str.result.now c.as_str.ensures.value c.clear_record.ensures.state c.clear_record.ensures.accessed c.in_ok-result.ensures.left c.in_ok-result.ensures.accessed in
+    let small = found-small rows (text ∷ []) s u sound is-sound c.run.new.self.names.accessed ran.left ran.accessed c.in_ok-found.found c.in_ok-found.ensures.refusal c.in_default.is in
     let one : texts_of c.from_ref.result.now ≡ text ∷ [] = ap texts_of c.from_ref.ensures.value in
     let front = texts_of c.from_ref.result.now in
-    let run_is = has-run place self c.requires.known front c.run.new.self (subst (λ (ts : List (List ℕ)). RanOn self.live c.run.new.self ts) (sym one) ran)
+    let run_is = has-run place self c.requires.known front c.run.new.self (subst (λ (ts : List (List ℕ)). RanOn self.live c.run.new.self ts) (sym one) ran) is-sound
     (subst (λ (ts : List (List ℕ)). leave_too_large rows ts s ≡ false) (sym one) small) in
     (s, run_is)
 
@@ -164,11 +175,14 @@ returns-clause-leads g c =
     let text = rc_str_bytes c.args.text.now in
     let s = state_of self.live in
     let rows = table_of_rows self.table in
-    let ran = one-ran self.live c.clear_record.new.self c.run.new.self text c.as_str.result.now c.as_str.ensures.value c.clear_record.ensures.state c.clear_record.ensures.accessed c.in_ok-result.ensures.state c.in_ok-result.ensures.accessed in
-    let small = found-small rows (text ∷ []) s (state_of c.run.new.self) c.run.new.self.names.accessed ran.left ran.accessed c.in_ok-found.found c.in_ok-found.ensures.refusal c.in_default.is in
+    let u = state_of c.run.new.self in
+    let sound = whole_sound s c.requires.whole in
+    let is-sound = whole_sound u c.in_ok-result.ensures.whole in
+    let ran = one-ran self.live c.clear_record.new.self c.run.new.self text c.as_str.result.now c.as_str.ensures.value c.clear_record.ensures.state c.clear_record.ensures.accessed c.in_ok-result.ensures.left c.in_ok-result.ensures.accessed in
+    let small = found-small rows (text ∷ []) s u sound is-sound c.run.new.self.names.accessed ran.left ran.accessed c.in_ok-found.found c.in_ok-found.ensures.refusal c.in_default.is in
     let one : texts_of c.from_ref.result.now ≡ text ∷ [] = ap texts_of c.from_ref.ensures.value in
     let front = texts_of c.from_ref.result.now in
-    let run_is = has-run place self c.requires.known front c.run.new.self (subst (λ (ts : List (List ℕ)). RanOn self.live c.run.new.self ts) (sym one) ran)
+    let run_is = has-run place self c.requires.known front c.run.new.self (subst (λ (ts : List (List ℕ)). RanOn self.live c.run.new.self ts) (sym one) ran) is-sound
     (subst (λ (ts : List (List ℕ)). leave_too_large rows ts s ≡ false) (sym one) small) in
     let room = λ (g' : Graph) (st : StandsFor self.graph g'). subst (λ (n : ℕ). n < most_records) st.shape.records c.requires.room in
     let new = c.commit.new.self in
@@ -178,7 +192,7 @@ returns-clause-leads g c =
     (leaves-known place self c.requires.known (text ∷ []) false small h k) in
     let p : Prepared = record { answer = Cell c.in_ok-made.made.number c.commit.new.self.cells c.in_ok-result.result; recorded = Some c.in_ok-made.made.recorded } in
     committed-leads file place self new c.run.new.self (cell text) front c.in_ok-made.made made
-    c.commit.ensures.live (ran.left ∙ ap (λ (ts : List (List ℕ)). after_cells One ts s) (sym one)) (known-history self place c.requires.known) p refl refl (λ bytes size. cc (size))
+    c.commit.ensures.live (subst (λ (ts : List (List ℕ)). IsLeft ts s u) (sym one) ran.left) (known-history self place c.requires.known) p refl refl (λ bytes size. cc (size))
     (λ h k. ap (λ (x : Stepped). x.graph) (step h k) ∙ ap (λ (ts : List (List ℕ)). with_commit One ts h.graph) (sym one))
     (λ of g' st. unrefused of s g' text c.requires.short (room g' st))
     (λ h k count.
@@ -217,22 +231,25 @@ returns-clause-reads g c some =
     let text = rc_str_bytes c.args.text.now in
     let s = state_of self.live in
     let rows = table_of_rows self.table in
-    let ran = one-ran self.live c.clear_record.new.self c.run.new.self text c.as_str.result.now c.as_str.ensures.value c.clear_record.ensures.state c.clear_record.ensures.accessed c.in_ok-result.ensures.state c.in_ok-result.ensures.accessed in
-    let small = found-small rows (text ∷ []) s (state_of c.run.new.self) c.run.new.self.names.accessed ran.left ran.accessed c.in_ok-found.found c.in_ok-found.ensures.refusal c.in_default.is in
+    let u = state_of c.run.new.self in
+    let sound = whole_sound s c.requires.whole in
+    let is-sound = whole_sound u c.in_ok-result.ensures.whole in
+    let ran = one-ran self.live c.clear_record.new.self c.run.new.self text c.as_str.result.now c.as_str.ensures.value c.clear_record.ensures.state c.clear_record.ensures.accessed c.in_ok-result.ensures.left c.in_ok-result.ensures.accessed in
+    let small = found-small rows (text ∷ []) s u sound is-sound c.run.new.self.names.accessed ran.left ran.accessed c.in_ok-found.found c.in_ok-found.ensures.refusal c.in_default.is in
     let one : texts_of c.from_ref.result.now ≡ text ∷ [] = ap texts_of c.from_ref.ensures.value in
     let front = texts_of c.from_ref.result.now in
-    let run_is = has-run place self c.requires.known front c.run.new.self (subst (λ (ts : List (List ℕ)). RanOn self.live c.run.new.self ts) (sym one) ran)
+    let run_is = has-run place self c.requires.known front c.run.new.self (subst (λ (ts : List (List ℕ)). RanOn self.live c.run.new.self ts) (sym one) ran) is-sound
     (subst (λ (ts : List (List ℕ)). leave_too_large rows ts s ≡ false) (sym one) small) in
     reads-ran self c.commit.new.self c.run.new.self (text ∷ []) (st c.args.host.now) (st c.commit.new.host) front one c.commit.ensures.live (c.in_ok-made.ensures.reads s run_is)
 
 pub returns-clause-most : goal.returns-clause-most
-returns-clause-most g c sizes =
+returns-clause-most g c sizes here =
     let self = c.args.self.now in
     let text = rc_str_bytes c.args.text.now in
-    let ran = one-ran self.live c.clear_record.new.self c.run.new.self text c.as_str.result.now c.as_str.ensures.value c.clear_record.ensures.state c.clear_record.ensures.accessed c.in_ok-result.ensures.state c.in_ok-result.ensures.accessed in
+    let ran = one-ran self.live c.clear_record.new.self c.run.new.self text c.as_str.result.now c.as_str.ensures.value c.clear_record.ensures.state c.clear_record.ensures.accessed c.in_ok-result.ensures.left c.in_ok-result.ensures.accessed in
     omega (
       arith,
-      c.in_ok-result.ensures.most,
+      c.in_ok-result.ensures.most (subst (λ (x : State). length x.nodes ≤ most_kept) (sym c.clear_record.ensures.state) here),
       c.too_large.ensures.reads.1,
       c.commit.ensures.counted.1,
       nodes-are self c.commit.new.self c.run.new.self text ran c.commit.ensures.live,
@@ -240,19 +257,12 @@ returns-clause-most g c sizes =
       ap (λ (s : State). (run One text s).charge) c.clear_record.ensures.state,
     )
 
+pub returns-clause-whole : goal.returns-clause-whole
+returns-clause-whole g c = subst (λ (l : Live). IsWhole (state_of l)) (sym c.commit.ensures.live) c.in_ok-result.ensures.whole
+
 -- ---- a picture that isn't read
 
 pub returns-in_err-made-clause-damaged : goal.returns-in_err-made-clause-damaged
 returns-in_err-made-clause-damaged g c at err =
     let p = err_from_is_err_and c.from_residual-in_err-made.result c.from_residual-in_err-made.ensures.1 in
     c.in_err-made.ensures.damaged at (cc (err, p.1, p.2))
-
-pub returns-in_err-made-clause-full : goal.returns-in_err-made-clause-full
-returns-in_err-made-clause-full g c err =
-    let p = err_from_is_err_and c.from_residual-in_err-made.result c.from_residual-in_err-made.ensures.1 in
-    absurd (c.in_err-made.ensures.not_full (cc (err, p.1, p.2)))
-
-pub returns-in_err-made-clause-beyond : goal.returns-in_err-made-clause-beyond
-returns-in_err-made-clause-beyond g c err =
-    let p = err_from_is_err_and c.from_residual-in_err-made.result c.from_residual-in_err-made.ensures.1 in
-    absurd (c.in_err-made.ensures.not_full (cc (err, p.1, p.2)))

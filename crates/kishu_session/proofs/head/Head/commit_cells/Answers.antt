@@ -1,4 +1,4 @@
-use Rattle.std.proofs.Common.{◌≡◌, ◌<◌, ◌+◌, ◌^◌, ℕ, suc, true, false, List, length, map, take, Some, refl, sym, ◌∙◌, ap, subst, arith}
+use Rattle.std.proofs.Common.{◌≡◌, ◌<◌, ◌+◌, ◌^◌, ℕ, suc, true, false, List, length, map, take, Some, None, refl, sym, ◌∙◌, ap, subst, arith}
 use Rattle.std.proofs.lemmas.List.{length-map, take-map}
 use Rattle.std.proofs.lemmas.Result.{err_from_is_err_and}
 use Rattle.std.specs.Rc.{rc_str_bytes}
@@ -6,7 +6,7 @@ use Rattle.std.specs.declared.alloc.Global.{Global}
 use Rattle.std.specs.declared.rc.RcStr.{RcStr}
 use Rattle.kishu_language.specs.declared.profile.Profile.TheVariants.{One}
 use Rattle.kishu_meaning.specs.values.Values.{State}
-use Rattle.kishu_replay.specs.Replay.{after_cells, charge_in, FillsIn}
+use Rattle.kishu_replay.specs.Replay.{charge_in}
 use Rattle.kishu_store.specs.Graph.{Graph, with_commit}
 use Rattle.kishu_store.specs.Histories.{History}
 use Rattle.kishu_store.specs.Limits.{most_records}
@@ -14,6 +14,10 @@ use Rattle.kishu_store.specs.Tables.{Table, change_of}
 use Rattle.kishu_graph.specs.Kept.{StandsFor}
 use Rattle.kishu_graph.specs.Tables.{table_of_rows}
 use Rattle.kishu_history.specs.Accessed.{accessed_by}
+use Rattle.kishu_history.specs.Live.{IsLive}
+use Rattle.kishu_history.specs.Stored.{Stored}
+use Rattle.kishu_anew.specs.Anew.{IsWhole}
+use Rattle.kishu_anew.specs.WholeLaws.{whole_sound}
 use Rattle.kishu_model.specs.Answers.{state_too_large}
 use Rattle.kishu_model.specs.Request.{Stepped, cells, refused_with}
 use Rattle.kishu_model.specs.Values.{refusal_of, counted_of}
@@ -25,25 +29,38 @@ use Rattle.kishu_live_laws.specs.Refusals.{TellsSize}
 use Rattle.kishu_session.specs.Known.{IsHistoryOf}
 use Rattle.kishu_session.specs.Lives.{state_of}
 use Rattle.kishu_session.specs.Prepared.{LeadsOn, StaysWithout, CountsOn}
+use Rattle.kishu_session.specs.Renewing.{IsLeft}
 use Rattle.kishu_session.specs.Running.{AreSameNames, IsGivenBy}
 use Rattle.kishu_session.specs.TextLists.{texts_of, AreShort}
 use Rattle.kishu_session.specs.Working.{ReadsAsked}
+use Rattle.kishu_session.specs.declared.live.Live.{Live}
 use Rattle.kishu_session.specs.declared.prepared.Prepared.{Prepared}
 use Rattle.kishu_session.proofs.AddFacts.{count-small}
 use Rattle.kishu_session.proofs.CellsSteps.{step-large, step-small, charge-run, unrefused, cells-told}
-use Rattle.kishu_session.proofs.Commits.{known-history}
+use Rattle.kishu_session.proofs.Commits.{known-history, known-told}
 use Rattle.kishu_session.proofs.Committed.{committed-leads, committed-stays}
 use Rattle.kishu_session.proofs.Large.{went-back, back-leads, back-stays}
 use Rattle.kishu_session.proofs.LongTexts.{none-long, short-take, size-take, size-few, may-commit}
 use Rattle.kishu_session.proofs.Outcomes.{always}
 use Rattle.kishu_session.proofs.Ran.{taken-some}
-use Rattle.kishu_session.proofs.RanOn.{RanOn, has-run, table-known, told_bytes}
+use Rattle.kishu_session.proofs.RanOn.{RanOn, has-run, known-fit, table-known, told_bytes}
 use Rattle.kishu_session.proofs.Sizes.{tells-size}
 use Rattle.kishu_session.proofs.Work.{reads-ran}
 use Rattle.kishu_session.proofs.head.Head.commit_cells.Goals as goal
 
-pub run_cells-requires-clause-short : goal.run_cells-requires-clause-short
-run_cells-requires-clause-short g c = none-long (texts_of c.args.texts.now) c.requires.short
+pub run_cells-requires : goal.run_cells-requires
+run_cells-requires g c =
+    let self = c.args.self.now in
+    let place = c.args.journal.now.place in
+    let cleared = c.clear_record.ensures.state in
+    record {
+      short = none-long (texts_of c.args.texts.now) c.requires.short;
+      some = c.requires.some;
+      fresh = c.clear_record.ensures.accessed;
+      whole = subst IsWhole (sym cleared) c.requires.whole;
+      fit = known-fit place self c.requires.known;
+      told = subst (λ (x : State). IsLive (Stored None) (table_of_rows self.table) x) (sym cleared) (known-told self place c.requires.known);
+    }
 
 pub back-requires : goal.back-requires
 back-requires g c = record { known = known-history c.args.self.now c.args.journal.now.place c.requires.known }
@@ -139,28 +156,6 @@ returns-in-TooLarge-clause-least g c =
       charge-run (change_of h.changes) s h.graph all some c.requires.short room,
     ))
 
-pub returns-in-TooLarge-clause-full : goal.returns-in-TooLarge-clause-full
-returns-in-TooLarge-clause-full g c err = absurd (c.back.ensures.not_full err)
-
-pub returns-in-TooLarge-clause-beyond : goal.returns-in-TooLarge-clause-beyond
-returns-in-TooLarge-clause-beyond g c err = absurd (c.back.ensures.not_full err)
-
--- ---- a run that isn't begun
-
-pub returns-in_err-several-clause-full : goal.returns-in_err-several-clause-full
-returns-in_err-several-clause-full g c err h k =
-    let self = c.args.self.now in
-    let all = texts_of c.args.texts.now in
-    let rows = table_of_rows self.table in
-    let p = err_from_is_err_and c.from_residual.result c.from_residual.ensures.1 in
-    subst (λ (x : Table). FillsIn One (run_of x all (state_of self.live)) (state_of self.live)) (table-known c.args.journal.now.place self c.requires.known h k)
-    (subst (λ (x : State). FillsIn One (run_of rows all x) x) c.clear_record.ensures.state (c.in_err-several.ensures.full (cc (err, p.1, p.2))))
-
-pub returns-in_err-several-clause-beyond : goal.returns-in_err-several-clause-beyond
-returns-in_err-several-clause-beyond g c err =
-    let p = err_from_is_err_and c.from_residual.result c.from_residual.ensures.1 in
-    c.in_err-several.ensures.beyond (cc (err, p.1, p.2))
-
 -- ---- a commit
 
 pub split_at-requires : goal.split_at-requires
@@ -195,7 +190,7 @@ commit-requires-clause-ran g c =
     let some : 0 < length all = omega (arith, c.requires.some, length-map texts rc_str_bytes) in
     let given = subst (IsGivenBy self.cells rows c.clear_record.new.self texts) c.in-Shown.is c.in_ok-several.ensures.gives in
     let on : RanOn self.live c.run_cells.new.live ran = record {
-      left = c.in_ok-several.ensures.state ∙ ap (λ (x : State). after_cells One (run_of rows all x) x) cleared;
+      left = subst (λ (x : State). IsLeft (run_of rows all x) x (state_of c.run_cells.new.live)) cleared c.in_ok-several.ensures.left;
       accessed = subst (λ (x : State). AreSameNames c.run_cells.new.live.names.accessed (accessed_by One (run_of rows all x) x)) cleared c.in_ok-several.ensures.accessed;
     } in
     let small : leave_too_large rows ran s ≡ false = subst (λ (x : State). leave_too_large rows (run_of rows all x) x ≡ false) cleared given.small in
@@ -207,7 +202,7 @@ commit-requires-clause-ran g c =
     ∙ ap (λ (k : ℕ). take k all) n
     ∙ given.ran
     ∙ ap (λ (x : State). run_of rows all x) cleared in
-    let run_is = has-run place self c.requires.known front c.run_cells.new.live (subst (λ (ts : List (List ℕ)). RanOn self.live c.run_cells.new.live ts) (sym is) on)
+    let run_is = has-run place self c.requires.known front c.run_cells.new.live (subst (λ (ts : List (List ℕ)). RanOn self.live c.run_cells.new.live ts) (sym is) on) (whole_sound (state_of c.run_cells.new.live) c.in_ok-several.ensures.whole)
     (subst (λ (ts : List (List ℕ)). leave_too_large rows ts s ≡ false) (sym is) small) in
     (s, run_is)
 
@@ -224,7 +219,7 @@ returns-clause-leads g c =
     let some : 0 < length all = omega (arith, c.requires.some, length-map texts rc_str_bytes) in
     let given = subst (IsGivenBy self.cells rows c.clear_record.new.self texts) c.in-Shown.is c.in_ok-several.ensures.gives in
     let on : RanOn self.live c.run_cells.new.live ran = record {
-      left = c.in_ok-several.ensures.state ∙ ap (λ (x : State). after_cells One (run_of rows all x) x) cleared;
+      left = subst (λ (x : State). IsLeft (run_of rows all x) x (state_of c.run_cells.new.live)) cleared c.in_ok-several.ensures.left;
       accessed = subst (λ (x : State). AreSameNames c.run_cells.new.live.names.accessed (accessed_by One (run_of rows all x) x)) cleared c.in_ok-several.ensures.accessed;
     } in
     let small : leave_too_large rows ran s ≡ false = subst (λ (x : State). leave_too_large rows (run_of rows all x) x ≡ false) cleared given.small in
@@ -236,7 +231,7 @@ returns-clause-leads g c =
     ∙ ap (λ (k : ℕ). take k all) n
     ∙ given.ran
     ∙ ap (λ (x : State). run_of rows all x) cleared in
-    let run_is = has-run place self c.requires.known front c.run_cells.new.live (subst (λ (ts : List (List ℕ)). RanOn self.live c.run_cells.new.live ts) (sym is) on)
+    let run_is = has-run place self c.requires.known front c.run_cells.new.live (subst (λ (ts : List (List ℕ)). RanOn self.live c.run_cells.new.live ts) (sym is) on) (whole_sound (state_of c.run_cells.new.live) c.in_ok-several.ensures.whole)
     (subst (λ (ts : List (List ℕ)). leave_too_large rows ts s ≡ false) (sym is) small) in
     let room = λ (g' : Graph) (st : StandsFor self.graph g'). subst (λ (n : ℕ). n < most_records) st.shape.records c.requires.room in
     let new = c.commit.new.self in
@@ -245,7 +240,7 @@ returns-clause-leads g c =
     (subst (λ (x : Table). leave_too_large x (run_of x all s) s ≡ false) (table-known place self c.requires.known h k) small) in
     let p : Prepared = record { answer = Cells c.in_ok-made.made.number c.in-Shown.results; recorded = Some c.in_ok-made.made.recorded } in
     committed-leads (told_file (g.H.Host.state c.args.host.now)) place self new c.run_cells.new.live (cells all) front c.in_ok-made.made made
-    c.commit.ensures.live (on.left ∙ ap (λ (ts : List (List ℕ)). after_cells One ts s) (sym is)) (known-history self place c.requires.known) p refl refl (λ bytes size. cc (size))
+    c.commit.ensures.live (subst (λ (ts : List (List ℕ)). IsLeft ts s (state_of c.run_cells.new.live)) (sym is) on.left) (known-history self place c.requires.known) p refl refl (λ bytes size. cc (size))
     (λ h k.
     ap (λ (x : Stepped). x.graph) (step h k)
     ∙ ap (λ (x : Table). with_commit One (run_of x all s) h.graph) (sym (table-known place self c.requires.known h k))
@@ -297,7 +292,7 @@ returns-clause-reads g c some =
     let ran = run_of rows all s in
     let given = subst (IsGivenBy self.cells rows c.clear_record.new.self texts) c.in-Shown.is c.in_ok-several.ensures.gives in
     let on : RanOn self.live c.run_cells.new.live ran = record {
-      left = c.in_ok-several.ensures.state ∙ ap (λ (x : State). after_cells One (run_of rows all x) x) cleared;
+      left = subst (λ (x : State). IsLeft (run_of rows all x) x (state_of c.run_cells.new.live)) cleared c.in_ok-several.ensures.left;
       accessed = subst (λ (x : State). AreSameNames c.run_cells.new.live.names.accessed (accessed_by One (run_of rows all x) x)) cleared c.in_ok-several.ensures.accessed;
     } in
     let small : leave_too_large rows ran s ≡ false = subst (λ (x : State). leave_too_large rows (run_of rows all x) x ≡ false) cleared given.small in
@@ -309,9 +304,12 @@ returns-clause-reads g c some =
     ∙ ap (λ (k : ℕ). take k all) n
     ∙ given.ran
     ∙ ap (λ (x : State). run_of rows all x) cleared in
-    let run_is = has-run place self c.requires.known front c.run_cells.new.live (subst (λ (ts : List (List ℕ)). RanOn self.live c.run_cells.new.live ts) (sym is) on)
+    let run_is = has-run place self c.requires.known front c.run_cells.new.live (subst (λ (ts : List (List ℕ)). RanOn self.live c.run_cells.new.live ts) (sym is) on) (whole_sound (state_of c.run_cells.new.live) c.in_ok-several.ensures.whole)
     (subst (λ (ts : List (List ℕ)). leave_too_large rows ts s ≡ false) (sym is) small) in
     reads-ran self c.commit.new.self c.run_cells.new.live ran (st c.args.host.now) (st c.commit.new.host) front is c.commit.ensures.live (c.in_ok-made.ensures.reads s run_is)
+
+pub returns-clause-whole : goal.returns-clause-whole
+returns-clause-whole g c = subst (λ (l : Live). IsWhole (state_of l)) (sym c.commit.ensures.live) c.in_ok-several.ensures.whole
 
 -- ---- a picture that isn't read
 
@@ -319,13 +317,3 @@ pub returns-in_err-made-clause-damaged : goal.returns-in_err-made-clause-damaged
 returns-in_err-made-clause-damaged g c at err =
     let p = err_from_is_err_and c.from_residual-in_err-made.result c.from_residual-in_err-made.ensures.1 in
     c.in_err-made.ensures.damaged at (cc (err, p.1, p.2))
-
-pub returns-in_err-made-clause-full : goal.returns-in_err-made-clause-full
-returns-in_err-made-clause-full g c err =
-    let p = err_from_is_err_and c.from_residual-in_err-made.result c.from_residual-in_err-made.ensures.1 in
-    absurd (c.in_err-made.ensures.not_full (cc (err, p.1, p.2)))
-
-pub returns-in_err-made-clause-beyond : goal.returns-in_err-made-clause-beyond
-returns-in_err-made-clause-beyond g c err =
-    let p = err_from_is_err_and c.from_residual-in_err-made.result c.from_residual-in_err-made.ensures.1 in
-    absurd (c.in_err-made.ensures.not_full (cc (err, p.1, p.2)))

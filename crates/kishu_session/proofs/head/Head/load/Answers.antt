@@ -1,14 +1,23 @@
-use Rattle.std.proofs.Common.{ap, map}
+use Rattle.std.proofs.Common.{ap, arith, length, map, subst, sym}
 use Rattle.std.proofs.lemmas.Result.{on_ok_weaker}
+use Rattle.kishu_meaning.specs.values.Values.{State}
 use Rattle.kishu_graph.specs.Kept.{row_of}
+use Rattle.kishu_anew.specs.Anew.{IsWhole}
+use Rattle.kishu_anew.specs.WholeLaws.{empty_whole}
 use Rattle.kishu_checkout.specs.Pictures.{told_file}
 use Rattle.kishu_session.specs.Lives.{state_of}
 use Rattle.kishu_session.specs.declared.head.Head.{Head}
-use Rattle.kishu_session.proofs.Anew.{keeps-none, lacks-anew, loaded-anew, never-full, reads-anew}
+use Rattle.kishu_session.proofs.Anew.{keeps-none, lacks-anew, loaded-anew, reads-anew}
 use Rattle.kishu_session.proofs.head.Head.load.Goals as goal
 
 pub carry-requires-clause-keeps : goal.carry-requires-clause-keeps
 carry-requires-clause-keeps g c = keeps-none _ (ap (map row_of) c.new-3.ensures.items) c.new.ensures c.new-2.ensures
+
+pub carry-requires-clause-room : goal.carry-requires-clause-room
+carry-requires-clause-room g c = (let none = ap (λ (s : State). length s.nodes) c.new.ensures in omega (arith, none))
+
+pub returns-clause-whole : goal.returns-clause-whole
+returns-clause-whole g c = on_ok_weaker c.carry.result (λ whole. whole (subst IsWhole (sym c.new.ensures) empty_whole)) c.carry.ensures.whole
 
 pub returns-clause-loaded : goal.returns-clause-loaded
 returns-clause-loaded g c =
@@ -25,6 +34,3 @@ pub returns-clause-damaged : goal.returns-clause-damaged
 returns-clause-damaged g c at err =
     let old : Head = record { alloc = c.args.self.now.alloc; graph = c.args.self.now.graph; table = record { rows = c.new-3.result }; kept = c.new-2.result; cells = c.args.self.now.cells; live = c.new.result } in
     lacks-anew old (ap (map row_of) c.new-3.ensures.items) (g.H.Host.state c.args.host.now) at (c.carry.ensures.damaged at err)
-
-pub returns-clause-not_full : goal.returns-clause-not_full
-returns-clause-not_full g c err = never-full (state_of c.new.result) c.new.ensures (c.carry.ensures.full err)

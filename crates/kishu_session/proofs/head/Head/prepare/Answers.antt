@@ -1,4 +1,4 @@
-use Rattle.std.proofs.Common.{◌≡◌, ◌∙◌, ℕ, List, Result, Ok, Err, sym, ap, subst, arith}
+use Rattle.std.proofs.Common.{◌≡◌, ◌∙◌, inl, inr, ℕ, List, Result, Ok, Err, sym, ap, subst, arith}
 use Rattle.std.specs.Prelude.{IfOk}
 use Rattle.std.specs.Rc.{rc_str_bytes}
 use Rattle.std.specs.declared.alloc.Global.{Global}
@@ -8,9 +8,10 @@ use Rattle.kishu_model.specs.Request.{cell, cells, checkout, inspect, stored, pl
 use Rattle.kishu_model.specs.Values.{request_of}
 use Rattle.kishu_checkout.specs.Pictures.{told_file}
 use Rattle.kishu_session.specs.Asked.{cells_for}
-use Rattle.kishu_session.specs.Filling.{FillsHere}
 use Rattle.kishu_session.specs.Prepared.{LacksFor, LeadsOn}
-use Rattle.kishu_session.specs.Working.{CountsCell, CountsFor, IsIdle, IsUncounted, ReadsAsked, ReadsFor, ReadsRows}
+use Rattle.kishu_session.specs.Renewing.{StaysHere}
+use Rattle.kishu_session.specs.Working.{CountsCell, CountsFor, IsIdle, LeavesSteps, ReadsAsked, ReadsFor, ReadsRows}
+use Rattle.kishu_session.specs.declared.head.Head.{Head}
 use Rattle.kishu_session.proofs.Commits.{known-history}
 use Rattle.kishu_session.proofs.Outcomes.{gives}
 use Rattle.kishu_session.proofs.RanOn.{table-known}
@@ -23,8 +24,30 @@ cell-text a b e = cc (e)
 cells-no-cell : (a : List (List ℕ)) (b : List ℕ) → cells a ≡ cell b → ⊥
 cells-no-cell a b e = cc (e)
 
+checkout-no-cell : (a b : List ℕ) → checkout a ≡ cell b → ⊥
+checkout-no-cell a b e = cc (e)
+
 inspect-no-cell : (b : List ℕ) → inspect ≡ cell b → ⊥
 inspect-no-cell b e = cc (e)
+
+-- ---- what takes steps
+
+cell-takes : (head : Head) (text : List ℕ) → LeavesSteps head (cell text) → ⊥
+cell-takes head text (inl idle) = idle
+cell-takes head text (inr k) = cc (k.0.1)
+
+cells-take : (head : Head) (texts : List (List ℕ)) → LeavesSteps head (cells texts) → ⊥
+cells-take head texts (inl idle) = idle
+cells-take head texts (inr k) = cc (k.0.1)
+
+inspect-takes : (head : Head) → LeavesSteps head inspect → ⊥
+inspect-takes head (inl idle) = idle
+inspect-takes head (inr k) = cc (k.0.1)
+
+-- A checkout takes none where the state isn't loaded anew.
+checkout-stays : (head : Head) (to : List ℕ) → LeavesSteps head (checkout to) → StaysHere head
+checkout-stays head to (inl idle) = absurd idle
+checkout-stays head to (inr k) = k.1
 
 each-unit : {T E : Type 0} (r : Result T E) → IfOk r (λ _. Unit {0})
 each-unit (Ok x) = tt
@@ -52,12 +75,6 @@ returns-in-Checkout-clause-damaged g c at is =
     let kept = c.args.self.now.graph in
     subst (λ (r : Request). LacksFor kept s (request_of r) at) (sym c.in-Checkout.is)
     (subst (λ (t : List ℕ). LacksFor kept s (checkout t) at) c.as_str.ensures.value (c.checkout.ensures.damaged at is))
-
-pub returns-in-Checkout-clause-full : goal.returns-in-Checkout-clause-full
-returns-in-Checkout-clause-full g c is =
-    let self = c.args.self.now in
-    subst (λ (r : Request). FillsHere self (request_of r)) (sym c.in-Checkout.is)
-    (subst (λ (t : List ℕ). FillsHere self (checkout t)) c.as_str.ensures.value (c.checkout.ensures.full is))
 
 pub returns-in_ok-branch-in-Branch-clause-leads : goal.returns-in_ok-branch-in-Branch-clause-leads
 returns-in_ok-branch-in-Branch-clause-leads g c =
@@ -165,16 +182,20 @@ returns-in_ok-plan-in-Plan-clause-reads g c =
 -- ---- what is counted
 
 pub returns-in-Cell-clause-still : goal.returns-in-Cell-clause-still
-returns-in-Cell-clause-still g c is = absurd (subst (λ (r : Request). IsUncounted (request_of r)) c.in-Cell.is is)
+returns-in-Cell-clause-still g c is = absurd (cell-takes c.args.self.now _ (subst (λ (r : Request). LeavesSteps c.args.self.now (request_of r)) c.in-Cell.is is))
 
 pub returns-in-Cells-clause-still : goal.returns-in-Cells-clause-still
-returns-in-Cells-clause-still g c is = absurd (subst (λ (r : Request). IsUncounted (request_of r)) c.in-Cells.is is)
+returns-in-Cells-clause-still g c is = absurd (cells-take c.args.self.now _ (subst (λ (r : Request). LeavesSteps c.args.self.now (request_of r)) c.in-Cells.is is))
 
 pub returns-in_ok-inspect-in-Inspect-clause-still : goal.returns-in_ok-inspect-in-Inspect-clause-still
-returns-in_ok-inspect-in-Inspect-clause-still g c is = absurd (subst (λ (r : Request). IsUncounted (request_of r)) c.in-Inspect.is is)
+returns-in_ok-inspect-in-Inspect-clause-still g c is = absurd (inspect-takes c.args.self.now (subst (λ (r : Request). LeavesSteps c.args.self.now (request_of r)) c.in-Inspect.is is))
 
 pub returns-in_err-inspect-in-Inspect-clause-still : goal.returns-in_err-inspect-in-Inspect-clause-still
-returns-in_err-inspect-in-Inspect-clause-still g c is = absurd (subst (λ (r : Request). IsUncounted (request_of r)) c.in-Inspect.is is)
+returns-in_err-inspect-in-Inspect-clause-still g c is = absurd (inspect-takes c.args.self.now (subst (λ (r : Request). LeavesSteps c.args.self.now (request_of r)) c.in-Inspect.is is))
+
+pub returns-in-Checkout-clause-still : goal.returns-in-Checkout-clause-still
+returns-in-Checkout-clause-still g c is =
+    c.checkout.ensures.still (checkout-stays c.args.self.now _ (subst (λ (r : Request). LeavesSteps c.args.self.now (request_of r)) c.in-Checkout.is is))
 
 -- ---- what doesn't call the host
 
@@ -202,23 +223,23 @@ returns-in-Cells-clause-most g c =
 
 pub returns-in-Checkout-clause-most : goal.returns-in-Checkout-clause-most
 returns-in-Checkout-clause-most g c =
-    gives c.checkout.result (λ p. Unit {0}) (λ p. CountsFor c.args.self.now c.checkout.new.self (request_of c.args.request.now) p.answer c.args.steps.now c.args.steps.now)
-    (each-unit c.checkout.result) (λ p _ text is sizes. omega arith)
+    gives c.checkout.result (λ p. Unit {0}) (λ p. CountsFor c.args.self.now c.checkout.new.self (request_of c.args.request.now) p.answer c.args.steps.now c.checkout.new.steps)
+    (each-unit c.checkout.result) (λ p _ text is. absurd (checkout-no-cell _ text (sym (ap request_of c.in-Checkout.is) ∙ is)))
 
 pub returns-in_ok-inspect-in-Inspect-clause-most : goal.returns-in_ok-inspect-in-Inspect-clause-most
 returns-in_ok-inspect-in-Inspect-clause-most g c text is = absurd (inspect-no-cell text (sym (ap request_of c.in-Inspect.is) ∙ is))
 
 pub returns-in_ok-branch-in-Branch-clause-most : goal.returns-in_ok-branch-in-Branch-clause-most
-returns-in_ok-branch-in-Branch-clause-most g c text is sizes = omega arith
+returns-in_ok-branch-in-Branch-clause-most g c text is sizes stays = omega arith
 
 pub returns-in_ok-log-in-Log-clause-most : goal.returns-in_ok-log-in-Log-clause-most
-returns-in_ok-log-in-Log-clause-most g c text is sizes = omega arith
+returns-in_ok-log-in-Log-clause-most g c text is sizes stays = omega arith
 
 pub returns-in_ok-status-in-Status-clause-most : goal.returns-in_ok-status-in-Status-clause-most
-returns-in_ok-status-in-Status-clause-most g c text is sizes = omega arith
+returns-in_ok-status-in-Status-clause-most g c text is sizes stays = omega arith
 
 pub returns-in_ok-stored-in-Stored-clause-most : goal.returns-in_ok-stored-in-Stored-clause-most
-returns-in_ok-stored-in-Stored-clause-most g c text is sizes = omega arith
+returns-in_ok-stored-in-Stored-clause-most g c text is sizes stays = omega arith
 
 pub returns-in_ok-plan-in-Plan-clause-most : goal.returns-in_ok-plan-in-Plan-clause-most
-returns-in_ok-plan-in-Plan-clause-most g c text is sizes = omega arith
+returns-in_ok-plan-in-Plan-clause-most g c text is sizes stays = omega arith

@@ -5,6 +5,7 @@ use Rattle.kishu_live_laws.specs.OnStates.{leave_too_large}
 use Rattle.kishu_model.specs.Values.{counted_of}
 use Rattle.kishu_session.specs.Lives.{state_of}
 use Rattle.kishu_session.specs.TextLists.{texts_of, are_short}
+use Rattle.kishu_anew.specs.Anew.{IsSmall, IsWhole}
 use Rattle.kishu_session.proofs.Ran.{Going}
 use Rattle.kishu_session.proofs.requests.cells.run_cells.Given as goal
 
@@ -19,5 +20,7 @@ invariant-loop-text g l =
       count : length l.results.items ≡ l.text-index;
       within : l.text-index ≤ length l.texts;
       small : 0 < l.text-index → leave_too_large t (take l.text-index all) s0 ≡ false;
+      whole : IsWhole (state_of l.live);
+      fits : IsSmall (state_of l.live);
       going : Going t all s0 l.before l.fn.steps (take l.text-index all) rest (map counted_of l.results.items) l.live.names.accessed (state_of l.live) l.steps;
     }

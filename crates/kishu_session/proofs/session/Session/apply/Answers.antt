@@ -1,4 +1,4 @@
-use Rattle.std.proofs.Common.{Err, ⊎_elim, ℕ, refl, sym, ◌∙◌, ap, subst}
+use Rattle.std.proofs.Common.{Err, ℕ, refl, sym, ◌∙◌, ap, subst}
 use Rattle.std.proofs.lemmas.Bool.{false≢true}
 use Rattle.std.proofs.lemmas.Result.{err_from_is_err_and}
 use Rattle.kishu_host.specs.Host.{ReadsMore}
@@ -10,19 +10,16 @@ use Rattle.kishu_history.specs.Versions.{kept, loaded}
 use Rattle.kishu_live_laws.specs.Small.{small_after}
 use Rattle.kishu_journal.specs.Going.{IsQuiet}
 use Rattle.kishu_model.specs.Request.{Request}
-use Rattle.kishu_model.specs.declared.request.Request as rust_request
 use Rattle.kishu_model.specs.Serve.{after}
 use Rattle.kishu_model.specs.Values.{request_of, answer_of}
 use Rattle.kishu_checkout.specs.Pictures.{told_file}
-use Rattle.kishu_session.specs.Applying.{IsCheckout, LeavesCounter, StaysLoaded}
 use Rattle.kishu_session.specs.Lives.{state_of}
-use Rattle.kishu_session.specs.Working.{IsUncounted, ReadsFor, bytes_asked_by}
-use Rattle.kishu_session.specs.declared.session.Session.{Session}
+use Rattle.kishu_session.specs.Working.{ReadsFor, bytes_asked_by}
 use Rattle.kishu_session.proofs.Alone.{alone-no-size, alone-silent}
 use Rattle.kishu_session.proofs.Applied.{durable-read, known-after, may-go-on, quiet-good, quiet-here, recorded-most, stop-here}
-use Rattle.kishu_session.proofs.Fuller.{fills-replay}
+use Rattle.kishu_session.proofs.BoundedFacts.{known-bounded}
 use Rattle.kishu_session.proofs.Gone.{nodes-kept, recorded}
-use Rattle.kishu_session.proofs.Halts.{was-damaged, was-disk, was-full, not-closed, only-these, is-error}
+use Rattle.kishu_session.proofs.Halts.{was-damaged, was-disk, not-closed, only-these, is-error}
 use Rattle.kishu_session.proofs.KeptOld.{names-kept, reads-loaded}
 use Rattle.kishu_session.proofs.LiveFacts.{answer-on-live, goes-on-live}
 use Rattle.kishu_session.proofs.Makes.{makes-few}
@@ -31,12 +28,8 @@ use Rattle.kishu_session.proofs.Recorded.{cells-recorded}
 use Rattle.kishu_session.proofs.Silent.{refused-silent, known-some}
 use Rattle.kishu_session.proofs.Sizes.{refusal-no-size}
 use Rattle.kishu_session.proofs.Staying.{answer-after, attached-after, at-end-after, back-same, counts-after, lives-after, stop-after}
-use Rattle.kishu_session.proofs.Work.{idle-uncounted, reads-asked, reads-on, reads-same, reads-still}
+use Rattle.kishu_session.proofs.Work.{reads-asked, reads-on, reads-same, reads-still}
 use Rattle.kishu_session.proofs.session.Session.apply.Goals as goal
-
-uncounted : (old : Session) (q : rust_request.Request) → LeavesCounter old q → IsUncounted (request_of q)
-uncounted old q leaves =
-    ⊎_elim (idle-uncounted (request_of q)) (λ (k : IsCheckout q × StaysLoaded old). subst (λ (r : Request). IsUncounted r) (sym k.0.1) tt) leaves
 
 pub record-requires-clause-next : goal.record-requires-clause-next
 record-requires-clause-next g c told1 =
@@ -58,6 +51,7 @@ invariant_of-self-2 g c =
           λ _. known-after self c.prepare.new.self (st c.args.host.now) (st c.prepare.new.host) (request_of c.args.request.now)
           c.in_ok-prepared.prepared c.in_ok-prepared.ensures.leads c.prepare.ensures.quiet
           c.record.new.journal.place (self.known c.if-self.false) c.in_ok-record.ensures.place;
+      whole = λ _. c.in_ok-prepared.ensures.whole;
     }
 
 -- ---- an answer
@@ -83,6 +77,12 @@ returns-clause-at_end g c told g' cs e gives =
     at-end-after c.args.self.now c.prepare.new.self (st c.args.host.now) (st c.prepare.new.host) (request_of c.args.request.now)
     c.in_ok-prepared.prepared c.in_ok-prepared.ensures.leads c.prepare.ensures.quiet told _ refl
     (st c.record.new.host) c.in_ok-record.ensures.stands g' cs e gives
+
+pub returns-clause-durable : goal.returns-clause-durable
+returns-clause-durable g c told only =
+    let st = g.H.Host.state in
+    let quiet = c.prepare.ensures.quiet in
+    c.in_ok-record.ensures.durable (quiet.time.tells ∙ told) (durable-read (st c.args.host.now) (st c.prepare.new.host) quiet only)
 
 pub returns-clause-bytes : goal.returns-clause-bytes
 returns-clause-bytes g c told g' e =
@@ -111,10 +111,10 @@ returns-clause-kept g c is not few =
     let q = request_of c.args.request.now in
     let p = c.in_ok-prepared.prepared in
     let leads = c.in_ok-prepared.ensures.leads in (
-      nodes-kept self new s q p leads is.0 is.1 not (self.known c.if-self.false),
+      nodes-kept self new s q p leads is.0 is.1 not (self.known c.if-self.false) few,
       λ told g' a group m x own.
           names-kept self new s q p leads is.0 is.1 not g' a group
-          (subst (λ (r : Request). In group (kept (stops g' g'.head.commit) (stops g' (after g' r).head.commit))) is.1 m) x own (st c.prepare.new.host) c.prepare.ensures.quiet (λ none sizes. (c.in_ok-prepared.ensures.stays none sizes).0) told,
+          (subst (λ (r : Request). In group (kept (stops g' g'.head.commit) (stops g' (after g' r).head.commit))) is.1 m) x own few (st c.prepare.new.host) c.prepare.ensures.quiet (λ none sizes. (c.in_ok-prepared.ensures.stays none sizes).0) told,
     )
 
 pub returns-clause-live : goal.returns-clause-live
@@ -138,6 +138,9 @@ returns-clause-known g c =
     let self = c.args.self.now in
     known-after self c.prepare.new.self (st c.args.host.now) (st c.prepare.new.host) (request_of c.args.request.now) c.in_ok-prepared.prepared
     c.in_ok-prepared.ensures.leads c.prepare.ensures.quiet c.record.new.journal.place (self.known c.if-self.false) c.in_ok-record.ensures.place
+
+pub returns-clause-bounded : goal.returns-clause-bounded
+returns-clause-bounded g c = known-bounded c.prepare.new.self c.record.new.journal.place (returns-clause-known g c)
 
 pub returns-clause-is_one : goal.returns-clause-is_one
 returns-clause-is_one g c =
@@ -245,10 +248,10 @@ returns-clause-idle g c is =
     (reads-same st c.args.host.now c.prepare.new.host (c.prepare.ensures.idle is)) c.record.ensures.reads
 
 pub returns-clause-still : goal.returns-clause-still
-returns-clause-still g c leaves = c.prepare.ensures.still (uncounted c.args.self.now c.args.request.now leaves)
+returns-clause-still g c leaves = c.prepare.ensures.still leaves
 
 pub returns-clause-most : goal.returns-clause-most
-returns-clause-most g c text is not sizes few = c.in_ok-prepared.ensures.most text is sizes
+returns-clause-most g c text is not sizes few = c.in_ok-prepared.ensures.most text is sizes few
 
 pub returns-clause-least : goal.returns-clause-least
 returns-clause-least g c told g' a =
@@ -266,7 +269,7 @@ returns-in_err-record-clause-idle g c is =
     (reads-same st c.args.host.now c.prepare.new.host (c.prepare.ensures.idle is)) c.record.ensures.reads
 
 pub returns-in_err-record-clause-still : goal.returns-in_err-record-clause-still
-returns-in_err-record-clause-still g c leaves = c.prepare.ensures.still (uncounted c.args.self.now c.args.request.now leaves)
+returns-in_err-record-clause-still g c leaves = c.prepare.ensures.still leaves
 
 pub returns-in_err-record-clause-small : goal.returns-in_err-record-clause-small
 returns-in_err-record-clause-small g c g' all = small_after g' all (request_of c.args.request.now)
@@ -291,7 +294,7 @@ pub returns-in_err-prepared-clause-idle : goal.returns-in_err-prepared-clause-id
 returns-in_err-prepared-clause-idle g c is = reads-same g.H.Host.state c.args.host.now c.prepare.new.host (c.prepare.ensures.idle is)
 
 pub returns-in_err-prepared-clause-still : goal.returns-in_err-prepared-clause-still
-returns-in_err-prepared-clause-still g c leaves = c.prepare.ensures.still (uncounted c.args.self.now c.args.request.now leaves)
+returns-in_err-prepared-clause-still g c leaves = c.prepare.ensures.still leaves
 
 pub returns-in_err-prepared-clause-small : goal.returns-in_err-prepared-clause-small
 returns-in_err-prepared-clause-small g c g' all = small_after g' all (request_of c.args.request.now)
@@ -316,22 +319,6 @@ pub returns-in_err-prepared-clause-disk_fault : goal.returns-in_err-prepared-cla
 returns-in_err-prepared-clause-disk_fault g c is =
     let p = err_from_is_err_and c.from_residual.result c.from_residual.ensures.1 in
     c.in_err-prepared.ensures.disk_fault (ap Err (was-disk c.from_residual.result c.in_err-prepared.field-0.0 p is))
-
-pub returns-in_err-prepared-clause-heap_full : goal.returns-in_err-prepared-clause-heap_full
-returns-in_err-prepared-clause-heap_full g c is =
-    let p = err_from_is_err_and c.from_residual.result c.from_residual.ensures.1 in
-    c.in_err-prepared.ensures.full (ap Err (was-full c.from_residual.result c.in_err-prepared.field-0.0 p is))
-
-pub returns-in_err-prepared-clause-full : goal.returns-in_err-prepared-clause-full
-returns-in_err-prepared-clause-full g c is told g' a made few =
-    let p = err_from_is_err_and c.from_residual.result c.from_residual.ensures.1 in
-    fills-replay c.args.self.now (g.H.Host.state c.args.host.now) g' (request_of c.args.request.now) a
-    (c.in_err-prepared.ensures.full (ap Err (was-full c.from_residual.result c.in_err-prepared.field-0.0 p is))) made few
-
-pub returns-in_err-prepared-clause-beyond : goal.returns-in_err-prepared-clause-beyond
-returns-in_err-prepared-clause-beyond g c is =
-    let p = err_from_is_err_and c.from_residual.result c.from_residual.ensures.1 in
-    c.in_err-prepared.ensures.beyond (ap Err (was-full c.from_residual.result c.in_err-prepared.field-0.0 p is))
 
 pub returns-in_err-prepared-clause-only_these : goal.returns-in_err-prepared-clause-only_these
 returns-in_err-prepared-clause-only_these g c =
