@@ -12,9 +12,8 @@ use Rattle.kishu_model.specs.Serve.{after, answer_of, Item, answered, after_item
 use Rattle.kishu_model.specs.Step.{charge_of}
 use Rattle.kishu_live_laws.specs.Made.{made_by}
 use Rattle.kishu_session.specs.Attached.{IsAttached}
-use Rattle.kishu_session.specs.Filling.{FillsBy}
 use Rattle.kishu_session.specs.Lives.{state_of}
-use Rattle.kishu_session.specs.Sized.{most_kept}
+use Rattle.kishu_session.specs.Renewing.{most_kept}
 use Rattle.kishu_session.specs.Written.{IsRecorded}
 use Rattle.kishu_session.specs.declared.session.Session.{Session}
 use Rattle.kishu_input.specs.declared.whole.InputStop.{InputStop}
@@ -22,7 +21,7 @@ use Rattle.kishu_input.specs.declared.whole.InputStop.TheVariants as input
 use Rattle.kishu_serve.specs.Asking.{to_come, HaveRoom, reads_lines, taken_by, turns_left, Knows, IsLimited}
 use Rattle.kishu_serve.specs.Coming.{Comes}
 use Rattle.kishu_serve.specs.Efforts.{IsMeasured, AreMeasured, read_by, read_by_all, steps_by, steps_by_all}
-use Rattle.kishu_serve.specs.Filling.{FillsByItem, FillsByAny, made_by_item, made_by_all}
+use Rattle.kishu_serve.specs.Making.{made_by_all}
 use Rattle.kishu_serve.specs.Headline.{IsPart, IsWhole}
 use Rattle.kishu_serve.specs.Recorded.{IsRecordedBy, AreRecorded}
 use Rattle.kishu_serve.specs.Serving.{IsOpen}
@@ -90,12 +89,11 @@ still-known (Lines first) (Lines reader) i0 i lines tells known = tells ∙ know
 
 -- ---- a run that has done nothing yet
 
-pub comes-start : (s : State) (session : Session) (g : Graph) (all : List Item) (made steps : ℕ) → IsAttached session s g → Comes s s g g all all made made steps steps
-comes-start s session g all made steps a = record {
+pub comes-start : (s : State) (session : Session) (g : Graph) (all : List Item) (steps : ℕ) → IsAttached session s g → Comes s s g g all all steps steps
+comes-start s session g all steps a = record {
   ends = refl;
   said = refl;
   parts = λ f o p. p;
-  fills = λ f. f;
   charged = omega arith;
   stop = record { tells = refl; later = omega arith; nothing_else = λ t c o le left. inl left; keeps = λ t c o le left. left };
 }
@@ -111,17 +109,14 @@ reached-first g i is now out (inr (inr whole)) =
 
 -- ---- from the items of a run to the rest of them
 
-module _ (s0 s1 s2 : State) (g now : Graph) (all rest : List Item) (i : Item) (made0 made1 steps0 steps1 : ℕ)
-    (comes : Comes s0 s1 g now all (i ∷ rest) made0 made1 steps0 steps1) where
+module _ (s0 s1 s2 : State) (g now : Graph) (all rest : List Item) (i : Item) (steps0 steps1 : ℕ)
+    (comes : Comes s0 s1 g now all (i ∷ rest) steps0 steps1) where
   first-part : (f o : List ℕ) → IsPart s1 now (i ∷ []) f o → IsPart s0 g all f o
   first-part f o p =
       comes.parts f o (record { now = p.now; printed = p.printed; good = p.good; out_is = p.out_is; reached = reached-first now i rest p.now p.printed p.reached })
 
   pub more-stop : Elapses s1 s2 (IsPart s1 now (i ∷ [])) → Elapses s0 s2 (IsPart s0 g all)
   more-stop time = goes_on s0 s1 s2 (IsPart s0 g all) (IsPart s1 now (i ∷ [])) comes.stop time first-part
-
-  pub first-fills : FillsByItem made1 now i → FillsByAny made0 g all
-  first-fills full = comes.fills (inl full)
 
   module _ (said : s2.out ≡ s1.out ++ bytes_of now i) where
     later-part : (f o : List ℕ) → IsPart s2 (after_item now i) rest f o → IsPart s0 g all f o
@@ -136,18 +131,17 @@ module _ (s0 s1 s2 : State) (g now : Graph) (all rest : List Item) (i : Item) (m
         })
 
     pub comes-more : (steps2 : ℕ) → steps1 + charge_by now i ≤ steps2 → Elapses s1 s2 (IsPart s1 now (i ∷ []))
-        → Comes s0 s2 g (after_item now i) all rest made0 (made1 + made_by_item now i) steps0 steps2
+        → Comes s0 s2 g (after_item now i) all rest steps0 steps2
     comes-more steps2 least time = record {
       ends = comes.ends;
       said = ap (λ (l : List ℕ). l ++ answers (after_item now i) rest) said ∙ append_assoc s1.out (bytes_of now i) (answers (after_item now i) rest) ∙ comes.said;
       parts = later-part;
-      fills = λ f. comes.fills (inr f);
       charged = omega (arith, comes.charged, least);
       stop = more-stop time;
     }
 
 -- where none is left
-module _ (s0 s : State) (g now : Graph) (all : List Item) (made0 made steps0 steps : ℕ) (comes : Comes s0 s g now all [] made0 made steps0 steps) where
+module _ (s0 s : State) (g now : Graph) (all : List Item) (steps0 steps : ℕ) (comes : Comes s0 s g now all [] steps0 steps) where
   pub comes-whole : (session : Session) → IsAttached session s now → IsWhole s0 s g all
   comes-whole session a = record {
     good = subst (λ (x : Graph). IsGoodFileOf s.file x) comes.ends (attached-good session s now a);
@@ -170,7 +164,7 @@ pub record Served (s0 s : State) (i0 i : SourceState) (all rest : Requests) (ses
   pub attached : IsAttached session s now
   pub made : ℕ
   pub room : nodes_of session ≤ made
-  pub comes : Knows all i0 → Comes s0 s g now (to_come all i0.left) (to_come rest i.left) made0 made steps0 steps
+  pub comes : Knows all i0 → Comes s0 s g now (to_come all i0.left) (to_come rest i.left) steps0 steps
   pub works : Knows all i0 → Works s0 s g now (to_come all i0.left) (to_come rest i.left) made0 made steps0 steps
 
 module _ {s0 s : State} {i0 i : SourceState} {all rest : Requests} {session : Session} {g : Graph} {made0 steps0 steps : ℕ}
@@ -178,8 +172,8 @@ module _ {s0 s : State} {i0 i : SourceState} {all rest : Requests} {session : Se
   abbrev first : List Item
   first = to_come all i0.left
 
-  come-with : (is : List Item) → to_come rest i.left ≡ is → Knows all i0 → Comes s0 s g served.now first is made0 served.made steps0 steps
-  come-with is same known = subst (λ (js : List Item). Comes s0 s g served.now first js made0 served.made steps0 steps) same (served.comes known)
+  come-with : (is : List Item) → to_come rest i.left ≡ is → Knows all i0 → Comes s0 s g served.now first is steps0 steps
+  come-with is same known = subst (λ (js : List Item). Comes s0 s g served.now first js steps0 steps) same (served.comes known)
 
   work-with : (is : List Item) → to_come rest i.left ≡ is → Knows all i0 → Works s0 s g served.now first is made0 served.made steps0 steps
   work-with is same known = subst (λ (js : List Item). Works s0 s g served.now first js made0 served.made steps0 steps) same (served.works known)
@@ -188,11 +182,7 @@ module _ {s0 s : State} {i0 i : SourceState} {all rest : Requests} {session : Se
   module _ (s2 : State) (q : Request) (is : List Item) (same : to_come rest i.left ≡ answered q ∷ is) (known : Knows all i0) where
     pub turn-stop : Elapses s s2 (IsPart s served.now (answered q ∷ [])) → Elapses s0 s2 (IsPart s0 g first)
     turn-stop time =
-        more-stop s0 s s2 g served.now first is (answered q) made0 served.made steps0 steps (come-with (answered q ∷ is) same known) time
-
-    pub turn-full : FillsBy served.made served.now q → FillsByAny made0 g first
-    turn-full full =
-        first-fills s0 s s2 g served.now first is (answered q) made0 served.made steps0 steps (come-with (answered q ∷ is) same known) full
+        more-stop s0 s s2 g served.now first is (answered q) steps0 steps (come-with (answered q ∷ is) same known) time
 
   -- once it is
   pub served-more : (s2 : State) (i2 : SourceState) (later : Requests) (next : Session) (q : Request) (steps2 : ℕ)
@@ -209,7 +199,7 @@ module _ {s0 s : State} {i0 i : SourceState} {all rest : Requests} {session : Se
     room = omega (arith, served.room, makes);
     comes = λ known.
         let is = to_come later i2.left in
-        comes-more s0 s s2 g served.now first is (answered q) made0 served.made steps0 steps (come-with (answered q ∷ is) (same known) known) said steps2 least time;
+        comes-more s0 s s2 g served.now first is (answered q) steps0 steps (come-with (answered q ∷ is) (same known) known) said steps2 least time;
     works = λ known.
         let is = to_come later i2.left in
         works-more s0 s s2 g served.now first is q made0 served.made steps0 steps (work-with (answered q ∷ is) (same known) known) steps2 (nodes_of session) served.room loads most;
@@ -217,14 +207,14 @@ module _ {s0 s : State} {i0 i : SourceState} {all rest : Requests} {session : Se
 
   -- where none is to come
   module _ (none : to_come rest i.left ≡ []) (known : Knows all i0) where
-    last-comes : Comes s0 s g served.now first [] made0 served.made steps0 steps
+    last-comes : Comes s0 s g served.now first [] steps0 steps
     last-comes = come-with [] none known
 
     pub served-whole : IsWhole s0 s g first
-    served-whole = comes-whole s0 s g served.now first made0 served.made steps0 steps last-comes session served.attached
+    served-whole = comes-whole s0 s g served.now first steps0 steps last-comes session served.attached
 
     pub served-least : steps0 + charges g first ≤ steps
-    served-least = comes-least s0 s g served.now first made0 served.made steps0 steps last-comes
+    served-least = comes-least s0 s g served.now first steps0 steps last-comes
 
     pub served-loads : AreMeasured g first → ReadsMore s0.reads s.reads (read_by_all g first)
     served-loads are =
@@ -262,7 +252,7 @@ along-first s i all session steps going stands room = record {
     attached = a;
     made = made0;
     room = few;
-    comes = λ known. comes-start s session g (to_come all i.left) made0 steps a;
+    comes = λ known. comes-start s session g (to_come all i.left) steps a;
     works = λ known. works-start s g (to_come all i.left) made0 steps;
   };
   limited = λ known. (λ limited. limited, λ limited. limited);

@@ -1,26 +1,13 @@
 -- What is promised of a run, from what holds of the work that its form asks for.
-use Rattle.std.proofs.Common.{◌≡◌, ◌≤◌, ◌<◌, inl, inr, ℕ, Bool, true, false, List, [], ◌∷◌, length, Option, Some, None, if◌then◌else◌, refl, sym, ◌∙◌, subst, arith}
+use Rattle.std.proofs.Common.{◌≡◌, ◌≤◌, ◌<◌, ℕ, true, false, List, length, Option, Some, None, refl, sym, subst, arith}
 use Rattle.std.specs.Prelude.{IsSome}
-use Rattle.std.specs.Str.{is_utf8}
 use Rattle.kishu_host.specs.Source.{SourceState}
-use Rattle.kishu_store.specs.Graph.{Graph}
-use Rattle.kishu_model.specs.Request.{cell, unreadable}
-use Rattle.kishu_model.specs.Serve.{Item, answered}
-use Rattle.kishu_model.specs.Task.{Form, one_cell, session, notebook, one_request, generated, cell_request, limit_place, session_limits}
+use Rattle.kishu_model.specs.Task.{Form, one_cell, session, notebook, one_request, generated, limit_place, session_limits}
 use Rattle.kishu_model.specs.notebooks.Notebook.{Fault}
 use Rattle.kishu_input.specs.Sources.{TakesMoreThan, TakesAtMost}
-use Rattle.kishu_live_laws.specs.Filling.{FillsBy, IsTooMany}
-use Rattle.kishu_live_laws.specs.Made.{opened_nodes}
-use Rattle.kishu_serve.specs.Asking as asking
-use Rattle.kishu_serve.specs.Filling.{FillsByAny, FillsInForm}
 use Rattle.kishu_serve.specs.Headline.{ReadsWhole, longest_input, most_taken, IsTooLong, HasFault}
 use Rattle.kishu_serve.specs.Promise.{PassesLimit, StaysWithin}
-use Rattle.kishu_serve.specs.Work.{to_do, is_session, still_reads, Knows, AsksFor, IsOneCell}
-use Rattle.kishu_serve.specs.declared.asking.Requests.{Requests}
-use Rattle.kishu_serve.specs.declared.asking.Requests.TheVariants.{Done, One, Lines}
-use Rattle.kishu_serve.specs.declared.work.Work.{Work}
-use Rattle.kishu_serve.specs.declared.work.Work.TheVariants.{Answers, Runs, Makes}
-use Rattle.kishu_serve.proofs.Askings.{knows-told}
+use Rattle.kishu_serve.specs.Work.{is_session}
 
 -- ---- the forms
 
@@ -104,36 +91,3 @@ taken-form (notebook together) old mid new first alone unread last =
 taken-form (one_request q) old mid new first alone unread last = subst (λ (s : SourceState). TakesAtMost (most_taken (Some (one_request q))) old s) (sym (alone refl)) first
 taken-form (generated start many) old mid new first alone unread last =
     subst (λ (s : SourceState). TakesAtMost (most_taken (Some (generated start many))) old s) (sym (alone refl)) first
-
--- What is to do is known where no lines are read for it.
-alone-asks : (rs : Requests) (s : SourceState) → asking.reads_lines rs ≡ false → asking.Knows rs s
-alone-asks Done s alone = tt
-alone-asks (One q) s alone = tt
-alone-asks (Lines reader) s alone = absurd (cc alone)
-
-pub alone-knows : (work : Work) (s : SourceState) → still_reads work ≡ false → Knows work s
-alone-knows (Answers rs) s alone = alone-asks rs s alone
-alone-knows (Runs book) s alone = tt
-alone-knows (Makes script) s alone = tt
-
-module _ (made : ℕ) (g : Graph) (input : List ℕ) where
-  by-cell : (b : Bool) → FillsBy made g (if b then cell input else unreadable) → IsTooMany made
-  by-cell true full = full
-  by-cell false full = absurd full
-
-  full-cell : FillsByAny made g (answered (cell_request input) ∷ []) → IsTooMany made
-  full-cell (inl full) = by-cell (is_utf8 input) full
-  full-cell (inr none) = absurd none
-
-module _ (work : Work) (old mid : SourceState) (g : Graph) where
-  abbrev opened : ℕ
-  opened = opened_nodes g g.head.commit
-
-  pub fills-form : (f : Form) → AsksFor f old work mid → (f ≡ one_cell → IsOneCell work) → still_reads work ≡ is_session f
-      → mid.tells ≡ old.tells → (Knows work mid → FillsByAny opened g (to_do work g mid.left)) → FillsInForm (Some f) old g
-  fills-form one_cell asks one lines tells full =
-      full-cell opened g (one refl).0 (subst (λ (is : List Item). FillsByAny opened g is) ((one refl).1 g mid.left) (full (alone-knows work mid lines)))
-  fills-form session asks one lines tells full = λ told. subst (λ (is : List Item). FillsByAny opened g is) (asks told g) (full (knows-told work mid (tells ∙ told)))
-  fills-form (notebook together) asks one lines tells full = λ told. subst (λ (is : List Item). FillsByAny opened g is) (asks told g) (full (knows-told work mid (tells ∙ told)))
-  fills-form (one_request q) asks one lines tells full = subst (λ (is : List Item). FillsByAny opened g is) (asks tt g) (full (alone-knows work mid lines))
-  fills-form (generated start many) asks one lines tells full = subst (λ (is : List Item). FillsByAny opened g is) (asks tt g) (full (alone-knows work mid lines))

@@ -1,77 +1,103 @@
--- What fills the heap on every store, from the work that a form asks for.
-use Rattle.std.proofs.Common.{◌≡◌, inl, inr, ◌++◌, ℕ, Bool, true, false, List, [], ◌∷◌, map, Some, if◌then◌else◌, refl, ◌∙◌, subst}
-use Rattle.std.specs.Str.{is_utf8}
+-- Requests that are answered one by one, from the work that a form asks for.
+use Rattle.std.proofs.Common.{◌≡◌, ◌⊎◌, inl, inr, true, false, List, Some, refl, sym, ◌∙◌, ap, subst}
+use Rattle.std.proofs.lemmas.Bool.{false≢true}
+use Rattle.kishu_host.specs.Host.{State}
 use Rattle.kishu_host.specs.Source.{SourceState}
-use Rattle.kishu_meaning.specs.values.Values.{State}
 use Rattle.kishu_store.specs.Graph.{Graph}
-use Rattle.kishu_store.specs.Tables.{Change, change_of}
-use Rattle.kishu_replay.specs.Replay.{IsFull}
-use Rattle.kishu_model.specs.Request.{Request, cell, unreadable}
-use Rattle.kishu_model.specs.Serve.{Item, answered, silent, closing, after_all, answers}
-use Rattle.kishu_model.specs.Task.{Form, one_cell, session, notebook, one_request, generated, cell_request}
-use Rattle.kishu_model.specs.generated.Run.{summary_of}
-use Rattle.kishu_model.specs.notebooks.Run.{cell_requests, with_answers}
-use Rattle.kishu_model.specs.notebooks.Setting.{written}
-use Rattle.kishu_live_laws.specs.OnStates.{head_rows}
-use Rattle.kishu_live_laws.specs.Refusals.{FillsOn}
-use Rattle.kishu_gen.specs.Scripts.{to_come}
-use Rattle.kishu_notebook.specs.Views.{data_of}
-use Rattle.kishu_serve.specs.Fillable.{asks_for, AsksHere, FillsFile}
-use Rattle.kishu_serve.specs.Filling.{FillsLive, FillsInFormLive, FillsFrom}
-use Rattle.kishu_serve.specs.Notebooks.{texts_of}
-use Rattle.kishu_serve.specs.Work.{to_do, is_session, still_reads, Knows, IsOneCell}
+use Rattle.kishu_model.specs.Serve.{Item}
+use Rattle.kishu_model.specs.Task.{Form, one_cell, session, notebook, one_request, generated, task}
+use Rattle.kishu_gen.specs.declared.script.Script.{Script}
+use Rattle.kishu_notebook.specs.declared.refusal.NotebookRefusal.{NotebookRefusal}
+use Rattle.kishu_session.specs.Written.{begun}
+use Rattle.kishu_serve.specs.Asking as asking
+use Rattle.kishu_serve.specs.LiveAnswers.{AreAnswered, AnswersFrom, IsPartLive, EndsFrom}
+use Rattle.kishu_serve.specs.Promise.{AsksEach}
+use Rattle.kishu_serve.specs.Work.{to_do, answers_each, is_session, one_by_one, still_reads, Knows, KnowsForm, AsksFor}
+use Rattle.kishu_serve.specs.declared.asking.Requests.{Requests}
+use Rattle.kishu_serve.specs.declared.asking.Requests.TheVariants.{Done, One, Lines}
+use Rattle.kishu_serve.specs.declared.book.Book.{Book}
+use Rattle.kishu_serve.specs.declared.status.Status.{Status}
+use Rattle.kishu_serve.specs.declared.status.Status.TheVariants as ended
+use Rattle.kishu_serve.specs.declared.status.Status.TheVariants.{InputFault, InputTooLong, NoMemory, NotebookRefused}
 use Rattle.kishu_serve.specs.declared.work.Work.{Work}
 use Rattle.kishu_serve.specs.declared.work.Work.TheVariants.{Answers, Runs, Makes}
 use Rattle.kishu_serve.proofs.Askings.{knows-told}
-use Rattle.kishu_serve.proofs.Forms.{alone-knows}
 
--- The run of a notebook, or of requests that are made, is never one request that is answered.
-not-answered : (qs : List Request) (bytes : List ℕ) (q : Request) → map silent qs ++ (closing bytes ∷ []) ≡ answered q ∷ [] → ⊥
-not-answered [] bytes q is = cc is
-not-answered (p ∷ qs) bytes q is = cc is
+-- What is to do is known where no lines are read.
+alone-asks : (rs : Requests) (s : SourceState) → asking.reads_lines rs ≡ false → asking.Knows rs s
+alone-asks Done s alone = tt
+alone-asks (One q) s alone = tt
+alone-asks (Lines reader) s alone = absurd (cc alone)
 
-one-asked : (work : Work) (g : Graph) (left : List ℕ) (q : Request) → to_do work g left ≡ answered q ∷ [] → asks_for work left ≡ answered q ∷ []
-one-asked (Answers requests) g left q is = is
-one-asked (Runs book) g left q is =
-    let qs = cell_requests book.together g (texts_of book) in
-    absurd (not-answered qs (written (with_answers g 0 qs (data_of book.notebook))) q is)
-one-asked (Makes script) g left q is =
-    let qs = to_come script in
-    absurd (not-answered qs (summary_of (after_all g (map silent qs)) (answers g (map answered qs))) q is)
+alone-knows : (work : Work) (s : SourceState) → still_reads work ≡ false → Knows work s
+alone-knows (Answers rs) s alone = alone-asks rs s alone
+alone-knows (Runs book) s alone = tt
+alone-knows (Makes script) s alone = tt
 
-module _ (file : List ℕ) (cs : List Change) (g : Graph) (u : State) (input : List ℕ) where
-  by-cell : (b : Bool) → FillsOn (head_rows (change_of cs) g) u g (if b then cell input else unreadable) → IsFull u
-  by-cell true full = full
-  by-cell false full = absurd full
+-- ---- work that answers no requests
 
-  one-full : FillsLive file cs g u (answered (cell_request input) ∷ []) → IsFull u
-  one-full (inl full) = by-cell (is_utf8 input) full
-  one-full (inr later) = absurd later.4
+pub runs-not-each : (work : Work) (book : Book) → work ≡ Runs book → answers_each work ≡ true → ⊥
+runs-not-each work book is each = false≢true (sym (ap answers_each is) ∙ each)
 
--- from the making of the work to its end
-module _ (file : List ℕ) (cs : List Change) (g : Graph) (u : State) (work : Work) (old mid : SourceState) (tells : mid.tells ≡ old.tells)
-    (fills : Knows work mid → FillsLive file cs g u (asks_for work mid.left)) where
-  by-form : (f : Form) → AsksHere f old work mid → (f ≡ one_cell → IsOneCell work) → still_reads work ≡ is_session f
-      → FillsInFormLive (Some f) old file cs g u
-  by-form one_cell asks one lines =
-      let input = (one refl).0 in
-      let asked = one-asked work g mid.left (cell_request input) ((one refl).1 g mid.left) in
-      one-full file cs g u input (subst (λ (is : List Item). FillsLive file cs g u is) asked (fills (alone-knows work mid lines)))
-  by-form session asks one lines = λ told. subst (λ (is : List Item). FillsLive file cs g u is) (asks told) (fills (knows-told work mid (tells ∙ told)))
-  by-form (notebook together) asks one lines = λ told.
-      subst (λ (is : List Item). FillsLive file cs g u is) (asks told) (fills (knows-told work mid (tells ∙ told)))
-  by-form (one_request q) asks one lines = subst (λ (is : List Item). FillsLive file cs g u is) (asks tt) (fills (alone-knows work mid lines))
-  by-form (generated start many) asks one lines = subst (λ (is : List Item). FillsLive file cs g u is) (asks tt) (fills (alone-knows work mid lines))
+pub makes-not-each : (work : Work) (script : Script) → work ≡ Makes script → answers_each work ≡ true → ⊥
+makes-not-each work script is each = false≢true (sym (ap answers_each is) ∙ each)
 
-pub fills-from : (f : Form) (work : Work) (old mid : SourceState) (file : List ℕ) → AsksHere f old work mid
-    → (f ≡ one_cell → IsOneCell work) → still_reads work ≡ is_session f → mid.tells ≡ old.tells
-    → FillsFile work mid file → FillsFrom (Some f) old file
-fills-from f work old mid file asks one lines tells w = record {
-  graph = w.graph;
-  changes = w.changes;
-  state = w.state;
-  holds = w.holds;
-  gives = w.gives;
-  loaded = w.loaded;
-  fills = by-form file w.changes w.graph w.state work old mid tells w.fills f asks one lines;
-}
+-- A run whose input, read whole, isn't what its words ask for isn't done.
+pub unread-not-done : {P : NotebookRefusal → Type 0} (status : Status)
+    → (status ≡ InputFault) ⊎ (status ≡ InputTooLong) ⊎ (status ≡ NoMemory) ⊎ ((why : NotebookRefusal) × P why × (status ≡ NotebookRefused why)) → status ≡ ended.Done → ⊥
+unread-not-done status (inl fault) done = cc (fault, done)
+unread-not-done status (inr (inl long)) done = cc (long, done)
+unread-not-done status (inr (inr (inl none))) done = cc (none, done)
+unread-not-done status (inr (inr (inr (why, is, refused)))) done = cc (refused, done)
+
+-- ---- what is known of a form that asks for requests one by one
+
+pub each-form : (f : Form) (s : SourceState) → AsksEach (Some f) s → one_by_one f ≡ true
+each-form one_cell s each = refl
+each-form session s each = refl
+each-form (notebook together) s each = absurd each
+each-form (one_request q) s each = refl
+each-form (generated start many) s each = absurd each
+
+each-known : (f : Form) (s : SourceState) → AsksEach (Some f) s → KnowsForm f s
+each-known one_cell s each = each
+each-known session s each = each
+each-known (notebook together) s each = absurd each
+each-known (one_request q) s each = tt
+each-known (generated start many) s each = absurd each
+
+pub each-knows : (f : Form) (work : Work) (old mid : SourceState) → still_reads work ≡ is_session f → mid.tells ≡ old.tells → AsksEach (Some f) old → Knows work mid
+each-knows one_cell work old mid lines tells each = knows-told work mid (tells ∙ each)
+each-knows session work old mid lines tells each = knows-told work mid (tells ∙ each)
+each-knows (notebook together) work old mid lines tells each = absurd each
+each-knows (one_request q) work old mid lines tells each = alone-knows work mid lines
+each-knows (generated start many) work old mid lines tells each = absurd each
+
+-- ---- the items are those that the form asks for
+
+module _ {host host2 : State} (work : Work) (old mid : SourceState) (f : Form) (asks : AsksFor f old work mid) (each : AsksEach (Some f) old) where
+  pub each-answered : AnswersFrom (λ g. to_do work g mid.left) host host2 → AnswersFrom (λ g. task (Some f) g old.left) host host2
+  each-answered w = record {
+    graph = w.graph;
+    changes = w.changes;
+    state = w.state;
+    holds = w.holds;
+    gives = w.gives;
+    loaded = w.loaded;
+    answered =
+        subst (λ (is : List Item). AreAnswered (begun host.file) host.out host2 w.changes w.graph w.state is) (asks (each-known f old each) w.graph) w.answered;
+  }
+
+  pub each-ends : {g : Graph} → EndsFrom (λ x. to_do work x mid.left) host host2 g → EndsFrom (λ x. task (Some f) x old.left) host host2 g
+  each-ends (inl none) = inl none
+  each-ends (inr w) =
+      inr (record {
+        graph = w.graph;
+        changes = w.changes;
+        state = w.state;
+        holds = w.holds;
+        gives = w.gives;
+        loaded = w.loaded;
+        part =
+            subst (λ (is : List Item). IsPartLive (begun host.file) host.out w.changes w.graph w.state is host2.file host2.out) (asks (each-known f old each) w.graph) w.part;
+      })

@@ -7,7 +7,7 @@ use Rattle.kishu_model.specs.Request.{unreadable}
 use Rattle.kishu_model.specs.Serve.{answered, after_all, charges}
 use Rattle.kishu_model.specs.Task.{Limits, task, limit_place, session_lines}
 use Rattle.kishu_session.specs.Written.{begun}
-use Rattle.kishu_serve.specs.declared.status.Status.TheVariants.{Done, Usage, NotAJournal, Damaged, NotebookRefused, DiskFault, InputFault, OutputFault, NoMemory, InputTooLong, HeapFull}
+use Rattle.kishu_serve.specs.declared.status.Status.TheVariants.{Done, Usage, NotAJournal, Damaged, NotebookRefused, DiskFault, InputFault, OutputFault, NoMemory, InputTooLong}
 use Rattle.kishu_notebook.specs.declared.refusal.NotebookKey.TheVariants.{Format}
 use Rattle.kishu_notebook.specs.declared.refusal.NotebookRefusal.TheVariants.{NotJson, NotNotebook, Version, RepeatedId}
 use Rattle.kishu_serve.specs.Statuses.{code_of, text_of}
@@ -43,9 +43,6 @@ code-memory = refl
 
 code-long : code_of InputTooLong ≡ 9
 code-long = refl
-
-code-heap : code_of HeapFull ≡ 11
-code-heap = refl
 
 text-done : text_of Done ≡ []
 text-done = refl

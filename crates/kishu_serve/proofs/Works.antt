@@ -12,9 +12,9 @@ use Rattle.kishu_gen.specs.declared.script.Script.{Script}
 use Rattle.kishu_journal.specs.Going.{ReadsAtMost}
 use Rattle.kishu_notebook.specs.Views.{data_of}
 use Rattle.kishu_live_laws.specs.Made.{made_by}
-use Rattle.kishu_session.specs.Sized.{most_kept}
+use Rattle.kishu_session.specs.Renewing.{most_kept}
 use Rattle.kishu_serve.specs.Efforts.{IsMeasured, AreMeasured, read_by, read_by_all, steps_by, steps_by_all}
-use Rattle.kishu_serve.specs.Filling.{made_by_all}
+use Rattle.kishu_serve.specs.Making.{made_by_all}
 use Rattle.kishu_serve.specs.Notebooks.{texts_of}
 use Rattle.kishu_serve.specs.Work.{to_do}
 use Rattle.kishu_serve.specs.declared.book.Book.{Book}

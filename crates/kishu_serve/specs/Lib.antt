@@ -4,11 +4,11 @@ pub mod Notebooks
 pub mod Work
 pub mod Recorded
 pub mod Headline
-pub mod Filling
+pub mod Making
 pub mod Efforts
 pub mod Promise
 pub mod Serving
+pub mod LiveAnswers
 pub mod EveryStore
-pub mod Fillable
 pub mod Coming
 pub mod Stops

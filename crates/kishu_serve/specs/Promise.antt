@@ -1,5 +1,5 @@
 -- What is promised of a run, in few words: of the host and the source as it begins and as it ends.
-use Rattle.std.specs.Prelude.{◌≡◌, ◌⊎◌, ℕ, true, List, Option, Some}
+use Rattle.std.specs.Prelude.{◌≡◌, ◌⊎◌, ℕ, true, List, Option, Some, None}
 use Rattle.std.specs.declared.string.String.{String}
 use Rattle.std.specs.declared.alloc.Global.{Global}
 use Rattle.kishu_host.specs.Host.{State, Told, Now, Elapses}
@@ -10,14 +10,13 @@ use Rattle.kishu_store.specs.Tables.{Row, Change, change_of, table_at}
 use Rattle.kishu_objects.specs.Lists.{In}
 use Rattle.kishu_history.specs.Good.{IsGoodFile, IsGoodFileOf}
 use Rattle.kishu_model.specs.Serve.{Item}
-use Rattle.kishu_model.specs.Task.{Form, session, task}
+use Rattle.kishu_model.specs.Task.{Form, one_cell, session, notebook, one_request, generated, task}
 use Rattle.kishu_model.specs.notebooks.Notebook.{Fault}
 use Rattle.kishu_notebook.specs.Values.{fault_of}
 use Rattle.kishu_notebook.specs.declared.refusal.NotebookRefusal.{NotebookRefusal}
 use Rattle.kishu_checkout.specs.Pictures.{HasNone}
-use Rattle.kishu_session.specs.Written.{begun}
-use Rattle.kishu_serve.specs.Filling.{FillsInForm, FillsFrom}
 use Rattle.kishu_serve.specs.Headline.{IsPart, IsGiven, IsTooLong, ReadsWhole}
+use Rattle.kishu_serve.specs.LiveAnswers.{AnswersFrom, EndsFrom}
 use Rattle.kishu_words.specs.Words.{texts, form_of}
 use Rattle.kishu_serve.specs.Work.{to_do, Knows}
 use Rattle.kishu_serve.specs.declared.status.Status.{Status}
@@ -92,13 +91,23 @@ RefusesNotebook status = (why : NotebookRefusal) × (status ≡ NotebookRefused 
 abbrev pub RefusesFor : Fault → Status → Type 0
 RefusesFor fault status = (why : NotebookRefusal) × (fault_of why ≡ fault) × (status ≡ NotebookRefused why)
 
--- Where the store is good, the run would fill the heap with the graph that it holds.
-abbrev pub FillsHeap : Option Form → State → SourceState → Type 0
-FillsHeap form host source = Told host ((g : Graph) → IsGoodFileOf host.file g → FillsInForm form source g)
+-- The words ask for requests that are answered one by one, and for which is known: by themselves, or where the source tells its lines, or its cell.
+abbrev pub AsksEach : Option Form → SourceState → Type 0
+AsksEach None source = ⊥
+AsksEach (Some one_cell) source = source.tells ≡ true
+AsksEach (Some session) source = source.tells ≡ true
+AsksEach (Some (notebook together)) source = ⊥
+AsksEach (Some (one_request q)) source = Unit {0}
+AsksEach (Some (generated start many)) source = ⊥
 
--- On every store the run would fill the heap with the state that is loaded for the head of the file's graph, or with one to which requests led from it.
-abbrev pub FillsHeapLive : Option Form → State → SourceState → Type 0
-FillsHeapLive form host source = Told host (FillsFrom form source (begun host.file))
+-- Then, where the host tells its file: it holds a graph, and all of them are answered, from the state on that is loaded for its head.
+abbrev pub AllAnswered : Option Form → SourceState → (old new : State) → Type 0
+AllAnswered form source old new = AsksEach form source → Told old (AnswersFrom (λ g. task form g source.left) old new)
+
+-- At each exit then: a file that held a graph still does, and nothing is out; or the first of them are answered so, the last in part.
+abbrev pub FirstAnswered : Option Form → SourceState → (old new : State) → Type 0
+FirstAnswered form source old new =
+    AsksEach form source → Told old ((g : Graph) → Holds old.file g → EndsFrom (λ g. task form g source.left) old new g)
 
 -- ---- what is made of the words and the input
 

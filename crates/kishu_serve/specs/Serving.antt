@@ -44,10 +44,6 @@ AnswerGoesOut answer old new = (a : Said) → said_by answer ≡ Some a → GoOu
 abbrev pub WhereAttached : Session → State → (Graph → Type 0) → Type 0
 WhereAttached session host P = Told host ((g : Graph) → IsAttached session host g → P g)
 
--- The same, of each number of nodes that were made before, no fewer than the live state has.
-abbrev pub WhereMade : Session → State → (ℕ → Graph → Type 0) → Type 0
-WhereMade session host P = WhereAttached session host (λ g. (made : ℕ) → length (state_of session.head.live).nodes ≤ made → P made g)
-
 -- The session stands at the end of the host's file, whether or not that is good.
 abbrev pub IsOpen : Session → State → Type 0
 IsOpen session host = Told host (StandsAtEnd session host)

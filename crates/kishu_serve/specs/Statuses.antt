@@ -3,7 +3,7 @@ use Rattle.std.specs.Prelude.{ℕ, List, [], ◌++◌, codes, decimal}
 use Rattle.kishu_model.specs.notebooks.Notebook.{reason}
 use Rattle.kishu_notebook.specs.Values.{fault_of}
 use Rattle.kishu_serve.specs.declared.status.Status.{Status}
-use Rattle.kishu_serve.specs.declared.status.Status.TheVariants.{Done, Usage, NotAJournal, Damaged, NotebookRefused, DiskFault, InputFault, OutputFault, NoMemory, InputTooLong, HeapFull}
+use Rattle.kishu_serve.specs.declared.status.Status.TheVariants.{Done, Usage, NotAJournal, Damaged, NotebookRefused, DiskFault, InputFault, OutputFault, NoMemory, InputTooLong}
 
 abbrev pub code_of : Status → ℕ
 code_of Done = 0
@@ -16,7 +16,6 @@ code_of InputFault = 6
 code_of OutputFault = 7
 code_of NoMemory = 8
 code_of InputTooLong = 9
-code_of HeapFull = 11
 
 abbrev pub text_of : Status → List ℕ
 text_of Done = []
@@ -29,4 +28,3 @@ text_of InputFault = codes "input fault"
 text_of OutputFault = codes "output fault"
 text_of NoMemory = codes "no memory"
 text_of InputTooLong = codes "input too long"
-text_of HeapFull = codes "heap full"

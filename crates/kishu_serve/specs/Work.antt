@@ -1,10 +1,9 @@
 -- What a run does, once its store is open.
-use Rattle.std.specs.Prelude.{◌≡◌, ◌≤◌, ◌↔◌, ℕ, Bool, true, false, not, List, [], ◌∷◌, length, Some, IsSome}
+use Rattle.std.specs.Prelude.{◌≡◌, ◌≤◌, ◌↔◌, ℕ, Bool, true, false, not, List, [], length, Some, IsSome}
 use Rattle.kishu_host.specs.Source.{SourceState}
 use Rattle.kishu_store.specs.Graph.{Graph}
-use Rattle.kishu_model.specs.Request.{Request}
-use Rattle.kishu_model.specs.Serve.{Item, answered}
-use Rattle.kishu_model.specs.Task.{Form, one_cell, session, notebook, one_request, generated, cell_request, limit_place, session_limits, task}
+use Rattle.kishu_model.specs.Serve.{Item}
+use Rattle.kishu_model.specs.Task.{Form, one_cell, session, notebook, one_request, generated, limit_place, session_limits, task}
 use Rattle.kishu_model.specs.generated.Run.{summed_up}
 use Rattle.kishu_gen.specs.Scripts as scripts
 use Rattle.kishu_serve.specs.Asking as asking
@@ -29,6 +28,12 @@ abbrev pub still_reads : Work → Bool
 still_reads (Answers requests) = reads_lines requests
 still_reads (Runs book) = false
 still_reads (Makes script) = false
+
+-- whether it answers requests one by one
+abbrev pub answers_each : Work → Bool
+answers_each (Answers requests) = true
+answers_each (Runs book) = false
+answers_each (Makes script) = false
 
 abbrev pub records_many : Work → Bool
 records_many (Answers requests) = reads_lines requests
@@ -72,16 +77,17 @@ KnowsForm (notebook together) s = s.tells ≡ true
 KnowsForm (one_request q) s = Unit {0}
 KnowsForm (generated start many) s = Unit {0}
 
+-- whether a form asks for requests that are answered one by one
+abbrev pub one_by_one : Form → Bool
+one_by_one one_cell = true
+one_by_one session = true
+one_by_one (notebook together) = false
+one_by_one (one_request q) = true
+one_by_one (generated start many) = false
+
 -- It does what the run is to do.
 abbrev pub AsksFor : Form → SourceState → Work → SourceState → Type 0
 AsksFor form from work to = KnowsForm form from → (g : Graph) → to_do work g to.left ≡ task (Some form) g from.left
-
--- It is the request that some bytes are as a cell.
-abbrev pub IsSomeCell : Request → Type 0
-IsSomeCell q = (input : List ℕ) × (q ≡ cell_request input)
-
-abbrev pub IsOneCell : Work → Type 0
-IsOneCell work = (input : List ℕ) × ((g : Graph) (left : List ℕ) → to_do work g left ≡ answered (cell_request input) ∷ [])
 
 -- The whole input was read, and has at most so many bytes.
 abbrev pub WithinWhole : ℕ → SourceState → SourceState → Type 0

@@ -1,25 +1,21 @@
 // The run of requests that are made, and the line that sums them up.
-ghost use Rattle.std.specs.Prelude.{◌≡◌, ◌≤◌, ◌+◌, ◌++◌, ◌∷◌, [], ℕ, suc, List, true, false, Ok, Err, None, IfOk, IfSome, OnOk, IsErr, IsErrOf, map};
+ghost use Rattle.std.specs.Prelude.{◌≡◌, ◌≤◌, ◌+◌, ◌++◌, ◌∷◌, [], ℕ, suc, List, true, false, Ok, Err, None, IfOk, IfSome, OnOk, IsErr, IsErrOf};
 ghost use Rattle.kishu_graph.specs.Kept.{StandsFor};
 ghost use Rattle.kishu_store.specs.Graph.{Graph};
 ghost use Rattle.kishu_model.specs.requests.Cells.{HasRoom};
-ghost use Rattle.kishu_model.specs.Serve.{after, answer_of, answered, silent, charges};
+ghost use Rattle.kishu_model.specs.Serve.{after, answer_of, silent, charges};
 ghost use Rattle.kishu_model.specs.Step.{charge_of};
 ghost use Rattle.kishu_model.specs.Values.{request_of};
 ghost use Rattle.kishu_model.specs.generated.Run.{summary_of, summed_up};
 ghost use Rattle.kishu_gen.specs.Scripts.{left, to_come};
 ghost use Rattle.kishu_gen.specs.Summaries.{HasTaken};
-ghost use Rattle.kishu_session.specs.Applying.{MakesNodes};
 ghost use Rattle.kishu_session.specs.Attached.{IsAttached};
-ghost use Rattle.kishu_session.specs.Filling.{FillsBy};
 ghost use Rattle.kishu_session.specs.Faults.{DiskFailed};
 ghost use Rattle.kishu_serve.specs.Coming.{AreApplied};
-ghost use Rattle.kishu_serve.specs.EveryStore.{AppliesHere, FillsNow, FillsHere};
-ghost use Rattle.kishu_serve.specs.Filling.{FillsByAny};
 ghost use Rattle.kishu_serve.specs.Headline.{IsWhole};
 ghost use Rattle.kishu_serve.specs.Recorded.{Records};
-ghost use Rattle.kishu_serve.specs.Serving.{OutputFailed, WhereAttached, IsOpen, EndsDamaged, WritesOne, StopsInPart, AreOut, GoOut, WhereMade};
-ghost use Rattle.kishu_serve.specs.declared.serving.Stop.TheVariants.{HeapFull, DiskFault, InputFault, OutputFault, TooLong, Damaged, NoMemory};
+ghost use Rattle.kishu_serve.specs.Serving.{OutputFailed, WhereAttached, IsOpen, EndsDamaged, WritesOne, StopsInPart, AreOut, GoOut};
+ghost use Rattle.kishu_serve.specs.declared.serving.Stop.TheVariants.{DiskFault, InputFault, OutputFault, TooLong, Damaged, NoMemory};
 
 use crate::serving::{Stop, stop_of};
 use kishu_gen::{Script, Summary};
@@ -70,14 +66,6 @@ fn apply_silently<H: Host, L: Ledger>(
     ensures bytes { OnOk result (WritesOne (H.state host.old) (H.state host.new)) }
     ensures least { OnOk result (WhereAttached session.old (H.state host.old) (λ g.
         steps.old + charge_of g (request_of request.now) ≤ steps.new)) }
-    ensures full { IsErrOf result HeapFull → WhereMade session.old (H.state host.old) (λ made g.
-        FillsBy made g (request_of request.now)) }
-    ensures makes { OnOk result
-        (MakesNodes session.old session.new (H.state host.old) (request_of request.now)) }
-    ensures applied { OnOk result (AppliesHere session.old session.new (H.state host.old) (H.state host.new)
-        (request_of request.now)) }
-    ensures full_live { IsErrOf result HeapFull
-        → FillsNow session.old (H.state host.old) (request_of request.now) }
     ensures damaged { (at : ℕ) → IsErrOf result (Damaged at)
         → EndsDamaged session.old (H.state host.old) (H.state host.new) at }
     ensures stop { WhereAttached session.old (H.state host.old) (λ g.
@@ -113,16 +101,12 @@ fn apply_all<H: Host, L: Ledger>(
     requires stands { IsOpen session.old (H.state host.old) }
     requires none_taken { HasTaken summary.old [] }
 
-    ensures applied { OnOk result (WhereMade session.old (H.state host.old) (λ made g.
+    ensures applied { OnOk result (WhereAttached session.old (H.state host.old) (λ g.
         AreApplied (H.state host.old) (H.state host.new) session.new g
-        (to_come script.old) summary.new made steps.old steps.new)) }
+        (to_come script.old) summary.new steps.old steps.new)) }
     ensures bytes { OnOk result (Records true (H.state host.old) (H.state host.new)) }
     ensures stop { WhereAttached session.old (H.state host.old) (λ g.
         StopsInPart (H.state host.old) (H.state host.new) g (summed_up g (to_come script.old))) }
-    ensures full { IsErrOf result HeapFull → WhereMade session.old (H.state host.old) (λ made g.
-        FillsByAny made g (summed_up g (to_come script.old))) }
-    ensures full_live { IsErrOf result HeapFull
-        → FillsHere session.old (H.state host.old) (map answered (to_come script.old)) }
     ensures damaged { (at : ℕ) → IsErrOf result (Damaged at)
         → EndsDamaged session.old (H.state host.old) (H.state host.new) at }
     ensures tells { (H.state host.new).tells ≡ (H.state host.old).tells }
@@ -166,7 +150,7 @@ fn put_summary<H: Host>(
         (lines : List ℕ) → HasTaken summary lines
         → GoOut (summary_of g lines) (H.state host.old) (H.state host.new)) }
     ensures tells { (H.state host.new).tells ≡ (H.state host.old).tells }
-    ensures no_disk { (IsErrOf result DiskFault → ⊥) × (IsErrOf result HeapFull → ⊥) }
+    ensures no_disk { IsErrOf result DiskFault → ⊥ }
     ensures not_damaged { (at : ℕ) → IsErrOf result (Damaged at) → ⊥ }
     ensures no_input { (IsErrOf result InputFault → ⊥) × (IsErrOf result TooLong → ⊥) }
     ensures output_fault { IsErrOf result OutputFault → OutputFailed (H.state host.old) (H.state host.new) }
@@ -201,10 +185,6 @@ pub(crate) fn run_script<H: Host, L: Ledger>(
     ensures bytes { OnOk result (Records true (H.state host.old) (H.state host.new)) }
     ensures least { OnOk result (WhereAttached session.old (H.state host.old) (λ g.
         steps.old + charges g (summed_up g (to_come script)) ≤ steps.new)) }
-    ensures full { IsErrOf result HeapFull → WhereMade session.old (H.state host.old) (λ made g.
-        FillsByAny made g (summed_up g (to_come script))) }
-    ensures full_live { IsErrOf result HeapFull
-        → FillsHere session.old (H.state host.old) (map answered (to_come script)) }
     ensures damaged { (at : ℕ) → IsErrOf result (Damaged at)
         → EndsDamaged session.old (H.state host.old) (H.state host.new) at }
 

@@ -9,18 +9,14 @@ ghost use Rattle.kishu_model.specs.Values.{request_of};
 ghost use Rattle.kishu_model.specs.notebooks.Run.{goes_on};
 ghost use Rattle.kishu_model.specs.notebooks.Setting.{written};
 ghost use Rattle.kishu_notebook.specs.Views.{data_of};
-ghost use Rattle.kishu_session.specs.Applying.{MakesNodes};
 ghost use Rattle.kishu_session.specs.Attached.{IsAttached};
-ghost use Rattle.kishu_session.specs.Filling.{FillsBy};
 ghost use Rattle.kishu_session.specs.Faults.{DiskFailed};
-ghost use Rattle.kishu_serve.specs.EveryStore.{AppliesHere, GoesOnHere, FillsNow, FillsHere};
-ghost use Rattle.kishu_serve.specs.Filling.{FillsByAny, cells_asked};
 ghost use Rattle.kishu_serve.specs.Headline.{IsWhole};
-ghost use Rattle.kishu_serve.specs.Notebooks.{IsSet, run_of, texts_of, items_of};
+ghost use Rattle.kishu_serve.specs.Notebooks.{IsSet, run_of, items_of};
 ghost use Rattle.kishu_serve.specs.Recorded.{Records};
 ghost use Rattle.kishu_serve.specs.Coming.{CellsAreRun};
-ghost use Rattle.kishu_serve.specs.Serving.{OutputFailed, WhereAttached, IsOpen, EndsDamaged, WritesOne, StopsInPart, AreOut, GoOut, WhereMade};
-ghost use Rattle.kishu_serve.specs.declared.serving.Stop.TheVariants.{HeapFull, DiskFault, InputFault, OutputFault, TooLong, Damaged};
+ghost use Rattle.kishu_serve.specs.Serving.{OutputFailed, WhereAttached, IsOpen, EndsDamaged, WritesOne, StopsInPart, AreOut, GoOut};
+ghost use Rattle.kishu_serve.specs.declared.serving.Stop.TheVariants.{DiskFault, InputFault, OutputFault, TooLong, Damaged};
 
 use crate::book::Book;
 use crate::serving::{Stop, stop_of};
@@ -59,15 +55,6 @@ fn run_request<H: Host, L: Ledger>(
     ensures bytes { OnOk result (WritesOne (H.state host.old) (H.state host.new)) }
     ensures least { OnOk result (WhereAttached session.old (H.state host.old) (λ g.
         steps.old + charge_of g (request_of request.now) ≤ steps.new)) }
-    ensures full { IsErrOf result HeapFull → WhereMade session.old (H.state host.old) (λ made g.
-        FillsBy made g (request_of request.now)) }
-    ensures makes { OnOk result
-        (MakesNodes session.old session.new (H.state host.old) (request_of request.now)) }
-    ensures applied { OnOk result (AppliesHere session.old session.new (H.state host.old) (H.state host.new)
-        (request_of request.now)) }
-    ensures goes_on_live { IfOk result (GoesOnHere session.old (H.state host.old) (request_of request.now)) }
-    ensures full_live { IsErrOf result HeapFull
-        → FillsNow session.old (H.state host.old) (request_of request.now) }
     ensures damaged { (at : ℕ) → IsErrOf result (Damaged at)
         → EndsDamaged session.old (H.state host.old) (H.state host.new) at }
     ensures stop { WhereAttached session.old (H.state host.old) (λ g.
@@ -101,18 +88,14 @@ fn run_each<H: Host, L: Ledger>(
     requires stands { IsOpen session.old (H.state host.old) }
     requires few { length texts.now < 2 ^ 32 }
 
-    ensures comes { OnOk result (WhereMade session.old (H.state host.old) (λ made g.
+    ensures comes { OnOk result (WhereAttached session.old (H.state host.old) (λ g.
         CellsAreRun (H.state host.old) (H.state host.new) session.new g
         (run_of false g (map rc_str_bytes texts.now) (data_of notebook.old))
-        notebook.new made steps.old steps.new)) }
+        notebook.new steps.old steps.new)) }
     ensures bytes { OnOk result (Records true (H.state host.old) (H.state host.new)) }
     ensures stop { WhereAttached session.old (H.state host.old) (λ g.
         StopsInPart (H.state host.old) (H.state host.new) g
         (run_of false g (map rc_str_bytes texts.now) (data_of notebook.old))) }
-    ensures full { IsErrOf result HeapFull → WhereMade session.old (H.state host.old) (λ made g.
-        FillsByAny made g (run_of false g (map rc_str_bytes texts.now) (data_of notebook.old))) }
-    ensures full_live { IsErrOf result HeapFull
-        → FillsHere session.old (H.state host.old) (cells_asked false (map rc_str_bytes texts.now)) }
     ensures damaged { (at : ℕ) → IsErrOf result (Damaged at)
         → EndsDamaged session.old (H.state host.old) (H.state host.new) at }
     ensures tells { (H.state host.new).tells ≡ (H.state host.old).tells }
@@ -148,18 +131,14 @@ fn run_together<H: Host, L: Ledger>(
     requires stands { IsOpen session.old (H.state host.old) }
     requires room { HasRoom (cells (map rc_str_bytes texts.items)) }
 
-    ensures comes { OnOk result (WhereMade session.old (H.state host.old) (λ made g.
+    ensures comes { OnOk result (WhereAttached session.old (H.state host.old) (λ g.
         CellsAreRun (H.state host.old) (H.state host.new) session.new g
         (run_of true g (map rc_str_bytes texts.items) (data_of notebook.old))
-        notebook.new made steps.old steps.new)) }
+        notebook.new steps.old steps.new)) }
     ensures bytes { OnOk result (Records false (H.state host.old) (H.state host.new)) }
     ensures stop { WhereAttached session.old (H.state host.old) (λ g.
         StopsInPart (H.state host.old) (H.state host.new) g
         (run_of true g (map rc_str_bytes texts.items) (data_of notebook.old))) }
-    ensures full { IsErrOf result HeapFull → WhereMade session.old (H.state host.old) (λ made g.
-        FillsByAny made g (run_of true g (map rc_str_bytes texts.items) (data_of notebook.old))) }
-    ensures full_live { IsErrOf result HeapFull
-        → FillsHere session.old (H.state host.old) (cells_asked true (map rc_str_bytes texts.items)) }
     ensures damaged { (at : ℕ) → IsErrOf result (Damaged at)
         → EndsDamaged session.old (H.state host.old) (H.state host.new) at }
     ensures tells { (H.state host.new).tells ≡ (H.state host.old).tells }
@@ -190,18 +169,14 @@ fn run_cells<H: Host, L: Ledger>(
     requires stands { IsOpen session.old (H.state host.old) }
     requires room { HasRoom (cells (map rc_str_bytes texts.items)) }
 
-    ensures comes { OnOk result (WhereMade session.old (H.state host.old) (λ made g.
+    ensures comes { OnOk result (WhereAttached session.old (H.state host.old) (λ g.
         CellsAreRun (H.state host.old) (H.state host.new) session.new g
         (run_of together g (map rc_str_bytes texts.items) (data_of notebook.old))
-        notebook.new made steps.old steps.new)) }
+        notebook.new steps.old steps.new)) }
     ensures bytes { OnOk result (Records (not together) (H.state host.old) (H.state host.new)) }
     ensures stop { WhereAttached session.old (H.state host.old) (λ g.
         StopsInPart (H.state host.old) (H.state host.new) g
         (run_of together g (map rc_str_bytes texts.items) (data_of notebook.old))) }
-    ensures full { IsErrOf result HeapFull → WhereMade session.old (H.state host.old) (λ made g.
-        FillsByAny made g (run_of together g (map rc_str_bytes texts.items) (data_of notebook.old))) }
-    ensures full_live { IsErrOf result HeapFull
-        → FillsHere session.old (H.state host.old) (cells_asked together (map rc_str_bytes texts.items)) }
     ensures damaged { (at : ℕ) → IsErrOf result (Damaged at)
         → EndsDamaged session.old (H.state host.old) (H.state host.new) at }
     ensures tells { (H.state host.new).tells ≡ (H.state host.old).tells }
@@ -226,7 +201,7 @@ fn put_notebook<H: Host>(host: &mut H, notebook: &Notebook) -> Result<(), Stop>
     ensures crash { (c : List ℕ) → (H.state host.new).may_leave c → (H.state host.old).may_leave c }
     ensures stop { GoOut (written (data_of notebook.now)) (H.state host.old) (H.state host.new) }
     ensures tells { (H.state host.new).tells ≡ (H.state host.old).tells }
-    ensures no_disk { (IsErrOf result DiskFault → ⊥) × (IsErrOf result HeapFull → ⊥) }
+    ensures no_disk { IsErrOf result DiskFault → ⊥ }
     ensures not_damaged { (at : ℕ) → IsErrOf result (Damaged at) → ⊥ }
     ensures no_input { (IsErrOf result InputFault → ⊥) × (IsErrOf result TooLong → ⊥) }
     ensures output_fault { IsErrOf result OutputFault → OutputFailed (H.state host.old) (H.state host.new) }
@@ -260,10 +235,6 @@ pub(crate) fn run_notebook<H: Host, L: Ledger>(
     ensures bytes { OnOk result (Records (not book.together) (H.state host.old) (H.state host.new)) }
     ensures least { OnOk result (WhereAttached session.old (H.state host.old) (λ g.
         steps.old + charges g (items_of book g) ≤ steps.new)) }
-    ensures full { IsErrOf result HeapFull → WhereMade session.old (H.state host.old) (λ made g.
-        FillsByAny made g (items_of book g)) }
-    ensures full_live { IsErrOf result HeapFull
-        → FillsHere session.old (H.state host.old) (cells_asked book.together (texts_of book)) }
     ensures damaged { (at : ℕ) → IsErrOf result (Damaged at)
         → EndsDamaged session.old (H.state host.old) (H.state host.new) at }
 

@@ -4,16 +4,16 @@ ghost use Rattle.kishu_host.specs.Host.{ReadsMore};
 ghost use Rattle.kishu_model.specs.Serve.{charges};
 ghost use Rattle.kishu_input.specs.Sources.{InputFailed};
 ghost use Rattle.kishu_session.specs.Faults.{DiskFailed};
-ghost use Rattle.kishu_session.specs.Sized.{most_kept};
-ghost use Rattle.kishu_serve.specs.Asking.{reads_lines, to_come, HaveRoom, Knows, IsLimited, IsRead, KeepsTaken};
+ghost use Rattle.kishu_session.specs.Renewing.{most_kept};
+ghost use Rattle.kishu_serve.specs.Asking.{reads_lines, HaveRoom, Knows, IsLimited, IsRead, KeepsTaken};
 ghost use Rattle.kishu_serve.specs.Efforts.{AreMeasured, read_by_all, steps_by_all};
-ghost use Rattle.kishu_serve.specs.EveryStore.{FillsHere};
-ghost use Rattle.kishu_serve.specs.Filling.{FillsByAny, made_by_all};
+ghost use Rattle.kishu_serve.specs.EveryStore.{AnswersAll, StopsAll};
+ghost use Rattle.kishu_serve.specs.Making.{made_by_all};
 ghost use Rattle.kishu_serve.specs.Headline.{IsWhole};
 ghost use Rattle.kishu_serve.specs.Recorded.{Records};
 ghost use Rattle.kishu_serve.specs.Serving.{OutputFailed, IsOpen, EndsDamaged, WhereKnown, StopsInPart, WhereKnownMade};
 ghost use Rattle.kishu_serve.specs.declared.work.Work.TheVariants.{Answers};
-ghost use Rattle.kishu_serve.specs.declared.serving.Stop.TheVariants.{HeapFull, DiskFault, InputFault, OutputFault, TooLong, Damaged};
+ghost use Rattle.kishu_serve.specs.declared.serving.Stop.TheVariants.{DiskFault, InputFault, OutputFault, TooLong, Damaged};
 
 use crate::asking::Requests;
 use crate::serving::{Stop, serve};
@@ -62,9 +62,6 @@ pub(crate) fn serve_all<H: Host, S: Source, L: Ledger>(
     ensures least { OnOk result (
         WhereKnown (Answers requests.old) (S.source source.old) session.old (H.state host.old) (λ g items.
         steps.old + charges g items ≤ steps.new)) }
-    ensures full { IsErrOf result HeapFull
-        → WhereKnownMade (Answers requests.old) (S.source source.old) session.old (H.state host.old)
-        (λ made g items. FillsByAny made g items) }
 
     // Where all are measured they read just the pictures that checkouts load and cells ask for, and from at most
     // 8,000,000 nodes made they take no more steps than they may.
@@ -77,9 +74,12 @@ pub(crate) fn serve_all<H: Host, S: Source, L: Ledger>(
         (λ made g items. AreMeasured g items → made + made_by_all g items ≤ most_kept
         → steps.new ≤ steps.old + steps_by_all g items)) }
 
-    ensures full_live { IsErrOf result HeapFull → Knows requests.old (S.source source.old)
-        → FillsHere session.old (H.state host.old) (to_come requests.old (S.source source.old).left) }
-
+    // On every store all are answered from the live state on where it succeeds, and all before a limit.
+    ensures whole_live { IsOk result ⊎ IsErrOf result TooLong
+        → AnswersAll (Answers requests.old) (S.source source.old) session.old (H.state host.old)
+        (H.state host.new) }
+    ensures stop_live { StopsAll (Answers requests.old) (S.source source.old) session.old (H.state host.old)
+        (H.state host.new) }
     ensures damaged { (at : ℕ) → IsErrOf result (Damaged at)
         → EndsDamaged session.old (H.state host.old) (H.state host.new) at }
 

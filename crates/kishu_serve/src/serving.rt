@@ -7,14 +7,14 @@ ghost use Rattle.kishu_model.specs.Step.{charge_of};
 ghost use Rattle.kishu_model.specs.Values.{answer_of as said_by};
 ghost use Rattle.kishu_session.specs.Applying.{MakesNodes, StaysLoaded};
 ghost use Rattle.kishu_session.specs.Attached.{IsAttached};
-ghost use Rattle.kishu_session.specs.Filling.{FillsBy};
 ghost use Rattle.kishu_session.specs.Faults.{DiskFailed};
-ghost use Rattle.kishu_session.specs.declared.halt.Halt.TheVariants.{NotAJournal, Closed, Damaged as Broken, DiskFault as NoDisk, HeapFull as Full};
+ghost use Rattle.kishu_session.specs.Recording.{StaysDurable};
+ghost use Rattle.kishu_session.specs.declared.halt.Halt.TheVariants.{NotAJournal, Closed, Damaged as Broken, DiskFault as NoDisk};
 ghost use Rattle.kishu_serve.specs.Asking.{asked_of};
 ghost use Rattle.kishu_serve.specs.Efforts.{IsMeasured, read_by, steps_by};
-ghost use Rattle.kishu_serve.specs.EveryStore.{AppliesHere, FillsNow};
-ghost use Rattle.kishu_serve.specs.Serving.{OutputFailed, IsAnswerOut, AnswerGoesOut, WhereAttached, IsOpen, EndsDamaged, IsAnswered, WritesOne, StopsInPart, WhereMade};
-ghost use Rattle.kishu_serve.specs.declared.serving.Stop.TheVariants.{HeapFull, DiskFault, InputFault, OutputFault, TooLong, Damaged};
+ghost use Rattle.kishu_serve.specs.EveryStore.{AppliesHere, AnswersHere, StopsLive};
+ghost use Rattle.kishu_serve.specs.Serving.{OutputFailed, IsAnswerOut, AnswerGoesOut, WhereAttached, IsOpen, EndsDamaged, IsAnswered, WritesOne, StopsInPart};
+ghost use Rattle.kishu_serve.specs.declared.serving.Stop.TheVariants.{DiskFault, InputFault, OutputFault, TooLong, Damaged};
 
 use crate::asking::Asked;
 use kishu_host::Host;
@@ -27,7 +27,6 @@ use std::sync::ledger::Ledger;
 /// Why a run doesn't go on.
 #[derive(Clone, Copy, Debug, PartialEq, Eq)]
 pub(crate) enum Stop {
-    HeapFull,
     DiskFault,
     InputFault,
     OutputFault,
@@ -41,14 +40,12 @@ pub(crate) enum Stop {
 /// `Closed`.
 pub(crate) fn stop_of(halt: Halt) -> Stop
     requires open { (halt ≡ NotAJournal → ⊥) × (halt ≡ Closed → ⊥) }
-    ensures full { result ≡ HeapFull → halt ≡ Full }
     ensures disk_fault { result ≡ DiskFault → halt ≡ NoDisk }
     ensures damaged { (at : ℕ) → result ≡ Damaged at → halt ≡ Broken at }
     ensures no_input { (result ≡ InputFault → ⊥) × (result ≡ TooLong → ⊥) }
     ensures no_output { result ≡ OutputFault → ⊥ }
 {
     match halt {
-        Halt::HeapFull => Stop::HeapFull,
         Halt::DiskFault => Stop::DiskFault,
         Halt::NoMemory => Stop::NoMemory,
         Halt::Damaged { at } => Stop::Damaged { at },
@@ -65,7 +62,6 @@ fn tell<H: Host>(alloc: Global, host: &mut H, answer: &Answer) -> Result<(), Sto
     ensures stop { AnswerGoesOut answer.now (H.state host.old) (H.state host.new) }
     ensures tells { (H.state host.new).tells ≡ (H.state host.old).tells }
     ensures no_disk { IsErrOf result DiskFault → ⊥ }
-    ensures not_full { IsErrOf result HeapFull → ⊥ }
     ensures not_damaged { (at : ℕ) → IsErrOf result (Damaged at) → ⊥ }
     ensures no_input { (IsErrOf result InputFault → ⊥) × (IsErrOf result TooLong → ⊥) }
     ensures output_fault { IsErrOf result OutputFault → OutputFailed (H.state host.old) (H.state host.new) }
@@ -104,8 +100,6 @@ pub(crate) fn serve<H: Host, L: Ledger>(
     ensures bytes { OnOk result (WritesOne (H.state host.old) (H.state host.new)) }
     ensures least { OnOk result (WhereAttached session.old (H.state host.old) (λ g.
         steps.old + charge_of g (asked_of asked.now) ≤ steps.new)) }
-    ensures full { IsErrOf result HeapFull → WhereMade session.old (H.state host.old) (λ made g.
-        FillsBy made g (asked_of asked.now)) }
     ensures makes { OnOk result
         (MakesNodes session.old session.new (H.state host.old) (asked_of asked.now)) }
     // What is measured reads just its own, and from at most 8,000,000 nodes it takes no more steps than it may.
@@ -115,10 +109,14 @@ pub(crate) fn serve<H: Host, L: Ledger>(
     ensures most { OnOk result (WhereAttached session.old (H.state host.old) (λ g.
         IsMeasured g (asked_of asked.now) → StaysLoaded session.old
         → steps.new ≤ steps.old + steps_by g (asked_of asked.now))) }
+    // On every store it is applied to the live state, and the answer on that one goes out.
     ensures applied { OnOk result (AppliesHere session.old session.new (H.state host.old) (H.state host.new)
         (asked_of asked.now)) }
-    ensures full_live { IsErrOf result HeapFull
-        → FillsNow session.old (H.state host.old) (asked_of asked.now) }
+    ensures said { OnOk result (AnswersHere session.old (H.state host.old) (H.state host.new)
+        (asked_of asked.now)) }
+    ensures stop_live { StopsLive session.old (H.state host.old) (H.state host.new)
+        (answered (asked_of asked.now) ∷ []) }
+    ensures durable { OnOk result (StaysDurable (H.state host.old) (H.state host.new)) }
     ensures damaged { (at : ℕ) → IsErrOf result (Damaged at)
         → EndsDamaged session.old (H.state host.old) (H.state host.new) at }
     ensures stop { WhereAttached session.old (H.state host.old) (λ g.

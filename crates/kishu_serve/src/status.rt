@@ -31,8 +31,6 @@ pub enum Status {
     /// A line of a session reaches 2^24 bytes before its line feed, its input reaches 2^30 bytes, a
     /// notebook reaches 2^26, or the input of `cell` has more than 1,048,576 bytes.
     InputTooLong,
-    /// A cell, or the loading of a checkout, would have begun with more than 2^31 nodes.
-    HeapFull,
 }
 
 impl Status {
@@ -50,7 +48,6 @@ impl Status {
             Status::OutputFault => 7,
             Status::NoMemory => 8,
             Status::InputTooLong => 9,
-            Status::HeapFull => 11,
         }
     }
 
@@ -70,7 +67,6 @@ impl Status {
             Status::OutputFault => String::from_str(alloc, "output fault"),
             Status::NoMemory => String::from_str(alloc, "no memory"),
             Status::InputTooLong => String::from_str(alloc, "input too long"),
-            Status::HeapFull => String::from_str(alloc, "heap full"),
         }
     }
 }

@@ -3,7 +3,7 @@ ghost use Rattle.std.specs.Prelude.{◌≡◌, ◌≤◌, ◌<◌, ◌⊎◌, �
 ghost use Rattle.kishu_host.specs.Host.{Told, Keeps, ReadsMore};
 ghost use Rattle.kishu_input.specs.Sources.{InputFailed, TakesMoreThan, TakesAtMost};
 ghost use Rattle.kishu_store.specs.Graph.{Graph};
-ghost use Rattle.kishu_store.specs.Holds.{IsForeign};
+ghost use Rattle.kishu_store.specs.Holds.{Holds, IsForeign};
 ghost use Rattle.kishu_history.specs.Good.{IsGoodFileOf};
 ghost use Rattle.kishu_model.specs.Serve.{charges};
 ghost use Rattle.kishu_model.specs.Task.{session as lines};
@@ -13,20 +13,20 @@ ghost use Rattle.kishu_notebook.specs.declared.refusal.NotebookRefusal.{Notebook
 ghost use Rattle.kishu_journal.specs.Going.{ReadsAtMost};
 ghost use Rattle.kishu_live_laws.specs.Made.{opened_nodes};
 ghost use Rattle.kishu_session.specs.Faults.{DiskFailed};
-ghost use Rattle.kishu_session.specs.Sized.{most_kept};
+ghost use Rattle.kishu_session.specs.Renewing.{most_kept};
 ghost use Rattle.kishu_session.specs.Written.{begun, HoldsNone, Stays};
-ghost use Rattle.kishu_session.specs.declared.halt.Halt.TheVariants.{NotAJournal as Foreign, Damaged as Broken, DiskFault as NoDisk, HeapFull as Full};
-ghost use Rattle.kishu_serve.specs.EveryStore.{FillsHere};
-ghost use Rattle.kishu_serve.specs.Fillable.{asks_for, FillsFile};
+ghost use Rattle.kishu_session.specs.declared.halt.Halt.TheVariants.{NotAJournal as Foreign, Damaged as Broken, DiskFault as NoDisk};
 ghost use Rattle.kishu_serve.specs.Efforts.{AreMeasured, read_by_all, steps_by_all};
-ghost use Rattle.kishu_serve.specs.Filling.{FillsByAny, made_by_all};
+ghost use Rattle.kishu_serve.specs.EveryStore.{AnswersAll, StopsAll};
+ghost use Rattle.kishu_serve.specs.LiveAnswers.{AnswersFrom, EndsFrom};
+ghost use Rattle.kishu_serve.specs.Making.{made_by_all};
 ghost use Rattle.kishu_serve.specs.Headline.{IsWhole, IsRead, IsUnopened, ReadsWhole, longest_input, most_taken, writes_many, HasFault};
-ghost use Rattle.kishu_serve.specs.Promise.{OverGood, form_named, asked_by, ReadsInput, EndsInPart, StopsAsPromised, SettlesInPart, HoldsSome, PassesLimit, StaysWithin, RefusesNotebook, RefusesFor, FillsHeap, FillsHeapLive, IsDamaged, OverKnown};
+ghost use Rattle.kishu_serve.specs.Promise.{OverGood, form_named, asked_by, ReadsInput, EndsInPart, StopsAsPromised, SettlesInPart, HoldsSome, PassesLimit, StaysWithin, RefusesNotebook, RefusesFor, AllAnswered, FirstAnswered, IsDamaged, OverKnown};
 ghost use Rattle.kishu_serve.specs.Recorded.{Records, IsWritten};
 ghost use Rattle.kishu_serve.specs.Serving.{OutputFailed, IsOpen, EndsDamaged, WhereKnown, WhereKnownMade, StopsInPart};
-ghost use Rattle.kishu_serve.specs.Work.{HaveRoom, still_reads, records_many, taken_by, Knows, IsLimited, IsRead as IsReadFor};
-ghost use Rattle.kishu_serve.specs.declared.serving.Stop.TheVariants.{HeapFull as StopFull, DiskFault as StopDisk, InputFault as StopInput, OutputFault as StopOutput, TooLong as StopLong, Damaged as StopDamaged};
-ghost use Rattle.kishu_serve.specs.declared.status.Status.TheVariants.{Done, Usage, NotAJournal, Damaged, NotebookRefused, DiskFault, InputFault, OutputFault, NoMemory, InputTooLong, HeapFull};
+ghost use Rattle.kishu_serve.specs.Work.{to_do, HaveRoom, still_reads, answers_each, records_many, taken_by, Knows, IsLimited, IsRead as IsReadFor};
+ghost use Rattle.kishu_serve.specs.declared.serving.Stop.TheVariants.{DiskFault as StopDisk, InputFault as StopInput, OutputFault as StopOutput, TooLong as StopLong, Damaged as StopDamaged};
+ghost use Rattle.kishu_serve.specs.declared.status.Status.TheVariants.{Done, Usage, NotAJournal, Damaged, NotebookRefused, DiskFault, InputFault, OutputFault, NoMemory, InputTooLong};
 ghost use Rattle.kishu_serve.specs.declared.work.Unread.TheVariants.{Fault as SourceFault, TooLong as PastLimit, Refused as Unfit};
 
 use crate::Status;
@@ -50,15 +50,13 @@ fn served(outcome: Result<(), Stop>) -> Status
     ensures input_fault { result ≡ InputFault → outcome ≡ Err StopInput }
     ensures output_fault { result ≡ OutputFault → outcome ≡ Err StopOutput }
     ensures too_long { result ≡ InputTooLong → outcome ≡ Err StopLong }
-    ensures full { result ≡ HeapFull → outcome ≡ Err StopFull }
     ensures damaged { (at : ℕ) → result ≡ Damaged at → outcome ≡ Err (StopDamaged at) }
-    ensures these { (result ≡ Done) ⊎ (result ≡ NoMemory) ⊎ (result ≡ InputTooLong) ⊎ (result ≡ HeapFull)
+    ensures these { (result ≡ Done) ⊎ (result ≡ NoMemory) ⊎ (result ≡ InputTooLong)
         ⊎ (result ≡ DiskFault) ⊎ (result ≡ InputFault) ⊎ (result ≡ OutputFault)
         ⊎ ((at : ℕ) × (result ≡ Damaged at)) }
 {
     match outcome {
         Ok(()) => Status::Done,
-        Err(Stop::HeapFull) => Status::HeapFull,
         Err(Stop::DiskFault) => Status::DiskFault,
         Err(Stop::InputFault) => Status::InputFault,
         Err(Stop::OutputFault) => Status::OutputFault,
@@ -73,16 +71,14 @@ fn unopened(halt: Halt) -> Status
     ensures foreign { result ≡ NotAJournal → halt ≡ Foreign }
     ensures damaged { (at : ℕ) → result ≡ Damaged at → halt ≡ Broken at }
     ensures disk_fault { result ≡ DiskFault → halt ≡ NoDisk }
-    ensures full { result ≡ HeapFull → halt ≡ Full }
     ensures disk { halt ≡ NoDisk → result ≡ DiskFault }
     ensures these { (result ≡ NotAJournal) ⊎ ((at : ℕ) × (result ≡ Damaged at)) ⊎ (result ≡ DiskFault)
-        ⊎ (result ≡ HeapFull) ⊎ (result ≡ NoMemory) }
+        ⊎ (result ≡ NoMemory) }
 {
     match halt {
         Halt::NotAJournal => Status::NotAJournal,
         Halt::Damaged { at } => Status::Damaged { at },
         Halt::DiskFault => Status::DiskFault,
-        Halt::HeapFull => Status::HeapFull,
         Halt::NoMemory | Halt::Closed => Status::NoMemory,
     }
 }
@@ -126,9 +122,10 @@ fn carry_out<H: Host, S: Source, L: Ledger>(
     ensures least { OnOk result (
         WhereKnown work (S.source source.old) session.old (H.state host.old) (λ g items.
         steps.old + charges g items ≤ steps.new)) }
-    ensures full { IsErrOf result StopFull
-        → WhereKnownMade work (S.source source.old) session.old (H.state host.old) (λ made g items.
-        FillsByAny made g items) }
+    ensures whole_live { IsOk result ⊎ IsErrOf result StopLong → answers_each work ≡ true
+        → AnswersAll work (S.source source.old) session.old (H.state host.old) (H.state host.new) }
+    ensures stop_live { answers_each work ≡ true
+        → StopsAll work (S.source source.old) session.old (H.state host.old) (H.state host.new) }
     ensures loads { OnOk result (
         WhereKnown work (S.source source.old) session.old (H.state host.old) (λ g items.
         AreMeasured g items
@@ -137,8 +134,6 @@ fn carry_out<H: Host, S: Source, L: Ledger>(
         WhereKnownMade work (S.source source.old) session.old (H.state host.old) (λ made g items.
         AreMeasured g items → made + made_by_all g items ≤ most_kept
         → steps.new ≤ steps.old + steps_by_all g items)) }
-    ensures full_live { IsErrOf result StopFull → Knows work (S.source source.old)
-        → FillsHere session.old (H.state host.old) (asks_for work (S.source source.old).left) }
     ensures damaged { (at : ℕ) → IsErrOf result (StopDamaged at)
         → EndsDamaged session.old (H.state host.old) (H.state host.new) at }
 
@@ -182,6 +177,12 @@ fn run_work<H: Host, S: Source, L: Ledger>(
     ensures whole { (result ≡ Done) ⊎ (result ≡ InputTooLong)
         → OverKnown work (S.source source.old) (H.state host.old) (λ g items.
         IsWhole (H.state host.old) (H.state host.new) g items) }
+    ensures whole_live { (result ≡ Done) ⊎ (result ≡ InputTooLong)
+        → answers_each work ≡ true → Knows work (S.source source.old) → Told (H.state host.old)
+        (AnswersFrom (λ g. to_do work g (S.source source.old).left) (H.state host.old) (H.state host.new)) }
+    ensures part_live { answers_each work ≡ true → Knows work (S.source source.old)
+        → Told (H.state host.old) ((g : Graph) → Holds (H.state host.old).file g → EndsFrom
+        (λ g. to_do work g (S.source source.old).left) (H.state host.old) (H.state host.new) g) }
     ensures stop { OverKnown work (S.source source.old) (H.state host.old) (λ g items.
         StopsAsPromised (H.state host.old) (H.state host.new) g items) }
     ensures settled { OverKnown work (S.source source.old) (H.state host.old) (λ g items.
@@ -204,12 +205,8 @@ fn run_work<H: Host, S: Source, L: Ledger>(
     ensures input_fault { result ≡ InputFault
         → (still_reads work ≡ true) × InputFailed (S.source source.old) (S.source source.new) }
     ensures complete { Told (H.state host.old) ((g : Graph) → IsGoodFileOf (H.state host.old).file g
-        → (result ≡ Done) ⊎ (result ≡ NoMemory) ⊎ (result ≡ InputTooLong) ⊎ (result ≡ HeapFull)
+        → (result ≡ Done) ⊎ (result ≡ NoMemory) ⊎ (result ≡ InputTooLong)
         ⊎ (result ≡ DiskFault) ⊎ (result ≡ InputFault) ⊎ (result ≡ OutputFault)) }
-    ensures full { result ≡ HeapFull → OverKnown work (S.source source.old) (H.state host.old) (λ g items.
-        FillsByAny (opened_nodes g g.head.commit) g items) }
-    ensures full_live { result ≡ HeapFull → Told (H.state host.old)
-        (FillsFile work (S.source source.old) (begun (H.state host.old).file)) }
     ensures loads { result ≡ Done → OverKnown work (S.source source.old) (H.state host.old) (λ g items.
         AreMeasured g items
         → ReadsAtMost (H.state host.old).reads (H.state host.new).reads
@@ -278,6 +275,17 @@ pub fn kishu<H: Host, S: Source, L: Ledger>(
         IsWhole (H.state host.old) (H.state host.new) g (asked_by words.now (S.source source.old) g)
         × IsRead (form_named words.now) (S.source source.new).left) }
 
+    // On every store that holds a graph, for `session`, `cell` and words that are one request: at Done, and
+    // where the input of a session reaches a limit, all requests before are answered on the live state, the
+    // first on the one that is loaded for the head, and they lead to the file.
+    ensures answered { (result ≡ Done) ⊎ ((form_named words.now ≡ Some lines) × (result ≡ InputTooLong))
+        → AllAnswered (form_named words.now) (S.source source.old) (H.state host.old) (H.state host.new) }
+
+    // At each exit of these so are the first of them, the last in part, and the file holds the graph to which
+    // they lead.
+    ensures first_answered { FirstAnswered (form_named words.now) (S.source source.old) (H.state host.old)
+        (H.state host.new) }
+
     // A stop at any moment leaves what a stop at the start could leave, or so.
     ensures stop { OverGood (H.state host.old) (S.source source.old) (λ g.
         StopsAsPromised (H.state host.old) (H.state host.new) g
@@ -336,24 +344,12 @@ pub fn kishu<H: Host, S: Source, L: Ledger>(
         → HasFault (form_named words.now) (S.source source.old) fault
         → RefusesFor fault result ⊎ (result ≡ InputTooLong) ⊎ (result ≡ InputFault) ⊎ (result ≡ NoMemory) }
 
-    // Over a good store the heap is full only where a cell, or the loading of a checkout, would begin with
-    // more than 2^31 nodes made by the pictures that were loaded and the cells that were run in this call, as
-    // the machine makes them that replays each commit from empty.
-    ensures heap_full { result ≡ HeapFull
-        → FillsHeap (form_named words.now) (H.state host.old) (S.source source.old) }
-
-    // On every store the heap is full only where a cell, or the loading of a checkout, would begin with more
-    // than 2^31 nodes of the pictures that were loaded and the cells that were run in this call.
-    ensures heap_full_live { result ≡ HeapFull
-        → FillsHeapLive (form_named words.now) (H.state host.old) (S.source source.old) }
-
-    // Where no fault came, it does its work, unless memory ran out, the input is too long or no notebook, or
-    // the heap is full.
+    // Where no fault came, it does its work, unless memory ran out, or the input is too long or no notebook.
     ensures complete { OverGood (H.state host.old) (S.source source.old) (λ g. IsSome (form_named words.now)
         → (DiskFailed (H.state host.old) (H.state host.new) → ⊥)
         → (OutputFailed (H.state host.old) (H.state host.new) → ⊥)
         → (InputFailed (S.source source.old) (S.source source.new) → ⊥)
-        → (result ≡ Done) ⊎ (result ≡ NoMemory) ⊎ (result ≡ InputTooLong) ⊎ (result ≡ HeapFull)
+        → (result ≡ Done) ⊎ (result ≡ NoMemory) ⊎ (result ≡ InputTooLong)
         ⊎ RefusesNotebook result) }
 
     // Over a file that holds no graph it isn't done, the file stays, and nothing is put out.

@@ -4,7 +4,7 @@ ghost use Rattle.kishu_language.specs.Limits.{longest_text};
 ghost use Rattle.kishu_store.specs.Graph.{Graph};
 ghost use Rattle.kishu_model.specs.requests.Cells.{HasRoom};
 ghost use Rattle.kishu_model.specs.Serve.{answered};
-ghost use Rattle.kishu_model.specs.Task.{one_cell, session, cell_request, notebook_limit};
+ghost use Rattle.kishu_model.specs.Task.{session, cell_request, notebook_limit};
 ghost use Rattle.kishu_model.specs.Values.{request_of};
 ghost use Rattle.kishu_model.specs.notebooks.Notebook.{Fault, opening};
 ghost use Rattle.kishu_notebook.specs.Values.{fault_of};
@@ -12,10 +12,9 @@ ghost use Rattle.kishu_notebook.specs.declared.refusal.NotebookRefusal.{Notebook
 ghost use Rattle.kishu_words.specs.Commands.{form_by};
 ghost use Rattle.kishu_input.specs.Sources.{InputFailed, IsAllLeft, TakesMoreThan, TakesAtMost};
 ghost use Rattle.kishu_serve.specs.Asking.{asked_of};
-ghost use Rattle.kishu_serve.specs.Fillable.{asks_for, AsksHere};
 ghost use Rattle.kishu_serve.specs.Headline.{ReadsWhole, longest_input, most_taken, writes_many, HasFault};
 ghost use Rattle.kishu_serve.specs.Notebooks.{IsReadAs};
-ghost use Rattle.kishu_serve.specs.Work.{to_do, HaveRoom, still_reads, records_many, is_session, taken_by, AsksFor, IsOneCell, IsSomeCell, KeepsLimit, WithinWhole};
+ghost use Rattle.kishu_serve.specs.Work.{to_do, HaveRoom, still_reads, answers_each, records_many, is_session, one_by_one, taken_by, AsksFor, KeepsLimit, WithinWhole};
 ghost use Rattle.kishu_serve.specs.declared.work.Unread.TheVariants.{Fault as SourceFault, TooLong, Refused};
 
 use crate::asking::{Asked, Requests};
@@ -78,7 +77,6 @@ fn read_whole<S: Source>(alloc: Global, source: &mut S, most: usize) -> Result<V
 
 /// What the whole input asks for as one cell.
 fn cell<S: Source>(alloc: Global, source: &mut S) -> Result<Asked, Unread>
-    ensures cell { IfOk result (λ asked. IsSomeCell (asked_of asked)) }
     ensures asked { IfOk result (λ asked. (S.source source.old).tells ≡ true
         → asked_of asked ≡ cell_request (S.source source.old).left) }
     ensures room { IfOk result (λ asked. HasRoom (asked_of asked)) }
@@ -126,9 +124,9 @@ impl Work {
         requires { HasRoom (request_of request) }
         ensures asks { (g : Graph) (left : List ℕ)
             → to_do result g left ≡ answered (request_of request) ∷ [] }
-        ensures asks_here { (left : List ℕ) → asks_for result left ≡ answered (request_of request) ∷ [] }
         ensures room { HaveRoom result }
         ensures lines { still_reads result ≡ false }
+        ensures each { answers_each result ≡ true }
         ensures many { records_many result ≡ false }
         ensures none_taken { taken_by result ≡ 0 }
     {
@@ -143,13 +141,11 @@ impl Work {
     ) -> Result<Work, Unread>
         ensures asked { IfOk result (λ work.
             AsksFor (form_by command) (S.source source.old) work (S.source source.new)) }
-        ensures asked_here { IfOk result (λ work.
-            AsksHere (form_by command) (S.source source.old) work (S.source source.new)) }
-        ensures cell { IfOk result (λ work. form_by command ≡ one_cell → IsOneCell work) }
         ensures limits { IfOk result (λ work.
             form_by command ≡ session → KeepsLimit (S.source source.old) work (S.source source.new)) }
         ensures room { IfOk result (λ work. HaveRoom work) }
         ensures lines { IfOk result (λ work. still_reads work ≡ is_session (form_by command)) }
+        ensures each { IfOk result (λ work. answers_each work ≡ one_by_one (form_by command)) }
         ensures many { IfOk result (λ work. records_many work ≡ writes_many (Some (form_by command))) }
         ensures none_taken { IfOk result (λ work. taken_by work ≡ 0) }
         ensures whole { OnOk result (ReadsWhole (Some (form_by command)) → WithinWhole

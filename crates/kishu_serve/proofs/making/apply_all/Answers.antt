@@ -1,12 +1,9 @@
-use Rattle.std.proofs.Common.{List, map, true, Ok, refl, ◌∙◌, ap, arith}
+use Rattle.std.proofs.Common.{true, Ok, refl, ◌∙◌, ap, arith}
 use Rattle.std.proofs.lemmas.Result.{err_from_is_err_and}
-use Rattle.kishu_model.specs.Request.{Request}
-use Rattle.kishu_model.specs.Serve.{answered}
 use Rattle.kishu_model.specs.Values.{request_of}
 use Rattle.kishu_gen.specs.Scripts.{to_come}
 use Rattle.kishu_serve.proofs.CellRuns.{recorded-more}
-use Rattle.kishu_serve.proofs.LiveRuns.{comes-here, answered-full, answered-more}
-use Rattle.kishu_serve.proofs.MadeRuns.{OnTheWay, made-stop, made-fills, made-more, taken-first, taken-along, taken-last}
+use Rattle.kishu_serve.proofs.MadeRuns.{OnTheWay, made-stop, made-more, taken-first, taken-along, taken-last}
 use Rattle.kishu_serve.proofs.making.apply_all.Given.{Over}
 use Rattle.kishu_serve.proofs.making.apply_all.Goals.{In_ok-apply_silently}
 use Rattle.kishu_serve.proofs.making.apply_all.Goals as goal
@@ -27,19 +24,14 @@ turn g c =
           recorded-more true (g.H.Host.state c.args.host.now).file (g.H.Host.state c.loop-request.host).file
           (g.H.Host.state c.apply_silently.new.host).file refl
           (before.recorded told) (ran.bytes (before.tells ∙ told));
-      comes = λ told g' a made0 room.
-          let t = before.comes told g' a made0 room in
+      comes = λ told g' a.
+          let t = before.comes told g' a in
           let now_told = before.tells ∙ told in
           made-more t (request_of c.in-Some.request) (to_come c.next_made.new.script) next
           (g.H.Host.state c.apply_silently.new.host) c.apply_silently.new.session c.apply_silently.new.summary c.apply_silently.new.steps
           (ran.attached now_told t.so.now t.so.attached) c.apply_silently.ensures.out (ran.taken now_told t.so.now t.so.attached)
           (ran.least now_told t.so.now t.so.attached)
-          (c.apply_silently.ensures.stop now_told t.so.now t.so.attached) (ran.makes now_told t.so.now t.so.attached);
-      live = λ told lives g' cs a gives.
-          let so = before.live told lives g' cs a gives in
-          answered-more so (request_of c.in-Some.request) (map answered (to_come c.next_made.new.script))
-          (ap (λ (qs : List Request). map answered qs) next)
-          (g.H.Host.state c.apply_silently.new.host) c.apply_silently.new.session (ran.applied (before.tells ∙ told) so.lives so.now so.changes so.at_end so.gives);
+          (c.apply_silently.ensures.stop now_told t.so.now t.so.attached);
       tells = c.apply_silently.ensures.tells ∙ before.tells;
       disk = omega (arith, before.disk, c.apply_silently.ensures.disk);
       outs = omega (arith, before.outs, c.apply_silently.ensures.outs);
@@ -82,8 +74,7 @@ loop-request-init g c =
       going = c.requires.going;
       stands = c.requires.stands;
       recorded = λ told. (0, refl);
-      comes = λ told g' a made0 room. taken-first s session g' first c.args.summary.now made0 c.args.steps.now a room c.requires.none_taken;
-      live = comes-here s session (map answered first);
+      comes = λ told g' a. taken-first s session g' first c.args.summary.now c.args.steps.now a c.requires.none_taken;
       tells = refl;
       disk = omega arith;
       outs = omega arith;
@@ -105,25 +96,6 @@ returns-in_err-apply_silently-clause-stop g c told g' a =
     made-stop t (request_of c.in-Some.request) (to_come c.next_made.new.script) next (g.H.Host.state c.apply_silently.new.host)
     (c.apply_silently.ensures.stop (before.tells ∙ told) t.so.now t.so.attached)
 
-pub returns-in_err-apply_silently-clause-full : goal.returns-in_err-apply_silently-clause-full
-returns-in_err-apply_silently-clause-full g c is_full told g' a made room =
-    let before = c.loop-request.invariant in
-    let t = before.comes told g' a made room in
-    let next = rw c.in-Some.is at c.in_ok-request.ensures.next in
-    let p = err_from_is_err_and c.from_residual-in_err-apply_silently.result c.from_residual-in_err-apply_silently.ensures.1 in
-    made-fills t (request_of c.in-Some.request) (to_come c.next_made.new.script) next (g.H.Host.state c.apply_silently.new.host)
-    (c.in_err-apply_silently.ensures.full (cc (is_full, p.1, p.2)) (before.tells ∙ told) t.so.now t.so.attached t.so.made t.so.room)
-
-pub returns-in_err-apply_silently-clause-full_live : goal.returns-in_err-apply_silently-clause-full_live
-returns-in_err-apply_silently-clause-full_live g c is_full told lives g' cs a gives =
-    let before = c.loop-request.invariant in
-    let so = before.live told lives g' cs a gives in
-    let next = rw c.in-Some.is at c.in_ok-request.ensures.next in
-    let p = err_from_is_err_and c.from_residual-in_err-apply_silently.result c.from_residual-in_err-apply_silently.ensures.1 in
-    answered-full so (request_of c.in-Some.request) (map answered (to_come c.next_made.new.script))
-    (ap (λ (qs : List Request). map answered qs) next)
-    (c.in_err-apply_silently.ensures.full_live (cc (is_full, p.1, p.2)) (before.tells ∙ told) so.now so.changes so.at_end so.gives)
-
 pub returns-in_err-apply_silently-clause-damaged : goal.returns-in_err-apply_silently-clause-damaged
 returns-in_err-apply_silently-clause-damaged g c at is =
     let before = c.loop-request.invariant in
@@ -142,6 +114,6 @@ pub returns-clause-stop : goal.returns-clause-stop
 returns-clause-stop g c told g' a = (taken-along c.loop-request.invariant told g' a).so.comes.stop
 
 pub returns-clause-applied : goal.returns-clause-applied
-returns-clause-applied g c told g' a made room =
+returns-clause-applied g c told g' a =
     let none = c.in_ok-request.ensures.end (ap Ok c.in_default.is) in
-    taken-last (to_come c.args.script.now) none.0 (c.loop-request.invariant.comes told g' a made room)
+    taken-last (to_come c.args.script.now) none.0 (c.loop-request.invariant.comes told g' a)

@@ -1,7 +1,6 @@
-use Rattle.std.proofs.Common.{true, ◌∙◌, arith}
+use Rattle.std.proofs.Common.{true, ◌∙◌}
 use Rattle.std.proofs.lemmas.Result.{err_from_is_err_and}
 use Rattle.kishu_model.specs.generated.Run.{summary_of}
-use Rattle.kishu_serve.proofs.Chain.{nodes_of}
 use Rattle.kishu_serve.proofs.CellRuns.{last-stop, last-whole, last-least, file-kept}
 use Rattle.kishu_serve.proofs.MadeRuns.{last-known}
 use Rattle.kishu_serve.proofs.Parts.{attached-kept, held, and_then}
@@ -9,7 +8,7 @@ use Rattle.kishu_serve.proofs.making.run_script.Goals as goal
 
 pub returns-clause-stop : goal.returns-clause-stop
 returns-clause-stop g c told g' a =
-    let r = c.in_ok-apply_all.ensures.applied told g' a (nodes_of c.args.session.now) (omega arith) in
+    let r = c.in_ok-apply_all.ensures.applied told g' a in
     last-stop (summary_of r.2.now r.0) (last-known r.0 r.2) (g.H.Host.state c.put_summary.new.host)
     (c.put_summary.ensures.stop (c.apply_all.ensures.tells ∙ told) r.2.now r.2.attached r.0 r.1)
 
@@ -24,7 +23,7 @@ returns-clause-whole g c =
     let st = g.H.Host.state in
     and_then c.put_summary.result c.put_summary.ensures.out
     (λ out told g' a.
-    let r = c.in_ok-apply_all.ensures.applied told g' a (nodes_of c.args.session.now) (omega arith) in
+    let r = c.in_ok-apply_all.ensures.applied told g' a in
     let put = c.put_summary.ensures in
     let now_told = c.apply_all.ensures.tells ∙ told in
     last-whole (summary_of r.2.now r.0) (last-known r.0 r.2) (st c.put_summary.new.host) (put.stop now_told r.2.now r.2.attached r.0 r.1)
@@ -41,7 +40,7 @@ returns-clause-least g c =
     let st = g.H.Host.state in
     and_then c.put_summary.result c.put_summary.ensures.out
     (λ out told g' a.
-    let r = c.in_ok-apply_all.ensures.applied told g' a (nodes_of c.args.session.now) (omega arith) in
+    let r = c.in_ok-apply_all.ensures.applied told g' a in
     let now_told = c.apply_all.ensures.tells ∙ told in
     last-least (summary_of r.2.now r.0) (last-known r.0 r.2) (st c.put_summary.new.host)
     (c.put_summary.ensures.stop now_told r.2.now r.2.attached r.0 r.1) (out now_told r.2.now r.2.attached r.0 r.1 now_told))

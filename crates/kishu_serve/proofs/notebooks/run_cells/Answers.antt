@@ -7,7 +7,7 @@ use Rattle.kishu_notebook.specs.Views.{data_of}
 use Rattle.kishu_serve.specs.Coming.{CellsAreRun}
 use Rattle.kishu_serve.specs.Notebooks.{run_of}
 use Rattle.kishu_serve.specs.Recorded.{Records}
-use Rattle.kishu_serve.specs.Serving.{WhereAttached, WhereMade, StopsInPart}
+use Rattle.kishu_serve.specs.Serving.{WhereAttached, StopsInPart}
 use Rattle.kishu_serve.proofs.CellRuns.{fewer-texts}
 use Rattle.kishu_serve.proofs.notebooks.run_cells.Goals as goal
 
@@ -19,8 +19,8 @@ returns-then-together-clause-comes g c =
     let st = g.H.Host.state in
     let s0 = st c.args.host.now in
     subst
-    (λ (b : Bool). OnOk c.run_together.result (WhereMade c.args.session.now s0 (λ made g'.
-    CellsAreRun s0 (st c.run_together.new.host) c.run_together.new.session g' (run_of b g' (map rc_str_bytes c.args.texts.items) (data_of c.args.notebook.now)) c.run_together.new.notebook made c.args.steps.now c.run_together.new.steps)))
+    (λ (b : Bool). OnOk c.run_together.result (WhereAttached c.args.session.now s0 (λ g'.
+    CellsAreRun s0 (st c.run_together.new.host) c.run_together.new.session g' (run_of b g' (map rc_str_bytes c.args.texts.items) (data_of c.args.notebook.now)) c.run_together.new.notebook c.args.steps.now c.run_together.new.steps)))
     (sym c.if-together.true) c.run_together.ensures.comes
 
 pub returns-else-together-clause-comes : goal.returns-else-together-clause-comes
@@ -29,12 +29,12 @@ returns-else-together-clause-comes g c =
     let s0 = st c.args.host.now in
     let ran =
     subst
-    (λ (ts : List (RcStr Global)). OnOk c.run_each.result (WhereMade c.args.session.now s0 (λ made g'.
-    CellsAreRun s0 (st c.run_each.new.host) c.run_each.new.session g' (run_of false g' (map rc_str_bytes ts) (data_of c.args.notebook.now)) c.run_each.new.notebook made c.args.steps.now c.run_each.new.steps)))
+    (λ (ts : List (RcStr Global)). OnOk c.run_each.result (WhereAttached c.args.session.now s0 (λ g'.
+    CellsAreRun s0 (st c.run_each.new.host) c.run_each.new.session g' (run_of false g' (map rc_str_bytes ts) (data_of c.args.notebook.now)) c.run_each.new.notebook c.args.steps.now c.run_each.new.steps)))
     c.deref.ensures.value c.run_each.ensures.comes in
     subst
-    (λ (b : Bool). OnOk c.run_each.result (WhereMade c.args.session.now s0 (λ made g'.
-    CellsAreRun s0 (st c.run_each.new.host) c.run_each.new.session g' (run_of b g' (map rc_str_bytes c.args.texts.items) (data_of c.args.notebook.now)) c.run_each.new.notebook made c.args.steps.now c.run_each.new.steps)))
+    (λ (b : Bool). OnOk c.run_each.result (WhereAttached c.args.session.now s0 (λ g'.
+    CellsAreRun s0 (st c.run_each.new.host) c.run_each.new.session g' (run_of b g' (map rc_str_bytes c.args.texts.items) (data_of c.args.notebook.now)) c.run_each.new.notebook c.args.steps.now c.run_each.new.steps)))
     (sym c.if-together.false) ran
 
 pub returns-then-together-clause-bytes : goal.returns-then-together-clause-bytes

@@ -1,17 +1,14 @@
-use Rattle.std.proofs.Common.{◌≡◌, ◌≤◌, ℕ, true, false, map}
+use Rattle.std.proofs.Common.{◌≡◌, ◌≤◌, true, false, map}
 use Rattle.std.specs.Rc.{rc_str_bytes}
 use Rattle.kishu_host.specs.Host.{Told}
 use Rattle.kishu_store.specs.Graph.{Graph}
 use Rattle.kishu_notebook.specs.Views.{data_of}
 use Rattle.kishu_session.specs.Attached.{IsAttached}
 use Rattle.kishu_serve.specs.Coming.{ComesTo}
-use Rattle.kishu_serve.specs.Filling.{cells_asked}
 use Rattle.kishu_serve.specs.Notebooks.{run_of}
 use Rattle.kishu_serve.specs.Recorded.{Records}
 use Rattle.kishu_serve.specs.Serving.{IsOpen}
-use Rattle.kishu_serve.proofs.Chain.{nodes_of}
 use Rattle.kishu_serve.proofs.CellRuns.{left_from}
-use Rattle.kishu_serve.proofs.LiveRuns.{ComesHere, cells_from}
 use Rattle.kishu_serve.proofs.notebooks.run_each.Given as goal
 
 abbrev pub invariant-loop-text : goal.invariant-loop-text
@@ -24,9 +21,8 @@ invariant-loop-text g l =
       stands : IsOpen l.session (st l.host);
       recorded : Records true s0 (st l.host);
       place : l.at ≡ l.text-index;
-      comes : Told s0 ((g' : Graph) → IsAttached l.fn.session s0 g' → (made : ℕ) → nodes_of l.fn.session ≤ made
-          → ComesTo s0 (st l.host) l.session g' (run_of false g' texts (data_of l.fn.notebook)) (left_from l.text-index texts (data_of l.notebook)) made l.fn.steps l.steps);
-      live : ComesHere s0 (st l.host) l.fn.session l.session (cells_asked false texts) (cells_from l.text-index texts);
+      comes : Told s0 ((g' : Graph) → IsAttached l.fn.session s0 g'
+          → ComesTo s0 (st l.host) l.session g' (run_of false g' texts (data_of l.fn.notebook)) (left_from l.text-index texts (data_of l.notebook)) l.fn.steps l.steps);
       tells : (st l.host).tells ≡ s0.tells;
       disk : s0.disk_faults ≤ (st l.host).disk_faults;
       outs : s0.out_faults ≤ (st l.host).out_faults;

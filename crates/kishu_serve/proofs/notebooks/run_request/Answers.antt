@@ -1,12 +1,11 @@
-use Rattle.std.proofs.Common.{refl, sym, ◌∙◌, IsErrOf}
+use Rattle.std.proofs.Common.{sym, ◌∙◌, IsErrOf}
 use Rattle.kishu_store.specs.Tables.{change_of}
 use Rattle.kishu_model.specs.Serve.{silent}
 use Rattle.kishu_model.specs.Values.{request_of}
 use Rattle.kishu_live_laws.specs.OnStates.{after_on}
 use Rattle.kishu_session.specs.Lives.{state_of}
-use Rattle.kishu_session.specs.declared.halt.Halt.TheVariants.{Damaged, HeapFull}
+use Rattle.kishu_session.specs.declared.halt.Halt.TheVariants.{Damaged}
 use Rattle.kishu_serve.proofs.Damages.{ends-damaged}
-use Rattle.kishu_serve.proofs.LiveRuns.{applied-here, fills-now}
 use Rattle.kishu_serve.proofs.Parts.{at-end-gives, applied-stop}
 use Rattle.kishu_serve.proofs.notebooks.run_request.Goals as goal
 
@@ -43,28 +42,3 @@ returns-in-Err-clause-damaged g c at is =
     let stop = c.stop_of.ensures.damaged at (cc is) in
     let halt : IsErrOf c.apply.result (Damaged at) = cc (c.in-Err.is, stop) in
     ends-damaged c.args.session.now (st c.args.host.now) (st c.apply.new.host) c.args.request.now at c.requires.stands (c.apply.ensures.damaged_stays at halt) (c.apply.ensures.damaged at halt)
-
-pub returns-clause-applied : goal.returns-clause-applied
-returns-clause-applied g c told lives g' cs a gives =
-    let st = g.H.Host.state in
-    let s1 = st c.apply.new.host in
-    applied-here c.args.session.now c.apply.new.self (st c.args.host.now) s1 s1 (request_of c.args.request.now) g' cs refl refl (c.apply.ensures.tells ∙ told)
-    (c.in-Ok.ensures.at_end told g' cs a gives) (c.in-Ok.ensures.live lives) (c.in-Ok.ensures.bytes told g' a) (c.in-Ok.ensures.goes_on told g' cs a gives)
-
-pub returns-in-Err-clause-full_live : goal.returns-in-Err-clause-full_live
-returns-in-Err-clause-full_live g c is =
-    let full : IsErrOf c.apply.result HeapFull = cc (c.in-Err.is, c.stop_of.ensures.full (cc is)) in
-    fills-now c.args.session.now (g.H.Host.state c.args.host.now) (request_of c.args.request.now) (c.apply.ensures.heap_full full)
-
-pub returns-clause-goes_on_live : goal.returns-clause-goes_on_live
-returns-clause-goes_on_live g c told g' cs a gives = rw (c.in-Ok.ensures.answered_here told g' cs a gives) at c.goes_on.ensures
-
--- ---- nodes
-
-pub returns-in-Err-clause-full : goal.returns-in-Err-clause-full
-returns-in-Err-clause-full g c is =
-    let full : IsErrOf c.apply.result HeapFull = cc (c.in-Err.is, c.stop_of.ensures.full (cc is)) in
-    c.apply.ensures.full full
-
-pub returns-clause-makes : goal.returns-clause-makes
-returns-clause-makes g c = c.in-Ok.ensures.makes

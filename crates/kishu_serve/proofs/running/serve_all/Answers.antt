@@ -1,8 +1,8 @@
 use Rattle.std.proofs.Common.{◌≡◌, false, Ok, Err, refl, ◌∙◌, ap, arith}
 use Rattle.std.proofs.lemmas.Result.{err_from_is_err_and}
 use Rattle.kishu_serve.specs.Asking.{to_come, asked_of, reads_lines, Knows}
-use Rattle.kishu_serve.proofs.Chain.{Along, along-first, known-along, stopped-long, none-recorded, more-recorded, turn-stop, turn-full, served-more, served-along, served-whole, served-least, served-loads, served-most}
-use Rattle.kishu_serve.proofs.LiveRuns.{ComesHere, comes-here, answered-full, answered-more}
+use Rattle.kishu_serve.proofs.Chain.{Along, along-first, known-along, stopped-long, none-recorded, more-recorded, turn-stop, served-more, served-along, served-whole, served-least, served-loads, served-most}
+use Rattle.kishu_serve.proofs.LiveRuns.{ComesHere, comes-here, answered-more, answered-all, first-stops}
 use Rattle.kishu_serve.proofs.running.serve_all.Given.{Over}
 use Rattle.kishu_serve.proofs.running.serve_all.Goals.{In_ok-serve}
 use Rattle.kishu_serve.proofs.running.serve_all.Goals as goal
@@ -54,10 +54,13 @@ live : (g : Over) (c : In_ok-serve g) → Knows c.args.requests.now (g.S.Source.
 live g c known told lives graph cs a gives =
     let before = c.loop-asked.invariant in
     let next = rw c.in-Some.is at c.in_ok-asked.ensures.next in
+    let now_told = before.along.host_tells ∙ told in
     let so = before.live known told lives graph cs a gives in
     answered-more so (asked_of c.in-Some.asked) (to_come c.next.new.self (g.S.Source.source c.next.new.source).left)
     (next (known-along before.along known)).0
-    (g.H.Host.state c.serve.new.host) c.serve.new.session (c.in_ok-serve.ensures.applied (before.along.host_tells ∙ told) so.lives so.now so.changes so.at_end so.gives)
+    (g.H.Host.state c.serve.new.host) c.serve.new.session (c.in_ok-serve.ensures.applied now_told so.lives so.now so.changes so.at_end so.gives)
+    (c.in_ok-serve.ensures.said now_told so.now so.changes so.at_end so.gives) (c.in_ok-serve.ensures.durable now_told)
+    (c.serve.ensures.stop_live now_told so.lives so.now so.changes so.at_end so.gives)
 
 unread : (g : Over) (c : In_ok-serve g) → reads_lines c.args.requests.now ≡ false → c.next.new.source ≡ c.args.source.now
 unread g c none = c.next.ensures.alone (c.loop-asked.invariant.along.lines ∙ none) ∙ c.loop-asked.invariant.alone none
@@ -136,24 +139,14 @@ returns-in_err-serve-clause-stop g c told known graph a =
     turn-stop served (g.H.Host.state c.serve.new.host) (asked_of c.in-Some.asked) (to_come c.next.new.self (g.S.Source.source c.next.new.source).left) (next (known-along before known)).0 known
     (c.serve.ensures.stop (before.host_tells ∙ told) served.now served.attached)
 
-pub returns-in_err-serve-clause-full : goal.returns-in_err-serve-clause-full
-returns-in_err-serve-clause-full g c is_full told known graph a made room =
-    let before = c.loop-asked.invariant.along in
-    let served = before.served told graph a made room in
-    let next = rw c.in-Some.is at c.in_ok-asked.ensures.next in
-    let p = err_from_is_err_and c.from_residual-in_err-serve.result c.from_residual-in_err-serve.ensures.1 in
-    turn-full served (g.H.Host.state c.serve.new.host) (asked_of c.in-Some.asked) (to_come c.next.new.self (g.S.Source.source c.next.new.source).left) (next (known-along before known)).0 known
-    (c.in_err-serve.ensures.full (cc (is_full, p.1, p.2)) (before.host_tells ∙ told) served.now served.attached served.made served.room)
-
-pub returns-in_err-serve-clause-full_live : goal.returns-in_err-serve-clause-full_live
-returns-in_err-serve-clause-full_live g c is_full known told lives graph cs a gives =
+pub returns-in_err-serve-clause-stop_live : goal.returns-in_err-serve-clause-stop_live
+returns-in_err-serve-clause-stop_live g c known told lives graph cs a gives only =
     let before = c.loop-asked.invariant in
-    let next = rw c.in-Some.is at c.in_ok-asked.ensures.next in
-    let p = err_from_is_err_and c.from_residual-in_err-serve.result c.from_residual-in_err-serve.ensures.1 in
     let so = before.live known told lives graph cs a gives in
-    answered-full so (asked_of c.in-Some.asked) (to_come c.next.new.self (g.S.Source.source c.next.new.source).left)
-    (next (known-along before.along known)).0
-    (c.in_err-serve.ensures.full_live (cc (is_full, p.1, p.2)) (before.along.host_tells ∙ told) so.now so.changes so.at_end so.gives)
+    let next = rw c.in-Some.is at c.in_ok-asked.ensures.next in
+    first-stops so (asked_of c.in-Some.asked) (to_come c.next.new.self (g.S.Source.source c.next.new.source).left) (next (known-along before.along known)).0
+    (g.H.Host.state c.serve.new.host) only
+    (c.serve.ensures.stop_live (before.along.host_tells ∙ told) so.lives so.now so.changes so.at_end so.gives (so.durable only))
 
 pub returns-in_err-serve-clause-damaged : goal.returns-in_err-serve-clause-damaged
 returns-in_err-serve-clause-damaged g c at is =
@@ -182,6 +175,26 @@ returns-clause-whole g c done told known graph a =
     let before = c.loop-asked.invariant.along in
     let none = c.in_ok-asked.ensures.end (ap Ok c.in_default.is) (known-along before known) in
     served-whole (served-along before told graph a) none.0 known
+
+pub returns-in_err-asked-clause-whole_live : goal.returns-in_err-asked-clause-whole_live
+returns-in_err-asked-clause-whole_live g c long known told lives graph cs a gives =
+    let before = c.loop-asked.invariant in
+    let p = err_from_is_err_and c.from_residual.result c.from_residual.ensures.1 in
+    let is = stopped-long c.from_residual.result c.in_err-asked.field-0.0 (p.1 ∙ ap Err p.2) long in
+    let none = (c.in_err-asked.ensures.too_long (ap Err is)).1 (known-along before.along known) in
+    answered-all (before.live known told lives graph cs a gives) none.0
+
+pub returns-in_err-asked-clause-stop_live : goal.returns-in_err-asked-clause-stop_live
+returns-in_err-asked-clause-stop_live g c known told lives graph cs a gives = (c.loop-asked.invariant.live known told lives graph cs a gives).stop
+
+pub returns-clause-stop_live : goal.returns-clause-stop_live
+returns-clause-stop_live g c known told lives graph cs a gives = (c.loop-asked.invariant.live known told lives graph cs a gives).stop
+
+pub returns-clause-whole_live : goal.returns-clause-whole_live
+returns-clause-whole_live g c done known told lives graph cs a gives =
+    let before = c.loop-asked.invariant in
+    let none = c.in_ok-asked.ensures.end (ap Ok c.in_default.is) (known-along before.along known) in
+    answered-all (before.live known told lives graph cs a gives) none.0
 
 pub returns-clause-stop : goal.returns-clause-stop
 returns-clause-stop g c told known graph a = ((served-along c.loop-asked.invariant.along told graph a).comes known).stop

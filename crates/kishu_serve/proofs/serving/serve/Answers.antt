@@ -6,19 +6,18 @@ use Rattle.kishu_model.specs.Request.{Request, unreadable}
 use Rattle.kishu_model.specs.Serve.{after, answer_of, answered}
 use Rattle.kishu_model.specs.Step.{step, charge_of}
 use Rattle.kishu_model.specs.Values.{request_of}
-use Rattle.kishu_live_laws.specs.OnStates.{after_on}
+use Rattle.kishu_live_laws.specs.OnStates.{after_on, answer_on}
 use Rattle.kishu_session.specs.Applying.{MakesNodes}
 use Rattle.kishu_session.specs.Attached.{IsAttached}
-use Rattle.kishu_session.specs.Filling.{FillsBy}
 use Rattle.kishu_session.specs.Lives.{state_of}
-use Rattle.kishu_session.specs.declared.halt.Halt.TheVariants.{Damaged, HeapFull}
+use Rattle.kishu_session.specs.declared.halt.Halt.TheVariants.{Damaged}
 use Rattle.kishu_serve.specs.Asking.{asked_of}
 use Rattle.kishu_serve.specs.Efforts.{IsMeasured, read_by, steps_by}
-use Rattle.kishu_serve.specs.EveryStore.{LeadsOn, FillsNow}
+use Rattle.kishu_serve.specs.EveryStore.{LeadsOn}
 use Rattle.kishu_serve.specs.Headline.{IsPart}
-use Rattle.kishu_serve.specs.Serving.{WhereMade}
+use Rattle.kishu_serve.specs.LiveAnswers.{line_on, IsPartLive}
 use Rattle.kishu_serve.proofs.Damages.{ends-damaged}
-use Rattle.kishu_serve.proofs.LiveRuns.{applied-here, unread-here, fills-now}
+use Rattle.kishu_serve.proofs.LiveRuns.{at-end-holds, applied-here, unread-here, applied-stops, said-stops, told-stops}
 use Rattle.kishu_serve.proofs.Measured.{reads-by, steps-by, not-refused, no-refusal, no-size, cell-counts, cell-reads}
 use Rattle.kishu_serve.proofs.Parts.{attached-kept, at-end-kept, at-end-gives, held, and_then, recorded-kept, told-stop, applied-stop, served-stop}
 use Rattle.kishu_serve.proofs.Works.{reads-both}
@@ -154,13 +153,70 @@ returns-in_default-clause-applied g c =
     (λ (r : Request). LeadsOn session session s0 s1 r g' cs)
     (sym (ap asked_of c.in_default.is)) (unread-here session s0 s1 g' cs c.tell.ensures.file c.tell.ensures.tells told lives a))
 
-pub returns-in-Err-clause-full_live : goal.returns-in-Err-clause-full_live
-returns-in-Err-clause-full_live g c is =
-    let full : IsErrOf c.apply.result HeapFull = cc (c.in-Err.is, c.stop_of.ensures.full (cc is)) in
+pub returns-in-Ok-clause-said : goal.returns-in-Ok-clause-said
+returns-in-Ok-clause-said g c =
+    let st = g.H.Host.state in
+    let q = request_of c.in-Request.request in
+    let u = state_of c.args.session.now.head.live in
+    let s0 = st c.args.host.now in
+    let s2 = st c.tell-in-Ok.new.host in
+    and_then c.tell-in-Ok.result c.tell-in-Ok.ensures.answered
+    (λ out told g' cs a gives.
+    subst (λ (r : Request). s2.out ≡ s0.out ++ line_on cs g' u r) (sym (ap asked_of c.in-Request.is))
+    (out (c.apply.ensures.tells ∙ told) (answer_on (change_of cs) u g' q) (c.in-Ok.ensures.answered_here told g' cs a gives)
+    ∙ ap (λ (l : List ℕ). l ++ line_on cs g' u q) c.apply.ensures.out))
+
+pub returns-in_default-clause-said : goal.returns-in_default-clause-said
+returns-in_default-clause-said g c =
+    let st = g.H.Host.state in
+    let u = state_of c.args.session.now.head.live in
+    let s0 = st c.args.host.now in
+    let s1 = st c.tell.new.host in
+    and_then c.tell.result c.tell.ensures.answered
+    (λ out told g' cs a gives.
+    subst (λ (r : Request). s1.out ≡ s0.out ++ line_on cs g' u r) (sym (ap asked_of c.in_default.is)) (out told (refused bad_request) c.answer.ensures))
+
+pub returns-in-Err-clause-stop_live : goal.returns-in-Err-clause-stop_live
+returns-in-Err-clause-stop_live g c told lives g' cs a gives only =
+    let st = g.H.Host.state in
+    let u = state_of c.args.session.now.head.live in
+    let s0 = st c.args.host.now in
+    let s1 = st c.apply.new.host in
+    subst (λ (r : Request). Elapses s0 s1 (IsPartLive s0.file s0.out cs g' u (answered r ∷ []))) (sym (ap asked_of c.in-Request.is))
+    (applied-stops s0 cs g' u (request_of c.in-Request.request) s1 (c.apply.ensures.stop_here told only g' cs a gives))
+
+pub returns-in-Ok-clause-stop_live : goal.returns-in-Ok-clause-stop_live
+returns-in-Ok-clause-stop_live g c told lives g' cs a gives only =
+    let st = g.H.Host.state in
+    let u = state_of c.args.session.now.head.live in
+    let q = request_of c.in-Request.request in
+    let s0 = st c.args.host.now in
+    let s1 = st c.apply.new.host in
+    let s2 = st c.tell-in-Ok.new.host in
+    let then_graph = after_on (change_of cs) u g' q in
+    let holds = at-end-holds c.apply.new.self s1 then_graph (c.in-Ok.ensures.at_end told g' cs a gives) in
+    let put = c.tell-in-Ok.ensures.stop (answer_on (change_of cs) u g' q) (c.in-Ok.ensures.answered_here told g' cs a gives) in
+    subst (λ (r : Request). Elapses s0 s2 (IsPartLive s0.file s0.out cs g' u (answered r ∷ []))) (sym (ap asked_of c.in-Request.is))
+    (said-stops s0 cs g' u q s1 s2 (c.in-Ok.ensures.durable told only) holds c.apply.ensures.out (c.apply.ensures.stop_here told only g' cs a gives) put)
+
+pub returns-in_default-clause-stop_live : goal.returns-in_default-clause-stop_live
+returns-in_default-clause-stop_live g c told lives g' cs a gives only =
+    let st = g.H.Host.state in
     let session = c.args.session.now in
-    let s0 = g.H.Host.state c.args.host.now in
-    subst (λ (r : Request). FillsNow session s0 r) (sym (ap asked_of c.in-Request.is))
-    (fills-now session s0 (request_of c.in-Request.request) (c.apply.ensures.heap_full full))
+    let u = state_of session.head.live in
+    let s0 = st c.args.host.now in
+    let s1 = st c.tell.new.host in
+    subst (λ (r : Request). Elapses s0 s1 (IsPartLive s0.file s0.out cs g' u (answered r ∷ []))) (sym (ap asked_of c.in_default.is))
+    (told-stops s0 cs g' u unreadable s1 refl only (at-end-holds session s0 g' a) (c.tell.ensures.stop (refused bad_request) c.answer.ensures))
+
+pub returns-in-Ok-clause-durable : goal.returns-in-Ok-clause-durable
+returns-in-Ok-clause-durable g c =
+    held c.tell-in-Ok.result
+    (λ told only x left. c.in-Ok.ensures.durable told only x (c.tell-in-Ok.ensures.crash x left) ∙ sym c.tell-in-Ok.ensures.file)
+
+pub returns-in_default-clause-durable : goal.returns-in_default-clause-durable
+returns-in_default-clause-durable g c =
+    held c.tell.result (λ told only x left. only x (c.tell.ensures.crash x left) ∙ sym c.tell.ensures.file)
 
 -- ---- nodes
 
@@ -171,12 +227,6 @@ returns-in-Ok-clause-makes g c =
 
 pub returns-in_default-clause-makes : goal.returns-in_default-clause-makes
 returns-in_default-clause-makes g c = held c.tell.result (λ told g' a. omega arith)
-
-pub returns-in-Err-clause-full : goal.returns-in-Err-clause-full
-returns-in-Err-clause-full g c is =
-    let full : IsErrOf c.apply.result HeapFull = cc (c.in-Err.is, c.stop_of.ensures.full (cc is)) in
-    let s0 = g.H.Host.state c.args.host.now in
-    subst (λ (r : Request). WhereMade c.args.session.now s0 (λ made g'. FillsBy made g' r)) (sym (ap asked_of c.in-Request.is)) (c.apply.ensures.full full)
 
 -- ---- work
 
@@ -206,6 +256,7 @@ returns-in-Ok-clause-loads g c =
     reads-by g' q s0.reads s1.reads measured c.apply.ensures.idle
     (λ text is_cell more.
     cell-reads old s0 g' a q text is_cell more s0.reads s1.reads (state_of c.apply.new.self.head.live) next
+    (ok.attached told g' a).states.told.state
     (ok.reads (inl (text, is_cell)) (no-refusal old s0 g' a q more _ here) (no-size old s0 g' a q more _ here)))
     (λ to is_checkout none.
     ok.loads (to, is_checkout)
@@ -232,6 +283,6 @@ returns-in-Ok-clause-most g c =
     steps-by g' q before now measured (λ idle. ok.still (inl idle))
     (λ text is_cell more.
     let most = ok.most text is_cell (no-refusal old s0 g' a q more _ here) (no-size old s0 g' a q more _ here) few in
-    cell-counts old s0 g' a q text is_cell more before now (state_of c.apply.new.self.head.live) next most)
+    cell-counts old s0 g' a q text is_cell more before now (state_of c.apply.new.self.head.live) next few most)
     (λ to is_checkout. ok.still (inr ((to, is_checkout), few))) in
     subst (λ (r : Request). now ≤ before + steps_by g' r) (sym (ap asked_of c.in-Request.is)) counted)

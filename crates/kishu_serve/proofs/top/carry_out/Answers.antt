@@ -1,16 +1,16 @@
-use Rattle.std.proofs.Common.{◌⊎◌, ◌≤◌, ◌+◌, sym, subst, OnOk, IsOk, IsErrOf}
+use Rattle.std.proofs.Common.{◌≡◌, ◌⊎◌, ◌≤◌, ◌+◌, true, sym, subst, OnOk, IsOk, IsErrOf}
 use Rattle.kishu_host.specs.Host.{ReadsMore}
-use Rattle.kishu_session.specs.Sized.{most_kept}
+use Rattle.kishu_session.specs.Renewing.{most_kept}
 use Rattle.kishu_serve.specs.Efforts.{AreMeasured, read_by_all, steps_by_all}
+use Rattle.kishu_serve.specs.EveryStore.{AnswersAll, StopsAll}
 use Rattle.kishu_serve.specs.Headline.{IsWhole}
 use Rattle.kishu_serve.specs.Recorded.{Records}
-use Rattle.kishu_serve.specs.EveryStore.{FillsHere}
-use Rattle.kishu_serve.specs.Fillable.{asks_for}
-use Rattle.kishu_serve.specs.Filling.{FillsByAny, made_by_all}
+use Rattle.kishu_serve.specs.Making.{made_by_all}
 use Rattle.kishu_serve.specs.Serving.{WhereKnown, WhereKnownMade, StopsInPart}
-use Rattle.kishu_serve.specs.Work.{records_many, Knows}
-use Rattle.kishu_serve.specs.declared.serving.Stop.TheVariants.{TooLong, HeapFull}
+use Rattle.kishu_serve.specs.Work.{records_many, answers_each}
+use Rattle.kishu_serve.specs.declared.serving.Stop.TheVariants.{TooLong}
 use Rattle.kishu_serve.specs.declared.work.Work.{Work}
+use Rattle.kishu_serve.proofs.LiveForms.{runs-not-each, makes-not-each}
 use Rattle.kishu_serve.proofs.Parts.{held}
 use Rattle.kishu_serve.proofs.Works.{runs-not-measured, makes-not-measured}
 use Rattle.kishu_serve.proofs.top.carry_out.Goals as goal
@@ -59,7 +59,32 @@ returns-in-Answers-clause-bytes g c =
 pub returns-in-Answers-clause-damaged : goal.returns-in-Answers-clause-damaged
 returns-in-Answers-clause-damaged g c = c.serve_all.ensures.damaged
 
+pub returns-in-Answers-clause-whole_live : goal.returns-in-Answers-clause-whole_live
+returns-in-Answers-clause-whole_live g c =
+    let s0 = g.H.Host.state c.args.host.now in
+    let s1 = g.H.Host.state c.serve_all.new.host in
+    let i0 = g.S.Source.source c.args.source.now in
+    let r = c.serve_all.result in
+    subst
+    (λ (w : Work). IsOk r ⊎ IsErrOf r TooLong → answers_each w ≡ true → AnswersAll w i0 c.args.session.now s0 s1)
+    (sym c.in-Answers.is) (λ ended each. c.serve_all.ensures.whole_live ended)
+
+pub returns-in-Answers-clause-stop_live : goal.returns-in-Answers-clause-stop_live
+returns-in-Answers-clause-stop_live g c =
+    let s0 = g.H.Host.state c.args.host.now in
+    let s1 = g.H.Host.state c.serve_all.new.host in
+    let i0 = g.S.Source.source c.args.source.now in
+    subst
+    (λ (w : Work). answers_each w ≡ true → StopsAll w i0 c.args.session.now s0 s1)
+    (sym c.in-Answers.is) (λ each. c.serve_all.ensures.stop_live)
+
 -- ---- a notebook is run
+
+pub returns-in-Runs-clause-stop_live : goal.returns-in-Runs-clause-stop_live
+returns-in-Runs-clause-stop_live g c each = absurd (runs-not-each _ _ c.in-Runs.is each)
+
+pub returns-in-Runs-clause-whole_live : goal.returns-in-Runs-clause-whole_live
+returns-in-Runs-clause-whole_live g c ended each = absurd (runs-not-each _ _ c.in-Runs.is each)
 
 pub returns-in-Runs-clause-bytes : goal.returns-in-Runs-clause-bytes
 returns-in-Runs-clause-bytes g c =
@@ -77,33 +102,13 @@ returns-in-Runs-clause-bytes g c =
 pub returns-in-Runs-clause-damaged : goal.returns-in-Runs-clause-damaged
 returns-in-Runs-clause-damaged g c = c.run_notebook.ensures.damaged
 
--- ---- where the heap is full
-
-pub returns-in-Answers-clause-full : goal.returns-in-Answers-clause-full
-returns-in-Answers-clause-full g c =
-    let s0 = g.H.Host.state c.args.host.now in
-    let i0 = g.S.Source.source c.args.source.now in
-    subst
-    (λ (w : Work). IsErrOf c.serve_all.result HeapFull → WhereKnownMade w i0 c.args.session.now s0 (λ made g' items. FillsByAny made g' items))
-    (sym c.in-Answers.is) c.serve_all.ensures.full
-
-pub returns-in-Answers-clause-full_live : goal.returns-in-Answers-clause-full_live
-returns-in-Answers-clause-full_live g c =
-    let s0 = g.H.Host.state c.args.host.now in
-    let i0 = g.S.Source.source c.args.source.now in
-    subst
-    (λ (w : Work). IsErrOf c.serve_all.result HeapFull → Knows w i0 → FillsHere c.args.session.now s0 (asks_for w i0.left))
-    (sym c.in-Answers.is) c.serve_all.ensures.full_live
-
-pub returns-in-Runs-clause-full_live : goal.returns-in-Runs-clause-full_live
-returns-in-Runs-clause-full_live g c =
-    let s0 = g.H.Host.state c.args.host.now in
-    let i0 = g.S.Source.source c.args.source.now in
-    subst
-    (λ (w : Work). IsErrOf c.run_notebook.result HeapFull → Knows w i0 → FillsHere c.args.session.now s0 (asks_for w i0.left))
-    (sym c.in-Runs.is) (λ is known. c.run_notebook.ensures.full_live is)
-
 -- ---- requests that are made are applied
+
+pub returns-in-Makes-clause-stop_live : goal.returns-in-Makes-clause-stop_live
+returns-in-Makes-clause-stop_live g c each = absurd (makes-not-each _ _ c.in-Makes.is each)
+
+pub returns-in-Makes-clause-whole_live : goal.returns-in-Makes-clause-whole_live
+returns-in-Makes-clause-whole_live g c ended each = absurd (makes-not-each _ _ c.in-Makes.is each)
 
 pub returns-in-Makes-clause-bytes : goal.returns-in-Makes-clause-bytes
 returns-in-Makes-clause-bytes g c =
@@ -114,14 +119,6 @@ returns-in-Makes-clause-bytes g c =
 
 pub returns-in-Makes-clause-damaged : goal.returns-in-Makes-clause-damaged
 returns-in-Makes-clause-damaged g c = c.run_script.ensures.damaged
-
-pub returns-in-Makes-clause-full_live : goal.returns-in-Makes-clause-full_live
-returns-in-Makes-clause-full_live g c =
-    let s0 = g.H.Host.state c.args.host.now in
-    let i0 = g.S.Source.source c.args.source.now in
-    subst
-    (λ (w : Work). IsErrOf c.run_script.result HeapFull → Knows w i0 → FillsHere c.args.session.now s0 (asks_for w i0.left))
-    (sym c.in-Makes.is) (λ is known. c.run_script.ensures.full_live is)
 
 -- ---- the work
 

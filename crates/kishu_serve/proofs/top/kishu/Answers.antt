@@ -1,21 +1,21 @@
 use Rattle.std.proofs.Common.{◌≡◌, ◌⊎◌, ◌<◌, ◌≤◌, ◌+◌, ◌*◌, inl, inr, ⊎_elim, refl, sym, ◌∙◌, ap, subst, arith, ℕ, List, [], length, Option, Some}
 use Rattle.kishu_host.specs.Host.{Now, Elapses}
 use Rattle.kishu_model.specs.Serve.{Item, charges}
-use Rattle.kishu_model.specs.Task.{Form, session}
+use Rattle.kishu_model.specs.Task.{Form, session, task}
 use Rattle.kishu_input.specs.Sources.{TakesMoreThan, TakesAtMost}
 use Rattle.kishu_notebook.specs.Values.{fault_of}
 use Rattle.kishu_words.specs.Commands.{form_by, form_found}
 use Rattle.kishu_journal.specs.Going.{ReadsAtMost}
 use Rattle.kishu_live_laws.specs.Made.{opened_nodes}
-use Rattle.kishu_session.specs.Sized.{most_kept}
-use Rattle.kishu_session.specs.Written.{begun}
+use Rattle.kishu_session.specs.Renewing.{most_kept}
 use Rattle.kishu_serve.specs.Efforts.{AreMeasured, read_by_all, steps_by_all}
-use Rattle.kishu_serve.specs.Filling.{FillsInForm, FillsFrom, made_by_all}
+use Rattle.kishu_serve.specs.Making.{made_by_all}
 use Rattle.kishu_serve.specs.Headline.{IsPart, IsWhole, IsRead, ReadsWhole, longest_input, most_taken, HasFault}
-use Rattle.kishu_serve.specs.Promise.{form_named, PassesLimit, StaysWithin}
+use Rattle.kishu_serve.specs.LiveAnswers.{AnswersFrom, EndsFrom}
+use Rattle.kishu_serve.specs.Promise.{form_named, PassesLimit, StaysWithin, AsksEach}
 use Rattle.kishu_serve.proofs.Askings.{knows-told, form-told, asked-form, read-form, whole-alone}
-use Rattle.kishu_serve.proofs.Forms.{session-form, whole-not-session, session-not-whole, form-is, passes-whole, passes-session, stays-within, none-taken, one-fault, taken-form, fills-form}
-use Rattle.kishu_serve.proofs.LiveForms.{fills-from}
+use Rattle.kishu_serve.proofs.Forms.{session-form, whole-not-session, session-not-whole, form-is, passes-whole, passes-session, stays-within, none-taken, one-fault, taken-form}
+use Rattle.kishu_serve.proofs.LiveForms.{unread-not-done, each-form, each-knows, each-answered, each-ends}
 use Rattle.kishu_serve.proofs.Runs.{none-done, risen}
 use Rattle.kishu_serve.proofs.top.kishu.Goals as goal
 
@@ -86,6 +86,40 @@ returns-in-Ok-clause-all_before g c form long g' given =
     let knows = knows-told c.in-Ok.work (src c.of_command.new.source) (c.of_command.ensures.tells ∙ given.source_tells) in
     subst (λ (qs : List Item). IsWhole (st c.args.host.now) (st c.run_work.new.host) g' qs) asked (c.run_work.ensures.whole (inr long) given.host_tells knows g' given.good)
 
+pub returns-in-Ok-clause-answered : goal.returns-in-Ok-clause-answered
+returns-in-Ok-clause-answered g c ended asked told =
+    let st = g.H.Host.state in
+    let i0 = g.S.Source.source c.args.source.now in
+    let i1 = g.S.Source.source c.of_command.new.source in
+    let s0 = st c.args.host.now in
+    let s1 = st c.run_work.new.host in
+    let f = form_by c.in-Ok-Some.command in
+    let is : Some f ≡ form_named c.args.words.now = sym (ap (λ o. form_found o) c.in-Ok-Some.field-0-is) ∙ c.in-Ok-Some.ensures.form in
+    let each = subst (λ (o : Option Form). AsksEach o i0) (sym is) asked in
+    let knows = each-knows f c.in-Ok.work i0 i1 c.in-Ok.ensures.lines c.of_command.ensures.tells each in
+    let all = c.run_work.ensures.whole_live (⊎_elim (λ done. inl done) (λ long. inr long.1) ended) (c.in-Ok.ensures.each ∙ each-form f i0 each) knows told in
+    subst (λ (o : Option Form). AnswersFrom (λ g'. task o g' i0.left) s0 s1) is (each-answered c.in-Ok.work i0 i1 f c.in-Ok.ensures.asked each all)
+
+pub returns-in-Ok-clause-first_answered : goal.returns-in-Ok-clause-first_answered
+returns-in-Ok-clause-first_answered g c asked told g' holds =
+    let st = g.H.Host.state in
+    let i0 = g.S.Source.source c.args.source.now in
+    let i1 = g.S.Source.source c.of_command.new.source in
+    let s0 = st c.args.host.now in
+    let s1 = st c.run_work.new.host in
+    let f = form_by c.in-Ok-Some.command in
+    let is : Some f ≡ form_named c.args.words.now = sym (ap (λ o. form_found o) c.in-Ok-Some.field-0-is) ∙ c.in-Ok-Some.ensures.form in
+    let each = subst (λ (o : Option Form). AsksEach o i0) (sym is) asked in
+    let knows = each-knows f c.in-Ok.work i0 i1 c.in-Ok.ensures.lines c.of_command.ensures.tells each in
+    let part = c.run_work.ensures.part_live (c.in-Ok.ensures.each ∙ each-form f i0 each) knows told g' holds in
+    subst (λ (o : Option Form). EndsFrom (λ x. task o x i0.left) s0 s1 g') is (each-ends c.in-Ok.work i0 i1 f c.in-Ok.ensures.asked each part)
+
+pub returns-in-Err-of_command-clause-first_answered : goal.returns-in-Err-of_command-clause-first_answered
+returns-in-Err-of_command-clause-first_answered g c asked told g' holds = inl (holds, refl)
+
+pub returns-in-Err-clause-first_answered : goal.returns-in-Err-clause-first_answered
+returns-in-Err-clause-first_answered g c asked told g' holds = inl (holds, refl)
+
 pub returns-in-Ok-clause-counted : goal.returns-in-Ok-clause-counted
 returns-in-Ok-clause-counted g c done g' given =
     let src = g.S.Source.source in
@@ -103,14 +137,11 @@ returns-in-Ok-clause-complete g c g' given form no_disk no_out no_in =
         | inl none ↦ inr (inl none)
         | inr more ↦ elim more [
           | inl long ↦ inr (inr (inl long))
-          | inr last ↦ elim last [
-            | inl full ↦ inr (inr (inr (inl full)))
-            | inr faults ↦ elim faults [
-              | inl disk ↦ absurd (no_disk (c.run_work.ensures.disk_fault disk))
-              | inr ends ↦ elim ends [
-                | inl unread ↦ absurd (no_in (risen _ _ _ c.of_command.ensures.faults (c.run_work.ensures.input_fault unread).1))
-                | inr out ↦ absurd (no_out (c.run_work.ensures.output_fault out))
-              ]
+          | inr faults ↦ elim faults [
+            | inl disk ↦ absurd (no_disk (c.run_work.ensures.disk_fault disk))
+            | inr ends ↦ elim ends [
+              | inl unread ↦ absurd (no_in (risen _ _ _ c.of_command.ensures.faults (c.run_work.ensures.input_fault unread).1))
+              | inr out ↦ absurd (no_out (c.run_work.ensures.output_fault out))
             ]
           ]
         ]
@@ -222,6 +253,15 @@ returns-in-Err-of_command-clause-all_before g c form long g' given =
     let is : Some f ≡ form_named c.args.words.now = sym (ap (λ o. form_found o) c.in-Ok-Some.field-0-is) ∙ c.in-Ok-Some.ensures.form in
     absurd (session-not-whole f (form-is f _ session is form) (c.in-Err-of_command.ensures.whole_alone refl))
 
+pub returns-in-Err-of_command-clause-answered : goal.returns-in-Err-of_command-clause-answered
+returns-in-Err-of_command-clause-answered g c ended =
+    let f = form_by c.in-Ok-Some.command in
+    let is : Some f ≡ form_named c.args.words.now = sym (ap (λ o. form_found o) c.in-Ok-Some.field-0-is) ∙ c.in-Ok-Some.ensures.form in
+    elim ended [
+      | inl done ↦ absurd (unread-not-done _ c.unread.ensures.these done)
+      | inr long ↦ absurd (session-not-whole f (form-is f _ session is long.0) (c.in-Err-of_command.ensures.whole_alone refl))
+    ]
+
 -- ---- an input that is
 
 pub returns-in-Ok-clause-too_long : goal.returns-in-Ok-clause-too_long
@@ -325,26 +365,6 @@ returns-in-Ok-clause-idle g c unopened =
         | inr refused ↦ absurd (c.run_work.ensures.not_refused refused.0 refused.1)
       ]
     ]
-
-pub returns-in-Ok-clause-heap_full : goal.returns-in-Ok-clause-heap_full
-returns-in-Ok-clause-heap_full g c full told g' good =
-    let st = g.H.Host.state in
-    let src = g.S.Source.source in
-    let f = form_by c.in-Ok-Some.command in
-    let is : Some f ≡ form_named c.args.words.now = sym (ap (λ o. form_found o) c.in-Ok-Some.field-0-is) ∙ c.in-Ok-Some.ensures.form in
-    subst (λ (o : Option Form). FillsInForm o (src c.args.source.now) g') is
-    (fills-form c.in-Ok.work (src c.args.source.now) (src c.of_command.new.source) g' f c.in-Ok.ensures.asked c.in-Ok.ensures.cell c.in-Ok.ensures.lines c.of_command.ensures.tells
-    (λ knows. c.run_work.ensures.full full told knows g' good))
-
-pub returns-in-Ok-clause-heap_full_live : goal.returns-in-Ok-clause-heap_full_live
-returns-in-Ok-clause-heap_full_live g c full told =
-    let src = g.S.Source.source in
-    let f = form_by c.in-Ok-Some.command in
-    let is : Some f ≡ form_named c.args.words.now = sym (ap (λ o. form_found o) c.in-Ok-Some.field-0-is) ∙ c.in-Ok-Some.ensures.form in
-    let file = begun (g.H.Host.state c.args.host.now).file in
-    subst (λ (o : Option Form). FillsFrom o (src c.args.source.now) file) is
-    (fills-from f c.in-Ok.work (src c.args.source.now) (src c.of_command.new.source) file
-    c.in-Ok.ensures.asked_here c.in-Ok.ensures.cell c.in-Ok.ensures.lines c.of_command.ensures.tells (c.run_work.ensures.full_live full told))
 
 pub returns-in-Ok-clause-opened : goal.returns-in-Ok-clause-opened
 returns-in-Ok-clause-opened g c form either =

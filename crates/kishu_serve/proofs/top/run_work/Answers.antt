@@ -7,8 +7,8 @@ use Rattle.kishu_serve.specs.Work.{to_do}
 use Rattle.kishu_serve.specs.Headline.{IsPart}
 use Rattle.kishu_serve.specs.declared.serving.Stop.TheVariants.{TooLong}
 use Rattle.kishu_serve.proofs.Damages.{lacks-picture}
-use Rattle.kishu_serve.proofs.LiveRuns.{fills-file}
-use Rattle.kishu_serve.proofs.Parts.{attached-good}
+use Rattle.kishu_serve.proofs.LiveRuns.{answered-from, ends-from}
+use Rattle.kishu_serve.proofs.Parts.{attached-good, at-end-gives}
 use Rattle.kishu_serve.proofs.Runs.{none-done, start-part, opening-stop, part-from, serving-stop, whole-from, succeeded, written}
 use Rattle.kishu_serve.proofs.Works.{reads-bounded}
 use Rattle.kishu_serve.proofs.top.run_work.Goals as goal
@@ -63,6 +63,35 @@ returns-in-Ok-clause-whole g c ended told knows g' holds =
     whole-from (st c.args.host.now) (st c.attach.new.host) g' qs (c.attach.ensures.stop_good told g' holds) c.attach.ensures.out (st c.carry_out.new.host)
     (c.carry_out.ensures.whole so (c.attach.ensures.tells ∙ told) knows g' a)
 
+pub returns-in-Ok-clause-whole_live : goal.returns-in-Ok-clause-whole_live
+returns-in-Ok-clause-whole_live g c ended each knows told =
+    let st = g.H.Host.state in
+    let left = (g.S.Source.source c.args.source.now).left in
+    let so : IsOk c.carry_out.result ⊎ IsErrOf c.carry_out.result TooLong = ⊎_elim (λ done. inl (c.served.ensures.done done)) (λ long. inr (c.served.ensures.too_long long)) ended in
+    answered-from (λ g'. to_do c.args.work g' left) c.in-Ok.session (st c.args.host.now) (st c.attach.new.host) (st c.carry_out.new.host)
+    (c.in-Ok.ensures.begun told) c.attach.ensures.out (c.in-Ok.ensures.at_end told) (c.in-Ok.ensures.loaded told)
+    (c.carry_out.ensures.whole_live so each knows (c.attach.ensures.tells ∙ told) c.in-Ok.ensures.live)
+
+pub returns-in-Ok-clause-part_live : goal.returns-in-Ok-clause-part_live
+returns-in-Ok-clause-part_live g c each knows told g' holds =
+    let st = g.H.Host.state in
+    let laws = g.met.H.Host in
+    let left = (g.S.Source.source c.args.source.now).left in
+    let s0 = st c.args.host.now in
+    let s1 = st c.attach.new.host in
+    let s2 = st c.carry_out.new.host in
+    let told1 = c.attach.ensures.tells ∙ told in
+    let end = c.in-Ok.ensures.at_end told in
+    let given = at-end-gives c.in-Ok.session s1 end.0 end.1 in
+    let only = c.in-Ok.ensures.durable told in
+    let stop = c.carry_out.ensures.stop_live each knows told1 c.in-Ok.ensures.live end.0 given.0 end.1 given.1 only in
+    ends-from (λ x. to_do c.args.work x left) c.in-Ok.session s0 s1 s2 (c.in-Ok.ensures.begun told) c.attach.ensures.out end (c.in-Ok.ensures.loaded told)
+    given.0 given.1 g' (c.attach.ensures.held told g' holds) only stop (laws.reads_now c.carry_out.new.host (stop.tells ∙ told1)) (laws.counts_now c.carry_out.new.host)
+    (λ f o. laws.only_now c.attach.new.host f o told1)
+
+pub returns-in-Err-clause-part_live : goal.returns-in-Err-clause-part_live
+returns-in-Err-clause-part_live g c each knows told g' holds = inl (c.attach.ensures.held told g' holds, c.attach.ensures.out)
+
 pub returns-in-Ok-clause-bad : goal.returns-in-Ok-clause-bad
 returns-in-Ok-clause-bad g c told bad =
     let good = c.in-Ok.ensures.good told in
@@ -72,18 +101,6 @@ pub returns-in-Ok-clause-bytes : goal.returns-in-Ok-clause-bytes
 returns-in-Ok-clause-bytes g c done told =
     let st = g.H.Host.state in
     written _ (st c.args.host.now).file (st c.attach.new.host).file (st c.carry_out.new.host).file (c.in-Ok.ensures.begun told) (succeeded c.carry_out.result (c.served.ensures.done done) c.carry_out.ensures.bytes (c.attach.ensures.tells ∙ told))
-
-pub returns-in-Ok-clause-full : goal.returns-in-Ok-clause-full
-returns-in-Ok-clause-full g c is told knows g' good =
-    c.carry_out.ensures.full (c.served.ensures.full is) (c.attach.ensures.tells ∙ told) knows g' (c.in-Ok.ensures.attached told g' good)
-    (opened_nodes g' g'.head.commit) (c.in-Ok.ensures.makes told g' good)
-
-pub returns-in-Ok-clause-full_live : goal.returns-in-Ok-clause-full_live
-returns-in-Ok-clause-full_live g c is told =
-    let st = g.H.Host.state in
-    let told1 = c.attach.ensures.tells ∙ told in
-    fills-file c.args.work (g.S.Source.source c.args.source.now) c.in-Ok.session (st c.args.host.now) (st c.attach.new.host)
-    (c.in-Ok.ensures.begun told) (c.in-Ok.ensures.at_end told) (c.in-Ok.ensures.loaded told) (λ knows. c.carry_out.ensures.full_live (c.served.ensures.full is) knows told1 c.in-Ok.ensures.live)
 
 pub returns-in-Ok-clause-counted : goal.returns-in-Ok-clause-counted
 returns-in-Ok-clause-counted g c done told knows g' holds =
@@ -140,11 +157,8 @@ returns-in-Ok-clause-complete g c told g' good =
             | inr rest ↦ elim rest [
               | inl is ↦ inr (inr (inr (inr (inl is))))
               | inr rest ↦ elim rest [
-                | inl is ↦ inr (inr (inr (inr (inr (inl is)))))
-                | inr rest ↦ elim rest [
-                  | inl is ↦ inr (inr (inr (inr (inr (inr is)))))
-                  | inr d ↦ absurd ((c.carry_out.ensures.damaged d.0 (c.served.ensures.damaged d.0 d.1)).1 (c.attach.ensures.tells ∙ told) g' (c.in-Ok.ensures.attached told g' good))
-                ]
+                | inl is ↦ inr (inr (inr (inr (inr is))))
+                | inr d ↦ absurd ((c.carry_out.ensures.damaged d.0 (c.served.ensures.damaged d.0 d.1)).1 (c.attach.ensures.tells ∙ told) g' (c.in-Ok.ensures.attached told g' good))
               ]
             ]
           ]
@@ -162,10 +176,7 @@ returns-in-Err-clause-complete g c told g' good =
           | inl broken ↦ absurd (broken-holds file is.0 g' broken good.holds)
           | inr lacks ↦ absurd (lacks.bad (g', good))
         ]
-        | inr last ↦ elim last [
-          | inl is ↦ inr (inr (inr (inr (inl is))))
-          | inr none ↦ elim none [ inl is ↦ inr (inr (inr (inl is))) | inr is ↦ inr (inl is) ]
-        ]
+        | inr last ↦ elim last [ inl is ↦ inr (inr (inr (inl is))) | inr is ↦ inr (inl is) ]
       ]
     ]
 
