@@ -1,8 +1,11 @@
 //! Tests of states: tables of cells, with the groups and the pictures of the names that they leave,
-//! whether they leave the same, what is loaded from their pictures, and which groups they change. They
-//! stand in a crate of their own, since a crate with tests is proved twice. There is nothing else here.
+//! whether they leave the same, what is loaded from their pictures, what is left of them where it is loaded
+//! anew, and which groups they change. They stand in a crate of their own, since a crate with tests is
+//! proved twice. There is nothing else here.
 #![tactic(auto)]
 
+#[cfg(test)]
+mod anew;
 #[cfg(test)]
 mod cells;
 #[cfg(test)]
