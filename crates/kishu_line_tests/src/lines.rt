@@ -127,7 +127,7 @@ fn reads_requests(rt: HostRuntime) -> Result<(), Fail> {
 }
 
 /// Lines that are no request.
-const NO_REQUESTS: [&str; 57] = [
+const NO_REQUESTS: [&str; 58] = [
     // no JSON, or none that is one value
     "",
     " \t\r",
@@ -166,6 +166,7 @@ const NO_REQUESTS: [&str; 57] = [
     "{\"text\":\"x\"}",
     "{\"op\":\"branch\",\"at\":\"main\"}",
     "{\"op\":\"log\",\"text\":\"x\"}",
+    "{\"op\":\"log\",\"x\":1}",
     "{\"op\":\"cell\",\"text\":\"x\",\"at\":\"main\"}",
     "{\"op\":\"branch\",\"name\":\"try\",\"to\":\"main\"}",
     "{\"op\":\"stored\"}",
@@ -244,6 +245,7 @@ fn reads_what_nests_127_deep(rt: HostRuntime) -> Result<(), Fail> {
     assert!(rt; reads(alloc, &deepest, "cell a")?);
     let deeper = nested(alloc, 127)?;
     assert!(rt; reads_none(alloc, &deeper)?);
+    assert!(rt; reads_none(alloc, &[b'['; 200])?);
     Ok(())
 }
 

@@ -154,6 +154,75 @@ fn opens_stores_with_their_graphs(rt: HostRuntime) -> Result<(), Fail> {
     Ok(())
 }
 
+/// Bytes that are put over that store from a place on, and how many records it holds then or why it isn't opened.
+type Change = (
+    &'static str,
+    usize,
+    &'static [u8],
+    Result<usize, JournalFault>,
+);
+
+const CHANGES: [Change; 7] = [
+    (
+        "a length past each file's",
+        17,
+        b"\xff\xff\xff\xff\xff\xff\xff\xff",
+        Err(JournalFault::Damaged { at: 16 }),
+    ),
+    (
+        "a head that is longer than the body",
+        28,
+        b"\x23",
+        Err(JournalFault::Damaged { at: 16 }),
+    ),
+    (
+        "a parent that isn't there",
+        33,
+        b"\x01",
+        Err(JournalFault::Damaged { at: 16 }),
+    ),
+    (
+        "profile 3",
+        34,
+        b"\x03",
+        Err(JournalFault::Damaged { at: 16 }),
+    ),
+    ("no cells", 38, b"\0", Err(JournalFault::Damaged { at: 16 })),
+    (
+        "an open gate at the end",
+        63,
+        b"\xa5",
+        Err(JournalFault::Damaged { at: 63 }),
+    ),
+    ("open gates behind a closed one", 64, &[0xa5; 100], Ok(1)),
+];
+
+/// Whether that store with a change is opened as it should, and stays.
+fn is_opened_with(alloc: Global, change: &Change) -> Result<bool, AllocError> {
+    let (_, place, bytes, wanted) = change;
+    let mut file = STORE.to_vec(alloc)?;
+    file.truncate(*place);
+    file.extend_from_slice(bytes)?;
+    if let Some(rest) = STORE.get(file.len()..) {
+        file.extend_from_slice(rest)?;
+    }
+    let mut host = host_with(alloc, &file)?;
+    let answer = match Journal::attach(alloc, &mut host) {
+        Ok((_, found)) => Ok(found.len()),
+        Err(fault) => Err(fault),
+    };
+    Ok(answer == *wanted && host.file() == file.as_slice())
+}
+
+#[test]
+fn opens_a_store_with_other_bytes(rt: HostRuntime) -> Result<(), Fail> {
+    let alloc = rt.alloc();
+    for change in &CHANGES {
+        assert!(rt; is_opened_with(alloc, change)?, "{}", change.0);
+    }
+    Ok(())
+}
+
 /// Whether a record says a commit of commit 0 with the one cell `print(1 + 2)`.
 fn is_one_sum(entry: &Entry) -> bool {
     match entry {

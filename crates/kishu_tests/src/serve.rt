@@ -1,8 +1,11 @@
 ghost use Rattle.std.specs.Prelude.{◌≡◌, ◌<◌};
 
+mod bytes;
 mod cells;
 mod checkouts;
+mod cut_short;
 mod generated;
+mod heaps;
 mod language;
 mod notebooks;
 mod pictures;
@@ -277,7 +280,7 @@ fn words_without_a_form(rt: HostRuntime) -> Result<(), Fail> {
 }
 
 /// Statuses, their codes and their texts.
-const STATUSES: [(Status, u8, &str); 10] = [
+const STATUSES: [(Status, u8, &str); 9] = [
     (Status::Done, 0, ""),
     (Status::Usage, 2, "usage: kishu STORE COMMAND"),
     (Status::NotAJournal, 3, "not a journal"),
@@ -287,7 +290,6 @@ const STATUSES: [(Status, u8, &str); 10] = [
     (Status::OutputFault, 7, "output fault"),
     (Status::NoMemory, 8, "no memory"),
     (Status::InputTooLong, 9, "input too long"),
-    (Status::HeapFull, 11, "heap full"),
 ];
 
 /// Whether a status has its row's code and text.

@@ -21,7 +21,7 @@ const SUMS: [(&str, &str); 3] = [
 ];
 
 /// The 60 requests from 7 as the lines of a session, as the same script makes them.
-const LINES: &str = r#"{"op":"cell","text":"v0 = [1]"}
+pub(super) const LINES: &str = r#"{"op":"cell","text":"v0 = [1]"}
 {"op":"cell","text":"v1 = [2]"}
 {"op":"cell","text":"v2 = [3]"}
 {"op":"cell","text":"v3 = [4]"}

@@ -464,8 +464,9 @@ fn runs_notebooks(rt: HostRuntime) -> Result<(), Fail> {
 }
 
 /// What is no notebook that is run, and the reason.
-const REFUSED: [(&str, &str); 8] = [
+const REFUSED: [(&str, &str); 9] = [
     ("", "not JSON"),
+    ("{", "not JSON"),
     (r#"[]"#, "key nbformat"),
     (
         r#"{"cells":[],"metadata":{},"nbformat":3,"nbformat_minor":5}"#,

@@ -1,16 +1,8 @@
 // Sessions: request lines and their answers.
-ghost use Rattle.std.specs.Prelude.{◌≡◌, ◌<◌};
-
 use super::{CLOSED, FIRST, host_over, run_in_memory, words_of};
 use kishu_host::{MemHost, MemSource};
-use kishu_model::{Request, Steps};
 use kishu_serve::Status;
-use kishu_session::{Halt, Session};
 use std::alloc::{AllocError, Global};
-use std::marker::Brand;
-use std::process::Abort;
-use std::rc::RcStr;
-use std::sync::ledger::{Blank, Ledger};
 use std::test::Fail;
 
 /// Runs these words over an input.
@@ -456,37 +448,6 @@ fn a_gate_that_is_closed_ends_the_store(rt: HostRuntime) -> Result<(), Fail> {
     Ok(())
 }
 
-/// A session of four requests, three of which are recorded.
-const FOUR: &str = r#"{"op":"cell","text":"a = [1]; b = a"}
-{"op":"branch","name":"try"}
-{"op":"status"}
-{"op":"checkout","to":"0"}
-"#;
-
-const FOUR_ANSWERS: [&str; 4] = [
-    r#"{"answer":"cell","commit":1,"count":1,"outcome":"ok","outputs":[]}
-"#,
-    r#"{"answer":"branch","commit":1,"name":"try"}
-"#,
-    r#"{"answer":"status","branch":"main","commit":1,"commits":2,"names":["a","b"],"records":2}
-"#,
-    r#"{"answer":"checkout","commit":0,"head":null}
-"#,
-];
-
-/// How many of the answers are out, where each of them is whole.
-fn answered(out: &[u8]) -> Option<usize> {
-    let mut rest = out;
-    let mut count: usize = 0;
-    for answer in &FOUR_ANSWERS {
-        if let Some(more) = rest.strip_prefix(answer.as_bytes()) {
-            rest = more;
-            count = count.wrapping_add(1);
-        }
-    }
-    if rest.is_empty() { Some(count) } else { None }
-}
-
 /// How many records a store holds, told by its status.
 pub(super) fn records(alloc: Global, file: &[u8]) -> Result<Option<usize>, Fail> {
     let mut host = host_over(alloc, file, Vec::new(alloc), None)?.ok_or("room")?;
@@ -502,86 +463,4 @@ pub(super) fn records(alloc: Global, file: &[u8]) -> Result<Option<usize>, Fail>
         }
     }
     Ok(None)
-}
-
-/// The records that so many answers acknowledge.
-fn acknowledged(answers: usize) -> usize {
-    match answers {
-        0 => 0,
-        1 => 1,
-        2 => 2,
-        3 => 2,
-        _ => 3,
-    }
-}
-
-/// The session with its n-th host call failing, or stopped there: each store that may be left opens, with all that was
-/// acknowledged and at most one record more. Whether it came to its end.
-fn holds(rt: &impl Abort, alloc: Global, fail: Vec<u64>, stop: Option<u64>) -> Result<bool, Fail> {
-    let mut host = host_over(alloc, &[], fail, stop)?.ok_or("room")?;
-    let status = run_words(alloc, &mut host, &["S", "session"], FOUR.as_bytes())?;
-    let answers = answered(host.out()).ok_or("no prefix of the answers")?;
-    assert!(rt; (status == Status::Done) == (answers == 4));
-    let least = acknowledged(answers);
-    for fill in [0u8, 0xa5, 0xff] {
-        let torn = host.torn_file(fill)?;
-        let found = records(alloc, &torn)?.ok_or("not opened")?;
-        assert!(rt; found == least || found == least.wrapping_add(1));
-    }
-    Ok(status == Status::Done)
-}
-
-#[test]
-fn each_call_of_a_session_stopped_and_failed(rt: HostRuntime) -> Result<(), Fail> {
-    let alloc = rt.alloc();
-    let mut whole = 0u64;
-    for n in 1..60u64 {
-        let stopped = holds(&rt, alloc, Vec::new(alloc), Some(n))?;
-        let failed = holds(&rt, alloc, vec![in alloc; n]?, None)?;
-        assert!(rt; stopped == failed);
-        if stopped {
-            whole = n;
-            break;
-        }
-    }
-    // Opening makes four calls over an empty file, each of three records four, and each answer one.
-    assert!(rt; whole == 21);
-    Ok(())
-}
-
-/// How a session's first request ends over this host, and where it meets a fault how the next one does.
-fn halts<L: Ledger>(
-    alloc: Global,
-    host: &mut MemHost,
-    blank: Blank,
-) -> Result<(Option<Halt>, Option<Halt>), AllocError>
-    requires name { blank.name ≡ L.name }
-    requires parts { blank.parts ≡ L.parts }
-    requires some { 0 < L.parts }
-{
-    let mut steps = Steps::<L>::new(blank);
-    let cell = Request::Cell {
-        text: RcStr::from_str(alloc, "a = 1")?,
-    };
-    let Ok(mut session) = Session::attach(alloc, host, &mut steps) else {
-        return Ok((None, None));
-    };
-    match session.apply(host, &cell, &mut steps) {
-        Ok(_) => Ok((None, None)),
-        Err(first) => match session.apply(host, &Request::Status, &mut steps) {
-            Ok(_) => Ok((Some(first), None)),
-            Err(second) => Ok((Some(first), Some(second))),
-        },
-    }
-}
-
-#[test]
-fn a_session_is_closed_by_a_fault(rt: HostRuntime) -> Result<(), Fail> {
-    let alloc = rt.alloc();
-    // The seventh call is the second write of the append, which opens the gate.
-    let mut host = host_over(alloc, &[], vec![in alloc; 7]?, None)?.ok_or("room")?;
-    let (first, second) = halts::<Brand>(alloc, &mut host, Blank::new(1))?;
-    assert!(rt; first == Some(Halt::DiskFault));
-    assert!(rt; second == Some(Halt::Closed));
-    Ok(())
 }
