@@ -41,7 +41,7 @@ import session_rules
 from session_cases import STORE, Case, Harm, Player, Run
 from store_rules import HEADER, LONGEST_CELL, MOST_RECORDS, move_to_commit_body, record
 
-SECONDS = 60
+SECONDS = 300
 LONGEST = 24
 
 # Lines of sessions.
