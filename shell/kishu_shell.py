@@ -119,7 +119,6 @@ def why_ended(status: int, said: str, path: str) -> str:
         5: f"{path} can't be read or written: see that its folder is there and has room, and try again.",
         8: "The memory ran out: end other programs, or go back to a commit that holds less, and try again.",
         9: "A line may have 16 MiB, and all lines of a session 1 GiB: give the program less at once.",
-        11: "The session made more objects than it can hold: try again, it begins anew with what is bound.",
     }.get(status, f"The program ended with the status {status} ({said}): try again.")
 
 
