@@ -2,7 +2,7 @@
 use Rattle.std.specs.Prelude.{◌≡◌, ◌≤◌, ◌+◌, ◌*◌, ◌^◌, ℕ, List, length, map, flat_map, Option, Some, None}
 use Rattle.std.specs.List.{sum_by}
 use Rattle.std.proofs.Common.{ap, sym, ◌∙◌, arith}
-use Rattle.kishu_meaning.specs.values.Values.{Value, Node, list, tuple, dict, object, function, exception, State, find}
+use Rattle.kishu_meaning.specs.values.Values.{Value, State, find}
 use Rattle.kishu_objects.specs.Bytes.{name_bytes, row_bytes, picture_bytes}
 use Rattle.kishu_objects.specs.Groups.{Cuts, groups_of}
 use Rattle.kishu_objects.specs.Lists.{In, AllDiffer}
@@ -13,6 +13,7 @@ use Rattle.kishu_objects.specs.States.{IsSoundState}
 use Rattle.kishu_objects_laws.specs.ListLaws.{contains_in, in_flat, flat_in, few}
 use Rattle.kishu_objects_laws.specs.NameLaws.{listed_found, rise_differ}
 use Rattle.kishu_objects_laws.specs.OrderLaws.{order_distinct, order_reached, reached_order, rounds_below, roots_below}
+use Rattle.kishu_objects_laws.specs.RowLaws.{some_byte}
 use Rattle.kishu_history.specs.Changed.{Group}
 use Rattle.kishu_history.specs.Cut.{IsCut}
 use Rattle.kishu_history.specs.Tables.{first_name}
@@ -23,14 +24,6 @@ use Rattle.kishu_anew.specs.Anew.{IsSmall}
 use Rattle.kishu_anew.proofs.Sums.{differ_flat, differ_map, sum_flat, sum_alike, sum_eight, no_fewer, sum_in}
 
 -- ---- what names and nodes take
-
-some_byte : (m : Node) → 1 ≤ length (row_bytes m)
-some_byte (list vs) = omega arith
-some_byte (tuple vs) = omega arith
-some_byte (dict es) = omega arith
-some_byte (object es) = omega arith
-some_byte (function profile code vs) = omega arith
-some_byte (exception kind vs) = omega arith
 
 module _ (s : State) (sound : IsSoundState s) where
   -- a name with its value, if it has one, and a node

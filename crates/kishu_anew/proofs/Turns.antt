@@ -1,17 +1,17 @@
 -- Pictures that are loaded one after another.
-use Rattle.std.specs.Prelude.{◌≡◌, ◌≤◌, ◌<◌, ◌+◌, ℕ, List, [], ◌∷◌, length, drop, get_or, flat_map, Ok, Err, Result}
+use Rattle.std.specs.Prelude.{◌≡◌, ◌<◌, ◌+◌, ℕ, List, [], ◌∷◌, length, drop, get_or, Ok, Err, Result}
 use Rattle.std.specs.List.{AllZip}
 use Rattle.std.specs.declared.alloc.Global.{Global}
 use Rattle.std.specs.declared.vec.Vec.{Vec}
-use Rattle.std.proofs.Common.{refl, ap, sym, ◌∙◌, arith, length-append}
+use Rattle.std.proofs.Common.{refl, ap, sym, ◌∙◌, arith}
 use Rattle.std.proofs.Math.Logic.{∥∥₁_elim}
 use Rattle.std.proofs.Props.{props}
 use Rattle.std.proofs.lemmas.List.{drop_more}
 use Rattle.std.proofs.lemmas.List.Sums.{sum_by-cons}
-use Rattle.kishu_meaning.specs.values.Values.{Node, list, tuple, dict, object, function, exception, State}
-use Rattle.kishu_objects.specs.Bytes.{name_bytes, row_bytes, state_bytes, many, in_four}
+use Rattle.kishu_meaning.specs.values.Values.{State}
 use Rattle.kishu_objects.specs.Loading.{with_picture}
 use Rattle.kishu_objects_laws.specs.LoadingLaws.{nodes_more}
+use Rattle.kishu_objects_laws.specs.RowLaws.{nodes_fit}
 use Rattle.kishu_history.specs.Checkout.{with_pictures}
 use Rattle.kishu_loading.specs.Loaded.{IsLoaded}
 use Rattle.kishu_reading.specs.FromBytes.{read_picture}
@@ -20,29 +20,6 @@ use Rattle.kishu_reading_laws.specs.PictureLaws.{picture_is_read}
 use Rattle.kishu_anew.specs.Anew.{contents, taken_by, ArePictures}
 
 -- ---- one picture
-
-some_byte : (m : Node) → 1 ≤ length (row_bytes m)
-some_byte (list vs) = omega arith
-some_byte (tuple vs) = omega arith
-some_byte (dict es) = omega arith
-some_byte (object es) = omega arith
-some_byte (function profile code vs) = omega arith
-some_byte (exception kind vs) = omega arith
-
-rows_long : (ms : List Node) → length ms ≤ length (flat_map row_bytes ms)
-rows_long [] = omega arith
-rows_long (m ∷ ms) =
-    let here = some_byte m in
-    let rest = rows_long ms in
-    let all = length-append (row_bytes m) (flat_map row_bytes ms) in
-    omega (arith, here, rest, all)
-
-nodes_fit : (p : State) → length p.nodes ≤ length (state_bytes p)
-nodes_fit p =
-    let rows = rows_long p.nodes in
-    let front = length-append (in_four (length p.nodes)) (flat_map row_bytes p.nodes) in
-    let all = length-append (many name_bytes p.names) (many row_bytes p.nodes) in
-    omega (arith, rows, front, all)
 
 -- Bytes that are a picture are no fault,
 pub no_fault : (bytes : List ℕ) (p : State) (at : ℕ) → IsPictureOf bytes p → read_picture bytes ≡ Err at → ⊥

@@ -19,20 +19,13 @@ use Rattle.kishu_state_laws.specs.Pictures.{unbound_is_state, with_picture_is_st
 use Rattle.kishu_state_laws.specs.Profiles.{run_under}
 use Rattle.kishu_state_laws.specs.Real.{state_is_real}
 use Rattle.kishu_state_laws.specs.Whole.{run_becomes}
-use Rattle.kishu_reading.specs.Pictured.{AreKnown, HasKnownProfile}
+use Rattle.kishu_reading.specs.Pictured.{AreKnown}
+use Rattle.kishu_reading_laws.specs.OwnLaws.{known_moved}
 use Rattle.kishu_history.specs.Changed.{Group}
 use Rattle.kishu_history.specs.Checkout.{carried, with_pictures, without_names}
 use Rattle.kishu_anew.specs.Anew.{IsWhole}
 
 -- ---- functions of the profile that there is
-
-known_moved : (f : Value → Value) (m : Node) → HasKnownProfile m → HasKnownProfile (each_child f m)
-known_moved f (list vs) h = tt
-known_moved f (tuple vs) h = tt
-known_moved f (dict es) h = tt
-known_moved f (object es) h = tt
-known_moved f (function profile code vs) h = h
-known_moved f (exception kind vs) h = tt
 
 known_all : (f : Value → Value) (ms : List Node) → AreKnown ms → AreKnown (map (each_child f) ms)
 known_all f [] h = tt

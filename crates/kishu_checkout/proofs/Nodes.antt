@@ -1,36 +1,12 @@
 -- Pictures have no more nodes than bytes.
-use Rattle.std.specs.Prelude.{◌≤◌, ◌+◌, ℕ, List, [], ◌∷◌, length, flat_map}
+use Rattle.std.specs.Prelude.{◌≤◌, ◌+◌, ℕ, List, length}
 use Rattle.std.proofs.Common.{ap, ◌∙◌, arith, length-append}
-use Rattle.kishu_meaning.specs.values.Values.{Node, list, tuple, dict, object, function, exception, State}
-use Rattle.kishu_objects.specs.Bytes.{name_bytes, row_bytes, state_bytes, many, in_four}
+use Rattle.kishu_meaning.specs.values.Values.{Node, State}
 use Rattle.kishu_objects_laws.specs.LoadingLaws.{nodes_more}
+use Rattle.kishu_objects_laws.specs.RowLaws.{nodes_fit}
 use Rattle.kishu_store.specs.Groups.{Group}
 use Rattle.kishu_loading.specs.Loaded.{KeepsNodes}
 use Rattle.kishu_checkout.specs.Groups.{IsLoadedAs}
-
--- each row of a picture has a byte
-some_byte : (m : Node) → 1 ≤ length (row_bytes m)
-some_byte (list vs) = omega arith
-some_byte (tuple vs) = omega arith
-some_byte (dict es) = omega arith
-some_byte (object es) = omega arith
-some_byte (function profile code vs) = omega arith
-some_byte (exception kind vs) = omega arith
-
-rows_long : (ms : List Node) → length ms ≤ length (flat_map row_bytes ms)
-rows_long [] = omega arith
-rows_long (m ∷ ms) =
-    let here = some_byte m in
-    let rest = rows_long ms in
-    let all = length-append (row_bytes m) (flat_map row_bytes ms) in
-    omega (arith, here, rest, all)
-
-nodes_fit : (p : State) → length p.nodes ≤ length (state_bytes p)
-nodes_fit p =
-    let rows = rows_long p.nodes in
-    let front = length-append (in_four (length p.nodes)) (flat_map row_bytes p.nodes) in
-    let all = length-append (many name_bytes p.names) (many row_bytes p.nodes) in
-    omega (arith, rows, front, all)
 
 pub nodes_few : (group : Group) (bytes : List ℕ) (before after : State) → IsLoadedAs group bytes before after
     → length after.nodes ≤ length before.nodes + length bytes

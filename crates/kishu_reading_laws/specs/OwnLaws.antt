@@ -105,7 +105,7 @@ module _ (s : State) where
 
 -- ---- profiles
 
-known_moved : (f : Value → Value) (a : Node) → HasKnownProfile a → HasKnownProfile (each_child f a)
+pub known_moved : (f : Value → Value) (a : Node) → HasKnownProfile a → HasKnownProfile (each_child f a)
 known_moved f (list vs) h = tt
 known_moved f (tuple vs) h = tt
 known_moved f (dict es) h = tt
