@@ -13,7 +13,7 @@ use Rattle.kishu_objects.specs.Fits.{StateFits}
 use Rattle.kishu_objects.specs.Lists.{In}
 use Rattle.kishu_objects.specs.Picture.{picture}
 use Rattle.kishu_delta.specs.Found.{found, found_as}
-use Rattle.kishu_delta.specs.declared.fingerprint.Fingerprint.{Fingerprint}
+use Rattle.kishu_delta.specs.declared.digest.Digest as rust
 
 -- ---- a digest
 
@@ -30,8 +30,8 @@ abbrev pub is_digest : Digest → List ℕ → Bool
 is_digest d bytes = (d.1 == length bytes) && bytes_eq d.0 (sha256 bytes)
 
 -- as the program has it
-abbrev pub digest_in : Fingerprint → Digest
-digest_in f = (f.sha256, f.len)
+abbrev pub digest_in : rust.Digest → Digest
+digest_in d = (d.sha256, d.len)
 
 -- ---- what is kept
 
@@ -39,7 +39,7 @@ digest_in f = (f.sha256, f.len)
 abbrev pub Digests : Type 0
 Digests = List (Group × Digest)
 
-abbrev pub digests_of : List (Vec (RcStr Global) Global × Fingerprint) → Digests
+abbrev pub digests_of : List (Vec (RcStr Global) Global × rust.Digest) → Digests
 digests_of = found_as digest_in
 
 -- the digest that is kept of a group

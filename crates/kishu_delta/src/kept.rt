@@ -4,7 +4,7 @@ ghost use Rattle.kishu_names.specs.Record.{texts_of};
 ghost use Rattle.kishu_store.specs.Groups.{Group};
 ghost use Rattle.kishu_delta.specs.Kept.{digest_of, kept_of, is_kept, KeepsDigest};
 
-use crate::fingerprint::{Fingerprint, is_of, print_of};
+use crate::digest::Digest;
 use crate::sets::shared;
 use std::alloc::{AllocError, Global};
 use std::collections::BTreeMap;
@@ -15,7 +15,7 @@ use std::rc::RcStr;
 #[derive(Drop)]
 pub struct Kept {
     alloc: Global,
-    prints: BTreeMap<Vec<RcStr>, Fingerprint>,
+    digests: BTreeMap<Vec<RcStr>, Digest>,
 }
 
 impl Model for Kept {
@@ -23,7 +23,7 @@ impl Model for Kept {
 
     ghost Value = { Digests };
 
-    ghost view = { λ k. digests_of k.prints.entries };
+    ghost view = { λ k. digests_of k.digests.entries };
 }
 
 impl Kept {
@@ -33,7 +33,7 @@ impl Kept {
     {
         Kept {
             alloc,
-            prints: BTreeMap::new(alloc),
+            digests: BTreeMap::new(alloc),
         }
     }
 
@@ -45,7 +45,7 @@ impl Kept {
         ensures err { OnErr result (self.new ≡ self.old) }
     {
         let names = shared(self.alloc, group)?;
-        self.prints.insert(names, print_of(bytes))?;
+        self.digests.insert(names, Digest::of(bytes))?;
         Ok(())
     }
 
@@ -53,15 +53,15 @@ impl Kept {
     pub fn forget(&mut self, group: &[RcStr])
         ensures { KeepsDigest (texts_of group.now) None self.old self.new }
     {
-        self.prints.remove(group);
+        self.digests.remove(group);
     }
 
     /// Whether the digest and the length of these bytes are kept of a group.
     pub(crate) fn is_kept(&self, group: &[RcStr], bytes: &[u8]) -> bool
         ensures { result ≡ is_kept self.now (texts_of group.now) bytes.now }
     {
-        match self.prints.get(group) {
-            Some(print) => is_of(print, bytes),
+        match self.digests.get(group) {
+            Some(digest) => digest.is_of(bytes),
             None => false,
         }
     }

@@ -15,8 +15,8 @@
 mod asking;
 mod comparing;
 mod delta;
+mod digest;
 mod drafting;
-mod fingerprint;
 mod kept;
 mod merging;
 mod picturing;
