@@ -76,6 +76,28 @@ pub record IsExact (new : Digests) (t : Table) (s : State) (list : Group → Lis
   pub stored : groups_stored d ≡ filter (λ g. not (is_one_of g (groups_in t) && has_listed s list g)) (groups_of s)
   pub kept : KeepsJustThese new (groups_of s) (picture_bytes s)
 
+-- ---- over any table, also one that no records give
+
+-- What both lists tell then: all but the order of what is dropped, and that all of it holds an accessed name.
+pub record IsSettledAnyhow (old new : Digests) (t : Table) (accessed : List (List ℕ)) (s : State) (d : rust.Delta) : Type 0 where
+  pub rows : (g : Group) → In g (groups_dropped d) → In g (groups_in t)
+  pub stored_rise : Rise (map first_name (groups_stored d))
+  pub stays : (g : Group) → Stays t accessed d g → In g (classes (groups_in t) accessed s)
+  pub stored : (g : Group) → In g (groups_stored d) → In g (classes (groups_in t) accessed s)
+  pub classes : (g : Group) → In g (classes (groups_in t) accessed s) → (In g (groups_in t) × (In g (groups_dropped d) → ⊥)) ⊎ In g (groups_stored d)
+  pub apart : (g : Group) → Stays t accessed d g → In g (groups_stored d) → ⊥
+  pub same : (g : Group) → Stays t accessed d g → kept_of old g ≡ Some (digest_of (picture_bytes s g))
+  pub pictures : pictures_stored d ≡ map (picture_bytes s) (groups_stored d)
+  pub kept : Follows old new (groups_dropped d) (groups_stored d) s
+
+-- For a list that fits: a row that holds an accessed name stays just where it is a class with its picture of the list, and the other classes are stored. Of each row of the new table the digest of its picture is kept then.
+pub record IsExactAnyhow (new : Digests) (t : Table) (accessed : List (List ℕ)) (s : State) (list : Group → List ℕ) (d : rust.Delta) : Type 0 where
+  pub stays : (g : Group) → In g (groups_in t) → holds_any accessed g ≡ true
+      → ((In g (groups_dropped d) → ⊥) ↔ (In g (classes (groups_in t) accessed s) × (picture_bytes s g ≡ list g)))
+  pub stored : groups_stored d ≡ stored_by (groups_in t) accessed s (has_listed s list)
+  pub kept : (rows : List Row) → groups_in rows ≡ groups_stored d → (r : Row) → In r (after (change_with d rows) t)
+      → kept_of new r.group ≡ Some (digest_of (listed_then s list (groups_stored d) r.group))
+
 -- ---- from a state before
 
 -- Where the digests of that state's pictures were kept and its pictures were handed, the lists are what it tells among the touched names.

@@ -12,7 +12,7 @@ ghost use Rattle.kishu_delta.specs.Compared.{Forgets, Holds, HoldsHalves, half, 
 ghost use Rattle.kishu_delta.specs.Deltas.{IsDraft, Joins, all_groups, change_with, groups_asked, groups_stored};
 ghost use Rattle.kishu_delta.specs.Found.{group_of};
 ghost use Rattle.kishu_delta.specs.Kept.{KeepsDigests, KeepsJust, KeepsJustThese};
-ghost use Rattle.kishu_delta.specs.Settled.{IsExact, IsExactAmong, IsFitting, IsLeft, IsSettled, IsToldFrom};
+ghost use Rattle.kishu_delta.specs.Settled.{IsExact, IsExactAmong, IsExactAnyhow, IsFitting, IsLeft, IsSettled, IsSettledAnyhow, IsToldFrom};
 
 use crate::asking::{Asked, Draft};
 use crate::delta::{Delta, StoredGroup};
@@ -112,6 +112,14 @@ pub fn settle(
     // Whatever is handed with a draft of this table and state by what is kept.
     ensures settled { IfOk result (λ d. (t : Table) (accessed : List (List ℕ)) (s : State) → IsTable t
         → IsDraft kept.old t accessed s draft → IsSettled kept.old kept.new t accessed s d) }
+
+    // So it is of any table, also of one that no records give, but for the order of what is dropped.
+    ensures anyhow { IfOk result (λ d. (t : Table) (accessed : List (List ℕ)) (s : State)
+        → IsDraft kept.old t accessed s draft → IsSettledAnyhow kept.old kept.new t accessed s d) }
+    ensures listed { IfOk result (λ d. (t : Table) (accessed : List (List ℕ)) (s : State)
+        → IsDraft kept.old t accessed s draft → (list : Group → List ℕ)
+        → IsFitting kept.old t draft (contents stored.now) list
+        → IsExactAnyhow kept.new t accessed s list d) }
 
     // For each list of pictures that fits, among the touched names; and against the whole state, where just
     // the digests of these pictures are kept, and the rest of the state is as it was.
