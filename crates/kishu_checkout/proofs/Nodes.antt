@@ -1,6 +1,6 @@
 -- Pictures have no more nodes than bytes.
-use Rattle.std.specs.Prelude.{◌≤◌, ◌+◌, ℕ, List, length}
-use Rattle.std.proofs.Common.{ap, ◌∙◌, arith, length-append}
+use Rattle.std.specs.Prelude.{◌≤◌, ◌+◌, ℕ, List, [], ◌++◌, length}
+use Rattle.std.proofs.Common.{sym, ap, ◌∙◌, arith, append-nil, append_assoc, length-append}
 use Rattle.kishu_meaning.specs.values.Values.{Node, State}
 use Rattle.kishu_objects_laws.specs.LoadingLaws.{nodes_more}
 use Rattle.kishu_objects_laws.specs.RowLaws.{nodes_fit}
@@ -21,3 +21,9 @@ nodes_kept before after k =
     let e = ap length k.is in
     let all = length-append before k.more in
     omega (arith, e, all)
+
+pub nodes_still : (ns : List Node) → KeepsNodes ns ns
+nodes_still ns = record { more = []; is = sym (append-nil ns) }
+
+pub nodes_on : (a b c : List Node) → KeepsNodes a b → KeepsNodes b c → KeepsNodes a c
+nodes_on a b c k l = record { more = k.more ++ l.more; is = l.is ∙ ap (λ ns. ns ++ l.more) k.is ∙ append_assoc a k.more l.more }

@@ -1,11 +1,11 @@
 // The carrying out of plans.
-ghost use Rattle.std.specs.Prelude.{◌≡◌, ◌≤◌, ◌^◌, ℕ, IfOk, OnOk, IsErrOf, length};
+ghost use Rattle.std.specs.Prelude.{◌≡◌, ◌⊎◌, ◌≤◌, ◌^◌, ℕ, IfOk, OnOk, IsErrOf, length};
 ghost use Rattle.kishu_host.specs.Host.{ReadsMore};
 ghost use Rattle.kishu_meaning.specs.moments.Accesses.{with_accesses};
 ghost use Rattle.kishu_store.specs.Tables.{bytes_in};
 ghost use Rattle.kishu_journal.specs.Facts.{DiskRises};
 ghost use Rattle.kishu_journal.specs.Going.{IsQuiet, ReadsAtMost};
-ghost use Rattle.kishu_loading.specs.Loaded.{held, LeadsWithin};
+ghost use Rattle.kishu_loading.specs.Loaded.{held, KeepsNodes, LeadsWithin};
 ghost use Rattle.kishu_checkout.specs.Fetched.{contents, taken_by, AreFetched, LacksBytes};
 ghost use Rattle.kishu_checkout.specs.Loads.{AreCarried};
 ghost use Rattle.kishu_checkout.specs.Pictures.{told_file, LacksAt, LacksSome};
@@ -59,7 +59,7 @@ pub fn fetch<H: Host>(
 ///   it are.
 /// - `NoMemory`: there was no memory.
 ///
-/// After an error nothing is said of what is bound.
+/// After an error nothing is said of what is bound; the nodes that were there stay.
 pub fn place(
     alloc: Global,
     plan: &Plan,
@@ -76,7 +76,9 @@ pub fn place(
     ensures accessed { OnOk result (names.new.accessed
         ≡ with_accesses (names_of (groups_dropped plan.now)) names.old.accessed) }
 
-    // Where each name leads to a node that is there, it does so afterwards too, however the call ends.
+    // However the call ends, the nodes that are there stay; and where each name leads to one that is there, it
+    // does so afterwards too.
+    ensures nodes { KeepsNodes heap.old heap.new }
     ensures sound { LeadsWithin (held heap.old names.old) → LeadsWithin (held heap.new names.new) }
     ensures damaged { (at : ℕ) → IsErrOf result (Damaged at)
         → FailsAt (rows_loaded plan.now) (contents pictures.now) at }
@@ -115,7 +117,9 @@ pub fn carry_out<H: Host>(
     ensures accessed { OnOk result (names.new.accessed
         ≡ with_accesses (names_of (groups_dropped plan.now)) names.old.accessed) }
 
-    // Where each name leads to a node that is there, it does so afterwards too, however the call ends.
+    // However the call ends, the nodes that are there stay; and where each name leads to one that is there, it
+    // does so afterwards too.
+    ensures nodes { KeepsNodes heap.old heap.new }
     ensures sound { LeadsWithin (held heap.old names.old) → LeadsWithin (held heap.new names.new) }
 
     // The host is only read, and no byte but those of the pictures.
@@ -124,6 +128,11 @@ pub fn carry_out<H: Host>(
         (bytes_in (rows_loaded plan.now))) }
     ensures reads { ReadsAtMost (H.state host.old).reads (H.state host.new).reads
         (bytes_in (rows_loaded plan.now)) }
+
+    // What is bound, and the nodes, change only once each picture is read; so not where the disk fails.
+    ensures read_first { ((heap.new ≡ heap.old) × (names.new ≡ names.old))
+        ⊎ ReadsMore (H.state host.old).reads (H.state host.new).reads (bytes_in (rows_loaded plan.now)) }
+    ensures unread { IsErrOf result DiskFault → (heap.new ≡ heap.old) × (names.new ≡ names.old) }
 
     // Damage is told at the place of a row to load, where no picture is that may be loaded for it.
     ensures damaged { (at : ℕ) → IsErrOf result (Damaged at)

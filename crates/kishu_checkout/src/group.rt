@@ -4,7 +4,7 @@ ghost use Rattle.std.specs.Bool.{Decides};
 ghost use Rattle.kishu_meaning.specs.values.Sound.{are_sound_names};
 ghost use Rattle.kishu_names.specs.Record.{Rises, texts_of};
 ghost use Rattle.kishu_objects.specs.Loading.{bind_all};
-ghost use Rattle.kishu_loading.specs.Loaded.{held, IsLoaded, LeadsWithin};
+ghost use Rattle.kishu_loading.specs.Loaded.{held, IsLoaded, KeepsNodes, LeadsWithin};
 ghost use Rattle.kishu_checkout.specs.Groups.{titles, IsLoadedAs, IsAlone, IsNoPicture, IsNoneOf};
 
 use kishu_heap::Heap;
@@ -20,7 +20,7 @@ fn load_alone(alloc: Global, bytes: &[u8], heap: &mut Heap) -> Result<Option<Nam
     ensures loaded { IfOk result (λ o. MatchOption o (IsNoPicture bytes.now)
         (λ own. IsAlone bytes.now heap.old (held heap.new own))) }
     ensures sound { IfOk result (λ o. IfSome o (λ own. LeadsWithin (held heap.new own))) }
-    ensures grown { length heap.old ≤ length heap.new }
+    ensures nodes { KeepsNodes heap.old heap.new }
 {
     let mut own = Names::new(alloc);
     match load(alloc, bytes, heap, &mut own) {
@@ -71,6 +71,7 @@ pub(crate) fn load_group(
         (held heap.old names.old) (held heap.new names.new)) }
     ensures none { IfOk result (λ b. b ≡ false → IsNoneOf (texts_of group.now) bytes.now) }
     ensures accessed { names.new.accessed ≡ names.old.accessed }
+    ensures nodes { KeepsNodes heap.old heap.new }
     ensures sound { LeadsWithin (held heap.old names.old) → LeadsWithin (held heap.new names.new) }
 {
     let Some(own) = load_alone(alloc, bytes, heap)? else {

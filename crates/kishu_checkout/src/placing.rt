@@ -1,7 +1,7 @@
 // The loading of rows' pictures.
 ghost use Rattle.std.specs.Prelude.{◌≡◌, ◌+◌, ◌<◌, ◌^◌, ℕ, [], IfOk, OnOk, IsErrOf, length, map};
 ghost use Rattle.kishu_graph.specs.Kept.{row_of};
-ghost use Rattle.kishu_loading.specs.Loaded.{held, LeadsWithin};
+ghost use Rattle.kishu_loading.specs.Loaded.{held, KeepsNodes, LeadsWithin};
 ghost use Rattle.kishu_checkout.specs.Fetched.{contents, taken_by};
 ghost use Rattle.kishu_checkout.specs.Groups.{IsLoadedAs, IsNoneOf};
 ghost use Rattle.kishu_checkout.specs.Placed.{ArePlaced, FailsAt};
@@ -26,6 +26,7 @@ fn place_row(
     ensures loaded { OnOk result (IsLoadedAs (row_of row.now).group bytes.now
         (held heap.old names.old) (held heap.new names.new)) }
     ensures accessed { names.new.accessed ≡ names.old.accessed }
+    ensures nodes { KeepsNodes heap.old heap.new }
     ensures sound { LeadsWithin (held heap.old names.old) → LeadsWithin (held heap.new names.new) }
     ensures damaged { (at : ℕ) → IsErrOf result (Damaged at)
         → IsNoneOf (row_of row.now).group bytes.now × (at ≡ row.now.place) }
@@ -50,6 +51,7 @@ pub(crate) fn place_rows(
     ensures placed { OnOk result (ArePlaced [] (map row_of rows.now) (contents pictures.now)
         (held heap.old names.old) (held heap.new names.new)) }
     ensures accessed { names.new.accessed ≡ names.old.accessed }
+    ensures nodes { KeepsNodes heap.old heap.new }
     ensures sound { LeadsWithin (held heap.old names.old) → LeadsWithin (held heap.new names.new) }
     ensures damaged { (at : ℕ) → IsErrOf result (Damaged at)
         → FailsAt (map row_of rows.now) (contents pictures.now) at }

@@ -1,4 +1,4 @@
-use Rattle.std.proofs.Common.{IsErrOf, ap, subst, ◌∙◌, arith, rules}
+use Rattle.std.proofs.Common.{IsErrOf, refl, inl, inr, ap, subst, ◌∙◌, arith, rules}
 use Rattle.kishu_loading.specs.Loaded.{held}
 use Rattle.kishu_checkout.specs.CarriedLaws.{are_carried, fails_lacks, bytes_lack}
 use Rattle.kishu_checkout.specs.Fetched.{contents, taken_by}
@@ -45,3 +45,12 @@ returns-clause-carried g c =
     let after = held c.place.new.heap c.place.new.names in
     let placed = subst (λ ps. ArePlaced gone t (contents ps) before after) c.deref.ensures.value c.in_ok-place.ensures.placed in
     are_carried s gone t (contents c.in_ok-pictures.pictures.items) before after c.in_ok-pictures.ensures.fetched placed
+
+pub returns-in_err-pictures-clause-read_first : goal.returns-in_err-pictures-clause-read_first
+returns-in_err-pictures-clause-read_first g c = inl (refl, refl)
+
+pub returns-in_err-place-clause-read_first : goal.returns-in_err-place-clause-read_first
+returns-in_err-place-clause-read_first g c = inr c.in_ok-pictures.ensures.exact
+
+pub returns-clause-read_first : goal.returns-clause-read_first
+returns-clause-read_first g c = inr c.in_ok-pictures.ensures.exact

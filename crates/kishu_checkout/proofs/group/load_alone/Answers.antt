@@ -1,7 +1,6 @@
 use Rattle.std.proofs.Common.{refl, sym, subst}
 use Rattle.kishu_loading.specs.Loaded.{held, IsLoaded, LeadsWithin}
 use Rattle.kishu_checkout.proofs.Bytes.{alone, no_picture, are_bytes}
-use Rattle.kishu_checkout.proofs.Nodes.{nodes_kept}
 use Rattle.kishu_checkout.proofs.group.load_alone.Goals as goal
 
 pub returns-in-Ok : goal.returns-in-Ok
@@ -14,7 +13,7 @@ returns-in-Ok c =
     record {
       loaded = alone bytes heap after (are_bytes bytes c.type_inv.bytes) loaded;
       sound = c.in-Ok.ensures.sound none;
-      grown = nodes_kept heap c.load.new.heap c.in-Ok.ensures.nodes;
+      nodes = c.in-Ok.ensures.nodes;
     }
 
 pub returns-in-Err-Picture : goal.returns-in-Err-Picture
@@ -23,5 +22,5 @@ returns-in-Err-Picture c =
     record {
       loaded = no_picture c.args.bytes.now c.in-Err-Picture.field-0-0 fault;
       sound = tt;
-      grown = nodes_kept c.args.heap.now c.load.new.heap c.in-Err-Picture.ensures.nodes;
+      nodes = c.in-Err-Picture.ensures.nodes;
     }

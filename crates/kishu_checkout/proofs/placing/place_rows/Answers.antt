@@ -3,6 +3,7 @@ use Rattle.kishu_graph.specs.Kept.{row_of}
 use Rattle.kishu_loading.specs.Loaded.{held}
 use Rattle.kishu_checkout.specs.Fetched.{contents}
 use Rattle.kishu_checkout.specs.Groups.{IsLoadedAs}
+use Rattle.kishu_checkout.proofs.Nodes.{nodes_on}
 use Rattle.kishu_checkout.proofs.RowsLeft.{IsPlacing, placing_next, rows_at, contents_at, room_next}
 use Rattle.kishu_checkout.proofs.placing.place_rows.Goals as goal
 
@@ -29,5 +30,10 @@ loop-i-preserved c =
       placing = placing_next t bytes before here (row_of row) (map row_of (drop (i + 1) rows)) picture.items (contents (drop (i + 1) pictures)) next both loaded;
       room = room_next (contents (drop i pictures)) picture.items (contents (drop (i + 1) pictures)) (row_of row).group here next 4294967296 bytes_here inv.room loaded;
       accessed = c.in_ok-place_row.ensures.accessed ∙ inv.accessed;
+      nodes = nodes_on c.args.heap.now c.loop-i.heap c.place_row.new.heap inv.nodes c.place_row.ensures.nodes;
       sound = λ h. c.in_ok-place_row.ensures.sound (inv.sound h);
     }
+
+pub returns-in_err-place_row-clause-nodes : goal.returns-in_err-place_row-clause-nodes
+returns-in_err-place_row-clause-nodes c =
+    nodes_on c.args.heap.now c.loop-i.heap c.place_row.new.heap c.loop-i.invariant.nodes c.place_row.ensures.nodes
