@@ -1,6 +1,7 @@
 -- What cells leave of a state that is loaded anew before some of them, and what follows for what they left of the first.
-use Rattle.std.specs.Prelude.{◌≡◌, ◌≤◌, ℕ, List, [], ◌∷◌, ◌++◌, length}
-use Rattle.std.proofs.Common.{refl, ap, sym, ◌∙◌, subst, arith}
+use Rattle.std.specs.Prelude.{◌≡◌, ◌≤◌, ◌<◌, ℕ, Bool, if◌then◌else◌, List, [], ◌∷◌, ◌++◌, length}
+use Rattle.std.proofs.Common.{refl, ap, sym, ◌∙◌, subst, arith, ⊎_elim}
+use Rattle.std.proofs.lemmas.Bool.Decides.{leb_tells}
 use Rattle.kishu_meaning.specs.cells.Meaning.{run}
 use Rattle.kishu_meaning.specs.values.Values.{State}
 use Rattle.kishu_objects.specs.Same.{Same}
@@ -10,21 +11,34 @@ use Rattle.kishu_pairing_laws.specs.runs.PairedRuns.{same_runs}
 use Rattle.kishu_replay.specs.Replay.{after_cells}
 use Rattle.kishu_store.specs.Limits.{newest_profile}
 use Rattle.kishu_session_laws.specs.CellLaws.{cells_keep}
-use Rattle.kishu_anew.specs.Anew.{IsAnew, most_kept}
-use Rattle.kishu_session.specs.Renewing.{BeginKept, IsLeft, Starts}
+use Rattle.kishu_anew.specs.Anew.{IsAnew, loaded_anew, most_kept}
+use Rattle.kishu_session.specs.Renewing.{BeginKept, IsLeft, Starts, left_anew, renewed}
+
+-- It is loaded anew where it has too many nodes, and else stays.
+pub is-renewed : (s u : State) → (length s.nodes ≤ most_kept → u ≡ s) → (most_kept < length s.nodes → u ≡ loaded_anew s) → u ≡ renewed s
+is-renewed s u stays loaded =
+    ⊎_elim
+    (λ p. stays p.1 ∙ sym (ap (λ (b : Bool). if b then s else loaded_anew s) p.0))
+    (λ p. loaded p.1 ∙ sym (ap (λ (b : Bool). if b then s else loaded_anew s) p.0))
+    (leb_tells (length s.nodes) most_kept)
 
 -- A state that is loaded anew or not.
-pub anew-starts : (s u : State) → IsAnew s u → IsSoundState u → Starts s u
-anew-starts s u anew sound = record { same = anew.same; sound = sound; few = anew.few; stays = anew.stays }
+pub anew-starts : (s u : State) → u ≡ renewed s → IsAnew s u → IsSoundState u → Starts s u
+anew-starts s u is anew sound = record { is = is; same = anew.same; sound = sound; few = anew.few; stays = anew.stays }
 
 -- Without a cell nothing is left but the state.
 pub left-none : (s : State) → IsLeft [] s s
-left-none s = record { same = same_self _ s; few = omega arith; exact = λ kept. refl }
+left-none s = record { is = refl; same = same_self _ s; few = omega arith; exact = λ kept. refl }
 
 -- what one cell more leaves behind others
 after-one-more : (before : List (List ℕ)) (text : List ℕ) (s : State) → after_cells newest_profile (before ++ text ∷ []) s ≡ (run newest_profile text (after_cells newest_profile before s)).state
 after-one-more [] text s = refl
 after-one-more (b ∷ before) text s = after-one-more before text (run newest_profile b s).state
+
+-- So it is where the state may be loaded anew before each of them.
+anew-one-more : (before : List (List ℕ)) (text : List ℕ) (s : State) → left_anew (before ++ text ∷ []) s ≡ (run newest_profile text (renewed (left_anew before s))).state
+anew-one-more [] text s = refl
+anew-one-more (b ∷ before) text s = anew-one-more before text (run newest_profile b (renewed s)).state
 
 kept-front : (before : List (List ℕ)) (text : List ℕ) (s : State) → BeginKept (before ++ text ∷ []) s → BeginKept before s × (length (after_cells newest_profile before s).nodes ≤ most_kept)
 kept-front [] text s kept = (tt, kept.0)
@@ -39,6 +53,7 @@ left-more before text s t u here there left starts =
     let runs = same_runs newest_profile text u x starts.sound sound same in
     let last = after-one-more before text s in
     record {
+      is = ap (λ (y : State). (run newest_profile text y).state) (starts.is ∙ ap renewed left.is) ∙ sym (anew-one-more before text s);
       same = subst (λ (y : State). Same (run newest_profile text u).state y) (sym last) runs.states;
       few =
           let a = left.few in
@@ -64,6 +79,7 @@ left-behind before text s t u here there left one =
     let runs = same_runs newest_profile text t x there (cells_keep newest_profile before s here) left.same in
     let last = after-one-more before text s in
     record {
+      is = one.is ∙ ap (λ (y : State). (run newest_profile text (renewed y)).state) left.is ∙ sym (anew-one-more before text s);
       same = subst (λ (y : State). Same u y) (sym last) (same_joined _ u (run newest_profile text t).state (run newest_profile text x).state one.same runs.states);
       few =
           let a = left.few in

@@ -1,5 +1,5 @@
 -- What the live state becomes, on every store: after a request that was answered, and where it was loaded as a store was opened.
-use Rattle.std.proofs.Common.{◌≡◌, ◌≤◌, ◌⊎◌, inl, inr, ⊎_elim, ℕ, List, length, refl, sym, ◌∙◌, ap, subst, arith}
+use Rattle.std.proofs.Common.{◌≡◌, ◌≤◌, ◌<◌, ◌⊎◌, inl, inr, ⊎_elim, ℕ, List, length, refl, sym, ◌∙◌, ap, subst, arith}
 use Rattle.std.specs.Coded.{Coded-set, coded_ℕ, le_prop}
 use Rattle.std.specs.Prelude.{true, Option, Some, None}
 use Rattle.std.proofs.Math.Logic.{∥∥₁_elim}
@@ -14,7 +14,7 @@ use Rattle.kishu_store.specs.Holds.{Holds, Gives, history_by}
 use Rattle.kishu_store.specs.Tables.{Table, Change, change_of}
 use Rattle.kishu_store_laws.specs.Laws.{ends-gives, one_changes, one_graph}
 use Rattle.kishu_history.specs.Checkout.{to_load, to_drop}
-use Rattle.kishu_live_laws.specs.OnStates.{answer_on, state_on}
+use Rattle.kishu_live_laws.specs.OnStates.{answer_on, head_rows, ran_by, state_on}
 use Rattle.kishu_live_laws.specs.Outcomes.{still_state, when_none}
 use Rattle.kishu_live_laws.specs.Refusals.{LeavesTooLarge}
 use Rattle.kishu_model.specs.Answers.{Answer, ran_cell, ran_cells, checked_out, branched, logged, told_status, inspected, told_stored, told_plan, refused, Refusal, bad_request, cell_too_long, no_such_ref, bad_name, name_taken, store_full, state_too_large}
@@ -25,14 +25,14 @@ use Rattle.kishu_checkout.specs.Loads.{AreCarried, IsLoadedFrom}
 use Rattle.kishu_checkout.specs.Pictures.{told_file}
 use Rattle.kishu_commit.specs.declared.committing.Record as rust_record
 use Rattle.kishu_session.specs.Attached.{IsAtEnd, StandsAtEnd}
-use Rattle.kishu_session.specs.Becoming.{IsHeadLoaded, IsLeftBy, IsNextState}
+use Rattle.kishu_session.specs.Becoming.{IsHeadLoaded, IsLeftAnew, IsLeftBy, IsNextState}
 use Rattle.kishu_session.specs.Ends.{IsBehind, at-end-behind, at-end-history}
 use Rattle.kishu_session.specs.Head.{CountsPath, IsGiven, IsKnown, IsLoaded}
 use Rattle.kishu_session.specs.Known.{IsHistoryOf}
 use Rattle.kishu_session.specs.Lives.{state_of}
 use Rattle.kishu_session.specs.Prepared.{LeadsOn, RefusesNoSize, after_by, led_with, record_in}
 use Rattle.kishu_session.specs.Refusing.{RefusesSize}
-use Rattle.kishu_session.specs.Renewing.{BeginKept}
+use Rattle.kishu_session.specs.Renewing.{BeginKept, left_anew}
 use Rattle.kishu_session.specs.declared.head.Head.{Head}
 use Rattle.kishu_session.specs.declared.prepared.Prepared.{Prepared}
 use Rattle.kishu_session.specs.declared.session.Session.{Session}
@@ -136,6 +136,18 @@ module _ (file : List ℕ) (old new : Head) (h : History) (q : Request) (r : Opt
         exact = λ kept. k.ran.exact (subst (λ (texts : List (List ℕ)). BeginKept texts u) (cells-are of u h.graph q k.cells grown) kept) ∙ left;
       })
 
+  -- It is just what its cells leave that may be loaded anew before each of them.
+  committed-anew : IsCommitted (Some file) old new h r → v ≡ left_anew (ran_by (head_rows of h.graph) q u) u
+  committed-anew k =
+      let grown = sym after ∙ ap (λ (o : Option Record). (led_with h o).graph) k.is in
+      k.ran.is ∙ ap (λ (texts : List (List ℕ)). left_anew texts u) (sym (cells-are of u h.graph q k.cells grown))
+
+  made-anew : Kind (Some file) old new h r (led_with h r) → IsLeftAnew of h.graph u q v
+  made-anew (inl k) more = absurd (let none = none-made k.same in omega (arith, none, more))
+  made-anew (inr (inl k)) more = absurd (let none = none-made k.same in omega (arith, none, more))
+  made-anew (inr (inr (inl k))) more = absurd (let none = none-made k.same in omega (arith, none, more))
+  made-anew (inr (inr (inr k))) more = committed-anew k
+
   next-state : IsHistoryOf new.graph (led_with h r) → Kind (Some file) old new h r (led_with h r) → IsNextState file of h.graph u q v
   next-state kept kind = ⊎_elim still-next (⊎_elim (moved-next kept) (⊎_elim (reloaded-next kept) committed-next)) kind
 
@@ -214,3 +226,13 @@ module _ (old : Session) (new : Head) (s : host.State) (q : Request) (p : Prepar
         (subst (λ (ds : List Change). IsNextState s.file (change_of ds) found.graph live q (state_of new.live)) changes-are
         (next-state s.file old.head new found q r (ends-gives s.file behind.found behind.at.ends) (graph-now old new s s1 q p leads quiet found behind.kept behind.place)
         (same-or-large stays found behind.kept) (kept-now old new s s1 q p leads quiet found behind.kept behind.place) kind))
+
+    pub goes-on-anew : (s1 : host.State) → IsQuiet s s1 → (p.recorded ≡ None → RefusesNoSize p.answer → new ≡ old.head) → s.tells ≡ true
+        → IsLeftAnew (change_of cs) g live q (state_of new.live)
+    goes-on-anew s1 quiet stays told =
+        let kind = subst (λ (o : Option (List ℕ)). Kind o old.head new found r (led_with found r)) (told-some s told)
+        (kind-now old new s s1 q p leads quiet found behind.kept behind.place) in
+        subst (λ (x : Graph). IsLeftAnew (change_of cs) x live q (state_of new.live)) behind.graph
+        (subst (λ (ds : List Change). IsLeftAnew (change_of ds) found.graph live q (state_of new.live)) changes-are
+        (made-anew s.file old.head new found q r (ends-gives s.file behind.found behind.at.ends) (graph-now old new s s1 q p leads quiet found behind.kept behind.place)
+        (same-or-large stays found behind.kept) kind))

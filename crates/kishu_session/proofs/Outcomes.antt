@@ -14,3 +14,7 @@ always (Err e) Q q = tt
 pub gives-both : {T E : Type 0} (r : Result T E) (P R : T → Type 0) (Q : Type 0) → IfOk r P → OnOk r Q → ((x : T) → P x → Q → R x) → IfOk r R
 gives-both (Ok x) P R Q p q f = f x p q
 gives-both (Err e) P R Q p q f = tt
+
+pub both-ok : {T E P Q R : Type 0} (r : Result T E) → (P → Q → R) → OnOk r P → OnOk r Q → OnOk r R
+both-ok (Ok x) f p q = f p q
+both-ok (Err e) f p q = tt

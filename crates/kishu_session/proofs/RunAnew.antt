@@ -8,10 +8,10 @@ use Rattle.kishu_objects_laws.specs.SameLaws.{same_turned}
 use Rattle.kishu_pairing_laws.specs.runs.PairedRuns.{same_runs}
 use Rattle.kishu_anew.specs.Anew.{IsAnew, IsWhole}
 use Rattle.kishu_anew.specs.WholeLaws.{whole_sound}
-use Rattle.kishu_session.specs.Renewing.{IsLeft, Starts}
+use Rattle.kishu_session.specs.Renewing.{IsLeft, Starts, renewed}
 use Rattle.kishu_session.proofs.LeftBy.{anew-starts, left-one}
 
-module _ (text : List ℕ) (s u : State) (whole : IsWhole s) (anew : IsAnew s u) where
+module _ (text : List ℕ) (s u : State) (whole : IsWhole s) (anew : IsAnew s u) (is : u ≡ renewed s) where
   here : IsSoundState s
   here = whole_sound s whole
 
@@ -19,7 +19,7 @@ module _ (text : List ℕ) (s u : State) (whole : IsWhole s) (anew : IsAnew s u)
   there = whole_sound u anew.whole
 
   pub starts : Starts s u
-  starts = anew-starts s u anew there
+  starts = anew-starts s u is anew there
 
   pub report-alike : (run One text u).report ≡ (run One text s).report
   report-alike = (same_runs One text u s there here (same_turned _ s u anew.same)).report

@@ -24,14 +24,15 @@ use Rattle.kishu_model.specs.Step.{step, charge_of}
 use Rattle.kishu_model.specs.Values.{request_of, answer_of}
 use Rattle.kishu_live_laws.specs.Made.{made_by}
 use Rattle.kishu_live_laws.specs.OnStates.{after_on}
-use Rattle.kishu_checkout.specs.Pictures.{LacksAt}
+use Rattle.kishu_checkout.specs.Pictures.{LacksAt, told_file}
 use Rattle.kishu_session.specs.Attached.{IsAtEnd, IsAttached, LivesIn}
+use Rattle.kishu_session.specs.Head.{CarriesFrom}
 use Rattle.kishu_session.specs.Journals.{BeforeOrAfter, GoodBeforeOrAfter}
 use Rattle.kishu_session.specs.Known.{IsHistoryOf}
 use Rattle.kishu_session.specs.Lives.{state_of}
 use Rattle.kishu_session.specs.Reading.{rows_read, MayRead}
 use Rattle.kishu_session.specs.Refusing.{IsRefusal, RefusesSize}
-use Rattle.kishu_session.specs.Renewing.{StaysHere}
+use Rattle.kishu_session.specs.Renewing.{StaysHere, renewed}
 use Rattle.kishu_session.specs.Working.{CountsUpTo, bytes_asked_by}
 pub use Rattle.kishu_session.specs.Working.{IsIdle, most_steps, bytes_asked}
 use Rattle.kishu_session.specs.Written.{IsRecorded}
@@ -138,6 +139,11 @@ StaysLoaded session = StaysHere session.head
 
 abbrev pub KeepsOld : (old new : Session) → State → Request → Answer → Type 0
 KeepsOld old new s q a = IsCheckout q → (IsRefusal (answer_of a) → ⊥) → StaysLoaded old → KeepsNodes old new × KeepsNames old new s q
+
+-- The live state is carried on from the one before, and where that has more nodes than a heap keeps, from that one loaded anew.
+abbrev pub CarriesRenewed : (old new : Session) → State → Request → Answer → Type 0
+CarriesRenewed old new s q a =
+    IsCheckout q → (IsRefusal (answer_of a) → ⊥) → CarriesFrom (told_file s) (renewed (state_of old.head.live)) old.head new.head
 
 -- ---- the work
 

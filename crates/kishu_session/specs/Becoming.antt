@@ -1,5 +1,5 @@
 -- What the live state becomes from request to request, on every store.
-use Rattle.std.specs.Prelude.{◌≡◌, ◌≤◌, ◌⊎◌, ℕ, List, length, Some}
+use Rattle.std.specs.Prelude.{◌≡◌, ◌≤◌, ◌<◌, ◌⊎◌, ℕ, List, length, Some}
 use Rattle.kishu_host.specs.Host as host
 use Rattle.kishu_meaning.specs.values.Values.{State}
 use Rattle.kishu_store.specs.Graph.{Graph, newest}
@@ -16,7 +16,7 @@ use Rattle.kishu_live_laws.specs.Refusals.{LeavesTooLarge}
 use Rattle.kishu_checkout.specs.Loads.{AreCarried, IsLoadedFrom}
 use Rattle.kishu_session.specs.Attached.{IsAtEnd}
 use Rattle.kishu_session.specs.Lives.{state_of}
-use Rattle.kishu_session.specs.Renewing.{BeginKept, Starts}
+use Rattle.kishu_session.specs.Renewing.{BeginKept, Starts, left_anew}
 use Rattle.kishu_session.specs.declared.session.Session.{Session}
 
 -- It is what the pictures leave of the empty state that a file holds for the table of a graph's head.
@@ -50,6 +50,10 @@ IsLoadedAfter file changes g u q v = (after_on changes u g q ≡ g) × IsHeadLoa
 abbrev pub IsNextState : List ℕ → (ℕ → Change) → Graph → State → Request → State → Type 0
 IsNextState file changes g u q v = IsLeftBy changes g u q v ⊎ IsCarriedAfter file changes g u q v ⊎ IsLoadedAfter file changes g u q v
 
+-- Cells that are committed leave just what they do where before each of them the state is loaded anew that has more nodes than a heap keeps.
+abbrev pub IsLeftAnew : (ℕ → Change) → Graph → State → Request → State → Type 0
+IsLeftAnew changes g u q v = newest g < newest (after_on changes u g q) → v ≡ left_anew (ran_by (head_rows changes g) q u) u
+
 -- ---- of a session: `s` is the host before, `t` the host after
 
 -- A session that is opened has loaded it.
@@ -61,6 +65,12 @@ abbrev pub GoesOnLive : (old new : Session) → host.State → rust_request.Requ
 GoesOnLive old new s q =
     host.Told s ((g : Graph) (cs : List Change) → IsAtEnd old s g → Gives s.file cs
     → IsNextState s.file (change_of cs) g (state_of old.head.live) (request_of q) (state_of new.head.live))
+
+-- So it is with the cells of a request.
+abbrev pub LeavesAnew : (old new : Session) → host.State → rust_request.Request → Type 0
+LeavesAnew old new s q =
+    host.Told s ((g : Graph) (cs : List Change) → IsAtEnd old s g → Gives s.file cs
+    → IsLeftAnew (change_of cs) g (state_of old.head.live) (request_of q) (state_of new.head.live))
 
 -- The answer is the one on that state.
 abbrev pub IsAnswerHere : Session → host.State → rust_request.Request → Answer → Type 0

@@ -4,12 +4,12 @@ ghost use Rattle.kishu_host.specs.Host.{ReadsMore};
 ghost use Rattle.kishu_model.specs.Values.{request_of, answer_of};
 ghost use Rattle.kishu_model.specs.requests.Cells.{HasRoom};
 ghost use Rattle.kishu_journal.specs.Going.{IsQuiet};
-ghost use Rattle.kishu_session.specs.Applying.{IsAnswer, IsIdle, StaysAttached, Counts, CountsAtMost, StaysAtEnd, StaysLive, IsBackAt, KeepsOld, LacksHere, LeavesCounter, MakesNodes, ReadsAsked, ReadsLoaded, RecordsOne, LeavesBeforeOrAfter, LeavesHere, KeepsSmall, TellsAlone};
+ghost use Rattle.kishu_session.specs.Applying.{IsAnswer, IsIdle, CarriesRenewed, StaysAttached, Counts, CountsAtMost, StaysAtEnd, StaysLive, IsBackAt, KeepsOld, LacksHere, LeavesCounter, MakesNodes, ReadsAsked, ReadsLoaded, RecordsOne, LeavesBeforeOrAfter, LeavesHere, KeepsSmall, TellsAlone};
 ghost use Rattle.kishu_session.specs.Attached.{IsReady};
 ghost use Rattle.kishu_session.specs.Bounded.{IsBounded};
 ghost use Rattle.kishu_session.specs.Faults.{DiskFailed};
 ghost use Rattle.kishu_session.specs.Head.{IsKnown};
-ghost use Rattle.kishu_session.specs.Becoming.{GoesOnLive, IsAnswerHere};
+ghost use Rattle.kishu_session.specs.Becoming.{GoesOnLive, IsAnswerHere, LeavesAnew};
 ghost use Rattle.kishu_session.specs.Prepared.{RefusesFor, LeavesLarge};
 ghost use Rattle.kishu_session.specs.Recording.{StaysDurable};
 ghost use Rattle.kishu_session.specs.Refusing.{IsRefusal, RefusesSize};
@@ -66,6 +66,13 @@ impl Session {
         // the head, where the request's cells left a state that is too large.
         ensures answered_here { IfOk result (IsAnswerHere self.old (H.state host.old) request.now) }
         ensures goes_on { OnOk result (GoesOnLive self.old self.new (H.state host.old) request.now) }
+
+        // A state of more than 8,000,000 nodes is loaded anew before each cell and before a checkout, and no
+        // other is: cells that are committed leave just what they leave then, and a checkout that isn't refused
+        // carries on just that state.
+        ensures anew { OnOk result (LeavesAnew self.old self.new (H.state host.old) request.now) }
+        ensures carries { IfOk result
+            (λ a. CarriesRenewed self.old self.new (H.state host.old) request.now a) }
 
         // A checkout that isn't refused leaves the nodes that were there, from at most 8,000,000; and from an
         // attached session the names of the groups that both commits have with one version keep their values.

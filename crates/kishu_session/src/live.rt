@@ -42,7 +42,7 @@ pub(crate) struct Live {
 
 impl Live {
     ghost use Rattle.kishu_session.specs.Lives.{state_of, run_on};
-    ghost use Rattle.kishu_session.specs.Renewing.{IsLeft};
+    ghost use Rattle.kishu_session.specs.Renewing.{IsLeft, renewed};
 
     /// An empty heap and no names.
     pub(crate) fn new(alloc: Global) -> Live
@@ -71,6 +71,7 @@ impl Live {
         requires whole { IsWhole (state_of self.old) }
         requires small { IsSmall (state_of self.old) }
         ensures anew { OnOk result (IsAnew (state_of self.old) (state_of self.new)) }
+        ensures is { OnOk result (state_of self.new ≡ renewed (state_of self.old)) }
         ensures accessed { OnOk result (self.new.names.accessed ≡ self.old.names.accessed) }
         ensures counted { steps.old ≤ steps.new }
         ensures still { length self.old.heap ≤ most_kept → steps.new ≡ steps.old }

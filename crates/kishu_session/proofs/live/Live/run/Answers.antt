@@ -21,14 +21,14 @@ returns-clause-report g c =
     let s = state_of c.args.self.now in
     let u = state_of c.renew.new.self in
     gives c.run_cell.result (λ r. report_of r ≡ (run One text u).report) (λ r. report_of r ≡ (run One text s).report) c.run_cell.ensures.report
-    (λ r e. e ∙ report-alike text s u c.requires.whole c.in_ok-renew.ensures.anew)
+    (λ r e. e ∙ report-alike text s u c.requires.whole c.in_ok-renew.ensures.anew c.in_ok-renew.ensures.is)
 
 pub returns-clause-left : goal.returns-clause-left
 returns-clause-left g c =
     let text = c.args.text.now in
     let s = state_of c.args.self.now in
     let u = state_of c.renew.new.self in
-    on_ok_weaker c.run_cell.result (λ e. subst (λ (x : State). IsLeft (text ∷ []) s x) (sym e) (left-alike text s u c.requires.whole c.in_ok-renew.ensures.anew)) c.run_cell.ensures.state
+    on_ok_weaker c.run_cell.result (λ e. subst (λ (x : State). IsLeft (text ∷ []) s x) (sym e) (left-alike text s u c.requires.whole c.in_ok-renew.ensures.anew c.in_ok-renew.ensures.is)) c.run_cell.ensures.state
 
 pub returns-clause-accessed : goal.returns-clause-accessed
 returns-clause-accessed g c =
@@ -38,7 +38,7 @@ returns-clause-accessed g c =
     on_ok_weaker c.run_cell.result
     (λ e.
     e
-    ∙ ap (λ (xs : List (List ℕ)). with_accesses xs c.renew.new.self.names.accessed) (accessed-alike text s u c.requires.whole c.in_ok-renew.ensures.anew)
+    ∙ ap (λ (xs : List (List ℕ)). with_accesses xs c.renew.new.self.names.accessed) (accessed-alike text s u c.requires.whole c.in_ok-renew.ensures.anew c.in_ok-renew.ensures.is)
     ∙ ap (λ (names : List (List ℕ)). with_accesses (run One text s).accessed names) c.in_ok-renew.ensures.accessed)
     c.run_cell.ensures.accessed
 
@@ -47,14 +47,14 @@ returns-clause-least g c =
     let text = c.args.text.now in
     let s = state_of c.args.self.now in
     let u = state_of c.renew.new.self in
-    on_ok_weaker c.run_cell.result (λ e. omega (arith, e, c.renew.ensures.counted, charge-alike text s u c.requires.whole c.in_ok-renew.ensures.anew)) c.run_cell.ensures.least
+    on_ok_weaker c.run_cell.result (λ e. omega (arith, e, c.renew.ensures.counted, charge-alike text s u c.requires.whole c.in_ok-renew.ensures.anew c.in_ok-renew.ensures.is)) c.run_cell.ensures.least
 
 pub returns-clause-most : goal.returns-clause-most
 returns-clause-most g c =
     let text = c.args.text.now in
     let s = state_of c.args.self.now in
     let u = state_of c.renew.new.self in
-    on_ok_weaker c.run_cell.result (λ e few. omega (arith, e, c.renew.ensures.still few, charge-alike text s u c.requires.whole c.in_ok-renew.ensures.anew)) c.run_cell.ensures.most
+    on_ok_weaker c.run_cell.result (λ e few. omega (arith, e, c.renew.ensures.still few, charge-alike text s u c.requires.whole c.in_ok-renew.ensures.anew c.in_ok-renew.ensures.is)) c.run_cell.ensures.most
 
 pub returns-clause-whole : goal.returns-clause-whole
 returns-clause-whole g c =

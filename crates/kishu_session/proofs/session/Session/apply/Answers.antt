@@ -18,10 +18,10 @@ use Rattle.kishu_session.specs.Working.{ReadsFor, bytes_asked_by}
 use Rattle.kishu_session.proofs.Alone.{alone-no-size, alone-silent}
 use Rattle.kishu_session.proofs.Applied.{durable-read, known-after, may-go-on, quiet-good, quiet-here, recorded-most, stop-here}
 use Rattle.kishu_session.proofs.BoundedFacts.{known-bounded}
-use Rattle.kishu_session.proofs.Gone.{nodes-kept, recorded}
+use Rattle.kishu_session.proofs.Gone.{carried-renewed, nodes-kept, recorded}
 use Rattle.kishu_session.proofs.Halts.{was-damaged, was-disk, not-closed, only-these, is-error}
 use Rattle.kishu_session.proofs.KeptOld.{names-kept, reads-loaded}
-use Rattle.kishu_session.proofs.LiveFacts.{answer-on-live, goes-on-live}
+use Rattle.kishu_session.proofs.LiveFacts.{answer-on-live, goes-on-anew, goes-on-live}
 use Rattle.kishu_session.proofs.Makes.{makes-few}
 use Rattle.kishu_session.proofs.ReadFacts.{lacks-here}
 use Rattle.kishu_session.proofs.Recorded.{cells-recorded}
@@ -101,6 +101,19 @@ returns-clause-goes_on g c told g' cs e gives =
     let st = g.H.Host.state in
     goes-on-live c.args.self.now c.prepare.new.self (st c.args.host.now) (request_of c.args.request.now) c.in_ok-prepared.prepared
     c.in_ok-prepared.ensures.leads g' cs e gives (st c.prepare.new.host) c.prepare.ensures.quiet (λ none sizes. (c.in_ok-prepared.ensures.stays none sizes).0) told
+
+pub returns-clause-anew : goal.returns-clause-anew
+returns-clause-anew g c told g' cs e gives =
+    let st = g.H.Host.state in
+    goes-on-anew c.args.self.now c.prepare.new.self (st c.args.host.now) (request_of c.args.request.now) c.in_ok-prepared.prepared
+    c.in_ok-prepared.ensures.leads g' cs e gives (st c.prepare.new.host) c.prepare.ensures.quiet (λ none sizes. (c.in_ok-prepared.ensures.stays none sizes).0) told
+
+pub returns-clause-carries : goal.returns-clause-carries
+returns-clause-carries g c is not =
+    let st = g.H.Host.state in
+    let self = c.args.self.now in
+    carried-renewed self c.prepare.new.self (st c.args.host.now) (request_of c.args.request.now) c.in_ok-prepared.prepared
+    c.in_ok-prepared.ensures.leads is.0 is.1 not (self.known c.if-self.false)
 
 pub returns-clause-kept : goal.returns-clause-kept
 returns-clause-kept g c is not few =
