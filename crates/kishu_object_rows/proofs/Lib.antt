@@ -1,0 +1,21 @@
+pub mod States
+pub mod OnLiterals
+mod ShapeRows
+mod OrderRows
+mod PictureRows
+mod GroupRows
+mod SameRows
+mod MoreSameRows
+mod ByteRows
+mod PictureByteRows
+mod SizeRows
+mod FieldRows
+mod MoreFieldRows
+mod FunctionRows
+pub mod Histories
+mod AlikeRows
+mod ChangedRows
+mod VersionRows
+mod WayRows
+mod TouchedRows
+mod MoreTouchedRows
