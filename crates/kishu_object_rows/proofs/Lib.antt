@@ -19,3 +19,6 @@ mod VersionRows
 mod WayRows
 mod TouchedRows
 mod MoreTouchedRows
+mod StateRows
+mod FitRows
+mod PicturedRows
