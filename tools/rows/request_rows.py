@@ -154,8 +154,45 @@ def cell_session():
     f.write()
 
 
+def walk_session():
+    f = RowFile(CRATE, "WalkRows", f"What is told at each commit of a history that branches, to which checkouts lead: computed on the definitions. {MADE}", USES)
+    s = Session(f, "walk", "a way to each commit and each branch")
+    s.ask(*cells("x = [1]; y = [x]; z = (x, 'a')", "y = {1: y, (1, None): z}"), ("branch", "try", "1"), ("branch", "b", "0"), ("checkout", "try"))
+    s.ask(*cells("def f(a=x): return a", "x = 0; del z"), ("checkout", "2"), *cells("o = SimpleNamespace(y=y)", "e = ValueError(o)"), ("checkout", "b"))
+    s.ask(*cells("x = 'é'; r = range(3, 0, -1)", "m = max; t = ()"), ("branch", "c", "try"), ("branch", "d", "6"))
+    for to in ("0", "1", "2", "3", "4", "5", "6", "7", "8", "main", "try", "b", "c", "d"):
+        s.ask(("checkout", to), *LOOKS)
+    f.write()
+
+
+def several_session():
+    f = RowFile(CRATE, "SeveralRows", f"What requests of several cells answer: computed on the definitions. {MADE}", USES)
+    s = Session(f, "several", "cells up to the first that doesn't end well, with counts that go on")
+    s.ask(("cells", ["a = [1]"]), ("cells", ["a", "a"]), ("cells", ["", "", ""]), ("cells", ["b = a; b", "c ="]), ("cells", ["zz"]), ("cells", ["zz", "a"]))
+    s.ask(("cells", ["a.append(2)", "a", "b is a", "1 // 0", "a"]), ("cells", []), ("cells", ["print('x')", "print('y'); 1"]), ("cells", ["def f(): return a[5]", "f()", "a"]))
+    s.ask(("checkout", "1"), ("cells", ["a", "b"]), ("cells", ["b = 1", "b"]), ("cells", ["del a", "del a", "a"]), ("cells", ["b"]))
+    s.ask(("branch", "q"), ("checkout", "q"), ("cells", ["b = 2", "b"]), ("cells", ["b"]), ("checkout", "main"), ("cells", ["b is a", "a"]))
+    s.ask(("cells", ["x = 1", "x = 2", "x = 3", "x"]), ("cells", ["try:\n    x // 0\nexcept ZeroDivisionError: x = 4", "x"]), ("cells", ["raise KeyError('k')"]), ("cells", ["assert x, 1", "assert 0, x", "x"]), ("cells", ["'é'", "print('é')"]))
+    s.look(*LOOKS, ("stored", "main"), ("stored", "q"), ("plan", "q"), ("plan", "1"), ("stored", "14"), ("stored", "2"))
+    f.write()
+
+
+def more_refusals():
+    f = RowFile(CRATE, "BranchRows", f"Branches: which names are taken, where they begin, and which goes along with the head: computed on the definitions. {MADE}", USES)
+    s = Session(f, "branches", "names and places")
+    s.ask(("branch", "a"), ("branch", "a", "0"), ("branch", "A"), ("branch", "a-", "a"), ("branch", "-a"), ("branch", "a.b"), ("branch", "a/b"), ("branch", "_0"), ("branch", "0_"))
+    s.ask(*cells("x = 1"), ("branch", "b"), ("branch", "c", "0"), ("branch", "d", "1"), ("branch", "e", "2"), ("branch", "f", "c"), ("branch", "g", "main"), ("branch", "h", "H"))
+    s.look(*LOOKS)
+    s.ask(("checkout", "c"), *cells("y = 1"), ("branch", "i"), ("checkout", "d"), *cells("y = 2"), ("checkout", "2"), *cells("y = 3"), ("branch", "j"), ("branch", "k", "c"))
+    s.look(*LOOKS, ("plan", "c"), ("plan", "d"), ("plan", "i"), ("stored", "j"), ("plan", "j"), ("stored", "c"))
+    f.write()
+
+
 if __name__ == "__main__":
     graph_session()
     refusal_session()
     cell_session()
+    walk_session()
+    several_session()
+    more_refusals()
     print(ASKED)

@@ -22,3 +22,10 @@ mod MoreTouchedRows
 mod StateRows
 mod FitRows
 mod PicturedRows
+mod CheckoutRows
+mod CarriedRows
+mod StoredRows
+mod CutRows
+mod RightRows
+mod AccessedRows
+mod SmallRows

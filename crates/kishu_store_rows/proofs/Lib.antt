@@ -1,5 +1,6 @@
 pub mod OnLiterals
 pub mod Records
+pub mod FittingRecords
 mod RecordByteRows
 mod NameRows
 mod GraphRows
@@ -13,3 +14,15 @@ mod SessionRows
 mod KindRows
 mod RefusalRows
 mod CellRequestRows
+mod WalkRows
+mod SeveralRows
+mod BranchRows
+mod AnswerRows
+mod LineRows
+mod NotebookFaultRows
+mod MoreNotebookFaultRows
+mod NotebookRunRows
+mod ChargeRows
+mod LimitRows
+mod FileRows
+mod BrokenRows
