@@ -1,7 +1,8 @@
 #!/usr/bin/env python3
-"""Counts the rows of each file of definitions: theorems of the crates of rows, and of the `proofs/` of crates of definitions, that say
-what a definition of the file gives. A theorem that compares lists counts as many as the list has items that begin with a definition
-of the file.
+"""Counts the rows of each file of definitions: theorems of the crates of rows, and of the `proofs/` of crates of
+definitions, that say what a definition of the file gives. One that compares lists counts for each time that the
+definition stands on its left, and one that tests each thing with each for each answer. A request that is answered
+or carried out counts for the file of its kind, and a run of a notebook for those of notebooks.
 
     tools/rows/count_rows.py [CRATE ..]"""
 
@@ -11,12 +12,15 @@ import re
 import sys
 
 TOP = pathlib.Path(__file__).resolve().parents[2]
-ROWS = "kishu_rows kishu_meaning_rows kishu_language_rows kishu_object_rows kishu_store_rows kishu_objects kishu_objects_laws kishu_reading kishu_state_laws kishu_history".split()
+ROWS = "kishu_rows kishu_object_rows kishu_store_rows kishu_objects kishu_objects_laws kishu_reading kishu_state_laws kishu_history".split()
 ASKED = sys.argv[1:] or "kishu_objects kishu_reading kishu_history kishu_store kishu_model".split()
+KINDS = "Cell Cells Checkout Branch Log Status Inspect Stored Plan".split()
+CARRIED_OUT = {"answers", "answer_of", "step", "after", "after_all", "charge_of", "ran", "ran_together", "commits", "commits_together"}
 
 
 def declared(path):
-    return set(re.findall(r"(?m)^ *(?:unfoldable |abbrev )*pub (?:data |record )?([^\s:(]+)", path.read_text())) | set(re.findall(r"(?m)^  ([a-z_]+) :", path.read_text()))
+    text = path.read_text()
+    return set(re.findall(r"(?m)^ *(?:unfoldable |abbrev )*pub (?:data |record )?([^\s:(]+)", text)) | set(re.findall(r"(?m)^  ([a-z_]+) :", text))
 
 
 def uses(text):
@@ -29,10 +33,9 @@ def uses(text):
 
 
 def theorems(text):
-    """The statements of rows: of names that are neither abbreviations nor helpers with arguments."""
-    blocks = re.split(r"\n\s*\n", text)
-    for b in blocks:
-        lines = [l for l in b.split("\n") if not l.startswith("--")]
+    """The two sides of each statement."""
+    for block in re.split(r"\n\s*\n", text):
+        lines = [l for l in block.split("\n") if not l.startswith("--")]
         if not lines or not re.match(r"^(pub )?[\w-]+ :", lines[0]):
             continue
         kept = []
@@ -40,43 +43,54 @@ def theorems(text):
             if l.startswith("unfolding") or re.match(r"^[\w-]+( \w+)* =", l):
                 break
             kept.append(l)
-        yield " ".join(kept)
+        left, _, right = " ".join(kept).partition("≡")
+        yield left, right
 
 
-def tokens(t):
-    return re.findall(r"[\w-]+|[◌≡∷{}()→]", t)
+def count(text, exported, counts):
+    used = uses(text)
+    for left, right in theorems(text):
+        words = collections.Counter(re.findall(r"[\w-]+", re.sub(r'"(\\.|[^"\\])*"', "", left)))
+        told = collections.Counter()
+        for n, where in used.items():
+            if n in words:
+                where = exported.get((where, n), where)
+                told[where] = max(told[where], words[n])
+        if "each_with" in words or "map (λ" in left:
+            told = {where: len(re.findall(r"\b(?:true|false)\b", right)) for where in told}
+        for where, n in told.items():
+            counts[where] += n if right else 1
+        if CARRIED_OUT & set(words):
+            for kind in KINDS:
+                if used.get(kind.lower()) == ("kishu_model", "Request"):
+                    counts["kishu_model", f"requests.{kind}"] += words[kind.lower()]
+            if "notebook" in words or {"ran", "ran_together", "commits", "commits_together"} & set(words):
+                for part in ("Run", "Setting"):
+                    counts["kishu_model", f"notebooks.{part}"] += 1
+        if "opening" in words:
+            counts["kishu_model", "notebooks.Cells"] += 1
 
 
 def main():
-    counts = collections.Counter()
-    exported = {}
+    counts, exported = collections.Counter(), {}
     for crate in ASKED:
-        for f in (TOP / "crates" / crate / "specs").rglob("*.antt"):
-            where = (crate, ".".join(f.relative_to(TOP / "crates" / crate / "specs").with_suffix("").parts))
+        top = TOP / "crates" / crate / "specs"
+        for f in top.rglob("*.antt"):
+            where = (crate, ".".join(f.relative_to(top).with_suffix("").parts))
             for n in declared(f):
                 exported[where, n] = where
             for c, p, names in re.findall(r"(?m)^pub use Rattle\.(kishu_\w+)\.specs\.([\w.]+)\.\{(.*?)\}", f.read_text()):
                 for n in names.split(","):
                     exported[where, n.strip()] = (c, p)
     for crate in ROWS:
-        folder = TOP / "crates" / crate / "proofs"
-        for f in folder.rglob("*.antt") if folder.exists() else ():
-            text = f.read_text()
-            used = uses(text)
-            for t in theorems(text):
-                words = collections.Counter(tokens(t.split("≡")[0] if "≡" in t else t))
-                told = collections.Counter()
-                for n, where in used.items():
-                    if n in words:
-                        where = exported.get((where, n), where)
-                        told[where] = max(told[where], words[n])
-                for where, n in told.items():
-                    counts[where] += n if "≡" in t else 1
+        for f in (TOP / "crates" / crate / "proofs").rglob("*.antt"):
+            count(f.read_text(), exported, counts)
     for crate in ASKED:
-        for f in sorted((TOP / "crates" / crate / "specs").rglob("*.antt")):
-            where = (crate, ".".join(f.relative_to(TOP / "crates" / crate / "specs").with_suffix("").parts))
-            if f.stem != "Lib":
-                print(f"{counts[where]:6}  {crate}  {where[1]}")
+        top = TOP / "crates" / crate / "specs"
+        for f in sorted(top.rglob("*.antt")):
+            path = ".".join(f.relative_to(top).with_suffix("").parts)
+            if f.stem != "Lib" and not f.with_suffix("").is_dir():
+                print(f"{counts[crate, path]:6}  {crate}  {path}")
 
 
 if __name__ == "__main__":

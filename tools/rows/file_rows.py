@@ -74,7 +74,6 @@ unfolding head_of body_of
 other_kind k rest one two three g r is fits same = by_kind r.entry r.pictures same
   where
     by_kind : (e : Entry) (ps : List (List ℕ)) → 0 ∷ 0 ∷ 0 ∷ 1 ∷ k ∷ rest ≡ body_of (record { entry = e; pictures = ps }) → ⊥
-    unfolding head_of body_of
     by_kind (commit p f cs ds ss) ps same = one (ap (λ (l : List ℕ). get_or l 4 0) same)
     by_kind (move (to_commit n)) ps same = two (ap (λ (l : List ℕ). get_or l 4 0) same)
     by_kind (move (to_branch t)) ps same = two (ap (λ (l : List ℕ). get_or l 4 0) same)
@@ -160,7 +159,7 @@ def file_rows():
 def nested(n):
     proof = "tt"
     for i in range(n, 0, -1):
-        proof = f"(is_record{i}, (follows{i}, {proof}))"
+        proof = f"(is_record{i}, follows{i}, {proof})"
     return proof
 
 

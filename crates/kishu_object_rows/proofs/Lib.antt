@@ -29,3 +29,5 @@ mod CutRows
 mod RightRows
 mod AccessedRows
 mod SmallRows
+mod LongRows
+mod GoodRows

@@ -52,7 +52,6 @@ unfolding head_of body_of
 other_kind k rest one two three g r is fits same = by_kind r.entry r.pictures same
   where
     by_kind : (e : Entry) (ps : List (List ℕ)) → 0 ∷ 0 ∷ 0 ∷ 1 ∷ k ∷ rest ≡ body_of (record { entry = e; pictures = ps }) → ⊥
-    unfolding head_of body_of
     by_kind (commit p f cs ds ss) ps same = one (ap (λ (l : List ℕ). get_or l 4 0) same)
     by_kind (move (to_commit n)) ps same = two (ap (λ (l : List ℕ). get_or l 4 0) same)
     by_kind (move (to_branch t)) ps same = two (ap (λ (l : List ℕ). get_or l 4 0) same)
@@ -117,24 +116,24 @@ are0 = tt
 
 pub are1 : AreRecords new_history first1
 unfolding head_of
-are1 = (is_record1, (follows1, tt))
+are1 = (is_record1, follows1, tt)
 
 pub are2 : AreRecords new_history first2
 unfolding head_of
-are2 = (is_record1, (follows1, (is_record2, (follows2, tt))))
+are2 = (is_record1, follows1, (is_record2, follows2, tt))
 
 pub are3 : AreRecords new_history first3
 unfolding head_of
-are3 = (is_record1, (follows1, (is_record2, (follows2, (is_record3, (follows3, tt))))))
+are3 = (is_record1, follows1, (is_record2, follows2, (is_record3, follows3, tt)))
 
 pub are4 : AreRecords new_history first4
 unfolding head_of
-are4 = (is_record1, (follows1, (is_record2, (follows2, (is_record3, (follows3, (is_record4, (follows4, tt))))))))
+are4 = (is_record1, follows1, (is_record2, follows2, (is_record3, follows3, (is_record4, follows4, tt))))
 
 pub are5 : AreRecords new_history first5
 unfolding head_of
-are5 = (is_record1, (follows1, (is_record2, (follows2, (is_record3, (follows3, (is_record4, (follows4, (is_record5, (follows5, tt))))))))))
+are5 = (is_record1, follows1, (is_record2, follows2, (is_record3, follows3, (is_record4, follows4, (is_record5, follows5, tt)))))
 
 pub are6 : AreRecords new_history first6
 unfolding head_of
-are6 = (is_record1, (follows1, (is_record2, (follows2, (is_record3, (follows3, (is_record4, (follows4, (is_record5, (follows5, (is_record6, (follows6, tt))))))))))))
+are6 = (is_record1, follows1, (is_record2, follows2, (is_record3, follows3, (is_record4, follows4, (is_record5, follows5, (is_record6, follows6, tt))))))

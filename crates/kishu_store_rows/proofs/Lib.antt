@@ -26,3 +26,6 @@ mod ChargeRows
 mod LimitRows
 mod FileRows
 mod BrokenRows
+mod GeneratedRows
+mod TargetRows
+mod LargeRows
