@@ -10,8 +10,8 @@ from object_rows import CRATE, KEYS, ONE, VALUES
 from records import Commit, Store, body, change_term, front, group_bytes, record_term, row_term
 from request_machine import run, state_of
 from row_file import PRELUDE, RowFile
-from same_rows import bytes_term
-from states import dropped, group_term, groups_of, groups_term, picture, picture_bytes, stored
+from same_rows import LEMMAS, bytes_term, path_term
+from states import L, State, T, at, dropped, group_term, groups_of, groups_term, picture, picture_bytes, stored, value_term
 from table_rows import each, group_proof, rises
 
 MADE = "Made by tools/rows/good_rows.py."
@@ -55,11 +55,11 @@ def good_rows():
         changes = [store.changes[n + 1] for n in range(len(cells))]
         file = front(entries) + b"\0"
         f.title(" / ".join(cells))
-        f.put(f"abbrev {name}_file : List ℕ", f"{name}_file = {bytes_term(file)[1:-1]}")
+        f.put(f"abbrev pub {name}_file : List ℕ", f"{name}_file = {bytes_term(file)[1:-1]}")
         commits = listing([f"(record {{ parent = {n}; profile = One; cells = {text(c)} ∷ [] }})" for n, c in reversed(list(enumerate(cells)))])
-        f.put(f"abbrev {name}_commits : List Commit", f"{name}_commits = {commits[1:-1]}")
+        f.put(f"abbrev pub {name}_commits : List Commit", f"{name}_commits = {commits[1:-1]}")
         told = lambda cs: listing([change_term(c) for c in reversed(cs)])
-        f.put(f"abbrev {name}_of : ℕ → Change", f"{name}_of = change_of {told(changes)}")
+        f.put(f"abbrev pub {name}_of : ℕ → Change", f"{name}_of = change_of {told(changes)}")
         k, many = f"{name}_commits {name}_of", len(cells)
         counts = ["zero"] + [f"({'suc (' * i}zero{')' * i})"[0:] for i in range(1, many + 1)]
         far = "(" + "suc (" * (many + 1) + "c" + ")" * (many + 1) + ")"
@@ -101,7 +101,7 @@ def good_rows():
             wrong = bytearray(file)
             r = rows[-1]
             wrong[r[2] + r[3] - 1] ^= 3
-            f.put(f"abbrev {name}_spoilt : List ℕ", f"{name}_spoilt = {bytes_term(wrong)[1:-1]}")
+            f.put(f"abbrev pub {name}_spoilt : List ℕ", f"{name}_spoilt = {bytes_term(wrong)[1:-1]}")
             shown = f"(picture (at_end (stops_in {name}_commits {n})) {group_term(r[0])})"
             f.row("not_good", f"IsGoodStore {name}_spoilt {k} → ⊥", f"λ h. apart_bytes (bytes_at {name}_spoilt {row_term(r)}) (state_bytes {shown}) refl (h.pictures {n} (omega arith) {row_term(r)} {in_term(len(rows) - 1)}).bytes", unfolding=OPENED)
             other = [*changes[:-1], (dropped_, [*rows[:-1], (r[0], n + 1, *r[2:])])]
@@ -111,7 +111,79 @@ def good_rows():
         gone = [["q"]] if not dropped_ else []
         other = [*changes[:-1], (gone, rows)]
         f.row("not_good", f"IsGoodStore {name}_file {name}_commits (change_of {told(other)}) → ⊥", f"λ h. absurd (let p : {groups_term(gone)} ≡ {groups_term(dropped_)} = (h.right {n} (omega arith)).0 in omega (arith, ap length p))", unfolding=OPENED)
+    f.lines = ["pub " + l if l.startswith("good_") and " : " in l else l for l in f.lines]
     f.lines = [l.replace("{arith, sym, ◌∙◌, subst, inl, inr}", "{arith, sym, ap, subst, inl, inr}").replace("Prelude.{◌≤◌, ◌<◌, length}", "Prelude.{zero, suc, ◌≤◌, ◌<◌, length}") for l in f.lines]
+    f.write()
+
+
+ONLY = """-- A table of one row has that row alone.
+only : (q r : Row) → In r (q ∷ []) → r ≡ q
+only q r (inl e) = e
+only q r (inr n) = absurd n"""
+
+# Live states beside a store, with what is wrong with them, if anything is, as a proof from the sameness.
+one_list, other_list = L(1, 2), L(1, 2)
+LIVE = {
+    "one": [
+        ("as the cell leaves it", State({"a": L(1)}), None),
+        ("behind a node that nothing reaches", State({"a": L(1)}, first=[L(7)]), None),
+        ("another item", State({"a": L(2)}), ("views", "a", (0,))),
+        ("a tuple for the list", State({"a": T(1)}), ("views", "a", ())),
+        ("a name more", State({"a": L(1), "b": 0}), ("views", "b", ())),
+        ("no name", State({}), ("views", "a", ())),
+        ("another name", State({"b": L(1)}), ("views", "a", ())),
+    ],
+    "shared": [
+        ("one list under two names", State({"a": one_list, "b": one_list}), None),
+        ("the same with the list behind another", State({"a": one_list, "b": one_list}, first=[L(1)]), None),
+        ("values and no sharing", State({"a": L(1, 2), "b": L(1, 2)}), ("shared", "a", (), "b", ())),
+        ("as before the last cell", State({"a": (old := L(1)), "b": old}), ("views", "a", (1,))),
+        ("a name less", State({"a": L(1, 2)}), ("views", "b", ())),
+    ],
+}
+
+
+def attached_rows():
+    f = RowFile(CRATE, "AttachedRows", f"Which live states are attached to a store at its head: those that are the same as the replay, sharing included. {MADE}", [
+        PRELUDE, "use Rattle.std.specs.Prelude.{Bool}", "use Rattle.std.proofs.Common.{arith, sym, ◌∙◌, ap, subst, inl, inr}", BOOL, "use Rattle.std.specs.List.Sorted.{IsStrictlySortedBy}", "use Rattle.kishu_language.specs.tokens.Names.{reserved_words}", ONE, KEYS, VALUES,
+        OBJECTS + "Lists.{In}", OBJECTS + "Picture.{picture, listed}", OBJECTS + "Same.{View, plain, inside, view}", STORE + "Graph.{Graph, main_branch}", STORE + "Tables.{Row}", "use Rattle.kishu_replay.specs.Replay.{replay}",
+        HISTORY + "Alike.{is_value, is_node}", HISTORY + "Stored.{Held}", HISTORY + "Good.{IsAttached}", "use Rattle.kishu_objects_laws.specs.SoundLaws.{sound_of}", "use Rattle.kishu_objects_laws.specs.WholeLaws.{whole_same}",
+        f"use Rattle.{CRATE}.proofs.OnLiterals.{{cells_on_literals}}", f"use Rattle.{CRATE}.proofs.GoodRows.{{one_file, one_commits, one_of, shared_file, shared_commits, shared_of, good_1, good_2}}",
+    ])
+    f.put(*ONLY.split("\n"))
+    f.put(*LEMMAS.split("\n"))
+    opened = OPENED + " reserved_words IsStrictlySortedBy"
+    for good, name in (("good_1", "one"), ("good_2", "shared")):
+        cells = STORIES[name]
+        path, entries = made(cells)
+        store = Store()
+        for e in entries:
+            store.add(e)
+        n, row = len(cells), row_term(store.head_table()[0])
+        end = path[-1][1]
+        f.put(f"abbrev {name}_graph : Graph", f"{name}_graph = record {{ commits = {name}_commits; branches = (main_branch, {n}) ∷ []; head = record {{ commit = {n}; branch = Some main_branch }}; records = {n} }}")
+        for i, (says, live, wrong) in enumerate(LIVE[name]):
+            here = f"{name}_live{i + 1}"
+            f.note(says)
+            f.put(f"abbrev {here} : State", f"{here} = {live.term()}")
+            claim = f"IsAttached {name}_file {name}_graph {name}_of {here}"
+            if wrong is None:
+                g = groups_of(live)[0]
+                held = f"record {{ bytes = refl; len = refl; fits = {state_fits(picture(live, g))} }}"
+                told = f"record {{ state = record {{ sound = sound_of {here} refl refl; rise = {rises(list(live.names))} }}; bound = λ x. (λ m. ({row}, inl refl, m), λ k. subst (λ (r : Row). In x r.group) (only {row} k.0 k.1) k.2); apart = λ r q x y m n a b t. only {row} r m ∙ sym (only {row} q n); pictures = λ r m. subst (λ q. Held {name}_file q (picture {here} q.group)) (sym (only {row} r m)) ({held}) }}"
+                proof = f"record {{ good = {good}; head = omega arith; told = {told}; same = whole_same {here} (replay {name}_graph {n}) (sound_of {here} refl refl) (sound_of (replay {name}_graph {n}) refl refl) refl }}"
+                f.row("attached", claim, proof, unfolding=opened)
+                continue
+            kind, x, p, *more = wrong
+            if kind == "shared":
+                y, q = more
+                i, j = (live.number(at(live, *w)[1]) for w in ((x, p), (y, q)))
+                proof = f"λ h. absurd (omega (arith, one_number {i} {j} (h.same.shared_here {text(x)} {path_term(p)} {text(y)} {path_term(q)} tt tt (0, refl, refl))))"
+            else:
+                (a, v), (b, w) = at(live, x, p), at(end, x, p)
+                seen = f"h.same.views {text(x)} {path_term(p)} tt"
+                proof = f"λ h. {seen}" if a != b else f"λ h. seen_apart (view {here}.nodes {value_term(v, live.number)}) (view (replay {name}_graph {n}).nodes {value_term(w, lambda m: 0)}) refl refl ({seen})"
+            f.row("not_attached", f"{claim} → ⊥", proof, unfolding=opened)
     f.write()
 
 
@@ -125,3 +197,4 @@ def none_pattern(n):
 
 if __name__ == "__main__":
     good_rows()
+    attached_rows()

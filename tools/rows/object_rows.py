@@ -174,8 +174,44 @@ def group_rows():
     f.write()
 
 
+def loading_rows():
+    f = RowFile(CRATE, "LoadingRows", "What a picture leaves that is loaded into a state, and which states stand in the order of first meeting: computed on the definitions. Made by tools/rows/object_rows.py.", [PRELUDE, ONE, KEYS, VALUES, OBJECTS + "Loading.{bind_all, with_picture}", OBJECTS + "Picture.{picture}", OBJECTS + "Reading.{IsInOrder, counted}", USES_STATES])
+    f.title("new nodes stand behind those that are there, and names are bound anew")
+    into = ["unbound", "plain", "shared", "itself", "linked", "raised"]
+    for name, (says, state) in STATES.items():
+        if name in ("plain", "default", "defaults", "long_chain"):
+            continue
+        for k, host in enumerate(into):
+            if (len(name) + k) % 3:
+                continue
+            s, p = STATES[host][1], picture(state, list(state.names))
+            if any(n is m for n in p.nodes for m in s.nodes):
+                continue
+            loaded = Laid(dict(sorted({**s.names, **p.names}.items(), key=lambda b: b[0].encode())), s.nodes + p.nodes)
+            f.row("loaded", f"with_picture {host} (picture {name} {names_term(list(state.names))}) ≡ {loaded.term()}")
+    f.title("pictures stand in the order of first meeting, and their states needn't")
+    for name, (says, state) in STATES.items():
+        every = list(state.names)
+        f.row("in_order", f"IsInOrder (picture {name} {names_term(every)})", "refl")
+        if picture(state, every).term() != state.term():
+            f.row("not_in_order", f"IsInOrder {name} → ⊥", "λ e. cc")
+    f.title("how many nodes were met, behind n of them")
+    tried = [(0, []), (0, [0]), (0, [1]), (0, [0, 0, 1]), (0, [0, 2]), (2, [0, 1, 2]), (2, [3]), (2, [2, 3, 2, 4]), (3, [1, 0]), (1, [1, 1, 1])]
+
+    def counted(n, numbers):
+        for i in numbers:
+            if i > n:
+                return None
+            n = max(n, i + 1)
+        return n
+
+    f.table("counted", [f"counted {n} {numbers_term(ns)}" for n, ns in tried], ["None" if counted(n, ns) is None else f"Some {counted(n, ns)}" for n, ns in tried])
+    f.write()
+
+
 def main():
     write_states()
+    loading_rows()
     shape_rows()
     picture_rows()
     group_rows()

@@ -124,7 +124,7 @@ def name_rows():
 
     f.table("refers", [f"resolve told {text(t)}" for t in refs], [target(t) for t in refs])
     f.title("the line of a commit: its first cell up to the first line end, cut to 60 characters")
-    cells = [[""], ["a"], ["a", "b"], ["", "b"], ["a\nb"], ["a\rb"], ["a\r\nb"], ["\na"], ["\ra"], ["a" * 59], ["a" * 60], ["a" * 61], ["a" * 59 + "\nb"], ["é" * 60], ["é" * 61], ["€" * 30 + "a" * 31], ["\U0001f600" * 61], ["a" * 59 + "éb"], ["a" * 60 + "é"], ["  a  "], ["a\x0bb\x0cc\x85d\u2028e"], ["x = 'a\tb' # c"]]
+    cells = [[""], ["a"], ["a", "b"], ["", "b"], ["a\nb"], ["a\rb"], ["a\r\nb"], ["\na"], ["\ra"], ["a" * 59], ["a" * 60], ["a" * 61], ["a" * 59 + "\nb"], ["é" * 60], ["é" * 61], ["€" * 30 + "a" * 31], ["\U0001f600" * 61], ["a" * 59 + "éb"], ["a" * 60 + "é"], ["  a  "], ["a\x0bb\x0cc\x85d\u2028e"], ["x = 'a\tb' # c"], ["\r\n"], ["\n\r"], ["a", "b" * 70, "c"], ["b" * 70, "c"], ["é\r"], ["\té"], ["a" * 58 + "é€x"], ["\U0001f600" * 59 + "ab"], ["a" * 60 + "\n"], ["a" * 61 + "\n"], [" " * 61], ["é" * 30 + "\n" + "é" * 40]]
 
     def line(cs):
         first = cs[0]

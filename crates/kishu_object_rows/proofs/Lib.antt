@@ -1,6 +1,7 @@
 pub mod States
 pub mod OnLiterals
 mod ShapeRows
+mod LoadingRows
 mod OrderRows
 mod PictureRows
 mod GroupRows
@@ -30,4 +31,5 @@ mod RightRows
 mod AccessedRows
 mod SmallRows
 mod LongRows
-mod GoodRows
+pub mod GoodRows
+mod AttachedRows
