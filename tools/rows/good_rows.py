@@ -105,7 +105,7 @@ def good_rows():
             shown = f"(picture (at_end (stops_in {name}_commits {n})) {group_term(r[0])})"
             f.row("not_good", f"IsGoodStore {name}_spoilt {k} → ⊥", f"λ h. apart_bytes (bytes_at {name}_spoilt {row_term(r)}) (state_bytes {shown}) refl (h.pictures {n} (omega arith) {row_term(r)} {in_term(len(rows) - 1)}).bytes", unfolding=OPENED)
             other = [*changes[:-1], (dropped_, [*rows[:-1], (r[0], n + 1, *r[2:])])]
-            f.row("not_good", f"IsGoodStore {name}_file {name}_commits (change_of {told(other)}) → ⊥", f"λ h. absurd (omega (arith, (h.right {n} (omega arith)).2.0 {row_term((r[0], n + 1, *r[2:]))} {in_term(len(rows) - 1)}))", unfolding=OPENED)
+            f.row("not_good", f"IsGoodStore {name}_file {name}_commits (change_of {told(other)}) → ⊥", f"λ h. absurd (omega (arith, (h.right {n} (omega arith)).2 {row_term((r[0], n + 1, *r[2:]))} {in_term(len(rows) - 1)}))", unfolding=OPENED)
             other = [*changes[:-1], (dropped_, rows[:-1])]
             f.row("not_good", f"IsGoodStore {name}_file {name}_commits (change_of {told(other)}) → ⊥", f"λ h. absurd (let p : {groups_term([q[0] for q in rows[:-1]])} ≡ {groups_term([q[0] for q in rows])} = (h.right {n} (omega arith)).1 in omega (arith, ap length p))", unfolding=OPENED)
         gone = [["q"]] if not dropped_ else []

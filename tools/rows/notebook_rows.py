@@ -122,6 +122,7 @@ def fault_rows():
 
 def cut_in_two(f):
     """Writes the rows into as many files as have room for them."""
+    f.lines = f.used()
     head = next(i for i, l in enumerate(f.lines) if l.startswith("fault_1 "))
     begun, rest = f.lines[:head - 1], f.lines[head - 1:]
     per, n = 400, 0

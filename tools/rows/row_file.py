@@ -1,6 +1,7 @@
 """How the scripts of rows write a file of them: a line that says what it is, what it uses, and rows."""
 
 import pathlib
+import re
 
 TOP = pathlib.Path(__file__).resolve().parents[2]
 PRELUDE = "use Rattle.std.specs.Prelude.{◌≡◌, ℕ, pos, negsuc, true, false, List, [], ◌∷◌, ◌++◌, codes, Option, Some, None, Ok, Err, refl}"
@@ -39,7 +40,24 @@ class RowFile:
         self.counts[f"{name} {full}"] = len(lefts)
         self.put(f"{full} : {' ∷ '.join([*lefts, '[]'])}", f"    ≡ {' ∷ '.join([*rights, '[]'])}", *([f"unfolding {unfolding}"] if unfolding else []), f"{full} = refl")
 
+    def used(self):
+        """The lines, with those names alone that the rows use."""
+        head = 1 + next(i for i, l in enumerate(self.lines[1:]) if not l.startswith("use "))
+        body = "\n".join(l for l in self.lines[head:] if not l.startswith("--"))
+        body = re.sub(r'"(\\.|[^"\\])*"', '""', body)
+        words = set(re.findall(r"[\w-]+", body))
+        kept = []
+        for l in self.lines[1:head]:
+            begin, brace, names = l.partition("{")
+            if not brace:
+                kept += [l] if f"{l.split()[-1]}." in body else []
+                continue
+            names = [n for n in names.rstrip("}").split(", ") if n in words or n == "[]" and "[]" in body or "◌" in n and n.strip("◌").split("◌")[0] in body]
+            kept += [f"{begin}{{{', '.join(names)}}}"] if names else []
+        return [self.lines[0], *dict.fromkeys(kept), *self.lines[head:]]
+
     def write(self):
+        self.lines = self.used()
         self.path.parent.mkdir(parents=True, exist_ok=True)
         if len(self.lines) > 500:
             print(self.path.name, "has", len(self.lines), "lines")

@@ -1,7 +1,7 @@
 -- The names that cells access, each cell's in byte order: computed on the definition, as CPython tells. Made by tools/rows/checkout_rows.py.
-use Rattle.std.specs.Prelude.{◌≡◌, ℕ, pos, negsuc, true, false, List, [], ◌∷◌, ◌++◌, codes, Option, Some, None, Ok, Err, refl}
+use Rattle.std.specs.Prelude.{◌≡◌, [], ◌∷◌, codes, refl}
 use Rattle.kishu_language.specs.declared.profile.Profile.TheVariants.{One}
-use Rattle.kishu_meaning.specs.values.Values.{Value, none, bool, integer, text, range, builtin, class, node, Node, list, tuple, dict, object, function, exception, State, empty}
+use Rattle.kishu_meaning.specs.values.Values.{empty}
 use Rattle.kishu_history.specs.Accessed.{accessed_by}
 use Rattle.kishu_object_rows.proofs.OnLiterals.{cells_on_literals}
 

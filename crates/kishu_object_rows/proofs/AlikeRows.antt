@@ -1,14 +1,13 @@
 -- Whether values, keys, nodes and states are one, place by place: each with each. Computed on the definitions; made by tools/rows/history_rows.py.
-use Rattle.std.specs.Prelude.{◌≡◌, ℕ, pos, negsuc, true, false, List, [], ◌∷◌, ◌++◌, codes, Option, Some, None, Ok, Err, refl}
+use Rattle.std.specs.Prelude.{◌≡◌, pos, negsuc, true, false, List, [], ◌∷◌, codes, refl}
 use Rattle.std.specs.Prelude.{Bool, map}
 use Rattle.kishu_language.specs.declared.profile.Profile.TheVariants.{One}
-use Rattle.kishu_language.specs.declared.profile.Profile.{Profile}
 use Rattle.kishu_language.specs.declared.profile.Profile.TheVariants.{Two}
 use Rattle.kishu_meaning.specs.values.Keys as k
-use Rattle.kishu_meaning.specs.values.Keys.{Key, KeyPart}
-use Rattle.kishu_meaning.specs.values.Values.{Value, none, bool, integer, text, range, builtin, class, node, Node, list, tuple, dict, object, function, exception, State, empty}
-use Rattle.kishu_history.specs.Alike.{is_value, is_profile, is_part, is_key, is_node, is_state}
-use Rattle.kishu_object_rows.proofs.States.{unbound, plain, shared, apart, itself, round, linked, parted, default, defaults, keyed, raised, object_round, wide, diamond, inside, equal, long_chain, twice, twice_there, thrice, once_each}
+use Rattle.kishu_meaning.specs.values.Keys.{Key}
+use Rattle.kishu_meaning.specs.values.Values.{Value, none, bool, integer, text, range, builtin, class, node, Node, list, tuple, dict, object, function, exception, State}
+use Rattle.kishu_history.specs.Alike.{is_value, is_profile, is_key, is_node, is_state}
+use Rattle.kishu_object_rows.proofs.States.{unbound, plain, shared, apart, itself, linked, parted, twice, twice_there, thrice, once_each}
 
 -- what a test says of each with each
 abbrev each_with : {A : Type 0} → (A → A → Bool) → List A → List (List Bool)

@@ -1,15 +1,13 @@
 -- Which live states are attached to a store at its head: those that are the same as the replay, sharing included. Made by tools/rows/good_rows.py.
-use Rattle.std.specs.Prelude.{◌≡◌, ℕ, pos, negsuc, true, false, List, [], ◌∷◌, ◌++◌, codes, Option, Some, None, Ok, Err, refl}
+use Rattle.std.specs.Prelude.{◌≡◌, ℕ, pos, true, false, [], ◌∷◌, codes, Some, refl}
 use Rattle.std.specs.Prelude.{Bool}
 use Rattle.std.proofs.Common.{arith, sym, ◌∙◌, ap, subst, inl, inr}
-use Rattle.std.proofs.lemmas.Bool.{false≢true}
 use Rattle.std.specs.List.Sorted.{IsStrictlySortedBy}
 use Rattle.kishu_language.specs.tokens.Names.{reserved_words}
-use Rattle.kishu_language.specs.declared.profile.Profile.TheVariants.{One}
 use Rattle.kishu_meaning.specs.values.Keys as k
-use Rattle.kishu_meaning.specs.values.Values.{Value, none, bool, integer, text, range, builtin, class, node, Node, list, tuple, dict, object, function, exception, State, empty}
+use Rattle.kishu_meaning.specs.values.Values.{integer, node, list, tuple, State}
 use Rattle.kishu_objects.specs.Lists.{In}
-use Rattle.kishu_objects.specs.Picture.{picture, listed}
+use Rattle.kishu_objects.specs.Picture.{picture}
 use Rattle.kishu_objects.specs.Same.{View, plain, inside, view}
 use Rattle.kishu_store.specs.Graph.{Graph, main_branch}
 use Rattle.kishu_store.specs.Tables.{Row}

@@ -1,13 +1,11 @@
 -- The bytes of values, keys, nodes and pictures: computed on the definitions. Made by tools/rows/same_rows.py.
-use Rattle.std.specs.Prelude.{◌≡◌, ℕ, pos, negsuc, true, false, List, [], ◌∷◌, ◌++◌, codes, Option, Some, None, Ok, Err, refl}
+use Rattle.std.specs.Prelude.{◌≡◌, pos, negsuc, true, false, [], ◌∷◌, codes, refl}
 use Rattle.std.specs.Char.{encode_utf8}
-use Rattle.std.specs.Prelude.{◌-◌, ◌^◌}
 use Rattle.kishu_bytes.specs.Numbers.{sixteen}
 use Rattle.kishu_language.specs.declared.profile.Profile.TheVariants.{One}
 use Rattle.kishu_meaning.specs.values.Keys as k
-use Rattle.kishu_meaning.specs.values.Values.{Value, none, bool, integer, text, range, builtin, class, node, Node, list, tuple, dict, object, function, exception, State, empty}
-use Rattle.kishu_objects.specs.Bytes.{in_four, value_bytes, part_bytes, key_bytes, entry_bytes, name_bytes, row_bytes, state_bytes, picture_bytes}
-use Rattle.kishu_object_rows.proofs.States.{unbound, plain, shared, apart, itself, round, linked, parted, default, defaults, keyed, raised, object_round, wide, diamond, inside, equal, long_chain, twice, twice_there, thrice, once_each}
+use Rattle.kishu_meaning.specs.values.Values.{none, bool, integer, text, range, builtin, class, node, list, tuple, dict, object, function, exception}
+use Rattle.kishu_objects.specs.Bytes.{in_four, value_bytes, key_bytes, row_bytes}
 
 -- ---- values
 

@@ -1,11 +1,11 @@
 -- The states that checkouts leave: kept nodes stay where they are, and loaded ones stand behind. Computed on the definitions; made by tools/rows/checkout_rows.py.
-use Rattle.std.specs.Prelude.{◌≡◌, ℕ, pos, negsuc, true, false, List, [], ◌∷◌, ◌++◌, codes, Option, Some, None, Ok, Err, refl}
+use Rattle.std.specs.Prelude.{◌≡◌, pos, true, [], ◌∷◌, codes, refl}
 use Rattle.kishu_language.specs.declared.profile.Profile.TheVariants.{One}
 use Rattle.kishu_meaning.specs.values.Keys as k
-use Rattle.kishu_meaning.specs.values.Values.{Value, none, bool, integer, text, range, builtin, class, node, Node, list, tuple, dict, object, function, exception, State, empty}
+use Rattle.kishu_meaning.specs.values.Values.{none, bool, integer, text, node, list, tuple, dict, object, function, exception}
 use Rattle.kishu_objects.specs.Picture.{picture}
 use Rattle.kishu_history.specs.Checkout.{without_names, carried}
-use Rattle.kishu_object_rows.proofs.Histories.{lists1, lists2, lists3, lists4, lists5, lists6, lists7, lists8, lists9, lists10, lists11, lists12, lists13, ways1, ways2, ways3, ways5, ways4, ways6, ways7, ways8, kinds1, kinds2, kinds3, kinds4, kinds5, kinds6, kinds7, kinds8, kinds9, kinds10, to_lists1, to_lists2, to_lists3, to_lists4, to_lists5, to_lists6, to_lists7, to_lists8, to_lists9, to_lists10, to_lists11, to_lists12, to_lists13, to_ways1, to_ways2, to_ways3, to_ways5, to_ways4, to_ways6, to_ways7, to_ways8, to_kinds1, to_kinds2, to_kinds3, to_kinds4, to_kinds5, to_kinds6, to_kinds7, to_kinds8, to_kinds9, to_kinds10}
+use Rattle.kishu_object_rows.proofs.Histories.{lists1, lists3, lists4, lists5, lists8, lists11, lists12, ways1, ways2, ways3, ways5, ways4, ways6, ways7, ways8, kinds2, kinds4, kinds8}
 
 -- ---- names are unbound, and nodes stay
 

@@ -1,10 +1,9 @@
 -- Which groups cut a state, and which don't. Made by tools/rows/checkout_rows.py.
-use Rattle.std.specs.Prelude.{◌≡◌, ℕ, pos, negsuc, true, false, List, [], ◌∷◌, ◌++◌, codes, Option, Some, None, Ok, Err, refl}
+use Rattle.std.specs.Prelude.{◌≡◌, ℕ, true, false, List, [], ◌∷◌, codes, refl}
 use Rattle.std.specs.List.{list_any}
-use Rattle.std.proofs.Common.{arith, sym, ◌∙◌, subst, inl, inr}
-use Rattle.std.proofs.lemmas.Bool.{false≢true}
+use Rattle.std.proofs.Common.{sym, ◌∙◌, subst, inl, inr}
 use Rattle.kishu_language.specs.tokens.Names.{reserved_words, is_among}
-use Rattle.kishu_meaning.specs.values.Values.{Value, none, bool, integer, text, range, builtin, class, node, Node, list, tuple, dict, object, function, exception, State, empty}
+use Rattle.kishu_meaning.specs.values.Values.{State}
 use Rattle.kishu_objects.specs.Picture.{listed}
 use Rattle.kishu_objects.specs.Lists.{In}
 use Rattle.kishu_history.specs.Changed.{Group, is_group}

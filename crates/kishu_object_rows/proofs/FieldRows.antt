@@ -1,12 +1,10 @@
 -- Pictures in which one field is cut or changed: what is read, or the place of the first field at fault. Computed on the definition; made by tools/rows/reading_rows.py.
-use Rattle.std.specs.Prelude.{◌≡◌, ℕ, pos, negsuc, true, false, List, [], ◌∷◌, ◌++◌, codes, Option, Some, None, Ok, Err, refl}
+use Rattle.std.specs.Prelude.{◌≡◌, ℕ, pos, negsuc, List, [], ◌∷◌, ◌++◌, codes, Ok, Err, refl}
 use Rattle.std.specs.Prelude.{◌+◌, take, drop}
 use Rattle.std.specs.Char.{encode_utf8}
 use Rattle.std.specs.Str.{chars}
 use Rattle.kishu_language.specs.tokens.Names.{reserved_words}
-use Rattle.kishu_language.specs.declared.profile.Profile.TheVariants.{One}
-use Rattle.kishu_meaning.specs.values.Keys as k
-use Rattle.kishu_meaning.specs.values.Values.{Value, none, bool, integer, text, range, builtin, class, node, Node, list, tuple, dict, object, function, exception, State, empty}
+use Rattle.kishu_meaning.specs.values.Values.{integer, text, range, builtin, class, node, list, tuple}
 use Rattle.kishu_reading.specs.FromBytes.{read_picture}
 
 -- the bytes, with others in the place of so many of them

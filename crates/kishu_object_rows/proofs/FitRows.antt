@@ -1,13 +1,12 @@
 -- What can be written as bytes, and what can't: computed on the definitions. Made by tools/rows/rule_rows.py.
-use Rattle.std.specs.Prelude.{◌≡◌, ℕ, pos, negsuc, true, false, List, [], ◌∷◌, ◌++◌, codes, Option, Some, None, Ok, Err, refl}
-use Rattle.std.specs.Prelude.{Bool, ◌^◌, ◌-◌, ◌<◌, length}
-use Rattle.std.proofs.Common.{arith, sym}
-use Rattle.std.proofs.lemmas.Bool.{false≢true}
+use Rattle.std.specs.Prelude.{pos, negsuc, true, false, [], ◌∷◌, codes, refl}
+use Rattle.std.specs.Prelude.{◌^◌, ◌-◌}
+use Rattle.std.proofs.Common.{arith}
 use Rattle.std.specs.Char.{encode_utf8}
 use Rattle.kishu_language.specs.declared.profile.Profile.TheVariants.{One}
 use Rattle.kishu_meaning.specs.values.Keys as k
-use Rattle.kishu_meaning.specs.values.Values.{Value, none, bool, integer, text, range, builtin, class, node, Node, list, tuple, dict, object, function, exception, State, empty}
-use Rattle.kishu_objects.specs.Fits.{IsCounted, Spells, ValueFits, PartFits, KeyFits, NodeFits, StateFits}
+use Rattle.kishu_meaning.specs.values.Values.{none, bool, integer, text, range, builtin, class, node, list, tuple, dict, object, function, exception}
+use Rattle.kishu_objects.specs.Fits.{ValueFits, PartFits, KeyFits, NodeFits, StateFits}
 
 -- ---- values and parts of keys
 

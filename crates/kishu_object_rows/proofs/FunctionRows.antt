@@ -1,14 +1,8 @@
 -- Which texts are the code of a function, with how many defaults, told by the picture of one. Computed on the definition; made by tools/rows/reading_rows.py.
-use Rattle.std.specs.Prelude.{◌≡◌, ℕ, pos, negsuc, true, false, List, [], ◌∷◌, ◌++◌, codes, Option, Some, None, Ok, Err, refl}
-use Rattle.std.specs.Prelude.{◌+◌, take, drop}
-use Rattle.std.specs.Char.{encode_utf8}
-use Rattle.std.specs.Str.{chars}
-use Rattle.kishu_language.specs.tokens.Names.{reserved_words}
+use Rattle.std.specs.Prelude.{◌≡◌, false, [], ◌∷◌, codes, Ok, Err, refl}
 use Rattle.kishu_language.specs.declared.profile.Profile.TheVariants.{One}
-use Rattle.kishu_meaning.specs.values.Keys as k
-use Rattle.kishu_meaning.specs.values.Values.{Value, none, bool, integer, text, range, builtin, class, node, Node, list, tuple, dict, object, function, exception, State, empty}
+use Rattle.kishu_meaning.specs.values.Values.{bool, node, function}
 use Rattle.kishu_reading.specs.FromBytes.{read_picture}
-use Rattle.kishu_reading.specs.FromBytes.{code_defaults}
 use Rattle.kishu_object_rows.proofs.OnLiterals.{functions_on_literals}
 
 -- `def f(): pass`

@@ -1,14 +1,12 @@
 -- Which stores are good: those whose records drop and store what they have to, with the pictures of the replays. Made by tools/rows/good_rows.py.
-use Rattle.std.specs.Prelude.{◌≡◌, ℕ, pos, negsuc, true, false, List, [], ◌∷◌, ◌++◌, codes, Option, Some, None, Ok, Err, refl}
+use Rattle.std.specs.Prelude.{◌≡◌, ℕ, false, List, [], ◌∷◌, codes, refl}
 use Rattle.std.specs.Prelude.{zero, suc, ◌≤◌, ◌<◌, length}
 use Rattle.std.proofs.Common.{arith, sym, ap, subst, inl, inr}
-use Rattle.std.proofs.lemmas.Bool.{false≢true}
 use Rattle.kishu_history_laws.specs.Choices.{false_no}
 use Rattle.std.specs.Str.{bytes_eq}
 use Rattle.std.proofs.lemmas.Slice.Eq.{bytes_eq-Decides}
 use Rattle.kishu_language.specs.declared.profile.Profile.TheVariants.{One}
-use Rattle.kishu_meaning.specs.values.Keys as k
-use Rattle.kishu_meaning.specs.values.Values.{Value, none, bool, integer, text, range, builtin, class, node, Node, list, tuple, dict, object, function, exception, State, empty}
+use Rattle.kishu_meaning.specs.values.Values.{empty}
 use Rattle.kishu_objects.specs.Bytes.{state_bytes}
 use Rattle.kishu_objects.specs.Lists.{In}
 use Rattle.kishu_objects.specs.Picture.{picture}
@@ -74,7 +72,7 @@ not_good_1 = λ h. apart_bytes (bytes_at one_spoilt (record { group = ((codes "a
 
 not_good_2 : IsGoodStore one_file one_commits (change_of ((record { dropped = []; stored = ((record { group = ((codes "a") ∷ []); version = 2; place = 72; len = 37 }) ∷ []) }) ∷ [])) → ⊥
 unfolding cells_on_literals
-not_good_2 = λ h. absurd (omega (arith, (h.right 1 (omega arith)).2.0 (record { group = ((codes "a") ∷ []); version = 2; place = 72; len = 37 }) (inl refl)))
+not_good_2 = λ h. absurd (omega (arith, (h.right 1 (omega arith)).2 (record { group = ((codes "a") ∷ []); version = 2; place = 72; len = 37 }) (inl refl)))
 
 not_good_3 : IsGoodStore one_file one_commits (change_of ((record { dropped = []; stored = [] }) ∷ [])) → ⊥
 unfolding cells_on_literals
@@ -138,7 +136,7 @@ not_good_5 = λ h. apart_bytes (bytes_at shared_spoilt (record { group = ((codes
 
 not_good_6 : IsGoodStore shared_file shared_commits (change_of ((record { dropped = (((codes "a") ∷ (codes "b") ∷ []) ∷ []); stored = ((record { group = ((codes "a") ∷ (codes "b") ∷ []); version = 3; place = 195; len = 61 }) ∷ []) }) ∷ (record { dropped = []; stored = ((record { group = ((codes "a") ∷ (codes "b") ∷ []); version = 1; place = 81; len = 44 }) ∷ []) }) ∷ [])) → ⊥
 unfolding cells_on_literals
-not_good_6 = λ h. absurd (omega (arith, (h.right 2 (omega arith)).2.0 (record { group = ((codes "a") ∷ (codes "b") ∷ []); version = 3; place = 195; len = 61 }) (inl refl)))
+not_good_6 = λ h. absurd (omega (arith, (h.right 2 (omega arith)).2 (record { group = ((codes "a") ∷ (codes "b") ∷ []); version = 3; place = 195; len = 61 }) (inl refl)))
 
 not_good_7 : IsGoodStore shared_file shared_commits (change_of ((record { dropped = (((codes "a") ∷ (codes "b") ∷ []) ∷ []); stored = [] }) ∷ (record { dropped = []; stored = ((record { group = ((codes "a") ∷ (codes "b") ∷ []); version = 1; place = 81; len = 44 }) ∷ []) }) ∷ [])) → ⊥
 unfolding cells_on_literals
@@ -206,7 +204,7 @@ not_good_9 = λ h. apart_bytes (bytes_at split_spoilt (record { group = ((codes 
 
 not_good_10 : IsGoodStore split_file split_commits (change_of ((record { dropped = (((codes "x") ∷ (codes "y") ∷ []) ∷ []); stored = ((record { group = ((codes "x") ∷ []); version = 2; place = 273; len = 37 }) ∷ (record { group = ((codes "y") ∷ []); version = 3; place = 310; len = 27 }) ∷ []) }) ∷ (record { dropped = []; stored = ((record { group = ((codes "x") ∷ (codes "y") ∷ []); version = 1; place = 106; len = 54 }) ∷ (record { group = ((codes "z") ∷ []); version = 1; place = 160; len = 37 }) ∷ []) }) ∷ [])) → ⊥
 unfolding cells_on_literals
-not_good_10 = λ h. absurd (omega (arith, (h.right 2 (omega arith)).2.0 (record { group = ((codes "y") ∷ []); version = 3; place = 310; len = 27 }) (inr (inl refl))))
+not_good_10 = λ h. absurd (omega (arith, (h.right 2 (omega arith)).2 (record { group = ((codes "y") ∷ []); version = 3; place = 310; len = 27 }) (inr (inl refl))))
 
 not_good_11 : IsGoodStore split_file split_commits (change_of ((record { dropped = (((codes "x") ∷ (codes "y") ∷ []) ∷ []); stored = ((record { group = ((codes "x") ∷ []); version = 2; place = 273; len = 37 }) ∷ []) }) ∷ (record { dropped = []; stored = ((record { group = ((codes "x") ∷ (codes "y") ∷ []); version = 1; place = 106; len = 54 }) ∷ (record { group = ((codes "z") ∷ []); version = 1; place = 160; len = 37 }) ∷ []) }) ∷ [])) → ⊥
 unfolding cells_on_literals
@@ -280,7 +278,7 @@ not_good_13 = λ h. apart_bytes (bytes_at merged_spoilt (record { group = ((code
 
 not_good_14 : IsGoodStore merged_file merged_commits (change_of ((record { dropped = (((codes "a") ∷ (codes "b") ∷ []) ∷ []); stored = ((record { group = ((codes "b") ∷ []); version = 4; place = 343; len = 47 }) ∷ []) }) ∷ (record { dropped = (((codes "a") ∷ []) ∷ ((codes "b") ∷ []) ∷ []); stored = ((record { group = ((codes "a") ∷ (codes "b") ∷ []); version = 2; place = 227; len = 54 }) ∷ []) }) ∷ (record { dropped = []; stored = ((record { group = ((codes "a") ∷ []); version = 1; place = 93; len = 37 }) ∷ (record { group = ((codes "b") ∷ []); version = 1; place = 130; len = 27 }) ∷ []) }) ∷ [])) → ⊥
 unfolding cells_on_literals
-not_good_14 = λ h. absurd (omega (arith, (h.right 3 (omega arith)).2.0 (record { group = ((codes "b") ∷ []); version = 4; place = 343; len = 47 }) (inl refl)))
+not_good_14 = λ h. absurd (omega (arith, (h.right 3 (omega arith)).2 (record { group = ((codes "b") ∷ []); version = 4; place = 343; len = 47 }) (inl refl)))
 
 not_good_15 : IsGoodStore merged_file merged_commits (change_of ((record { dropped = (((codes "a") ∷ (codes "b") ∷ []) ∷ []); stored = [] }) ∷ (record { dropped = (((codes "a") ∷ []) ∷ ((codes "b") ∷ []) ∷ []); stored = ((record { group = ((codes "a") ∷ (codes "b") ∷ []); version = 2; place = 227; len = 54 }) ∷ []) }) ∷ (record { dropped = []; stored = ((record { group = ((codes "a") ∷ []); version = 1; place = 93; len = 37 }) ∷ (record { group = ((codes "b") ∷ []); version = 1; place = 130; len = 27 }) ∷ []) }) ∷ [])) → ⊥
 unfolding cells_on_literals

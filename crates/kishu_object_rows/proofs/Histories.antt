@@ -1,8 +1,8 @@
 -- Histories of which the rows of this crate speak: after each commit the state, and the path to it. Made by tools/rows/history_rows.py.
-use Rattle.std.specs.Prelude.{◌≡◌, ℕ, pos, negsuc, true, false, List, [], ◌∷◌, ◌++◌, codes, Option, Some, None, Ok, Err, refl}
+use Rattle.std.specs.Prelude.{pos, true, List, [], ◌∷◌, codes}
 use Rattle.kishu_language.specs.declared.profile.Profile.TheVariants.{One}
 use Rattle.kishu_meaning.specs.values.Keys as k
-use Rattle.kishu_meaning.specs.values.Values.{Value, none, bool, integer, text, range, builtin, class, node, Node, list, tuple, dict, object, function, exception, State, empty}
+use Rattle.kishu_meaning.specs.values.Values.{none, bool, integer, text, node, list, tuple, dict, object, function, exception, State}
 use Rattle.kishu_history.specs.Versions.{Stop}
 
 -- 1: x = [1]; y = [x]; z = [2]

@@ -1,9 +1,8 @@
 -- What a picture leaves that is loaded into a state, and which states stand in the order of first meeting: computed on the definitions. Made by tools/rows/object_rows.py.
-use Rattle.std.specs.Prelude.{◌≡◌, ℕ, pos, negsuc, true, false, List, [], ◌∷◌, ◌++◌, codes, Option, Some, None, Ok, Err, refl}
-use Rattle.kishu_language.specs.declared.profile.Profile.TheVariants.{One}
+use Rattle.std.specs.Prelude.{◌≡◌, pos, negsuc, true, [], ◌∷◌, codes, Some, None, refl}
 use Rattle.kishu_meaning.specs.values.Keys as k
-use Rattle.kishu_meaning.specs.values.Values.{Value, none, bool, integer, text, range, builtin, class, node, Node, list, tuple, dict, object, function, exception, State, empty}
-use Rattle.kishu_objects.specs.Loading.{bind_all, with_picture}
+use Rattle.kishu_meaning.specs.values.Values.{none, bool, integer, text, range, builtin, class, node, list, tuple, dict, object, exception}
+use Rattle.kishu_objects.specs.Loading.{with_picture}
 use Rattle.kishu_objects.specs.Picture.{picture}
 use Rattle.kishu_objects.specs.Reading.{IsInOrder, counted}
 use Rattle.kishu_object_rows.proofs.States.{unbound, plain, shared, apart, itself, round, linked, parted, default, defaults, keyed, raised, object_round, wide, diamond, inside, equal, long_chain, twice, twice_there, thrice, once_each}

@@ -1,8 +1,7 @@
 -- Which bytes are a picture, and of which state: by what is read from them. Made by tools/rows/rule_rows.py.
-use Rattle.std.specs.Prelude.{◌≡◌, ℕ, pos, negsuc, true, false, List, [], ◌∷◌, ◌++◌, codes, Option, Some, None, Ok, Err, refl}
-use Rattle.std.specs.Prelude.{Bool, ◌^◌, ◌-◌, ◌<◌, length}
-use Rattle.std.proofs.Common.{arith, sym}
-use Rattle.std.proofs.lemmas.Bool.{false≢true}
+use Rattle.std.specs.Prelude.{◌≡◌, ℕ, pos, negsuc, true, List, [], ◌∷◌, codes, Ok, Err, refl}
+use Rattle.std.specs.Prelude.{◌-◌}
+use Rattle.std.proofs.Common.{arith}
 use Rattle.std.specs.Prelude.{nat_lt}
 use Rattle.std.specs.List.{list_all}
 use Rattle.std.specs.Char.{encode_utf8}
@@ -12,7 +11,7 @@ use Rattle.kishu_language.specs.tokens.Names.{reserved_words}
 use Rattle.kishu_language.specs.declared.profile.Profile.TheVariants.{One}
 use Rattle.kishu_language.specs.declared.profile.Profile.TheVariants.{Two}
 use Rattle.kishu_meaning.specs.values.Keys as k
-use Rattle.kishu_meaning.specs.values.Values.{Value, none, bool, integer, text, range, builtin, class, node, Node, list, tuple, dict, object, function, exception, State, empty}
+use Rattle.kishu_meaning.specs.values.Values.{none, bool, integer, text, range, builtin, class, node, list, tuple, dict, object, function, exception, State}
 use Rattle.kishu_bytes.specs.Numbers.{sixteen}
 use Rattle.kishu_objects.specs.Bytes.{in_four}
 use Rattle.kishu_reading.specs.FromBytes.{read_picture}

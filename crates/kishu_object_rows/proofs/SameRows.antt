@@ -1,15 +1,11 @@
 -- Which states are the same: those that are by the pictures of their names, and the others by a path that shows how they differ. Made by tools/rows/same_rows.py.
-use Rattle.std.specs.Prelude.{◌≡◌, ℕ, pos, negsuc, true, false, List, [], ◌∷◌, ◌++◌, codes, Option, Some, None, Ok, Err, refl}
+use Rattle.std.specs.Prelude.{◌≡◌, ℕ, pos, true, false, [], ◌∷◌, codes, Some, refl}
 use Rattle.std.specs.Prelude.{Bool}
 use Rattle.std.proofs.Common.{sym, ◌∙◌, ap, arith}
-use Rattle.std.proofs.lemmas.Bool.{false≢true}
 use Rattle.kishu_language.specs.tokens.Names.{reserved_words}
-use Rattle.kishu_language.specs.declared.profile.Profile.TheVariants.{One}
 use Rattle.kishu_meaning.specs.values.Keys as k
-use Rattle.kishu_meaning.specs.values.Values.{Value, none, bool, integer, text, range, builtin, class, node, Node, list, tuple, dict, object, function, exception, State, empty}
-use Rattle.kishu_objects.specs.Same.{Same, SameOn, View, plain, inside, view}
-use Rattle.kishu_objects.specs.Sound.{IsSound}
-use Rattle.kishu_objects_laws.specs.SameLaws.{picture_same}
+use Rattle.kishu_meaning.specs.values.Values.{none, bool, integer, text, range, builtin, class, node, list, tuple, dict, State}
+use Rattle.kishu_objects.specs.Same.{Same, View, plain, inside, view}
 use Rattle.kishu_objects_laws.specs.SoundLaws.{sound_of}
 use Rattle.kishu_objects_laws.specs.WholeLaws.{whole_same}
 use Rattle.kishu_history.specs.Alike.{is_value, is_node}

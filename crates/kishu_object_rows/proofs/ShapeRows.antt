@@ -1,9 +1,9 @@
 -- What paths reach, and the children of nodes: computed on the definitions. Made by tools/rows/object_rows.py.
-use Rattle.std.specs.Prelude.{◌≡◌, ℕ, pos, negsuc, true, false, List, [], ◌∷◌, ◌++◌, codes, Option, Some, None, Ok, Err, refl}
+use Rattle.std.specs.Prelude.{◌≡◌, pos, negsuc, true, [], ◌∷◌, codes, Some, None, refl}
 use Rattle.kishu_language.specs.declared.profile.Profile.TheVariants.{One}
 use Rattle.kishu_meaning.specs.values.Keys as k
-use Rattle.kishu_meaning.specs.values.Values.{Value, none, bool, integer, text, range, builtin, class, node, Node, list, tuple, dict, object, function, exception, State, empty}
-use Rattle.kishu_objects.specs.Shape.{children, each_child, node_at, child, along, reached}
+use Rattle.kishu_meaning.specs.values.Values.{none, bool, integer, text, range, node, list, tuple, dict, object, function, exception}
+use Rattle.kishu_objects.specs.Shape.{children, node_at, child, reached}
 use Rattle.kishu_object_rows.proofs.States.{unbound, plain, shared, apart, itself, round, linked, parted, default, defaults, keyed, raised, object_round, wide, diamond, inside, equal, long_chain, twice, twice_there, thrice, once_each}
 
 -- ---- the last step of a path stands first

@@ -1,5 +1,5 @@
 -- How many bytes the pictures of a state's groups take: computed on the definitions. Made by tools/rows/same_rows.py.
-use Rattle.std.specs.Prelude.{◌≡◌, ℕ, pos, negsuc, true, false, List, [], ◌∷◌, ◌++◌, codes, Option, Some, None, Ok, Err, refl}
+use Rattle.std.specs.Prelude.{◌≡◌, [], ◌∷◌, codes, refl}
 use Rattle.std.specs.Char.{encode_utf8}
 use Rattle.kishu_bytes.specs.Numbers.{sixteen}
 use Rattle.kishu_objects.specs.Bytes.{in_four}

@@ -1,9 +1,8 @@
 -- That no state is too large after any of these cells: computed on the definitions. Made by tools/rows/checkout_rows.py.
-use Rattle.std.specs.Prelude.{◌≡◌, ℕ, pos, negsuc, true, false, List, [], ◌∷◌, ◌++◌, codes, Option, Some, None, Ok, Err, refl}
-use Rattle.std.proofs.Common.{arith, sym, ◌∙◌, subst, inl, inr}
+use Rattle.std.specs.Prelude.{[], ◌∷◌, codes}
+use Rattle.std.proofs.Common.{arith}
 use Rattle.kishu_language.specs.declared.profile.Profile.TheVariants.{One}
-use Rattle.kishu_meaning.specs.values.Values.{Value, none, bool, integer, text, range, builtin, class, node, Node, list, tuple, dict, object, function, exception, State, empty}
-use Rattle.kishu_store.specs.Graph.{Commit}
+use Rattle.kishu_meaning.specs.values.Values.{empty}
 use Rattle.kishu_history.specs.Sizes.{StaySmall, AllStaySmall}
 use Rattle.kishu_object_rows.proofs.OnLiterals.{cells_on_literals}
 

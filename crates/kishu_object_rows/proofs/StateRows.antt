@@ -1,14 +1,12 @@
 -- What is a value, a key, a node and a state, and what isn't: computed on the definitions. Made by tools/rows/rule_rows.py.
-use Rattle.std.specs.Prelude.{◌≡◌, ℕ, pos, negsuc, true, false, List, [], ◌∷◌, ◌++◌, codes, Option, Some, None, Ok, Err, refl}
-use Rattle.std.specs.Prelude.{Bool, ◌^◌, ◌-◌, ◌<◌, length}
+use Rattle.std.specs.Prelude.{◌≡◌, ℕ, pos, negsuc, true, false, List, [], ◌∷◌, codes, refl}
+use Rattle.std.specs.Prelude.{◌^◌, ◌-◌}
 use Rattle.std.proofs.Common.{arith, sym}
-use Rattle.std.proofs.lemmas.Bool.{false≢true}
 use Rattle.std.specs.List.Sorted.{IsStrictlySortedBy}
 use Rattle.kishu_language.specs.tokens.Names.{reserved_words}
-use Rattle.kishu_language.specs.declared.profile.Profile.TheVariants.{One}
 use Rattle.kishu_meaning.specs.values.Keys as k
-use Rattle.kishu_meaning.specs.values.Values.{Value, none, bool, integer, text, range, builtin, class, node, Node, list, tuple, dict, object, function, exception, State, empty}
-use Rattle.kishu_objects.specs.State.{IsValue, IsKey, IsName, IsNode, AreNames, IsState, Stays, Grown, the_same, lists, dicts, objects}
+use Rattle.kishu_meaning.specs.values.Values.{Value, none, bool, integer, text, range, builtin, class, node, Node, list, tuple, dict, object, exception}
+use Rattle.kishu_objects.specs.State.{IsValue, IsKey, IsNode, AreNames, IsState, Stays, Grown, the_same, lists, dicts, objects}
 
 -- ---- values, among two nodes
 

@@ -1,23 +1,15 @@
 -- What a file holds for the rows of tables, and what it doesn't: computed on the definitions. Made by tools/rows/checkout_rows.py.
-use Rattle.std.specs.Prelude.{◌≡◌, ℕ, pos, negsuc, true, false, List, [], ◌∷◌, ◌++◌, codes, Option, Some, None, Ok, Err, refl}
-use Rattle.std.specs.Prelude.{length}
-use Rattle.std.proofs.Common.{arith, sym, ◌∙◌, subst, inl, inr}
-use Rattle.std.proofs.lemmas.Bool.{false≢true}
+use Rattle.std.specs.Prelude.{◌≡◌, ℕ, false, List, [], ◌∷◌, codes, Some, None, refl}
+use Rattle.std.proofs.Common.{arith}
 use Rattle.std.specs.Char.{encode_utf8}
 use Rattle.std.specs.Str.{bytes_eq}
-use Rattle.std.specs.Bool.{Decides}
 use Rattle.std.proofs.lemmas.Slice.Eq.{bytes_eq-Decides}
 use Rattle.kishu_bytes.specs.Numbers.{sixteen}
-use Rattle.kishu_language.specs.declared.profile.Profile.TheVariants.{One}
-use Rattle.kishu_meaning.specs.values.Keys as k
-use Rattle.kishu_meaning.specs.values.Values.{Value, none, bool, integer, text, range, builtin, class, node, Node, list, tuple, dict, object, function, exception, State, empty}
 use Rattle.kishu_objects.specs.Bytes.{in_four, state_bytes}
 use Rattle.kishu_objects.specs.Picture.{picture}
-use Rattle.kishu_objects.specs.Lists.{In}
-use Rattle.kishu_history.specs.Tables.{Row, Table}
-use Rattle.kishu_history.specs.Stored.{bytes_at, Held, IsWritten, HasLength, Stored, Keeps, joined}
-use Rattle.kishu_history_laws.specs.Choices.{in_any, group_decides, among_decides, false_no}
-use Rattle.kishu_object_rows.proofs.States.{unbound, plain, shared, apart, itself, round, linked, parted, default, defaults, keyed, raised, object_round, wide, diamond, inside, equal, long_chain, twice, twice_there, thrice, once_each}
+use Rattle.kishu_history.specs.Stored.{bytes_at, Held, IsWritten, HasLength, Stored, joined}
+use Rattle.kishu_history_laws.specs.Choices.{false_no}
+use Rattle.kishu_object_rows.proofs.States.{plain, shared, itself, default, keyed, raised, object_round}
 
 apart_bytes : (a b : List ℕ) → bytes_eq a b ≡ false → a ≡ b → ⊥
 apart_bytes a b e = false_no (bytes_eq a b) (bytes_eq-Decides a b) e

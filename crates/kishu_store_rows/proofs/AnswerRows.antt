@@ -1,8 +1,8 @@
 -- The lines that tell answers: computed on the definition. Made by tools/rows/answer_rows.py.
-use Rattle.std.specs.Prelude.{◌≡◌, ℕ, pos, negsuc, true, false, List, [], ◌∷◌, ◌++◌, codes, Option, Some, None, Ok, Err, refl}
+use Rattle.std.specs.Prelude.{◌≡◌, [], ◌∷◌, ◌++◌, codes, Some, None, refl}
 use Rattle.kishu_meaning.specs.declared.result.Outcome.TheVariants.{Done, Raised, Stopped}
 use Rattle.kishu_meaning.specs.values.Values.{stream, shown, fault}
-use Rattle.kishu_model.specs.Answers.{Answer, Refusal, bad_request, no_such_ref, bad_name, name_taken, store_full, cell_too_long, state_too_large, ran_cell, ran_cells, checked_out, branched, logged, told_status, inspected, told_stored, told_plan, refused, answer_line, refusal_number, refusal_name, outcome_word}
+use Rattle.kishu_model.specs.Answers.{bad_request, no_such_ref, bad_name, name_taken, store_full, cell_too_long, state_too_large, ran_cell, ran_cells, checked_out, branched, logged, told_status, inspected, told_stored, told_plan, refused, answer_line}
 use Rattle.kishu_store_rows.proofs.OnLiterals.{requests_on_literals}
 
 cell_1 : answer_line (ran_cell 1 1 (record { outcome = Done; outputs = [] })) ≡ codes "{\"answer\":\"cell\",\"commit\":1,\"count\":1,\"outcome\":\"ok\",\"outputs\":[]}\n"

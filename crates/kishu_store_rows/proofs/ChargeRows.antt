@@ -1,12 +1,9 @@
 -- The steps that requests take, counted by hand: computed on the definitions. Made by tools/rows/charge_rows.py.
-use Rattle.std.specs.Prelude.{◌≡◌, ℕ, pos, negsuc, true, false, List, [], ◌∷◌, ◌++◌, codes, Option, Some, None, Ok, Err, refl}
-use Rattle.std.specs.Prelude.{map}
-use Rattle.kishu_language.specs.declared.profile.Profile.TheVariants.{One}
+use Rattle.std.specs.Prelude.{◌≡◌, [], ◌∷◌, codes, None, refl}
 use Rattle.kishu_store.specs.Graph.{Graph, new_graph}
-use Rattle.kishu_model.specs.Request.{Request, cell, cells, checkout, branch, log, status, inspect, stored, plan, unreadable}
-use Rattle.kishu_model.specs.Serve.{answered, after_all, answers, answer_of}
+use Rattle.kishu_model.specs.Request.{cell, cells, checkout, branch, log, status, inspect, stored, plan, unreadable}
 use Rattle.kishu_store_rows.proofs.OnLiterals.{requests_on_literals}
-use Rattle.kishu_model.specs.Step.{step, charge_of}
+use Rattle.kishu_model.specs.Step.{charge_of}
 
 -- ---- cells, one in a request
 

@@ -1,25 +1,22 @@
 -- Records that follow one another, and what is no record. Made by tools/rows/file_rows.py.
-use Rattle.std.specs.Prelude.{◌≡◌, ℕ, pos, negsuc, true, false, List, [], ◌∷◌, ◌++◌, codes, Option, Some, None, Ok, Err, refl}
+use Rattle.std.specs.Prelude.{◌≡◌, ℕ, List, [], ◌∷◌, ◌++◌, Some, None, refl}
 use Rattle.std.specs.Prelude.{get_or, length, ◌^◌, ◌<◌, ◌≤◌, ◌⊎◌}
-use Rattle.std.proofs.Common.{⊎_elim, inl, inr, sym, ◌∙◌, ap, subst, arith, length-append, append_assoc, slice_index}
+use Rattle.std.proofs.Common.{sym, ◌∙◌, ap, subst, arith, length-append, append_assoc}
 use Rattle.std.proofs.lemmas.Nat.{from_be_bytes-to_be_bytes_8}
-use Rattle.std.proofs.lemmas.Bool.{false≢true}
 use Rattle.std.specs.Char.{encode_utf8}
 use Rattle.std.specs.List.Sorted.{IsStrictlySortedBy}
 use Rattle.std.specs.Int.{w64, to_be_bytes, from_be_bytes}
 use Rattle.kishu_bytes_laws.specs.NumberLaws.{append-unique}
 use Rattle.kishu_language.specs.tokens.Names.{reserved_words}
-use Rattle.kishu_language.specs.declared.profile.Profile.TheVariants.{One}
-use Rattle.kishu_store.specs.Entries.{Entry, commit, move, name, to_commit, to_branch, Record, plain}
+use Rattle.kishu_store.specs.Entries.{Entry, commit, move, name, to_commit, to_branch, Record}
 use Rattle.kishu_store.specs.EntryBytes.{head_of, body_of}
-use Rattle.kishu_store.specs.Graph.{new_graph}
 use Rattle.kishu_store.specs.Histories.{History, new_history, Follows, AreRecords}
-use Rattle.kishu_store.specs.Holds.{header, framed, front, end_of, graph_by, history_by, changes_by, open_gate, Ends, Holds, Gives, HasRecords, IsGood, BeginsRecord, IsBroken, IsForeign}
+use Rattle.kishu_store.specs.Holds.{header, framed, history_by, open_gate, BeginsRecord}
 use Rattle.kishu_store.specs.Limits.{longest_body}
 use Rattle.kishu_store.specs.Rules.{IsRecord}
 use Rattle.kishu_store_laws.specs.EntryLaws.{body-unique}
-use Rattle.kishu_store_laws.specs.Laws.{length-framed, framed-unique, ends-records, ends-holds, ends-gives, ends-good, broken-holds, foreign-holds}
-use Rattle.kishu_store_rows.proofs.Records.{record1, record2, record3, record4, record5, record6, record7, record8, record9, record10, record11, record12, record13, record14, entry1, entry2, entry3, entry4, entry5, entry6, entry7, entry8, entry9, entry10, entry11, entry12, entry13, entry14, first0, first1, first2, first3, first4, first5, first6, first7, first8, first9, first10, first11, first12, first13, first14, said0, said1, said2, said3, said4, said5, said6, said7, said8, said9, said10, said11, said12, said13, said14}
+use Rattle.kishu_store_laws.specs.Laws.{length-framed, framed-unique}
+use Rattle.kishu_store_rows.proofs.Records.{record1, record2, record3, record4, record5, record6, entry1, entry2, entry3, entry4, entry5, entry6, first0, first1, first2, first3, first4, first5, first6}
 
 -- What stands behind an open gate is no record where it has fewer than nine bytes,
 pub too_few : (rest : List ℕ) → length rest < 9 → (g : History) (r : Record) → BeginsRecord (open_gate ∷ rest) g r → ⊥

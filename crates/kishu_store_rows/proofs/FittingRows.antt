@@ -1,13 +1,12 @@
 -- Which records fit the graph of those before them: computed on the definitions. Made by tools/rows/table_rows.py.
-use Rattle.std.specs.Prelude.{◌≡◌, ℕ, pos, negsuc, true, false, List, [], ◌∷◌, ◌++◌, codes, Option, Some, None, Ok, Err, refl}
-use Rattle.std.proofs.Common.{arith, inl, inr, ap}
-use Rattle.std.proofs.lemmas.Bool.{false≢true}
+use Rattle.std.specs.Prelude.{◌≡◌, ℕ, true, false, [], ◌∷◌, codes, Some, None, refl}
+use Rattle.std.proofs.Common.{arith}
 use Rattle.kishu_language.specs.declared.profile.Profile.TheVariants.{One}
-use Rattle.kishu_store.specs.Entries.{Entry, commit, move, name, to_commit, to_branch, Record, plain}
+use Rattle.kishu_store.specs.Entries.{commit, move, name, to_commit, to_branch}
 use Rattle.kishu_store.specs.Fitting.{Fits}
-use Rattle.kishu_store.specs.Graph.{Graph, new_graph}
+use Rattle.kishu_store.specs.Graph.{new_graph}
 use Rattle.kishu_store.specs.Holds.{graph_of}
-use Rattle.kishu_store_rows.proofs.Records.{record1, record2, record3, record4, record5, record6, record7, record8, record9, record10, record11, record12, record13, record14, entry1, entry2, entry3, entry4, entry5, entry6, entry7, entry8, entry9, entry10, entry11, entry12, entry13, entry14, first0, first1, first2, first3, first4, first5, first6, first7, first8, first9, first10, first11, first12, first13, first14, said0, said1, said2, said3, said4, said5, said6, said7, said8, said9, said10, said11, said12, said13, said14}
+use Rattle.kishu_store_rows.proofs.Records.{said0, said3, said6, said10}
 
 some_none : {n : ℕ} → Some n ≡ None → ⊥
 some_none e = cc

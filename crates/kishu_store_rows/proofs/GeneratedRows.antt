@@ -1,8 +1,8 @@
 -- Requests that are made from a number: computed on the definitions. Made by tools/rows/generated_rows.py.
-use Rattle.std.specs.Prelude.{◌≡◌, ℕ, pos, negsuc, true, false, List, [], ◌∷◌, ◌++◌, codes, Option, Some, None, Ok, Err, refl}
+use Rattle.std.specs.Prelude.{◌≡◌, [], ◌∷◌, codes, refl}
 use Rattle.std.specs.Fmt.{digits}
-use Rattle.kishu_model.specs.Request.{Request, cell, checkout}
-use Rattle.kishu_model.specs.generated.Requests.{next_number, number, drawn, cells_among, request_behind, requests_behind, generated_requests}
+use Rattle.kishu_model.specs.Request.{cell, checkout}
+use Rattle.kishu_model.specs.generated.Requests.{next_number, number, cells_among, requests_behind, generated_requests}
 
 -- ---- from 0
 

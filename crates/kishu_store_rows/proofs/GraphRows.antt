@@ -1,12 +1,11 @@
 -- What records make of the graph, and the paths in it: computed on the definitions. Made by tools/rows/record_rows.py.
-use Rattle.std.specs.Prelude.{◌≡◌, ℕ, pos, negsuc, true, false, List, [], ◌∷◌, ◌++◌, codes, Option, Some, None, Ok, Err, refl}
-use Rattle.std.specs.Prelude.{map}
+use Rattle.std.specs.Prelude.{◌≡◌, [], ◌∷◌, codes, Some, None, refl}
 use Rattle.kishu_language.specs.declared.profile.Profile.TheVariants.{One}
-use Rattle.kishu_store.specs.Entries.{Entry, commit, move, name, to_commit, to_branch, Record, plain}
-use Rattle.kishu_store.specs.Fitting.{changed, changed_by}
-use Rattle.kishu_store.specs.Graph.{Commit, new_graph, path, back, count_of, newest}
+use Rattle.kishu_store.specs.Entries.{commit}
+use Rattle.kishu_store.specs.Fitting.{changed}
+use Rattle.kishu_store.specs.Graph.{path, back, count_of}
 use Rattle.kishu_store.specs.Holds.{graph_of}
-use Rattle.kishu_store_rows.proofs.Records.{record1, record2, record3, record4, record5, record6, record7, record8, record9, record10, record11, record12, record13, record14, entry1, entry2, entry3, entry4, entry5, entry6, entry7, entry8, entry9, entry10, entry11, entry12, entry13, entry14, first0, first1, first2, first3, first4, first5, first6, first7, first8, first9, first10, first11, first12, first13, first14, said0, said1, said2, said3, said4, said5, said6, said7, said8, said9, said10, said11, said12, said13, said14}
+use Rattle.kishu_store_rows.proofs.Records.{entry1, entry2, entry3, entry4, entry5, entry6, entry7, entry8, entry9, entry10, entry11, entry12, entry13, entry14, said0, said1, said2, said3, said4, said5, said6, said7, said8, said9, said10, said11, said12, said13, said14}
 
 -- the first 0
 graph_1 : graph_of said0 ≡ record { commits = []; branches = (((codes "main"), 0) ∷ []); head = record { commit = 0; branch = Some (codes "main") }; records = 0 }

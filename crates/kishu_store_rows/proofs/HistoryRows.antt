@@ -1,13 +1,12 @@
 -- What records make of the tables of commits, and where their pictures lie: computed on the definitions. Made by tools/rows/record_rows.py.
-use Rattle.std.specs.Prelude.{◌≡◌, ℕ, pos, negsuc, true, false, List, [], ◌∷◌, ◌++◌, codes, Option, Some, None, Ok, Err, refl}
+use Rattle.std.specs.Prelude.{◌≡◌, [], ◌∷◌, codes, Some, None, refl}
 use Rattle.kishu_language.specs.declared.profile.Profile.TheVariants.{One}
-use Rattle.kishu_store.specs.Entries.{Entry, commit, move, name, to_commit, to_branch, Record, plain}
+use Rattle.kishu_store.specs.Entries.{commit}
 use Rattle.kishu_store.specs.EntryBytes.{head_of, body_of}
-use Rattle.kishu_store.specs.Graph.{new_graph}
-use Rattle.kishu_store.specs.Tables.{Row, Table, bytes_at}
-use Rattle.kishu_store.specs.Histories.{History, new_history, gives, led, table_to, head_table}
+use Rattle.kishu_store.specs.Tables.{bytes_at}
+use Rattle.kishu_store.specs.Histories.{gives, led, table_to, head_table}
 use Rattle.kishu_store.specs.Holds.{history_of, front, end_of, header, framed}
-use Rattle.kishu_store_rows.proofs.Records.{record1, record2, record3, record4, record5, record6, record7, record8, record9, record10, record11, record12, record13, record14, entry1, entry2, entry3, entry4, entry5, entry6, entry7, entry8, entry9, entry10, entry11, entry12, entry13, entry14, first0, first1, first2, first3, first4, first5, first6, first7, first8, first9, first10, first11, first12, first13, first14, said0, said1, said2, said3, said4, said5, said6, said7, said8, said9, said10, said11, said12, said13, said14}
+use Rattle.kishu_store_rows.proofs.Records.{entry1, entry2, entry3, entry4, entry5, entry6, entry7, entry8, entry9, entry10, entry11, entry12, entry13, entry14, first0, first1, first2, first3, first4, first5, first6, first7, first8, first9, first10, first11, first12, first13, first14, said0, said1, said2, said3, said4, said5, said6, said7, said8, said9, said10, said11, said12, said13, said14}
 
 -- the first 0
 history_1 : history_of said0 ≡ record { graph = record { commits = []; branches = (((codes "main"), 0) ∷ []); head = record { commit = 0; branch = Some (codes "main") }; records = 0 }; changes = []; place = 16 }

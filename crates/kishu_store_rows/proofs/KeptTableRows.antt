@@ -1,11 +1,9 @@
 -- The tables after commits, and what holds of each that records give: computed on the definitions. Made by tools/rows/table_rows.py.
-use Rattle.std.specs.Prelude.{◌≡◌, ℕ, pos, negsuc, true, false, List, [], ◌∷◌, ◌++◌, codes, Option, Some, None, Ok, Err, refl}
-use Rattle.std.proofs.Common.{arith, inl, inr, ap}
-use Rattle.std.proofs.lemmas.Bool.{false≢true}
+use Rattle.std.specs.Prelude.{◌≡◌, true, false, [], ◌∷◌, codes, refl}
+use Rattle.std.proofs.Common.{arith}
 use Rattle.std.specs.List.Sorted.{IsStrictlySortedBy}
 use Rattle.kishu_language.specs.tokens.Names.{reserved_words}
-use Rattle.kishu_store.specs.Tables.{Row, Table, Change, bytes_in, names_in, put_row, put_rows, without_groups, after, table_of, rows_from, bytes_at, are_apart, change_of, with_change, no_change, FitsTable, IsKeptTable}
-use Rattle.kishu_store.specs.Groups.{Group}
+use Rattle.kishu_store.specs.Tables.{table_of, change_of, no_change, IsKeptTable}
 
 -- ---- one commit after another, the newest first
 

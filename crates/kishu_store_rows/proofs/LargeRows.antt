@@ -1,5 +1,5 @@
 -- States as large as a commit may keep, and larger by a byte. Made by tools/rows/limit_rows.py.
-use Rattle.std.specs.Prelude.{◌≡◌, ℕ, pos, negsuc, true, false, List, [], ◌∷◌, ◌++◌, codes, Option, Some, None, Ok, Err, refl}
+use Rattle.std.specs.Prelude.{◌≡◌, ℕ, true, false, List, [], ◌∷◌, ◌++◌, codes, refl}
 use Rattle.std.specs.Prelude.{◌+◌, ◌*◌, zero, suc, length, min, nat_lt, Bool}
 use Rattle.std.proofs.Common.{arith, ap, ◌∙◌, length-append}
 use Rattle.std.specs.Char.{encode_utf8}

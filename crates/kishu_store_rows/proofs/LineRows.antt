@@ -1,7 +1,7 @@
 -- Which request a line is, or that it is none: computed on the definition. Made by tools/rows/answer_rows.py.
-use Rattle.std.specs.Prelude.{◌≡◌, ℕ, pos, negsuc, true, false, List, [], ◌∷◌, ◌++◌, codes, Option, Some, None, Ok, Err, refl}
+use Rattle.std.specs.Prelude.{◌≡◌, [], ◌∷◌, ◌++◌, codes, Some, None, refl}
 use Rattle.kishu_model.specs.Reading.{reading}
-use Rattle.kishu_model.specs.Request.{Request, cell, cells, checkout, branch, log, status, inspect, stored, plan}
+use Rattle.kishu_model.specs.Request.{cell, cells, checkout, branch, log, status, inspect, stored, plan}
 use Rattle.kishu_store_rows.proofs.OnLiterals.{lines_on_literals}
 
 line_1 : reading (codes "{\"op\":\"log\"}") ≡ Some (log)

@@ -1,5 +1,5 @@
 -- Which bytes are a notebook, and the first fault of others: computed on the definition. Made by tools/rows/notebook_rows.py.
-use Rattle.std.specs.Prelude.{◌≡◌, ℕ, pos, negsuc, true, false, List, [], ◌∷◌, ◌++◌, codes, Option, Some, None, Ok, Err, refl}
+use Rattle.std.specs.Prelude.{◌≡◌, [], ◌∷◌, ◌++◌, codes, Option, Some, None, Ok, Err, refl}
 use Rattle.std.specs.Prelude.{Result}
 use Rattle.serde_json.specs.Data.{Data}
 use Rattle.kishu_model.specs.notebooks.Notebook.{Fault, not_json, not_notebook, version, bad_cell, repeated_id, not_whole, format_key, minor_key, metadata_key, cells_key, opening, reason}

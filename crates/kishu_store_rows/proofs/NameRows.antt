@@ -1,6 +1,5 @@
 -- Names of branches, references, and the lines by which commits are told: computed on the definitions. Made by tools/rows/record_rows.py.
-use Rattle.std.specs.Prelude.{◌≡◌, ℕ, pos, negsuc, true, false, List, [], ◌∷◌, ◌++◌, codes, Option, Some, None, Ok, Err, refl}
-use Rattle.std.specs.Prelude.{map}
+use Rattle.std.specs.Prelude.{◌≡◌, true, false, [], ◌∷◌, codes, Some, None, refl}
 use Rattle.kishu_language.specs.declared.profile.Profile.TheVariants.{One}
 use Rattle.kishu_store.specs.Branches.{Branches, commit_of, with_branch_at, is_branch_name}
 use Rattle.kishu_store.specs.CommitLines.{line_in}

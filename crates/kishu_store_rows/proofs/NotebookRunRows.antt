@@ -1,8 +1,7 @@
 -- What runs of notebooks write, and the graphs that they leave: computed on the definitions. Made by tools/rows/notebook_rows.py.
-use Rattle.std.specs.Prelude.{◌≡◌, ℕ, pos, negsuc, true, false, List, [], ◌∷◌, ◌++◌, codes, Option, Some, None, Ok, Err, refl}
-use Rattle.std.specs.Prelude.{map}
+use Rattle.std.specs.Prelude.{◌≡◌, ℕ, true, false, List, [], ◌∷◌, ◌++◌, codes, Some, refl}
 use Rattle.kishu_language.specs.declared.profile.Profile.TheVariants.{One}
-use Rattle.kishu_store.specs.Graph.{Graph, new_graph}
+use Rattle.kishu_store.specs.Graph.{new_graph}
 use Rattle.kishu_model.specs.Serve.{answers, after_all}
 use Rattle.kishu_model.specs.Task.{task, notebook}
 use Rattle.kishu_store_rows.proofs.OnLiterals.{notebooks_on_literals}

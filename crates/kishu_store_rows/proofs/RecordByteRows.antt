@@ -1,9 +1,8 @@
 -- The bytes of records: computed on the definitions. Made by tools/rows/record_rows.py.
-use Rattle.std.specs.Prelude.{◌≡◌, ℕ, pos, negsuc, true, false, List, [], ◌∷◌, ◌++◌, codes, Option, Some, None, Ok, Err, refl}
-use Rattle.std.specs.Prelude.{length}
+use Rattle.std.specs.Prelude.{◌≡◌, [], ◌∷◌, codes, refl}
 use Rattle.kishu_language.specs.declared.profile.Profile.TheVariants.{One}
-use Rattle.kishu_store.specs.Entries.{Entry, commit, move, name, to_commit, to_branch, Record, plain}
-use Rattle.kishu_store.specs.EntryBytes.{eight, text_bytes, name_bytes, many, group_bytes, stored_bytes, head_of, body_of}
+use Rattle.kishu_store.specs.Entries.{commit, move, name, to_commit, to_branch}
+use Rattle.kishu_store.specs.EntryBytes.{eight, text_bytes, name_bytes, group_bytes, stored_bytes, head_of, body_of}
 use Rattle.kishu_store.specs.Histories.{before_pictures, body_length}
 
 -- ---- numbers of eight bytes, texts, names and groups

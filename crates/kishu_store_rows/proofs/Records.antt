@@ -1,7 +1,7 @@
 -- Records, one behind another, of which the rows of this crate speak. Made by tools/rows/record_rows.py.
-use Rattle.std.specs.Prelude.{◌≡◌, ℕ, pos, negsuc, true, false, List, [], ◌∷◌, ◌++◌, codes, Option, Some, None, Ok, Err, refl}
+use Rattle.std.specs.Prelude.{List, [], ◌∷◌, codes}
 use Rattle.kishu_language.specs.declared.profile.Profile.TheVariants.{One}
-use Rattle.kishu_store.specs.Entries.{Entry, commit, move, name, to_commit, to_branch, Record, plain}
+use Rattle.kishu_store.specs.Entries.{Entry, commit, move, name, to_commit, to_branch, Record}
 
 abbrev pub record1 : Record
 record1 = record { entry = (commit 0 One ((codes "x = [1]; y = [x]; z = [2]") ∷ []) [] ((((codes "x") ∷ (codes "y") ∷ []), 3) ∷ (((codes "z") ∷ []), 1) ∷ [])); pictures = ((1 ∷ 2 ∷ 3 ∷ []) ∷ (4 ∷ []) ∷ []) }

@@ -1,8 +1,7 @@
 -- What a group is that a record may tell, and when two are one: computed on the definitions. Made by tools/rows/table_rows.py.
-use Rattle.std.specs.Prelude.{◌≡◌, ℕ, pos, negsuc, true, false, List, [], ◌∷◌, ◌++◌, codes, Option, Some, None, Ok, Err, refl}
-use Rattle.std.specs.Prelude.{Bool, map, ◌^◌}
-use Rattle.std.proofs.Common.{arith, inl, inr, ap}
-use Rattle.std.proofs.lemmas.Bool.{false≢true}
+use Rattle.std.specs.Prelude.{◌≡◌, true, false, List, [], ◌∷◌, codes, refl}
+use Rattle.std.specs.Prelude.{map}
+use Rattle.std.proofs.Common.{arith}
 use Rattle.std.specs.List.Sorted.{IsStrictlySortedBy}
 use Rattle.kishu_language.specs.tokens.Names.{reserved_words}
 use Rattle.kishu_store.specs.Groups.{Group, first_name, is_group, is_one_of, IsGroup, AreGroups, IsStored, AreStored}

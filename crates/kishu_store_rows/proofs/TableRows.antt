@@ -1,11 +1,7 @@
 -- Tables: their rows, what a commit does to one, and what fits: computed on the definitions. Made by tools/rows/table_rows.py.
-use Rattle.std.specs.Prelude.{◌≡◌, ℕ, pos, negsuc, true, false, List, [], ◌∷◌, ◌++◌, codes, Option, Some, None, Ok, Err, refl}
-use Rattle.std.specs.Prelude.{Bool}
-use Rattle.std.proofs.Common.{arith, inl, inr, ap}
-use Rattle.std.proofs.lemmas.Bool.{false≢true}
-use Rattle.std.specs.List.Sorted.{IsStrictlySortedBy}
-use Rattle.kishu_store.specs.Tables.{Row, Table, Change, bytes_in, names_in, put_row, put_rows, without_groups, after, table_of, rows_from, bytes_at, are_apart, change_of, with_change, no_change, FitsTable, IsKeptTable}
-use Rattle.kishu_store.specs.Groups.{Group}
+use Rattle.std.specs.Prelude.{◌≡◌, true, false, [], ◌∷◌, codes, refl}
+use Rattle.std.proofs.Common.{arith}
+use Rattle.kishu_store.specs.Tables.{Table, bytes_in, names_in, put_row, without_groups, after, rows_from, bytes_at, are_apart, FitsTable}
 
 abbrev three : Table
 three = (record { group = ((codes "a") ∷ []); version = 1; place = 20; len = 5 }) ∷ (record { group = ((codes "b") ∷ (codes "c") ∷ []); version = 2; place = 30; len = 7 }) ∷ (record { group = ((codes "d") ∷ (codes "z") ∷ []); version = 1; place = 40; len = 0 }) ∷ []

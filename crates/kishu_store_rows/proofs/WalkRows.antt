@@ -1,10 +1,10 @@
 -- What is told at each commit of a history that branches, to which checkouts lead: computed on the definitions. Made by tools/rows/request_rows.py.
-use Rattle.std.specs.Prelude.{◌≡◌, ℕ, pos, negsuc, true, false, List, [], ◌∷◌, ◌++◌, codes, Option, Some, None, Ok, Err, refl}
+use Rattle.std.specs.Prelude.{◌≡◌, [], ◌∷◌, ◌++◌, codes, Some, None, refl}
 use Rattle.std.specs.Prelude.{map}
 use Rattle.kishu_language.specs.declared.profile.Profile.TheVariants.{One}
 use Rattle.kishu_store.specs.Graph.{Graph, new_graph}
-use Rattle.kishu_model.specs.Request.{Request, cell, cells, checkout, branch, log, status, inspect, stored, plan, unreadable}
-use Rattle.kishu_model.specs.Serve.{answered, after_all, answers, answer_of}
+use Rattle.kishu_model.specs.Request.{cell, cells, checkout, branch, log, status, inspect}
+use Rattle.kishu_model.specs.Serve.{answered, after_all, answers}
 use Rattle.kishu_store_rows.proofs.OnLiterals.{requests_on_literals}
 
 -- ---- a way to each commit and each branch
