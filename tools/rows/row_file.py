@@ -7,6 +7,12 @@ TOP = pathlib.Path(__file__).resolve().parents[2]
 PRELUDE = "use Rattle.std.specs.Prelude.{◌≡◌, ℕ, pos, negsuc, true, false, List, [], ◌∷◌, ◌++◌, codes, Option, Some, None, Ok, Err, refl}"
 
 
+def is_used(name, words, body):
+    if re.fullmatch(r"[\w-]+", name):
+        return name in words
+    return name.strip("◌").split("◌")[0] in body
+
+
 class RowFile:
     def __init__(self, crate, name, says, uses):
         self.path = TOP / "crates" / crate / "proofs" / f"{name}.antt"
@@ -52,7 +58,7 @@ class RowFile:
             if not brace:
                 kept += [l] if f"{l.split()[-1]}." in body else []
                 continue
-            names = [n for n in names.rstrip("}").split(", ") if n in words or n == "[]" and "[]" in body or "◌" in n and n.strip("◌").split("◌")[0] in body]
+            names = [n for n in names.rstrip("}").split(", ") if is_used(n, words, body)]
             kept += [f"{begin}{{{', '.join(names)}}}"] if names else []
         return [self.lines[0], *dict.fromkeys(kept), *self.lines[head:]]
 

@@ -2,6 +2,7 @@
 use Rattle.std.specs.Prelude.{◌≡◌, ℕ, true, false, List, [], ◌∷◌, codes, refl}
 use Rattle.std.specs.List.{list_any}
 use Rattle.std.proofs.Common.{sym, ◌∙◌, subst, inl, inr}
+use Rattle.std.proofs.lemmas.Bool.{false≢true}
 use Rattle.kishu_language.specs.tokens.Names.{reserved_words, is_among}
 use Rattle.kishu_meaning.specs.values.Values.{State}
 use Rattle.kishu_objects.specs.Picture.{listed}

@@ -1,6 +1,7 @@
 -- At which place files are broken: behind so many records the gate is open, and no record that fits follows. Made by tools/rows/file_rows.py.
 use Rattle.std.specs.Prelude.{true, false, [], ◌∷◌, ◌++◌, codes, refl}
 use Rattle.std.proofs.Common.{inl, inr, arith}
+use Rattle.std.proofs.lemmas.Bool.{false≢true}
 use Rattle.std.specs.Char.{encode_utf8}
 use Rattle.std.specs.List.Sorted.{IsStrictlySortedBy}
 use Rattle.std.specs.Int.{w64, to_be_bytes}

@@ -1,6 +1,7 @@
 -- Which records fit behind those before them, tables included: computed on the definitions. Made by tools/rows/table_rows.py.
 use Rattle.std.specs.Prelude.{◌≡◌, ℕ, true, false, [], ◌∷◌, codes, Some, None, refl}
 use Rattle.std.proofs.Common.{arith}
+use Rattle.std.proofs.lemmas.Bool.{false≢true}
 use Rattle.kishu_language.specs.declared.profile.Profile.TheVariants.{One}
 use Rattle.kishu_store.specs.Entries.{commit, move, name, to_commit, to_branch}
 use Rattle.kishu_store.specs.EntryBytes.{head_of}

@@ -1,6 +1,7 @@
 -- The tables after commits, and what holds of each that records give: computed on the definitions. Made by tools/rows/table_rows.py.
 use Rattle.std.specs.Prelude.{◌≡◌, true, false, [], ◌∷◌, codes, refl}
 use Rattle.std.proofs.Common.{arith}
+use Rattle.std.proofs.lemmas.Bool.{false≢true}
 use Rattle.std.specs.List.Sorted.{IsStrictlySortedBy}
 use Rattle.kishu_language.specs.tokens.Names.{reserved_words}
 use Rattle.kishu_store.specs.Tables.{table_of, change_of, no_change, IsKeptTable}

@@ -29,3 +29,4 @@ mod BrokenRows
 mod GeneratedRows
 mod TargetRows
 mod LargeRows
+mod RecordRuleRows

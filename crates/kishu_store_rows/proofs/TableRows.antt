@@ -1,6 +1,7 @@
 -- Tables: their rows, what a commit does to one, and what fits: computed on the definitions. Made by tools/rows/table_rows.py.
 use Rattle.std.specs.Prelude.{◌≡◌, true, false, [], ◌∷◌, codes, refl}
 use Rattle.std.proofs.Common.{arith}
+use Rattle.std.proofs.lemmas.Bool.{false≢true}
 use Rattle.kishu_store.specs.Tables.{Table, bytes_in, names_in, put_row, without_groups, after, rows_from, bytes_at, are_apart, FitsTable}
 
 abbrev three : Table
