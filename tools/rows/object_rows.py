@@ -182,7 +182,7 @@ def loading_rows():
         if name in ("plain", "default", "defaults", "long_chain"):
             continue
         for k, host in enumerate(into):
-            if (len(name) + k) % 3:
+            if (len(name) + k) % 2:
                 continue
             s, p = STATES[host][1], picture(state, list(state.names))
             if any(n is m for n in p.nodes for m in s.nodes):

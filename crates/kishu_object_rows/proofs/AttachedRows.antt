@@ -6,7 +6,7 @@ use Rattle.std.proofs.lemmas.Bool.{false≢true}
 use Rattle.std.specs.List.Sorted.{IsStrictlySortedBy}
 use Rattle.kishu_language.specs.tokens.Names.{reserved_words}
 use Rattle.kishu_meaning.specs.values.Keys as k
-use Rattle.kishu_meaning.specs.values.Values.{integer, node, list, tuple, State}
+use Rattle.kishu_meaning.specs.values.Values.{bool, integer, text, node, list, tuple, State}
 use Rattle.kishu_objects.specs.Lists.{In}
 use Rattle.kishu_objects.specs.Picture.{picture}
 use Rattle.kishu_objects.specs.Same.{View, plain, inside, view}
@@ -67,37 +67,69 @@ not_attached_1 : IsAttached one_file one_graph one_of one_live3 → ⊥
 unfolding cells_on_literals reserved_words IsStrictlySortedBy
 not_attached_1 = λ h. seen_apart (view one_live3.nodes (integer (pos 2))) (view (replay one_graph 1).nodes (integer (pos 1))) refl refl (h.same.views (codes "a") (0 ∷ []) tt)
 
--- a tuple for the list
+-- True for 1
 abbrev one_live4 : State
-one_live4 = record { names = (((codes "a"), (node 0)) ∷ []); nodes = ((tuple ((integer (pos 1)) ∷ [])) ∷ []) }
+one_live4 = record { names = (((codes "a"), (node 0)) ∷ []); nodes = ((list ((bool true) ∷ [])) ∷ []) }
 
 not_attached_2 : IsAttached one_file one_graph one_of one_live4 → ⊥
 unfolding cells_on_literals reserved_words IsStrictlySortedBy
-not_attached_2 = λ h. seen_apart (view one_live4.nodes (node 0)) (view (replay one_graph 1).nodes (node 0)) refl refl (h.same.views (codes "a") [] tt)
+not_attached_2 = λ h. seen_apart (view one_live4.nodes (bool true)) (view (replay one_graph 1).nodes (integer (pos 1))) refl refl (h.same.views (codes "a") (0 ∷ []) tt)
 
--- a name more
+-- an item more
 abbrev one_live5 : State
-one_live5 = record { names = (((codes "a"), (node 0)) ∷ ((codes "b"), (integer (pos 0))) ∷ []); nodes = ((list ((integer (pos 1)) ∷ [])) ∷ []) }
+one_live5 = record { names = (((codes "a"), (node 0)) ∷ []); nodes = ((list ((integer (pos 1)) ∷ (integer (pos 1)) ∷ [])) ∷ []) }
 
 not_attached_3 : IsAttached one_file one_graph one_of one_live5 → ⊥
 unfolding cells_on_literals reserved_words IsStrictlySortedBy
-not_attached_3 = λ h. h.same.views (codes "b") [] tt
+not_attached_3 = λ h. seen_apart (view one_live5.nodes (node 0)) (view (replay one_graph 1).nodes (node 0)) refl refl (h.same.views (codes "a") [] tt)
 
--- no name
+-- an item less
 abbrev one_live6 : State
-one_live6 = record { names = []; nodes = [] }
+one_live6 = record { names = (((codes "a"), (node 0)) ∷ []); nodes = ((list []) ∷ []) }
 
 not_attached_4 : IsAttached one_file one_graph one_of one_live6 → ⊥
 unfolding cells_on_literals reserved_words IsStrictlySortedBy
-not_attached_4 = λ h. h.same.views (codes "a") [] tt
+not_attached_4 = λ h. seen_apart (view one_live6.nodes (node 0)) (view (replay one_graph 1).nodes (node 0)) refl refl (h.same.views (codes "a") [] tt)
 
--- another name
+-- a text
 abbrev one_live7 : State
-one_live7 = record { names = (((codes "b"), (node 0)) ∷ []); nodes = ((list ((integer (pos 1)) ∷ [])) ∷ []) }
+one_live7 = record { names = (((codes "a"), (text (codes "[1]"))) ∷ []); nodes = [] }
 
 not_attached_5 : IsAttached one_file one_graph one_of one_live7 → ⊥
 unfolding cells_on_literals reserved_words IsStrictlySortedBy
-not_attached_5 = λ h. h.same.views (codes "a") [] tt
+not_attached_5 = λ h. seen_apart (view one_live7.nodes (text (codes "[1]"))) (view (replay one_graph 1).nodes (node 0)) refl refl (h.same.views (codes "a") [] tt)
+
+-- a tuple for the list
+abbrev one_live8 : State
+one_live8 = record { names = (((codes "a"), (node 0)) ∷ []); nodes = ((tuple ((integer (pos 1)) ∷ [])) ∷ []) }
+
+not_attached_6 : IsAttached one_file one_graph one_of one_live8 → ⊥
+unfolding cells_on_literals reserved_words IsStrictlySortedBy
+not_attached_6 = λ h. seen_apart (view one_live8.nodes (node 0)) (view (replay one_graph 1).nodes (node 0)) refl refl (h.same.views (codes "a") [] tt)
+
+-- a name more
+abbrev one_live9 : State
+one_live9 = record { names = (((codes "a"), (node 0)) ∷ ((codes "b"), (integer (pos 0))) ∷ []); nodes = ((list ((integer (pos 1)) ∷ [])) ∷ []) }
+
+not_attached_7 : IsAttached one_file one_graph one_of one_live9 → ⊥
+unfolding cells_on_literals reserved_words IsStrictlySortedBy
+not_attached_7 = λ h. h.same.views (codes "b") [] tt
+
+-- no name
+abbrev one_live10 : State
+one_live10 = record { names = []; nodes = [] }
+
+not_attached_8 : IsAttached one_file one_graph one_of one_live10 → ⊥
+unfolding cells_on_literals reserved_words IsStrictlySortedBy
+not_attached_8 = λ h. h.same.views (codes "a") [] tt
+
+-- another name
+abbrev one_live11 : State
+one_live11 = record { names = (((codes "b"), (node 0)) ∷ []); nodes = ((list ((integer (pos 1)) ∷ [])) ∷ []) }
+
+not_attached_9 : IsAttached one_file one_graph one_of one_live11 → ⊥
+unfolding cells_on_literals reserved_words IsStrictlySortedBy
+not_attached_9 = λ h. h.same.views (codes "a") [] tt
 
 abbrev shared_graph : Graph
 shared_graph = record { commits = shared_commits; branches = (main_branch, 2) ∷ []; head = record { commit = 2; branch = Some main_branch }; records = 2 }
@@ -122,22 +154,22 @@ attached_4 = record { good = good_2; head = omega arith; told = record { state =
 abbrev shared_live3 : State
 shared_live3 = record { names = (((codes "a"), (node 0)) ∷ ((codes "b"), (node 1)) ∷ []); nodes = ((list ((integer (pos 1)) ∷ (integer (pos 2)) ∷ [])) ∷ (list ((integer (pos 1)) ∷ (integer (pos 2)) ∷ [])) ∷ []) }
 
-not_attached_6 : IsAttached shared_file shared_graph shared_of shared_live3 → ⊥
+not_attached_10 : IsAttached shared_file shared_graph shared_of shared_live3 → ⊥
 unfolding cells_on_literals reserved_words IsStrictlySortedBy
-not_attached_6 = λ h. absurd (omega (arith, one_number 0 1 (h.same.shared_here (codes "a") [] (codes "b") [] tt tt (0, refl, refl))))
+not_attached_10 = λ h. absurd (omega (arith, one_number 0 1 (h.same.shared_here (codes "a") [] (codes "b") [] tt tt (0, refl, refl))))
 
 -- as before the last cell
 abbrev shared_live4 : State
 shared_live4 = record { names = (((codes "a"), (node 0)) ∷ ((codes "b"), (node 0)) ∷ []); nodes = ((list ((integer (pos 1)) ∷ [])) ∷ []) }
 
-not_attached_7 : IsAttached shared_file shared_graph shared_of shared_live4 → ⊥
+not_attached_11 : IsAttached shared_file shared_graph shared_of shared_live4 → ⊥
 unfolding cells_on_literals reserved_words IsStrictlySortedBy
-not_attached_7 = λ h. h.same.views (codes "a") (1 ∷ []) tt
+not_attached_11 = λ h. h.same.views (codes "a") (1 ∷ []) tt
 
 -- a name less
 abbrev shared_live5 : State
 shared_live5 = record { names = (((codes "a"), (node 0)) ∷ []); nodes = ((list ((integer (pos 1)) ∷ (integer (pos 2)) ∷ [])) ∷ []) }
 
-not_attached_8 : IsAttached shared_file shared_graph shared_of shared_live5 → ⊥
+not_attached_12 : IsAttached shared_file shared_graph shared_of shared_live5 → ⊥
 unfolding cells_on_literals reserved_words IsStrictlySortedBy
-not_attached_8 = λ h. h.same.views (codes "b") [] tt
+not_attached_12 = λ h. h.same.views (codes "b") [] tt

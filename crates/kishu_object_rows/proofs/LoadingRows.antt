@@ -9,110 +9,161 @@ use Rattle.kishu_object_rows.proofs.States.{unbound, plain, shared, apart, itsel
 
 -- ---- new nodes stand behind those that are there, and names are bound anew
 
-loaded_1 : with_picture shared (picture unbound []) ≡ record { names = (((codes "a"), (node 1)) ∷ ((codes "b"), (node 1)) ∷ []); nodes = ((list []) ∷ (list ((integer (pos 1)) ∷ [])) ∷ []) }
+loaded_1 : with_picture plain (picture unbound []) ≡ record { names = (((codes "Z"), (integer (pos 1))) ∷ ((codes "_"), none) ∷ ((codes "a"), (bool true)) ∷ ((codes "a1"), (text (233 ∷ []))) ∷ ((codes "aa"), (range (pos 0) (pos 3) (negsuc 0))) ∷ ((codes "b"), (builtin 10)) ∷ ((codes "c"), (class 1)) ∷ []); nodes = [] }
 loaded_1 = refl
 
-loaded_2 : with_picture raised (picture unbound []) ≡ record { names = (((codes "e"), (node 0)) ∷ ((codes "x"), (node 1)) ∷ ((codes "y"), (node 2)) ∷ []); nodes = ((list ((text (codes "no")) ∷ [])) ∷ (exception 24 ((node 0) ∷ (integer (pos 1)) ∷ [])) ∷ (exception 16 ((text (codes "no")) ∷ [])) ∷ []) }
+loaded_2 : with_picture itself (picture unbound []) ≡ record { names = (((codes "a"), (node 0)) ∷ []); nodes = ((list ((node 0) ∷ [])) ∷ []) }
 loaded_2 = refl
 
-loaded_3 : with_picture unbound (picture shared ((codes "a") ∷ (codes "b") ∷ [])) ≡ record { names = (((codes "a"), (node 1)) ∷ ((codes "b"), (node 1)) ∷ []); nodes = ((list []) ∷ (list ((integer (pos 1)) ∷ [])) ∷ []) }
+loaded_3 : with_picture raised (picture unbound []) ≡ record { names = (((codes "e"), (node 0)) ∷ ((codes "x"), (node 1)) ∷ ((codes "y"), (node 2)) ∷ []); nodes = ((list ((text (codes "no")) ∷ [])) ∷ (exception 24 ((node 0) ∷ (integer (pos 1)) ∷ [])) ∷ (exception 16 ((text (codes "no")) ∷ [])) ∷ []) }
 loaded_3 = refl
 
-loaded_4 : with_picture itself (picture shared ((codes "a") ∷ (codes "b") ∷ [])) ≡ record { names = (((codes "a"), (node 1)) ∷ ((codes "b"), (node 1)) ∷ []); nodes = ((list ((node 0) ∷ [])) ∷ (list ((integer (pos 1)) ∷ [])) ∷ []) }
+loaded_4 : with_picture unbound (picture shared ((codes "a") ∷ (codes "b") ∷ [])) ≡ record { names = (((codes "a"), (node 1)) ∷ ((codes "b"), (node 1)) ∷ []); nodes = ((list []) ∷ (list ((integer (pos 1)) ∷ [])) ∷ []) }
 loaded_4 = refl
 
-loaded_5 : with_picture plain (picture apart ((codes "a") ∷ (codes "b") ∷ [])) ≡ record { names = (((codes "Z"), (integer (pos 1))) ∷ ((codes "_"), none) ∷ ((codes "a"), (node 0)) ∷ ((codes "a1"), (text (233 ∷ []))) ∷ ((codes "aa"), (range (pos 0) (pos 3) (negsuc 0))) ∷ ((codes "b"), (node 1)) ∷ ((codes "c"), (class 1)) ∷ []); nodes = ((list ((integer (pos 1)) ∷ [])) ∷ (list ((integer (pos 1)) ∷ [])) ∷ []) }
+loaded_5 : with_picture linked (picture shared ((codes "a") ∷ (codes "b") ∷ [])) ≡ record { names = (((codes "a"), (node 3)) ∷ ((codes "b"), (node 3)) ∷ ((codes "x"), (node 2)) ∷ ((codes "y"), (node 1)) ∷ ((codes "z"), (node 0)) ∷ []); nodes = ((list ((integer (pos 2)) ∷ [])) ∷ (list ((node 2) ∷ (node 0) ∷ [])) ∷ (list ((integer (pos 1)) ∷ [])) ∷ (list ((integer (pos 1)) ∷ [])) ∷ []) }
 loaded_5 = refl
 
-loaded_6 : with_picture linked (picture apart ((codes "a") ∷ (codes "b") ∷ [])) ≡ record { names = (((codes "a"), (node 3)) ∷ ((codes "b"), (node 4)) ∷ ((codes "x"), (node 2)) ∷ ((codes "y"), (node 1)) ∷ ((codes "z"), (node 0)) ∷ []); nodes = ((list ((integer (pos 2)) ∷ [])) ∷ (list ((node 2) ∷ (node 0) ∷ [])) ∷ (list ((integer (pos 1)) ∷ [])) ∷ (list ((integer (pos 1)) ∷ [])) ∷ (list ((integer (pos 1)) ∷ [])) ∷ []) }
+loaded_6 : with_picture plain (picture apart ((codes "a") ∷ (codes "b") ∷ [])) ≡ record { names = (((codes "Z"), (integer (pos 1))) ∷ ((codes "_"), none) ∷ ((codes "a"), (node 0)) ∷ ((codes "a1"), (text (233 ∷ []))) ∷ ((codes "aa"), (range (pos 0) (pos 3) (negsuc 0))) ∷ ((codes "b"), (node 1)) ∷ ((codes "c"), (class 1)) ∷ []); nodes = ((list ((integer (pos 1)) ∷ [])) ∷ (list ((integer (pos 1)) ∷ [])) ∷ []) }
 loaded_6 = refl
 
-loaded_7 : with_picture unbound (picture itself ((codes "a") ∷ [])) ≡ record { names = (((codes "a"), (node 1)) ∷ []); nodes = ((list []) ∷ (list ((node 1) ∷ [])) ∷ []) }
+loaded_7 : with_picture itself (picture apart ((codes "a") ∷ (codes "b") ∷ [])) ≡ record { names = (((codes "a"), (node 1)) ∷ ((codes "b"), (node 2)) ∷ []); nodes = ((list ((node 0) ∷ [])) ∷ (list ((integer (pos 1)) ∷ [])) ∷ (list ((integer (pos 1)) ∷ [])) ∷ []) }
 loaded_7 = refl
 
-loaded_8 : with_picture plain (picture round ((codes "a") ∷ (codes "b") ∷ [])) ≡ record { names = (((codes "Z"), (integer (pos 1))) ∷ ((codes "_"), none) ∷ ((codes "a"), (node 0)) ∷ ((codes "a1"), (text (233 ∷ []))) ∷ ((codes "aa"), (range (pos 0) (pos 3) (negsuc 0))) ∷ ((codes "b"), (node 1)) ∷ ((codes "c"), (class 1)) ∷ []); nodes = ((list ((node 1) ∷ [])) ∷ (list ((node 0) ∷ [])) ∷ []) }
+loaded_8 : with_picture raised (picture apart ((codes "a") ∷ (codes "b") ∷ [])) ≡ record { names = (((codes "a"), (node 3)) ∷ ((codes "b"), (node 4)) ∷ ((codes "e"), (node 0)) ∷ ((codes "x"), (node 1)) ∷ ((codes "y"), (node 2)) ∷ []); nodes = ((list ((text (codes "no")) ∷ [])) ∷ (exception 24 ((node 0) ∷ (integer (pos 1)) ∷ [])) ∷ (exception 16 ((text (codes "no")) ∷ [])) ∷ (list ((integer (pos 1)) ∷ [])) ∷ (list ((integer (pos 1)) ∷ [])) ∷ []) }
 loaded_8 = refl
 
-loaded_9 : with_picture linked (picture round ((codes "a") ∷ (codes "b") ∷ [])) ≡ record { names = (((codes "a"), (node 3)) ∷ ((codes "b"), (node 4)) ∷ ((codes "x"), (node 2)) ∷ ((codes "y"), (node 1)) ∷ ((codes "z"), (node 0)) ∷ []); nodes = ((list ((integer (pos 2)) ∷ [])) ∷ (list ((node 2) ∷ (node 0) ∷ [])) ∷ (list ((integer (pos 1)) ∷ [])) ∷ (list ((node 4) ∷ [])) ∷ (list ((node 3) ∷ [])) ∷ []) }
+loaded_9 : with_picture unbound (picture itself ((codes "a") ∷ [])) ≡ record { names = (((codes "a"), (node 1)) ∷ []); nodes = ((list []) ∷ (list ((node 1) ∷ [])) ∷ []) }
 loaded_9 = refl
 
-loaded_10 : with_picture unbound (picture linked ((codes "x") ∷ (codes "y") ∷ (codes "z") ∷ [])) ≡ record { names = (((codes "x"), (node 1)) ∷ ((codes "y"), (node 2)) ∷ ((codes "z"), (node 3)) ∷ []); nodes = ((list []) ∷ (list ((integer (pos 1)) ∷ [])) ∷ (list ((node 1) ∷ (node 3) ∷ [])) ∷ (list ((integer (pos 2)) ∷ [])) ∷ []) }
+loaded_10 : with_picture shared (picture itself ((codes "a") ∷ [])) ≡ record { names = (((codes "a"), (node 2)) ∷ ((codes "b"), (node 1)) ∷ []); nodes = ((list []) ∷ (list ((integer (pos 1)) ∷ [])) ∷ (list ((node 2) ∷ [])) ∷ []) }
 loaded_10 = refl
 
-loaded_11 : with_picture itself (picture linked ((codes "x") ∷ (codes "y") ∷ (codes "z") ∷ [])) ≡ record { names = (((codes "a"), (node 0)) ∷ ((codes "x"), (node 1)) ∷ ((codes "y"), (node 2)) ∷ ((codes "z"), (node 3)) ∷ []); nodes = ((list ((node 0) ∷ [])) ∷ (list ((integer (pos 1)) ∷ [])) ∷ (list ((node 1) ∷ (node 3) ∷ [])) ∷ (list ((integer (pos 2)) ∷ [])) ∷ []) }
+loaded_11 : with_picture linked (picture itself ((codes "a") ∷ [])) ≡ record { names = (((codes "a"), (node 3)) ∷ ((codes "x"), (node 2)) ∷ ((codes "y"), (node 1)) ∷ ((codes "z"), (node 0)) ∷ []); nodes = ((list ((integer (pos 2)) ∷ [])) ∷ (list ((node 2) ∷ (node 0) ∷ [])) ∷ (list ((integer (pos 1)) ∷ [])) ∷ (list ((node 3) ∷ [])) ∷ []) }
 loaded_11 = refl
 
-loaded_12 : with_picture unbound (picture parted ((codes "x") ∷ (codes "y") ∷ (codes "z") ∷ [])) ≡ record { names = (((codes "x"), (node 1)) ∷ ((codes "y"), (integer (pos 0))) ∷ ((codes "z"), (node 2)) ∷ []); nodes = ((list []) ∷ (list ((integer (pos 1)) ∷ [])) ∷ (list ((integer (pos 2)) ∷ [])) ∷ []) }
+loaded_12 : with_picture plain (picture round ((codes "a") ∷ (codes "b") ∷ [])) ≡ record { names = (((codes "Z"), (integer (pos 1))) ∷ ((codes "_"), none) ∷ ((codes "a"), (node 0)) ∷ ((codes "a1"), (text (233 ∷ []))) ∷ ((codes "aa"), (range (pos 0) (pos 3) (negsuc 0))) ∷ ((codes "b"), (node 1)) ∷ ((codes "c"), (class 1)) ∷ []); nodes = ((list ((node 1) ∷ [])) ∷ (list ((node 0) ∷ [])) ∷ []) }
 loaded_12 = refl
 
-loaded_13 : with_picture itself (picture parted ((codes "x") ∷ (codes "y") ∷ (codes "z") ∷ [])) ≡ record { names = (((codes "a"), (node 0)) ∷ ((codes "x"), (node 1)) ∷ ((codes "y"), (integer (pos 0))) ∷ ((codes "z"), (node 2)) ∷ []); nodes = ((list ((node 0) ∷ [])) ∷ (list ((integer (pos 1)) ∷ [])) ∷ (list ((integer (pos 2)) ∷ [])) ∷ []) }
+loaded_13 : with_picture itself (picture round ((codes "a") ∷ (codes "b") ∷ [])) ≡ record { names = (((codes "a"), (node 1)) ∷ ((codes "b"), (node 2)) ∷ []); nodes = ((list ((node 0) ∷ [])) ∷ (list ((node 2) ∷ [])) ∷ (list ((node 1) ∷ [])) ∷ []) }
 loaded_13 = refl
 
-loaded_14 : with_picture plain (picture keyed ((codes "d") ∷ (codes "e") ∷ (codes "t") ∷ [])) ≡ record { names = (((codes "Z"), (integer (pos 1))) ∷ ((codes "_"), none) ∷ ((codes "a"), (bool true)) ∷ ((codes "a1"), (text (233 ∷ []))) ∷ ((codes "aa"), (range (pos 0) (pos 3) (negsuc 0))) ∷ ((codes "b"), (builtin 10)) ∷ ((codes "c"), (class 1)) ∷ ((codes "d"), (node 0)) ∷ ((codes "e"), (node 1)) ∷ ((codes "t"), (node 2)) ∷ []); nodes = ((dict (((k.tuple ((k.integer (pos 1)) ∷ (k.text (233 ∷ [])) ∷ [])), (node 1)) ∷ ((k.single k.none), (node 3)) ∷ ((k.single (k.integer (negsuc 0))), (node 1)) ∷ [])) ∷ (list []) ∷ (tuple ((integer (pos 1)) ∷ (text (233 ∷ [])) ∷ [])) ∷ (tuple []) ∷ []) }
+loaded_14 : with_picture raised (picture round ((codes "a") ∷ (codes "b") ∷ [])) ≡ record { names = (((codes "a"), (node 3)) ∷ ((codes "b"), (node 4)) ∷ ((codes "e"), (node 0)) ∷ ((codes "x"), (node 1)) ∷ ((codes "y"), (node 2)) ∷ []); nodes = ((list ((text (codes "no")) ∷ [])) ∷ (exception 24 ((node 0) ∷ (integer (pos 1)) ∷ [])) ∷ (exception 16 ((text (codes "no")) ∷ [])) ∷ (list ((node 4) ∷ [])) ∷ (list ((node 3) ∷ [])) ∷ []) }
 loaded_14 = refl
 
-loaded_15 : with_picture linked (picture keyed ((codes "d") ∷ (codes "e") ∷ (codes "t") ∷ [])) ≡ record { names = (((codes "d"), (node 3)) ∷ ((codes "e"), (node 4)) ∷ ((codes "t"), (node 5)) ∷ ((codes "x"), (node 2)) ∷ ((codes "y"), (node 1)) ∷ ((codes "z"), (node 0)) ∷ []); nodes = ((list ((integer (pos 2)) ∷ [])) ∷ (list ((node 2) ∷ (node 0) ∷ [])) ∷ (list ((integer (pos 1)) ∷ [])) ∷ (dict (((k.tuple ((k.integer (pos 1)) ∷ (k.text (233 ∷ [])) ∷ [])), (node 4)) ∷ ((k.single k.none), (node 6)) ∷ ((k.single (k.integer (negsuc 0))), (node 4)) ∷ [])) ∷ (list []) ∷ (tuple ((integer (pos 1)) ∷ (text (233 ∷ [])) ∷ [])) ∷ (tuple []) ∷ []) }
+loaded_15 : with_picture unbound (picture linked ((codes "x") ∷ (codes "y") ∷ (codes "z") ∷ [])) ≡ record { names = (((codes "x"), (node 1)) ∷ ((codes "y"), (node 2)) ∷ ((codes "z"), (node 3)) ∷ []); nodes = ((list []) ∷ (list ((integer (pos 1)) ∷ [])) ∷ (list ((node 1) ∷ (node 3) ∷ [])) ∷ (list ((integer (pos 2)) ∷ [])) ∷ []) }
 loaded_15 = refl
 
-loaded_16 : with_picture unbound (picture raised ((codes "e") ∷ (codes "x") ∷ (codes "y") ∷ [])) ≡ record { names = (((codes "e"), (node 1)) ∷ ((codes "x"), (node 2)) ∷ ((codes "y"), (node 3)) ∷ []); nodes = ((list []) ∷ (list ((text (codes "no")) ∷ [])) ∷ (exception 24 ((node 1) ∷ (integer (pos 1)) ∷ [])) ∷ (exception 16 ((text (codes "no")) ∷ [])) ∷ []) }
+loaded_16 : with_picture shared (picture linked ((codes "x") ∷ (codes "y") ∷ (codes "z") ∷ [])) ≡ record { names = (((codes "a"), (node 1)) ∷ ((codes "b"), (node 1)) ∷ ((codes "x"), (node 2)) ∷ ((codes "y"), (node 3)) ∷ ((codes "z"), (node 4)) ∷ []); nodes = ((list []) ∷ (list ((integer (pos 1)) ∷ [])) ∷ (list ((integer (pos 1)) ∷ [])) ∷ (list ((node 2) ∷ (node 4) ∷ [])) ∷ (list ((integer (pos 2)) ∷ [])) ∷ []) }
 loaded_16 = refl
 
-loaded_17 : with_picture itself (picture raised ((codes "e") ∷ (codes "x") ∷ (codes "y") ∷ [])) ≡ record { names = (((codes "a"), (node 0)) ∷ ((codes "e"), (node 1)) ∷ ((codes "x"), (node 2)) ∷ ((codes "y"), (node 3)) ∷ []); nodes = ((list ((node 0) ∷ [])) ∷ (list ((text (codes "no")) ∷ [])) ∷ (exception 24 ((node 1) ∷ (integer (pos 1)) ∷ [])) ∷ (exception 16 ((text (codes "no")) ∷ [])) ∷ []) }
+loaded_17 : with_picture unbound (picture parted ((codes "x") ∷ (codes "y") ∷ (codes "z") ∷ [])) ≡ record { names = (((codes "x"), (node 1)) ∷ ((codes "y"), (integer (pos 0))) ∷ ((codes "z"), (node 2)) ∷ []); nodes = ((list []) ∷ (list ((integer (pos 1)) ∷ [])) ∷ (list ((integer (pos 2)) ∷ [])) ∷ []) }
 loaded_17 = refl
 
-loaded_18 : with_picture unbound (picture object_round ((codes "o") ∷ [])) ≡ record { names = (((codes "o"), (node 1)) ∷ []); nodes = ((list []) ∷ (object (((codes "left"), (node 2)) ∷ ((codes "self"), (node 1)) ∷ [])) ∷ (list ((node 1) ∷ [])) ∷ []) }
+loaded_18 : with_picture shared (picture parted ((codes "x") ∷ (codes "y") ∷ (codes "z") ∷ [])) ≡ record { names = (((codes "a"), (node 1)) ∷ ((codes "b"), (node 1)) ∷ ((codes "x"), (node 2)) ∷ ((codes "y"), (integer (pos 0))) ∷ ((codes "z"), (node 3)) ∷ []); nodes = ((list []) ∷ (list ((integer (pos 1)) ∷ [])) ∷ (list ((integer (pos 1)) ∷ [])) ∷ (list ((integer (pos 2)) ∷ [])) ∷ []) }
 loaded_18 = refl
 
-loaded_19 : with_picture itself (picture object_round ((codes "o") ∷ [])) ≡ record { names = (((codes "a"), (node 0)) ∷ ((codes "o"), (node 1)) ∷ []); nodes = ((list ((node 0) ∷ [])) ∷ (object (((codes "left"), (node 2)) ∷ ((codes "self"), (node 1)) ∷ [])) ∷ (list ((node 1) ∷ [])) ∷ []) }
+loaded_19 : with_picture linked (picture parted ((codes "x") ∷ (codes "y") ∷ (codes "z") ∷ [])) ≡ record { names = (((codes "x"), (node 3)) ∷ ((codes "y"), (integer (pos 0))) ∷ ((codes "z"), (node 4)) ∷ []); nodes = ((list ((integer (pos 2)) ∷ [])) ∷ (list ((node 2) ∷ (node 0) ∷ [])) ∷ (list ((integer (pos 1)) ∷ [])) ∷ (list ((integer (pos 1)) ∷ [])) ∷ (list ((integer (pos 2)) ∷ [])) ∷ []) }
 loaded_19 = refl
 
-loaded_20 : with_picture shared (picture wide ((codes "a") ∷ (codes "b") ∷ [])) ≡ record { names = (((codes "a"), (node 2)) ∷ ((codes "b"), (node 3)) ∷ []); nodes = ((list []) ∷ (list ((integer (pos 1)) ∷ [])) ∷ (list ((node 4) ∷ (node 5) ∷ (node 6) ∷ [])) ∷ (dict (((k.single (k.text (codes "k"))), (node 7)) ∷ [])) ∷ (list ((node 8) ∷ [])) ∷ (list ((integer (pos 2)) ∷ [])) ∷ (list ((text (codes "x")) ∷ [])) ∷ (list ((node 6) ∷ [])) ∷ (list ((node 6) ∷ [])) ∷ []) }
+loaded_20 : with_picture plain (picture keyed ((codes "d") ∷ (codes "e") ∷ (codes "t") ∷ [])) ≡ record { names = (((codes "Z"), (integer (pos 1))) ∷ ((codes "_"), none) ∷ ((codes "a"), (bool true)) ∷ ((codes "a1"), (text (233 ∷ []))) ∷ ((codes "aa"), (range (pos 0) (pos 3) (negsuc 0))) ∷ ((codes "b"), (builtin 10)) ∷ ((codes "c"), (class 1)) ∷ ((codes "d"), (node 0)) ∷ ((codes "e"), (node 1)) ∷ ((codes "t"), (node 2)) ∷ []); nodes = ((dict (((k.tuple ((k.integer (pos 1)) ∷ (k.text (233 ∷ [])) ∷ [])), (node 1)) ∷ ((k.single k.none), (node 3)) ∷ ((k.single (k.integer (negsuc 0))), (node 1)) ∷ [])) ∷ (list []) ∷ (tuple ((integer (pos 1)) ∷ (text (233 ∷ [])) ∷ [])) ∷ (tuple []) ∷ []) }
 loaded_20 = refl
 
-loaded_21 : with_picture raised (picture wide ((codes "a") ∷ (codes "b") ∷ [])) ≡ record { names = (((codes "a"), (node 3)) ∷ ((codes "b"), (node 4)) ∷ ((codes "e"), (node 0)) ∷ ((codes "x"), (node 1)) ∷ ((codes "y"), (node 2)) ∷ []); nodes = ((list ((text (codes "no")) ∷ [])) ∷ (exception 24 ((node 0) ∷ (integer (pos 1)) ∷ [])) ∷ (exception 16 ((text (codes "no")) ∷ [])) ∷ (list ((node 5) ∷ (node 6) ∷ (node 7) ∷ [])) ∷ (dict (((k.single (k.text (codes "k"))), (node 8)) ∷ [])) ∷ (list ((node 9) ∷ [])) ∷ (list ((integer (pos 2)) ∷ [])) ∷ (list ((text (codes "x")) ∷ [])) ∷ (list ((node 7) ∷ [])) ∷ (list ((node 7) ∷ [])) ∷ []) }
+loaded_21 : with_picture itself (picture keyed ((codes "d") ∷ (codes "e") ∷ (codes "t") ∷ [])) ≡ record { names = (((codes "a"), (node 0)) ∷ ((codes "d"), (node 1)) ∷ ((codes "e"), (node 2)) ∷ ((codes "t"), (node 3)) ∷ []); nodes = ((list ((node 0) ∷ [])) ∷ (dict (((k.tuple ((k.integer (pos 1)) ∷ (k.text (233 ∷ [])) ∷ [])), (node 2)) ∷ ((k.single k.none), (node 4)) ∷ ((k.single (k.integer (negsuc 0))), (node 2)) ∷ [])) ∷ (list []) ∷ (tuple ((integer (pos 1)) ∷ (text (233 ∷ [])) ∷ [])) ∷ (tuple []) ∷ []) }
 loaded_21 = refl
 
-loaded_22 : with_picture shared (picture diamond ((codes "t") ∷ [])) ≡ record { names = (((codes "a"), (node 1)) ∷ ((codes "b"), (node 1)) ∷ ((codes "t"), (node 2)) ∷ []); nodes = ((list []) ∷ (list ((integer (pos 1)) ∷ [])) ∷ (list ((node 3) ∷ (node 4) ∷ (node 5) ∷ (node 5) ∷ [])) ∷ (list ((node 5) ∷ [])) ∷ (list ((node 5) ∷ [])) ∷ (list []) ∷ []) }
+loaded_22 : with_picture raised (picture keyed ((codes "d") ∷ (codes "e") ∷ (codes "t") ∷ [])) ≡ record { names = (((codes "d"), (node 3)) ∷ ((codes "e"), (node 4)) ∷ ((codes "t"), (node 5)) ∷ ((codes "x"), (node 1)) ∷ ((codes "y"), (node 2)) ∷ []); nodes = ((list ((text (codes "no")) ∷ [])) ∷ (exception 24 ((node 0) ∷ (integer (pos 1)) ∷ [])) ∷ (exception 16 ((text (codes "no")) ∷ [])) ∷ (dict (((k.tuple ((k.integer (pos 1)) ∷ (k.text (233 ∷ [])) ∷ [])), (node 4)) ∷ ((k.single k.none), (node 6)) ∷ ((k.single (k.integer (negsuc 0))), (node 4)) ∷ [])) ∷ (list []) ∷ (tuple ((integer (pos 1)) ∷ (text (233 ∷ [])) ∷ [])) ∷ (tuple []) ∷ []) }
 loaded_22 = refl
 
-loaded_23 : with_picture raised (picture diamond ((codes "t") ∷ [])) ≡ record { names = (((codes "e"), (node 0)) ∷ ((codes "t"), (node 3)) ∷ ((codes "x"), (node 1)) ∷ ((codes "y"), (node 2)) ∷ []); nodes = ((list ((text (codes "no")) ∷ [])) ∷ (exception 24 ((node 0) ∷ (integer (pos 1)) ∷ [])) ∷ (exception 16 ((text (codes "no")) ∷ [])) ∷ (list ((node 4) ∷ (node 5) ∷ (node 6) ∷ (node 6) ∷ [])) ∷ (list ((node 6) ∷ [])) ∷ (list ((node 6) ∷ [])) ∷ (list []) ∷ []) }
+loaded_23 : with_picture unbound (picture raised ((codes "e") ∷ (codes "x") ∷ (codes "y") ∷ [])) ≡ record { names = (((codes "e"), (node 1)) ∷ ((codes "x"), (node 2)) ∷ ((codes "y"), (node 3)) ∷ []); nodes = ((list []) ∷ (list ((text (codes "no")) ∷ [])) ∷ (exception 24 ((node 1) ∷ (integer (pos 1)) ∷ [])) ∷ (exception 16 ((text (codes "no")) ∷ [])) ∷ []) }
 loaded_23 = refl
 
-loaded_24 : with_picture unbound (picture inside ((codes "a") ∷ (codes "b") ∷ (codes "c") ∷ [])) ≡ record { names = (((codes "a"), (node 1)) ∷ ((codes "b"), (node 2)) ∷ ((codes "c"), (node 3)) ∷ []); nodes = ((list []) ∷ (list ((node 4) ∷ (node 2) ∷ [])) ∷ (tuple ((node 5) ∷ [])) ∷ (list ((node 5) ∷ [])) ∷ (list ((node 2) ∷ [])) ∷ (list ((integer (pos 1)) ∷ [])) ∷ []) }
+loaded_24 : with_picture shared (picture raised ((codes "e") ∷ (codes "x") ∷ (codes "y") ∷ [])) ≡ record { names = (((codes "a"), (node 1)) ∷ ((codes "b"), (node 1)) ∷ ((codes "e"), (node 2)) ∷ ((codes "x"), (node 3)) ∷ ((codes "y"), (node 4)) ∷ []); nodes = ((list []) ∷ (list ((integer (pos 1)) ∷ [])) ∷ (list ((text (codes "no")) ∷ [])) ∷ (exception 24 ((node 2) ∷ (integer (pos 1)) ∷ [])) ∷ (exception 16 ((text (codes "no")) ∷ [])) ∷ []) }
 loaded_24 = refl
 
-loaded_25 : with_picture itself (picture inside ((codes "a") ∷ (codes "b") ∷ (codes "c") ∷ [])) ≡ record { names = (((codes "a"), (node 1)) ∷ ((codes "b"), (node 2)) ∷ ((codes "c"), (node 3)) ∷ []); nodes = ((list ((node 0) ∷ [])) ∷ (list ((node 4) ∷ (node 2) ∷ [])) ∷ (tuple ((node 5) ∷ [])) ∷ (list ((node 5) ∷ [])) ∷ (list ((node 2) ∷ [])) ∷ (list ((integer (pos 1)) ∷ [])) ∷ []) }
+loaded_25 : with_picture linked (picture raised ((codes "e") ∷ (codes "x") ∷ (codes "y") ∷ [])) ≡ record { names = (((codes "e"), (node 3)) ∷ ((codes "x"), (node 4)) ∷ ((codes "y"), (node 5)) ∷ ((codes "z"), (node 0)) ∷ []); nodes = ((list ((integer (pos 2)) ∷ [])) ∷ (list ((node 2) ∷ (node 0) ∷ [])) ∷ (list ((integer (pos 1)) ∷ [])) ∷ (list ((text (codes "no")) ∷ [])) ∷ (exception 24 ((node 3) ∷ (integer (pos 1)) ∷ [])) ∷ (exception 16 ((text (codes "no")) ∷ [])) ∷ []) }
 loaded_25 = refl
 
-loaded_26 : with_picture plain (picture equal ((codes "a") ∷ (codes "b") ∷ (codes "c") ∷ [])) ≡ record { names = (((codes "Z"), (integer (pos 1))) ∷ ((codes "_"), none) ∷ ((codes "a"), (node 0)) ∷ ((codes "a1"), (text (233 ∷ []))) ∷ ((codes "aa"), (range (pos 0) (pos 3) (negsuc 0))) ∷ ((codes "b"), (node 1)) ∷ ((codes "c"), (node 2)) ∷ []); nodes = ((tuple ((integer (pos 1)) ∷ (integer (pos 2)) ∷ [])) ∷ (tuple ((integer (pos 1)) ∷ (integer (pos 2)) ∷ [])) ∷ (list ((node 3) ∷ [])) ∷ (tuple ((integer (pos 1)) ∷ (integer (pos 2)) ∷ [])) ∷ []) }
+loaded_26 : with_picture unbound (picture object_round ((codes "o") ∷ [])) ≡ record { names = (((codes "o"), (node 1)) ∷ []); nodes = ((list []) ∷ (object (((codes "left"), (node 2)) ∷ ((codes "self"), (node 1)) ∷ [])) ∷ (list ((node 1) ∷ [])) ∷ []) }
 loaded_26 = refl
 
-loaded_27 : with_picture linked (picture equal ((codes "a") ∷ (codes "b") ∷ (codes "c") ∷ [])) ≡ record { names = (((codes "a"), (node 3)) ∷ ((codes "b"), (node 4)) ∷ ((codes "c"), (node 5)) ∷ ((codes "x"), (node 2)) ∷ ((codes "y"), (node 1)) ∷ ((codes "z"), (node 0)) ∷ []); nodes = ((list ((integer (pos 2)) ∷ [])) ∷ (list ((node 2) ∷ (node 0) ∷ [])) ∷ (list ((integer (pos 1)) ∷ [])) ∷ (tuple ((integer (pos 1)) ∷ (integer (pos 2)) ∷ [])) ∷ (tuple ((integer (pos 1)) ∷ (integer (pos 2)) ∷ [])) ∷ (list ((node 6) ∷ [])) ∷ (tuple ((integer (pos 1)) ∷ (integer (pos 2)) ∷ [])) ∷ []) }
+loaded_27 : with_picture shared (picture object_round ((codes "o") ∷ [])) ≡ record { names = (((codes "a"), (node 1)) ∷ ((codes "b"), (node 1)) ∷ ((codes "o"), (node 2)) ∷ []); nodes = ((list []) ∷ (list ((integer (pos 1)) ∷ [])) ∷ (object (((codes "left"), (node 3)) ∷ ((codes "self"), (node 2)) ∷ [])) ∷ (list ((node 2) ∷ [])) ∷ []) }
 loaded_27 = refl
 
-loaded_28 : with_picture plain (picture twice ((codes "a") ∷ [])) ≡ record { names = (((codes "Z"), (integer (pos 1))) ∷ ((codes "_"), none) ∷ ((codes "a"), (node 0)) ∷ ((codes "a1"), (text (233 ∷ []))) ∷ ((codes "aa"), (range (pos 0) (pos 3) (negsuc 0))) ∷ ((codes "b"), (builtin 10)) ∷ ((codes "c"), (class 1)) ∷ []); nodes = ((list ((node 1) ∷ (node 1) ∷ (node 2) ∷ [])) ∷ (list ((integer (pos 1)) ∷ [])) ∷ (list ((integer (pos 1)) ∷ [])) ∷ []) }
+loaded_28 : with_picture linked (picture object_round ((codes "o") ∷ [])) ≡ record { names = (((codes "o"), (node 3)) ∷ ((codes "x"), (node 2)) ∷ ((codes "y"), (node 1)) ∷ ((codes "z"), (node 0)) ∷ []); nodes = ((list ((integer (pos 2)) ∷ [])) ∷ (list ((node 2) ∷ (node 0) ∷ [])) ∷ (list ((integer (pos 1)) ∷ [])) ∷ (object (((codes "left"), (node 4)) ∷ ((codes "self"), (node 3)) ∷ [])) ∷ (list ((node 3) ∷ [])) ∷ []) }
 loaded_28 = refl
 
-loaded_29 : with_picture linked (picture twice ((codes "a") ∷ [])) ≡ record { names = (((codes "a"), (node 3)) ∷ ((codes "x"), (node 2)) ∷ ((codes "y"), (node 1)) ∷ ((codes "z"), (node 0)) ∷ []); nodes = ((list ((integer (pos 2)) ∷ [])) ∷ (list ((node 2) ∷ (node 0) ∷ [])) ∷ (list ((integer (pos 1)) ∷ [])) ∷ (list ((node 4) ∷ (node 4) ∷ (node 5) ∷ [])) ∷ (list ((integer (pos 1)) ∷ [])) ∷ (list ((integer (pos 1)) ∷ [])) ∷ []) }
+loaded_29 : with_picture unbound (picture wide ((codes "a") ∷ (codes "b") ∷ [])) ≡ record { names = (((codes "a"), (node 1)) ∷ ((codes "b"), (node 2)) ∷ []); nodes = ((list []) ∷ (list ((node 3) ∷ (node 4) ∷ (node 5) ∷ [])) ∷ (dict (((k.single (k.text (codes "k"))), (node 6)) ∷ [])) ∷ (list ((node 7) ∷ [])) ∷ (list ((integer (pos 2)) ∷ [])) ∷ (list ((text (codes "x")) ∷ [])) ∷ (list ((node 5) ∷ [])) ∷ (list ((node 5) ∷ [])) ∷ []) }
 loaded_29 = refl
 
-loaded_30 : with_picture plain (picture twice_there ((codes "a") ∷ [])) ≡ record { names = (((codes "Z"), (integer (pos 1))) ∷ ((codes "_"), none) ∷ ((codes "a"), (node 0)) ∷ ((codes "a1"), (text (233 ∷ []))) ∷ ((codes "aa"), (range (pos 0) (pos 3) (negsuc 0))) ∷ ((codes "b"), (builtin 10)) ∷ ((codes "c"), (class 1)) ∷ []); nodes = ((list ((node 1) ∷ (node 1) ∷ (node 2) ∷ [])) ∷ (list ((integer (pos 1)) ∷ [])) ∷ (list ((integer (pos 1)) ∷ [])) ∷ []) }
+loaded_30 : with_picture shared (picture wide ((codes "a") ∷ (codes "b") ∷ [])) ≡ record { names = (((codes "a"), (node 2)) ∷ ((codes "b"), (node 3)) ∷ []); nodes = ((list []) ∷ (list ((integer (pos 1)) ∷ [])) ∷ (list ((node 4) ∷ (node 5) ∷ (node 6) ∷ [])) ∷ (dict (((k.single (k.text (codes "k"))), (node 7)) ∷ [])) ∷ (list ((node 8) ∷ [])) ∷ (list ((integer (pos 2)) ∷ [])) ∷ (list ((text (codes "x")) ∷ [])) ∷ (list ((node 6) ∷ [])) ∷ (list ((node 6) ∷ [])) ∷ []) }
 loaded_30 = refl
 
-loaded_31 : with_picture linked (picture twice_there ((codes "a") ∷ [])) ≡ record { names = (((codes "a"), (node 3)) ∷ ((codes "x"), (node 2)) ∷ ((codes "y"), (node 1)) ∷ ((codes "z"), (node 0)) ∷ []); nodes = ((list ((integer (pos 2)) ∷ [])) ∷ (list ((node 2) ∷ (node 0) ∷ [])) ∷ (list ((integer (pos 1)) ∷ [])) ∷ (list ((node 4) ∷ (node 4) ∷ (node 5) ∷ [])) ∷ (list ((integer (pos 1)) ∷ [])) ∷ (list ((integer (pos 1)) ∷ [])) ∷ []) }
+loaded_31 : with_picture linked (picture wide ((codes "a") ∷ (codes "b") ∷ [])) ≡ record { names = (((codes "a"), (node 3)) ∷ ((codes "b"), (node 4)) ∷ ((codes "x"), (node 2)) ∷ ((codes "y"), (node 1)) ∷ ((codes "z"), (node 0)) ∷ []); nodes = ((list ((integer (pos 2)) ∷ [])) ∷ (list ((node 2) ∷ (node 0) ∷ [])) ∷ (list ((integer (pos 1)) ∷ [])) ∷ (list ((node 5) ∷ (node 6) ∷ (node 7) ∷ [])) ∷ (dict (((k.single (k.text (codes "k"))), (node 8)) ∷ [])) ∷ (list ((node 9) ∷ [])) ∷ (list ((integer (pos 2)) ∷ [])) ∷ (list ((text (codes "x")) ∷ [])) ∷ (list ((node 7) ∷ [])) ∷ (list ((node 7) ∷ [])) ∷ []) }
 loaded_31 = refl
 
-loaded_32 : with_picture unbound (picture thrice ((codes "a") ∷ [])) ≡ record { names = (((codes "a"), (node 1)) ∷ []); nodes = ((list []) ∷ (list ((node 2) ∷ (node 2) ∷ (node 2) ∷ [])) ∷ (list ((integer (pos 1)) ∷ [])) ∷ []) }
+loaded_32 : with_picture plain (picture diamond ((codes "t") ∷ [])) ≡ record { names = (((codes "Z"), (integer (pos 1))) ∷ ((codes "_"), none) ∷ ((codes "a"), (bool true)) ∷ ((codes "a1"), (text (233 ∷ []))) ∷ ((codes "aa"), (range (pos 0) (pos 3) (negsuc 0))) ∷ ((codes "b"), (builtin 10)) ∷ ((codes "c"), (class 1)) ∷ ((codes "t"), (node 0)) ∷ []); nodes = ((list ((node 1) ∷ (node 2) ∷ (node 3) ∷ (node 3) ∷ [])) ∷ (list ((node 3) ∷ [])) ∷ (list ((node 3) ∷ [])) ∷ (list []) ∷ []) }
 loaded_32 = refl
 
-loaded_33 : with_picture itself (picture thrice ((codes "a") ∷ [])) ≡ record { names = (((codes "a"), (node 1)) ∷ []); nodes = ((list ((node 0) ∷ [])) ∷ (list ((node 2) ∷ (node 2) ∷ (node 2) ∷ [])) ∷ (list ((integer (pos 1)) ∷ [])) ∷ []) }
+loaded_33 : with_picture itself (picture diamond ((codes "t") ∷ [])) ≡ record { names = (((codes "a"), (node 0)) ∷ ((codes "t"), (node 1)) ∷ []); nodes = ((list ((node 0) ∷ [])) ∷ (list ((node 2) ∷ (node 3) ∷ (node 4) ∷ (node 4) ∷ [])) ∷ (list ((node 4) ∷ [])) ∷ (list ((node 4) ∷ [])) ∷ (list []) ∷ []) }
 loaded_33 = refl
 
-loaded_34 : with_picture unbound (picture once_each ((codes "a") ∷ [])) ≡ record { names = (((codes "a"), (node 1)) ∷ []); nodes = ((list []) ∷ (list ((node 2) ∷ (node 3) ∷ (node 4) ∷ [])) ∷ (list ((integer (pos 1)) ∷ [])) ∷ (list ((integer (pos 1)) ∷ [])) ∷ (list ((integer (pos 1)) ∷ [])) ∷ []) }
+loaded_34 : with_picture raised (picture diamond ((codes "t") ∷ [])) ≡ record { names = (((codes "e"), (node 0)) ∷ ((codes "t"), (node 3)) ∷ ((codes "x"), (node 1)) ∷ ((codes "y"), (node 2)) ∷ []); nodes = ((list ((text (codes "no")) ∷ [])) ∷ (exception 24 ((node 0) ∷ (integer (pos 1)) ∷ [])) ∷ (exception 16 ((text (codes "no")) ∷ [])) ∷ (list ((node 4) ∷ (node 5) ∷ (node 6) ∷ (node 6) ∷ [])) ∷ (list ((node 6) ∷ [])) ∷ (list ((node 6) ∷ [])) ∷ (list []) ∷ []) }
 loaded_34 = refl
 
-loaded_35 : with_picture itself (picture once_each ((codes "a") ∷ [])) ≡ record { names = (((codes "a"), (node 1)) ∷ []); nodes = ((list ((node 0) ∷ [])) ∷ (list ((node 2) ∷ (node 3) ∷ (node 4) ∷ [])) ∷ (list ((integer (pos 1)) ∷ [])) ∷ (list ((integer (pos 1)) ∷ [])) ∷ (list ((integer (pos 1)) ∷ [])) ∷ []) }
+loaded_35 : with_picture unbound (picture inside ((codes "a") ∷ (codes "b") ∷ (codes "c") ∷ [])) ≡ record { names = (((codes "a"), (node 1)) ∷ ((codes "b"), (node 2)) ∷ ((codes "c"), (node 3)) ∷ []); nodes = ((list []) ∷ (list ((node 4) ∷ (node 2) ∷ [])) ∷ (tuple ((node 5) ∷ [])) ∷ (list ((node 5) ∷ [])) ∷ (list ((node 2) ∷ [])) ∷ (list ((integer (pos 1)) ∷ [])) ∷ []) }
 loaded_35 = refl
+
+loaded_36 : with_picture shared (picture inside ((codes "a") ∷ (codes "b") ∷ (codes "c") ∷ [])) ≡ record { names = (((codes "a"), (node 2)) ∷ ((codes "b"), (node 3)) ∷ ((codes "c"), (node 4)) ∷ []); nodes = ((list []) ∷ (list ((integer (pos 1)) ∷ [])) ∷ (list ((node 5) ∷ (node 3) ∷ [])) ∷ (tuple ((node 6) ∷ [])) ∷ (list ((node 6) ∷ [])) ∷ (list ((node 3) ∷ [])) ∷ (list ((integer (pos 1)) ∷ [])) ∷ []) }
+loaded_36 = refl
+
+loaded_37 : with_picture linked (picture inside ((codes "a") ∷ (codes "b") ∷ (codes "c") ∷ [])) ≡ record { names = (((codes "a"), (node 3)) ∷ ((codes "b"), (node 4)) ∷ ((codes "c"), (node 5)) ∷ ((codes "x"), (node 2)) ∷ ((codes "y"), (node 1)) ∷ ((codes "z"), (node 0)) ∷ []); nodes = ((list ((integer (pos 2)) ∷ [])) ∷ (list ((node 2) ∷ (node 0) ∷ [])) ∷ (list ((integer (pos 1)) ∷ [])) ∷ (list ((node 6) ∷ (node 4) ∷ [])) ∷ (tuple ((node 7) ∷ [])) ∷ (list ((node 7) ∷ [])) ∷ (list ((node 4) ∷ [])) ∷ (list ((integer (pos 1)) ∷ [])) ∷ []) }
+loaded_37 = refl
+
+loaded_38 : with_picture plain (picture equal ((codes "a") ∷ (codes "b") ∷ (codes "c") ∷ [])) ≡ record { names = (((codes "Z"), (integer (pos 1))) ∷ ((codes "_"), none) ∷ ((codes "a"), (node 0)) ∷ ((codes "a1"), (text (233 ∷ []))) ∷ ((codes "aa"), (range (pos 0) (pos 3) (negsuc 0))) ∷ ((codes "b"), (node 1)) ∷ ((codes "c"), (node 2)) ∷ []); nodes = ((tuple ((integer (pos 1)) ∷ (integer (pos 2)) ∷ [])) ∷ (tuple ((integer (pos 1)) ∷ (integer (pos 2)) ∷ [])) ∷ (list ((node 3) ∷ [])) ∷ (tuple ((integer (pos 1)) ∷ (integer (pos 2)) ∷ [])) ∷ []) }
+loaded_38 = refl
+
+loaded_39 : with_picture itself (picture equal ((codes "a") ∷ (codes "b") ∷ (codes "c") ∷ [])) ≡ record { names = (((codes "a"), (node 1)) ∷ ((codes "b"), (node 2)) ∷ ((codes "c"), (node 3)) ∷ []); nodes = ((list ((node 0) ∷ [])) ∷ (tuple ((integer (pos 1)) ∷ (integer (pos 2)) ∷ [])) ∷ (tuple ((integer (pos 1)) ∷ (integer (pos 2)) ∷ [])) ∷ (list ((node 4) ∷ [])) ∷ (tuple ((integer (pos 1)) ∷ (integer (pos 2)) ∷ [])) ∷ []) }
+loaded_39 = refl
+
+loaded_40 : with_picture raised (picture equal ((codes "a") ∷ (codes "b") ∷ (codes "c") ∷ [])) ≡ record { names = (((codes "a"), (node 3)) ∷ ((codes "b"), (node 4)) ∷ ((codes "c"), (node 5)) ∷ ((codes "e"), (node 0)) ∷ ((codes "x"), (node 1)) ∷ ((codes "y"), (node 2)) ∷ []); nodes = ((list ((text (codes "no")) ∷ [])) ∷ (exception 24 ((node 0) ∷ (integer (pos 1)) ∷ [])) ∷ (exception 16 ((text (codes "no")) ∷ [])) ∷ (tuple ((integer (pos 1)) ∷ (integer (pos 2)) ∷ [])) ∷ (tuple ((integer (pos 1)) ∷ (integer (pos 2)) ∷ [])) ∷ (list ((node 6) ∷ [])) ∷ (tuple ((integer (pos 1)) ∷ (integer (pos 2)) ∷ [])) ∷ []) }
+loaded_40 = refl
+
+loaded_41 : with_picture plain (picture twice ((codes "a") ∷ [])) ≡ record { names = (((codes "Z"), (integer (pos 1))) ∷ ((codes "_"), none) ∷ ((codes "a"), (node 0)) ∷ ((codes "a1"), (text (233 ∷ []))) ∷ ((codes "aa"), (range (pos 0) (pos 3) (negsuc 0))) ∷ ((codes "b"), (builtin 10)) ∷ ((codes "c"), (class 1)) ∷ []); nodes = ((list ((node 1) ∷ (node 1) ∷ (node 2) ∷ [])) ∷ (list ((integer (pos 1)) ∷ [])) ∷ (list ((integer (pos 1)) ∷ [])) ∷ []) }
+loaded_41 = refl
+
+loaded_42 : with_picture itself (picture twice ((codes "a") ∷ [])) ≡ record { names = (((codes "a"), (node 1)) ∷ []); nodes = ((list ((node 0) ∷ [])) ∷ (list ((node 2) ∷ (node 2) ∷ (node 3) ∷ [])) ∷ (list ((integer (pos 1)) ∷ [])) ∷ (list ((integer (pos 1)) ∷ [])) ∷ []) }
+loaded_42 = refl
+
+loaded_43 : with_picture raised (picture twice ((codes "a") ∷ [])) ≡ record { names = (((codes "a"), (node 3)) ∷ ((codes "e"), (node 0)) ∷ ((codes "x"), (node 1)) ∷ ((codes "y"), (node 2)) ∷ []); nodes = ((list ((text (codes "no")) ∷ [])) ∷ (exception 24 ((node 0) ∷ (integer (pos 1)) ∷ [])) ∷ (exception 16 ((text (codes "no")) ∷ [])) ∷ (list ((node 4) ∷ (node 4) ∷ (node 5) ∷ [])) ∷ (list ((integer (pos 1)) ∷ [])) ∷ (list ((integer (pos 1)) ∷ [])) ∷ []) }
+loaded_43 = refl
+
+loaded_44 : with_picture plain (picture twice_there ((codes "a") ∷ [])) ≡ record { names = (((codes "Z"), (integer (pos 1))) ∷ ((codes "_"), none) ∷ ((codes "a"), (node 0)) ∷ ((codes "a1"), (text (233 ∷ []))) ∷ ((codes "aa"), (range (pos 0) (pos 3) (negsuc 0))) ∷ ((codes "b"), (builtin 10)) ∷ ((codes "c"), (class 1)) ∷ []); nodes = ((list ((node 1) ∷ (node 1) ∷ (node 2) ∷ [])) ∷ (list ((integer (pos 1)) ∷ [])) ∷ (list ((integer (pos 1)) ∷ [])) ∷ []) }
+loaded_44 = refl
+
+loaded_45 : with_picture itself (picture twice_there ((codes "a") ∷ [])) ≡ record { names = (((codes "a"), (node 1)) ∷ []); nodes = ((list ((node 0) ∷ [])) ∷ (list ((node 2) ∷ (node 2) ∷ (node 3) ∷ [])) ∷ (list ((integer (pos 1)) ∷ [])) ∷ (list ((integer (pos 1)) ∷ [])) ∷ []) }
+loaded_45 = refl
+
+loaded_46 : with_picture raised (picture twice_there ((codes "a") ∷ [])) ≡ record { names = (((codes "a"), (node 3)) ∷ ((codes "e"), (node 0)) ∷ ((codes "x"), (node 1)) ∷ ((codes "y"), (node 2)) ∷ []); nodes = ((list ((text (codes "no")) ∷ [])) ∷ (exception 24 ((node 0) ∷ (integer (pos 1)) ∷ [])) ∷ (exception 16 ((text (codes "no")) ∷ [])) ∷ (list ((node 4) ∷ (node 4) ∷ (node 5) ∷ [])) ∷ (list ((integer (pos 1)) ∷ [])) ∷ (list ((integer (pos 1)) ∷ [])) ∷ []) }
+loaded_46 = refl
+
+loaded_47 : with_picture unbound (picture thrice ((codes "a") ∷ [])) ≡ record { names = (((codes "a"), (node 1)) ∷ []); nodes = ((list []) ∷ (list ((node 2) ∷ (node 2) ∷ (node 2) ∷ [])) ∷ (list ((integer (pos 1)) ∷ [])) ∷ []) }
+loaded_47 = refl
+
+loaded_48 : with_picture shared (picture thrice ((codes "a") ∷ [])) ≡ record { names = (((codes "a"), (node 2)) ∷ ((codes "b"), (node 1)) ∷ []); nodes = ((list []) ∷ (list ((integer (pos 1)) ∷ [])) ∷ (list ((node 3) ∷ (node 3) ∷ (node 3) ∷ [])) ∷ (list ((integer (pos 1)) ∷ [])) ∷ []) }
+loaded_48 = refl
+
+loaded_49 : with_picture linked (picture thrice ((codes "a") ∷ [])) ≡ record { names = (((codes "a"), (node 3)) ∷ ((codes "x"), (node 2)) ∷ ((codes "y"), (node 1)) ∷ ((codes "z"), (node 0)) ∷ []); nodes = ((list ((integer (pos 2)) ∷ [])) ∷ (list ((node 2) ∷ (node 0) ∷ [])) ∷ (list ((integer (pos 1)) ∷ [])) ∷ (list ((node 4) ∷ (node 4) ∷ (node 4) ∷ [])) ∷ (list ((integer (pos 1)) ∷ [])) ∷ []) }
+loaded_49 = refl
+
+loaded_50 : with_picture plain (picture once_each ((codes "a") ∷ [])) ≡ record { names = (((codes "Z"), (integer (pos 1))) ∷ ((codes "_"), none) ∷ ((codes "a"), (node 0)) ∷ ((codes "a1"), (text (233 ∷ []))) ∷ ((codes "aa"), (range (pos 0) (pos 3) (negsuc 0))) ∷ ((codes "b"), (builtin 10)) ∷ ((codes "c"), (class 1)) ∷ []); nodes = ((list ((node 1) ∷ (node 2) ∷ (node 3) ∷ [])) ∷ (list ((integer (pos 1)) ∷ [])) ∷ (list ((integer (pos 1)) ∷ [])) ∷ (list ((integer (pos 1)) ∷ [])) ∷ []) }
+loaded_50 = refl
+
+loaded_51 : with_picture itself (picture once_each ((codes "a") ∷ [])) ≡ record { names = (((codes "a"), (node 1)) ∷ []); nodes = ((list ((node 0) ∷ [])) ∷ (list ((node 2) ∷ (node 3) ∷ (node 4) ∷ [])) ∷ (list ((integer (pos 1)) ∷ [])) ∷ (list ((integer (pos 1)) ∷ [])) ∷ (list ((integer (pos 1)) ∷ [])) ∷ []) }
+loaded_51 = refl
+
+loaded_52 : with_picture raised (picture once_each ((codes "a") ∷ [])) ≡ record { names = (((codes "a"), (node 3)) ∷ ((codes "e"), (node 0)) ∷ ((codes "x"), (node 1)) ∷ ((codes "y"), (node 2)) ∷ []); nodes = ((list ((text (codes "no")) ∷ [])) ∷ (exception 24 ((node 0) ∷ (integer (pos 1)) ∷ [])) ∷ (exception 16 ((text (codes "no")) ∷ [])) ∷ (list ((node 4) ∷ (node 5) ∷ (node 6) ∷ [])) ∷ (list ((integer (pos 1)) ∷ [])) ∷ (list ((integer (pos 1)) ∷ [])) ∷ (list ((integer (pos 1)) ∷ [])) ∷ []) }
+loaded_52 = refl
 
 -- ---- pictures stand in the order of first meeting, and their states needn't
 
