@@ -275,6 +275,10 @@ pub fn kishu<H: Host, S: Source, L: Ledger>(
         IsWhole (H.state host.old) (H.state host.new) g (asked_by words.now (S.source source.old) g)
         × IsRead (form_named words.now) (S.source source.new).left) }
 
+    // On every store, good or not: where a source that tells its input is read, at Done it was read to its end.
+    ensures read { result ≡ Done → (S.source source.old).tells ≡ true
+        → IsRead (form_named words.now) (S.source source.new).left }
+
     // On every store that holds a graph, for `session`, `cell` and words that are one request: at Done, and
     // where the input of a session reaches a limit, all requests before are answered on the live state, the
     // first on the one that is loaded for the head, and they lead to the file.

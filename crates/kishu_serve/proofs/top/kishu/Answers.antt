@@ -51,6 +51,18 @@ returns-in-Ok-clause-done g c done g' given =
     let at_end = read-form f rs (src c.run_work.new.source) c.in-Ok.ensures.lines (c.run_work.ensures.read done knows).0 whole_read in
     (subst (λ (qs : List Item). IsWhole (st c.args.host.now) (st c.run_work.new.host) g' qs) asked whole, subst (λ (o : Option Form). IsRead o (src c.run_work.new.source).left) is at_end)
 
+pub returns-in-Ok-clause-read : goal.returns-in-Ok-clause-read
+returns-in-Ok-clause-read g c done told =
+    let src = g.S.Source.source in
+    let f = form_by c.in-Ok-Some.command in
+    let rs = c.in-Ok.work in
+    let is : Some f ≡ form_named c.args.words.now = sym (ap (λ o. form_found o) c.in-Ok-Some.field-0-is) ∙ c.in-Ok-Some.ensures.form in
+    let knows = knows-told rs (src c.of_command.new.source) (c.of_command.ensures.tells ∙ told) in
+    let whole_read : ReadsWhole (Some f) → (src c.run_work.new.source).left ≡ [] =
+    λ e. ap (λ s. (src s).left) (c.run_work.ensures.alone (whole-alone f _ c.in-Ok.ensures.lines e)) ∙ (c.in-Ok.ensures.whole e told).0 in
+    let at_end = read-form f rs (src c.run_work.new.source) c.in-Ok.ensures.lines (c.run_work.ensures.read done knows).0 whole_read in
+    subst (λ (o : Option Form). IsRead o (src c.run_work.new.source).left) is at_end
+
 pub returns-in-Ok-clause-stop : goal.returns-in-Ok-clause-stop
 returns-in-Ok-clause-stop g c g' given =
     let st = g.H.Host.state in
