@@ -13,7 +13,7 @@ use Rattle.kishu_objects.specs.States.{IsSoundState}
 use Rattle.kishu_objects_laws.specs.ListLaws.{contains_in, in_flat, flat_in, few}
 use Rattle.kishu_objects_laws.specs.NameLaws.{listed_found, rise_differ}
 use Rattle.kishu_objects_laws.specs.OrderLaws.{order_distinct, order_reached, reached_order, rounds_below, roots_below}
-use Rattle.kishu_objects_laws.specs.RowLaws.{some_byte}
+use Rattle.kishu_objects_laws.specs.NodeCountLaws.{some_byte}
 use Rattle.kishu_history.specs.Changed.{Group}
 use Rattle.kishu_history.specs.Cut.{IsCut}
 use Rattle.kishu_history.specs.Tables.{first_name}

@@ -11,7 +11,7 @@ use Rattle.std.proofs.lemmas.List.Sums.{sum_by-cons}
 use Rattle.kishu_meaning.specs.values.Values.{State}
 use Rattle.kishu_objects.specs.Loading.{with_picture}
 use Rattle.kishu_objects_laws.specs.LoadingLaws.{nodes_more}
-use Rattle.kishu_objects_laws.specs.RowLaws.{nodes_fit}
+use Rattle.kishu_objects_laws.specs.NodeCountLaws.{nodes_fit}
 use Rattle.kishu_history.specs.Checkout.{with_pictures}
 use Rattle.kishu_loading.specs.Loaded.{IsLoaded}
 use Rattle.kishu_reading.specs.FromBytes.{read_picture}

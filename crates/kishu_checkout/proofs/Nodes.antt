@@ -3,7 +3,7 @@ use Rattle.std.specs.Prelude.{◌≤◌, ◌+◌, ℕ, List, [], ◌++◌, lengt
 use Rattle.std.proofs.Common.{sym, ap, ◌∙◌, arith, append-nil, append_assoc, length-append}
 use Rattle.kishu_meaning.specs.values.Values.{Node, State}
 use Rattle.kishu_objects_laws.specs.LoadingLaws.{nodes_more}
-use Rattle.kishu_objects_laws.specs.RowLaws.{nodes_fit}
+use Rattle.kishu_objects_laws.specs.NodeCountLaws.{nodes_fit}
 use Rattle.kishu_store.specs.Groups.{Group}
 use Rattle.kishu_loading.specs.Loaded.{KeepsNodes}
 use Rattle.kishu_checkout.specs.Groups.{IsLoadedAs}

@@ -16,4 +16,4 @@ pub mod PartLaws
 pub mod ComponentLaws
 pub mod BytesLaws
 pub mod ListedLaws
-pub mod RowLaws
+pub mod NodeCountLaws
