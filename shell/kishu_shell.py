@@ -8,6 +8,8 @@ without it they are typed line by line.
 from __future__ import annotations
 
 import argparse
+import ast
+import builtins
 import contextlib
 import io
 import json
@@ -22,6 +24,7 @@ import tempfile
 import textwrap
 import threading
 import tokenize
+import warnings
 from dataclasses import dataclass
 from subprocess import PIPE, Popen
 from typing import Any, Callable, Dict, Iterable, Iterator, NamedTuple, Tuple
@@ -93,6 +96,15 @@ def read_store(path: str) -> tuple[list[Commit], int]:
     return commits, records
 
 
+def is_short_other(path: str) -> bool:
+    """Whether a file is no store, and so short that the program would begin it anew as one."""
+    with contextlib.suppress(OSError), open(path, "rb") as file:
+        begun = file.read(len(HEADER) + 2)
+        written = zip(begun, HEADER + b"\0")
+        return len(begun) <= len(HEADER) + 1 and any(byte not in (0, wanted) for byte, wanted in written)
+    return False
+
+
 def stamp_of(path: str) -> tuple[int, ...]:
     """What changes about a file where another process replaces it or writes to it."""
     with contextlib.suppress(OSError):
@@ -111,12 +123,17 @@ def why_ended(status: int, said: str, path: str) -> str:
         return f"{path} is no store of Kishu, and was left as it was: give another file."
     if status == 5 and os.path.isfile(path):
         return f"Another run may be at {path}: end it, or see that the file may be written and has room."
+    folder = os.path.dirname(path)
+    if status == 5 and os.path.isdir(path):
+        return f"{path} is a folder: give the name of a file in it."
+    if status == 5 and folder and not os.path.isdir(folder):
+        return f"There is no folder {folder}: make it, or give another file."
     return {
         0: "The program ended: try again.",
         1: "The program couldn't be built: do what stands above, and try again.",
         2: f"{path!r} can't be the name of a store: give another one.",
         3: f"{path} is {said}, and was left as it was: go on with an earlier copy of it.",
-        5: f"{path} can't be read or written: see that its folder is there and has room, and try again.",
+        5: f"{path} can't be read or written: see that you may write it and its disk has room.",
         8: "The memory ran out: end other programs, or go back to a commit that holds less, and try again.",
         9: "A line may have 16 MiB, and all lines of a session 1 GiB: give the program less at once.",
     }.get(status, f"The program ended with the status {status} ({said}): try again.")
@@ -248,6 +265,78 @@ class Store:
         """Opens the store anew, after the program has ended or was stopped."""
         self.session.stop(signal.SIGTERM)
         self.open()
+
+
+# What Python has and the language of cells hasn't.
+
+LEFT_OUT = {
+    "Import": "imports but that of SimpleNamespace", "ImportFrom": "imports but that of SimpleNamespace",
+    "ClassDef": "class", "With": "with", "Match": "match", "Lambda": "lambda", "JoinedStr": "f-strings",
+    "ListComp": "comprehensions", "SetComp": "comprehensions", "DictComp": "comprehensions",
+    "GeneratorExp": "comprehensions", "Set": "sets", "NamedExpr": ":=", "Starred": "starred forms",
+    "AnnAssign": "annotations", "Yield": "yield", "YieldFrom": "yield", "Nonlocal": "nonlocal",
+    "AsyncFunctionDef": "async", "Div": "/, only // for whole numbers", "MatMult": "@", "LShift": "<<",
+    "RShift": ">>", "BitAnd": "&", "BitOr": "|", "BitXor": "^", "Invert": "~",
+}
+
+
+def left_out(node: ast.AST) -> str:
+    """Returns what of a node of Python's tree the language of cells hasn't, or nothing."""
+    kind = type(node).__name__
+    if isinstance(node, ast.ImportFrom):
+        is_there = node.module == "types" and [it.name for it in node.names] == ["SimpleNamespace"]
+        return "" if is_there else LEFT_OUT[kind]
+    if isinstance(node, (ast.BinOp, ast.AugAssign, ast.UnaryOp)):
+        return LEFT_OUT.get(type(node.op).__name__, "")
+    if isinstance(node, ast.Constant) and type(node.value) in (float, complex, bytes, type(...)):
+        return {float: "floats", complex: "complex numbers", bytes: "bytes"}.get(type(node.value), "...")
+    if isinstance(node, ast.Constant) and type(node.value) is int and node.value >= 2**127:
+        return "numbers past 2^127 - 1"
+    if isinstance(node, ast.FunctionDef):
+        given, inside = node.args, (part for it in node.body for part in ast.walk(it))
+        every = [*given.args, *given.kwonlyargs, *getattr(given, "posonlyargs", [])]
+        return (
+            "decorators" if node.decorator_list
+            else "annotations" if node.returns or any(it.annotation for it in every)
+            else "starred forms" if given.vararg or given.kwarg or len(every) > len(given.args)
+            else "def inside a def" if any(isinstance(it, ast.FunctionDef) for it in inside)
+            else ""
+        )
+    if isinstance(node, (ast.For, ast.While)):
+        return "else on loops" if node.orelse else ""
+    if isinstance(node, ast.Call) and any(it.arg is None for it in node.keywords):
+        return "starred forms"
+    if isinstance(node, ast.Raise) and node.cause:
+        return "raise .. from"
+    if isinstance(node, ast.Name) and not node.id.isascii():
+        return "names of other letters than ASCII's"
+    return LEFT_OUT.get(kind, "")
+
+
+def hint(text: str, output: dict) -> str:
+    """Tells what in a cell is Python's alone, by its own reading, where that may have raised an exception."""
+    name = re.fullmatch("name '(.*)' is not defined", output.get("evalue", ""))
+    if output.get("ename") == "NameError" and name and hasattr(builtins, name[1]):
+        if name[1] in ("exit", "quit"):
+            return ":quit ends the shell."
+        return f"The language of cells has no {name[1]}: see docs/LANGUAGE.md."
+    if output.get("ename") != "SyntaxError" or not output["evalue"].startswith("invalid syntax, line "):
+        return ""
+    try:
+        with warnings.catch_warnings():
+            warnings.simplefilter("ignore")
+            nodes = [it for it in ast.walk(ast.parse(text)) if hasattr(it, "lineno")]
+    except SyntaxError as error:
+        if re.match(r"\s*[%!?]", text):
+            return "The language of cells has no commands of IPython: see docs/LANGUAGE.md."
+        return f"Python can't read it either: {error.msg}, line {error.lineno}."
+    except (ValueError, RecursionError, MemoryError):
+        return ""
+    found = [(it.lineno, it.col_offset, left_out(it)) for it in nodes if left_out(it)]
+    if not found:
+        return ""
+    line, _, what = min(found)
+    return f"The language of cells has no {what} (line {line}): see docs/LANGUAGE.md."
 
 
 # The graph.
@@ -588,7 +677,7 @@ class Shell:
     def __init__(self, store: Store):
         self.store = store
 
-    def show(self, outputs: list[dict]) -> None:
+    def show(self, text: str, outputs: list[dict]) -> None:
         """Shows the outputs of a cell as Jupyter does."""
         for output in outputs:
             if output["output_type"] == "stream":
@@ -597,6 +686,8 @@ class Shell:
                 print(paint("out", f"Out[{output['execution_count']}]: ") + output["data"]["text/plain"])
             else:
                 print(paint("error", "\n".join(output["traceback"])))
+                if told := hint(text, output):
+                    print(told)
 
     # Where the head stands.
 
@@ -735,8 +826,8 @@ class Shell:
             except Told as told:
                 end = f": {told}" if together else f", {which} didn't: {told}"
                 break
-            for result in results:
-                self.show(result["outputs"])
+            for text, result in zip(batch, results):
+                self.show(text, result["outputs"])
             ran += len(results)
             if ran < len(texts) and results[-1]["outcome"] != "ok":
                 end = ": the last one didn't end well."
@@ -791,6 +882,10 @@ class Shell:
             print(f"  {f':{name} {use}':<30} {run.__doc__}")
         print("Ctrl-C drops what is typed or stops what runs; Ctrl-D ends the shell. What ran stays stored.")
 
+    def quit(self) -> None:
+        """Ends the shell, as Ctrl-D does."""
+        raise EOFError
+
     def do(self, line: str) -> None:
         """Does what a line that begins with a colon asks for."""
         try:
@@ -813,7 +908,7 @@ class Shell:
         if text.lstrip().startswith(":"):
             self.do(text.strip())
         elif text.strip():
-            self.show(self.store.run(text.rstrip())[0]["outputs"])
+            self.show(text, self.store.run(text.rstrip())[0]["outputs"])
 
     def try_to_take(self, text: str) -> None:
         """Takes what was typed. Where the program ends over it, or Ctrl-C stops it, opens the store anew."""
@@ -863,7 +958,7 @@ WORDS: dict[str, tuple[str, Callable[..., None]]] = {
     "log": ("", Shell.log), "show": ("N", Shell.show_commit), "diff": ("REF", Shell.diff),
     "names": ("", Shell.names), "tree": ("NAME", Shell.tree),
     "run": ("FILE.ipynb [--together]", Shell.run_file), "save": ("FILE.ipynb [--over]", Shell.save),
-    "graph": ("FILE.svg [--over]", Shell.draw), "help": ("", Shell.help),
+    "graph": ("FILE.svg [--over]", Shell.draw), "help": ("", Shell.help), "quit": ("", Shell.quit),
 }
 
 
@@ -881,6 +976,10 @@ def main() -> int:
     parser.add_argument("store", metavar="STORE", help="the store's file, which is made where there is none")
     parser.add_argument("--program", metavar="PROGRAM", help="the program, if not the checkout's own")
     options = parser.parse_args()
+    if not options.store:
+        parser.error("the name of the store is empty")
+    if os.path.isfile(options.store) and is_short_other(options.store):
+        parser.error(f"{options.store} is a file and no store of Kishu: give another name")
     if sys.stdin is None or sys.stdout is None:
         parser.error("the input or the output is closed")
     sys.stdin.reconfigure(errors="surrogateescape")

@@ -21,18 +21,18 @@ TYPED = [
     ("best.append(8); sales", "(main) In [3]: "),
     (":undo", "(commit 1) In [2]: "),
     ("sum(best)", "(commit 3) In [3]: "),
-    (":graph sales.svg", "(commit 3) In [3]: "),
+    (":graph first.svg", "(commit 3) In [3]: "),
 ]
 
 
 def run(program: str, folder: str) -> tuple[str, str]:
     """Returns what the terminal shows of the session, and the picture that it draws."""
     shell = os.path.join(HERE, "kishu_shell.py")
-    words = [sys.executable, shell, "--program", os.path.abspath(program), "sales"]
+    words = [sys.executable, shell, "--program", os.path.abspath(program), "first"]
     terminal = Terminal(words, folder, TERM="dumb")
     try:
         prompt = "(main) In [1]: "
-        shown = "$ ./kishu-shell sales\n" + terminal.prompt(prompt)
+        shown = "$ ./kishu-shell first\n" + terminal.prompt(prompt)
         for line, then in TYPED:
             terminal.send(f"{line}\r")
             shown, prompt = shown + prompt + terminal.prompt(then), then
@@ -40,7 +40,7 @@ def run(program: str, folder: str) -> tuple[str, str]:
         terminal.ended()
     finally:
         terminal.close()
-    with open(os.path.join(folder, "sales.svg"), encoding="utf-8") as file:
+    with open(os.path.join(folder, "first.svg"), encoding="utf-8") as file:
         return shown, file.read()
 
 

@@ -59,7 +59,10 @@ class Terminal:
 
     def ended(self) -> int:
         """Waits for the end, and returns the status."""
+        late = time.monotonic() + SECONDS
         while self.status is None:
+            if time.monotonic() > late:
+                raise AssertionError(f"the end didn't come: {self.text()!r}")
             self.more(0.1)
             pid, status = os.waitpid(self.pid, os.WNOHANG)
             if pid:

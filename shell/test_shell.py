@@ -140,7 +140,7 @@ class Typed(Case):
         self.enter(shell, "2]", "(main) In [3]: ")
         self.assertEqual(self.enter(shell, "x", "(main) In [4]: "), "Out[3]: [1, 2]")
         shell.send("\r")
-        shell.prompt("(main) In [4]: ")
+        shell.wait(r"\n\(main\) In \[4\]: *$")  # (an editor shows the old prompt again first)
         self.leave(shell)
 
     def test_branches_graph_and_plan(self) -> None:
@@ -390,9 +390,18 @@ class Piped(Case):
         done = self.piped(":log")
         self.assertEqual(done.returncode, 3)
         self.assertIn("s is damaged at 16, and was left as it was", done.stderr)
-        done = self.piped(":log", store="no/store")
-        self.assertEqual(done.returncode, 5)
-        self.assertIn("see that its folder is there", done.stderr)
+        self.write("short", b"print(1)\n")
+        stores = {"no/store": (5, "There is no folder no: make it"), ".": (5, ". is a folder: give the name")}
+        stores["short"] = (2, "short is a file and no store of Kishu: give another name")
+        stores[""] = (2, "the name of the store is empty")
+        for store, (status, told) in stores.items():
+            done = self.piped(":log", store=store)
+            self.assertEqual(done.returncode, status)
+            self.assertIn(told, done.stderr)
+        self.assertEqual(self.read("short"), "print(1)\n")
+        for begun in (b"", b"KISHU-JOU", bytes(17)):
+            self.write("begun", begun)
+            self.assertEqual(self.piped("1", store="begun").returncode, 0)
 
     def test_words_that_are_told(self) -> None:
         """What is typed wrong, and where there is no folder for files, is told, and the shell goes on."""
@@ -411,6 +420,19 @@ class Piped(Case):
         told = "That can't be done (No such file or directory): see that there is a folder for it"
         self.assertEqual(done.stdout.count(told), 2)
         self.assertEqual(done.stdout.split("\n")[3], "Out[2]: 1")
+
+    def test_what_only_python_has(self) -> None:
+        block = ["for i in [1]:", "    y = i", "    z = [a for a in y]", ""]
+        done = self.piped("import os", *block, "x = 'a", "open('a')", "exit()", ":quit", "print('never')")
+        refused, see = "SyntaxError: invalid syntax, line 1", "see docs/LANGUAGE.md."
+        told = [refused, f"The language of cells has no imports but that of SimpleNamespace (line 1): {see}"]
+        told += [refused, f"The language of cells has no comprehensions (line 3): {see}", refused]
+        shown = done.stdout.split("\n")[1:-1]
+        self.assertEqual(shown[:5], told)
+        self.assertIn("Python can't read it either: ", shown[5])
+        told = ["NameError: name 'open' is not defined", f"The language of cells has no open: {see}"]
+        told += ["NameError: name 'exit' is not defined", ":quit ends the shell."]
+        self.assertEqual(shown[6:], told)
 
     def test_an_output_that_is_full(self) -> None:
         words = [sys.executable, SHELL, "--program", PROGRAM, "s"]
@@ -509,6 +531,24 @@ class Alone(Case):
                 self.assertEqual(kishu_shell.program_at(None), self.path(name))
         with unittest.mock.patch.object(kishu_shell, "HERE", self.folder):
             self.assertNotIn(self.folder, kishu_shell.program_at("sh"))
+
+    def test_words_of_the_script(self) -> None:
+        """The script `kishu` tells its words without a program."""
+        done = self.finished([os.path.join(TOP, "kishu"), "--help"])
+        self.assertEqual((done.returncode, done.stderr), (0, ""))
+        self.assertTrue(done.stdout.startswith("usage: kishu STORE COMMAND\n"))
+        for words in ([], ["s"]):
+            again = self.finished([os.path.join(TOP, "kishu"), *words])
+            self.assertEqual((again.returncode, again.stdout, again.stderr), (2, "", done.stdout))
+
+    def test_cells_that_both_languages_have(self) -> None:
+        """What the rules of the language show runs, so nothing of it is told to be left out."""
+        with open(os.path.join(TOP, "docs", "LANGUAGE.md"), encoding="utf-8") as file:
+            blocks = re.findall(r"```python\n(.*?)```\n```text\n(.*?)```", file.read(), re.DOTALL)
+        error = {"ename": "SyntaxError", "evalue": "invalid syntax, line 1"}
+        for cell, given in blocks:
+            if "SyntaxError" not in given:
+                self.assertEqual(kishu_shell.hint(cell, error), "", cell)
 
     def test_what_was_done_all_the_same(self) -> None:
         """Where Ctrl-C comes behind the record of a request and before its answer, that is told."""
