@@ -537,7 +537,7 @@ class Alone(Case):
         done = self.finished([os.path.join(TOP, "kishu"), "--help"])
         self.assertEqual((done.returncode, done.stderr), (0, ""))
         self.assertTrue(done.stdout.startswith("usage: kishu STORE COMMAND\n"))
-        for words in ([], ["s"]):
+        for words in ([], ["s"], ["s", "--help"], ["s", "sesion"], ["--together", "s"]):
             again = self.finished([os.path.join(TOP, "kishu"), *words])
             self.assertEqual((again.returncode, again.stdout, again.stderr), (2, "", done.stdout))
 

@@ -300,10 +300,10 @@ def main():
     words.add_argument("--program")
     words.add_argument("--only", choices=("cells", "sessions", "notebooks"))
     given = words.parse_args()
-    if given.program is None:
-        subprocess.run([KISHU], stdout=subprocess.DEVNULL, check=False)
     program = os.path.abspath(given.program or BUILT)
     with tempfile.TemporaryDirectory() as folder:
+        if given.program is None:
+            subprocess.run([KISHU, os.path.join(folder, "first.kishu"), "status"], stdout=subprocess.DEVNULL, check=False)
         for kind, kill in (("cells", kill_cells), ("sessions", kill_sessions), ("notebooks", kill_notebooks)):
             if given.only in (None, kind):
                 kill(program, folder, given.runs)
