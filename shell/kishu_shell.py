@@ -269,6 +269,7 @@ class Store:
 
 # What Python has and the language of cells hasn't.
 
+LONGEST_HINTED = 100_000
 LEFT_OUT = {
     "Import": "imports but that of SimpleNamespace", "ImportFrom": "imports but that of SimpleNamespace",
     "ClassDef": "class", "With": "with", "Match": "match", "Lambda": "lambda", "JoinedStr": "f-strings",
@@ -322,6 +323,9 @@ def hint(text: str, output: dict) -> str:
         return f"The language of cells has no {name[1]}: see docs/LANGUAGE.md."
     if output.get("ename") != "SyntaxError" or not output["evalue"].startswith("invalid syntax, line "):
         return ""
+    other = "docs/LANGUAGE.md tells what the language of cells has."
+    if len(text) > LONGEST_HINTED:
+        return other
     try:
         with warnings.catch_warnings():
             warnings.simplefilter("ignore")
@@ -331,10 +335,10 @@ def hint(text: str, output: dict) -> str:
             return "The language of cells has no commands of IPython: see docs/LANGUAGE.md."
         return f"Python can't read it either: {error.msg}, line {error.lineno}."
     except (ValueError, RecursionError, MemoryError):
-        return ""
+        return other
     found = [(it.lineno, it.col_offset, left_out(it)) for it in nodes if left_out(it)]
     if not found:
-        return ""
+        return other
     line, _, what = min(found)
     return f"The language of cells has no {what} (line {line}): see docs/LANGUAGE.md."
 

@@ -548,7 +548,7 @@ class Alone(Case):
         error = {"ename": "SyntaxError", "evalue": "invalid syntax, line 1"}
         for cell, given in blocks:
             if "SyntaxError" not in given:
-                self.assertEqual(kishu_shell.hint(cell, error), "", cell)
+                self.assertIn("tells what the language of cells has", kishu_shell.hint(cell, error), cell)
 
     def test_what_was_done_all_the_same(self) -> None:
         """Where Ctrl-C comes behind the record of a request and before its answer, that is told."""
