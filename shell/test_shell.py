@@ -539,7 +539,7 @@ class Alone(Case):
         self.assertTrue(done.stdout.startswith("usage: kishu STORE COMMAND\n"))
         for words in ([], ["s"], ["s", "--help"], ["s", "sesion"], ["--together", "s"]):
             again = self.finished([os.path.join(TOP, "kishu"), *words])
-            self.assertEqual((again.returncode, again.stdout, again.stderr), (2, "", done.stdout))
+            self.assertEqual((again.returncode, again.stdout, again.stderr), (2, "", "usage: kishu STORE COMMAND\n"))
 
     def test_cells_that_both_languages_have(self) -> None:
         """What the rules of the language show runs, so nothing of it is told to be left out."""
