@@ -8,6 +8,7 @@ ghost use Rattle.kishu_groups.specs.Marks.{AreMarks, Keeps, Notes, attr_values, 
 
 use crate::classes::Classes;
 use indexmap::{IndexMap, IndexSet};
+use kishu_hash::NearHash;
 use kishu_heap::Node;
 use kishu_meaning::{Key, Value};
 use std::alloc::{AllocError, Global};
@@ -17,7 +18,7 @@ use std::rc::RcStr;
 /// which of these numbers belong together.
 #[derive(Drop)]
 pub(crate) struct Marks {
-    pub(crate) found: IndexSet<u32>,
+    pub(crate) found: IndexSet<u32, NearHash>,
     pub(crate) labels: Vec<usize>,
     pub(crate) classes: Classes,
 }
@@ -29,7 +30,7 @@ impl Marks {
     {
         let classes = Classes::new(alloc, count)?;
         Ok(Marks {
-            found: IndexSet::new(alloc),
+            found: IndexSet::with_hasher(alloc, NearHash::new()),
             labels: Vec::new(alloc),
             classes,
         })

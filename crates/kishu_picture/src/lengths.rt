@@ -15,6 +15,7 @@ ghost use Rattle.kishu_picture.specs.Lengths.{capped};
 
 use crate::meeting::met;
 use indexmap::{IndexMap, IndexSet};
+use kishu_hash::NearHash;
 use kishu_heap::{FunctionNode, Heap, Node};
 use kishu_meaning::{Key, KeyPart, NodeId, Steps, Value};
 use kishu_names::Names;
@@ -154,7 +155,7 @@ fn names_len(names: &Names, group: &[RcStr]) -> u64
 }
 
 /// The length of the nodes that were found. Each takes one step of the counter.
-fn rows_len<L: Ledger>(heap: &Heap, found: &IndexSet<u32>, steps: &mut Steps<L>) -> u64
+fn rows_len<L: Ledger>(heap: &Heap, found: &IndexSet<u32, NearHash>, steps: &mut Steps<L>) -> u64
     requires low { (i : ℕ) → In i found.now.keys → i < length heap.now }
     ensures len { result ≡ capped (length (many row_bytes (map (node_at heap.now) found.now.keys))) }
     ensures reads { Reads (length found.now.keys) steps.old steps.new }

@@ -12,6 +12,7 @@ ghost use Rattle.kishu_picture.specs.Held.{held, order_of};
 ghost use Rattle.kishu_picture.specs.Rows.{IsMet, values_in};
 
 use indexmap::{IndexMap, IndexSet};
+use kishu_hash::NearHash;
 use kishu_heap::{Heap, Node};
 use kishu_meaning::{Key, NodeId, Steps, Value};
 use kishu_names::Names;
@@ -20,7 +21,7 @@ use std::rc::RcStr;
 use std::sync::ledger::Ledger;
 
 /// Notes the node that a value is, where it is one.
-fn note(found: &mut IndexSet<u32>, value: &Value) -> Result<(), AllocError>
+fn note(found: &mut IndexSet<u32, NearHash>, value: &Value) -> Result<(), AllocError>
     ensures { OnOk result (found.new.keys ≡ noted_all found.old.keys (number (value_of value.now))) }
 {
     match value {
@@ -38,7 +39,7 @@ fn note(found: &mut IndexSet<u32>, value: &Value) -> Result<(), AllocError>
     }
 }
 
-fn note_values(found: &mut IndexSet<u32>, values: &[Value]) -> Result<(), AllocError>
+fn note_values(found: &mut IndexSet<u32, NearHash>, values: &[Value]) -> Result<(), AllocError>
     ensures { OnOk result (found.new.keys ≡ noted_all found.old.keys (numbers (map value_of values.now))) }
 {
     for value in values {
@@ -47,7 +48,10 @@ fn note_values(found: &mut IndexSet<u32>, values: &[Value]) -> Result<(), AllocE
     Ok(())
 }
 
-fn note_entries(found: &mut IndexSet<u32>, entries: &IndexMap<Key, Value>) -> Result<(), AllocError>
+fn note_entries(
+    found: &mut IndexSet<u32, NearHash>,
+    entries: &IndexMap<Key, Value>,
+) -> Result<(), AllocError>
     ensures { OnOk result
         (found.new.keys ≡ noted_all found.old.keys (numbers (values_in (entries_of entries.now.entries)))) }
 {
@@ -61,7 +65,7 @@ fn note_entries(found: &mut IndexSet<u32>, entries: &IndexMap<Key, Value>) -> Re
 }
 
 fn note_attributes(
-    found: &mut IndexSet<u32>,
+    found: &mut IndexSet<u32, NearHash>,
     attributes: &IndexMap<RcStr, Value>,
 ) -> Result<(), AllocError>
     ensures { OnOk result
@@ -78,7 +82,7 @@ fn note_attributes(
 }
 
 /// Notes the nodes to which a node leads.
-fn note_children(found: &mut IndexSet<u32>, node: &Node) -> Result<(), AllocError>
+fn note_children(found: &mut IndexSet<u32, NearHash>, node: &Node) -> Result<(), AllocError>
     ensures { OnOk result
         (found.new.keys ≡ noted_all found.old.keys (numbers (children (node_of node.now)))) }
 {
@@ -93,7 +97,11 @@ fn note_children(found: &mut IndexSet<u32>, node: &Node) -> Result<(), AllocErro
 }
 
 /// Notes the nodes that the values of names are.
-fn note_names(found: &mut IndexSet<u32>, names: &Names, group: &[RcStr]) -> Result<(), AllocError>
+fn note_names(
+    found: &mut IndexSet<u32, NearHash>,
+    names: &Names,
+    group: &[RcStr],
+) -> Result<(), AllocError>
     ensures { OnOk result
         (found.new.keys ≡ noted_all found.old.keys (roots (held [] names.now) (texts_of group.now))) }
 {
@@ -112,12 +120,12 @@ pub(crate) fn met<L: Ledger>(
     names: &Names,
     group: &[RcStr],
     steps: &mut Steps<L>,
-) -> Result<IndexSet<u32>, AllocError>
+) -> Result<IndexSet<u32, NearHash>, AllocError>
     requires sound { IsTrue (are_sound_names (length heap.now) names.now.bound) }
     ensures order { IfOk result (λ found. IsMet heap.now names.now group.now found.keys) }
     ensures reads { Reads (length (order_of heap.now names.now group.now)) steps.old steps.new }
 {
-    let mut found = IndexSet::new(alloc);
+    let mut found = IndexSet::with_hasher(alloc, NearHash::new());
     note_names(&mut found, names, group)?;
     for i in 0..heap.len() {
         let Some(id) = found.get_index(i as usize) else {
@@ -147,7 +155,7 @@ pub fn order<L: Ledger>(
     numbered(alloc, &found)
 }
 
-fn numbered(alloc: Global, found: &IndexSet<u32>) -> Result<Vec<NodeId>, AllocError>
+fn numbered(alloc: Global, found: &IndexSet<u32, NearHash>) -> Result<Vec<NodeId>, AllocError>
     ensures { IfOk result (λ v. map (λ id. id.0) v.items ≡ found.now.keys) }
 {
     let mut ids = Vec::new(alloc);

@@ -14,6 +14,7 @@ ghost use Rattle.kishu_picture.specs.Rows.{list_bytes, dict_bytes, object_bytes,
 use crate::parts::{put_name, put_number, put_text};
 use crate::values::{put_key, put_value};
 use indexmap::{IndexMap, IndexSet};
+use kishu_hash::NearHash;
 use kishu_heap::{FunctionNode, Node};
 use kishu_language::Profile;
 use kishu_meaning::{Key, Value};
@@ -21,7 +22,11 @@ use std::alloc::AllocError;
 use std::rc::RcStr;
 
 /// Puts values behind their number.
-fn put_values(out: &mut Vec<u8>, values: &[Value], found: &IndexSet<u32>) -> Result<(), AllocError>
+fn put_values(
+    out: &mut Vec<u8>,
+    values: &[Value],
+    found: &IndexSet<u32, NearHash>,
+) -> Result<(), AllocError>
     requires met { AreFound found.now.keys (map value_of values.now) }
     requires few { length found.now.keys < 2 ^ 32 }
     requires short { length (list_bytes found.now.keys values.now) < 2 ^ 32 }
@@ -39,7 +44,7 @@ fn put_values(out: &mut Vec<u8>, values: &[Value], found: &IndexSet<u32>) -> Res
 fn put_entries(
     out: &mut Vec<u8>,
     entries: &IndexMap<Key, Value>,
-    found: &IndexSet<u32>,
+    found: &IndexSet<u32, NearHash>,
 ) -> Result<(), AllocError>
     requires met { AreFound found.now.keys (values_in (entries_of entries.now.entries)) }
     requires few { length found.now.keys < 2 ^ 32 }
@@ -63,7 +68,7 @@ fn put_entries(
 fn put_attributes(
     out: &mut Vec<u8>,
     attributes: &IndexMap<RcStr, Value>,
-    found: &IndexSet<u32>,
+    found: &IndexSet<u32, NearHash>,
 ) -> Result<(), AllocError>
     requires met { AreFound found.now.keys (values_in (attributes_of attributes.now.entries)) }
     requires few { length found.now.keys < 2 ^ 32 }
@@ -98,7 +103,7 @@ fn profile_number(profile: Profile) -> u8
 fn put_function(
     out: &mut Vec<u8>,
     function: &FunctionNode,
-    found: &IndexSet<u32>,
+    found: &IndexSet<u32, NearHash>,
 ) -> Result<(), AllocError>
     requires met { AreFound found.now.keys (map value_of function.now.defaults.items) }
     requires few { length found.now.keys < 2 ^ 32 }
@@ -118,7 +123,7 @@ fn put_function(
 pub(crate) fn put_row(
     out: &mut Vec<u8>,
     node: &Node,
-    found: &IndexSet<u32>,
+    found: &IndexSet<u32, NearHash>,
 ) -> Result<(), AllocError>
     requires met { AreFound found.now.keys (children (node_of node.now)) }
     requires few { length found.now.keys < 2 ^ 32 }

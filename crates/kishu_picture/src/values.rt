@@ -9,6 +9,7 @@ ghost use Rattle.kishu_picture.specs.Rows.{value_at};
 
 use crate::parts::{put_number, put_range, put_text, put_whole};
 use indexmap::IndexSet;
+use kishu_hash::NearHash;
 use kishu_meaning::{Key, KeyPart, Value};
 use std::alloc::AllocError;
 
@@ -16,7 +17,7 @@ use std::alloc::AllocError;
 pub(crate) fn put_value(
     out: &mut Vec<u8>,
     value: &Value,
-    found: &IndexSet<u32>,
+    found: &IndexSet<u32, NearHash>,
 ) -> Result<(), AllocError>
     requires met { (i : ℕ) → value_of value.now ≡ node i → In i found.now.keys }
     requires few { length found.now.keys < 2 ^ 32 }

@@ -14,6 +14,7 @@ use crate::parts::{put_name, put_number};
 use crate::rows::put_row;
 use crate::values::put_value;
 use indexmap::IndexSet;
+use kishu_hash::NearHash;
 use kishu_heap::Heap;
 use kishu_meaning::{NodeId, Steps};
 use kishu_names::Names;
@@ -26,7 +27,7 @@ fn put_names(
     out: &mut Vec<u8>,
     names: &Names,
     group: &[RcStr],
-    found: &IndexSet<u32>,
+    found: &IndexSet<u32, NearHash>,
 ) -> Result<(), AllocError>
     requires bound { AreBound names.now.bound (texts_of group.now) }
     requires met { AreMet names.now.bound (texts_of group.now) found.now.keys }
@@ -52,7 +53,7 @@ fn put_names(
 fn put_rows<L: Ledger>(
     out: &mut Vec<u8>,
     heap: &Heap,
-    found: &IndexSet<u32>,
+    found: &IndexSet<u32, NearHash>,
     steps: &mut Steps<L>,
 ) -> Result<(), AllocError>
     requires low { (i : ℕ) → In i found.now.keys → i < length heap.now }

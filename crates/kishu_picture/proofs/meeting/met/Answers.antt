@@ -12,7 +12,7 @@ loop-i-init g c =
     let s = held c.args.heap.now c.args.names.now in
     let sound = sound_of s c.len-i-end.ensures.sound c.requires.sound in
     record {
-      walked = walked_first s sound (texts_of c.args.group.now) c.new-found.result.keys c.note_names.new.found.keys c.new-found.ensures.empty
+      walked = walked_first s sound (texts_of c.args.group.now) c.with_hasher-found.result.keys c.note_names.new.found.keys c.with_hasher-found.ensures.empty
           c.in_ok-note_names.ensures;
       reads = omega arith;
     }
