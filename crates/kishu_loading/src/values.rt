@@ -12,6 +12,9 @@ use crate::kinds;
 use kishu_meaning::{Builtin, ClassId, NodeId, Value};
 use std::alloc::Global;
 
+/// For so many values at most there is room from the start: a number that bytes tell may be false.
+const FEW: u32 = 16;
+
 /// The nodes of a picture that is read into a heap.
 #[derive(Clone, Copy, Debug, PartialEq, Eq, Drop)]
 pub(crate) struct Nodes {
@@ -86,7 +89,7 @@ impl Nodes {
         ensures sound { IfOk result (AreSoundValues self.now) }
         ensures count { IfOk result (λ v. length v.items ≡ count) }
     {
-        let mut values = Vec::new(alloc);
+        let mut values = Vec::with_capacity(alloc, count.min(FEW) as usize)?;
         for _turn in 0..count {
             let value = self.value(alloc, cursor)?;
             values.push(value)?;

@@ -23,7 +23,7 @@ loop-turn-preserved c = record {
 
 pub returns-in_err-value-clause-gives : goal.returns-in_err-value-clause-gives
 returns-in_err-value-clause-gives c =
-    let p = err_from_is_err_and c.from_residual.result c.from_residual.ensures.1 in
+    let p = err_from_is_err_and c.from_residual-in_err-value.result c.from_residual-in_err-value.ensures.1 in
     rw (p.1, p.2) (turned_fails (moved_value c.args.self.now.base c.args.self.now.count) c.args.count (front_of c.args.cursor.now)
     c.loop-turn._turn _ (front_of c.loop-turn.cursor) c.loop-turn-test.true c.loop-turn.invariant.so_far _ c.in_err-value.ensures.gives)
 
