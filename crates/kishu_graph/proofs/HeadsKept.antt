@@ -203,6 +203,6 @@ still-head items new notes noted h was e f =
     subst (λ (l : List rust.Commit). IsHead (map outline l) (map note noted) h) (sym e) (subst (λ (l : List rust_noted.Noted). IsHead (map outline items) (map note l) h) (sym f) was)
 
 -- the rows at hand are those of a table in the history whose commits and changes are kept
-pub at-hand : (kept : Kept) (os : List Outline) (ns : List Noted) (h : rust_heads.HeadRows) (c : ℕ) → os ≡ kept.commits → ns ≡ kept.noted → IsHead os ns h → h.commit ≡ c → (g : Graph) (cs : List Change) (place : ℕ) → HasShapeOf kept g → TellsChanges kept cs → AreChanges g cs place
+pub at-hand : (kept : Kept) (os : List Outline) (ns : List Noted) (h : rust_heads.HeadRows) (c : ℕ) → parents_of os ≡ parents_of kept.commits → ns ≡ kept.noted → IsHead os ns h → h.commit ≡ c → (g : Graph) (cs : List Change) (place : ℕ) → HasShapeOf kept g → TellsChanges kept cs → AreChanges g cs place
     → Holds h (table_at g (change_of cs) c)
-at-hand kept os ns h c e f was at g cs place shape tells k = subst (λ n. Holds h (table_at g (change_of cs) n)) at (was.holds g cs place (ap parents_of e ∙ shape.parents) (f ∙ tells) k)
+at-hand kept os ns h c e f was at g cs place shape tells k = subst (λ n. Holds h (table_at g (change_of cs) n)) at (was.holds g cs place (e ∙ shape.parents) (f ∙ tells) k)

@@ -2,9 +2,11 @@ pub mod Named
 pub mod Ordered
 pub mod Digits
 pub mod LineCuts
+pub mod BufferCuts
 pub mod Outlines
 pub mod Changing
 pub mod Soundness
+pub mod LinesKept
 pub mod Targets
 pub mod Answered
 pub mod Counting

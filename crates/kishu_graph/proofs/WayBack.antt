@@ -1,6 +1,7 @@
 -- What the commits on the way back change, as it is noted, and the rows that lead to a commit's table.
 use Rattle.std.specs.Prelude.{◌≡◌, ◌<◌, ℕ, suc, List, [], ◌∷◌, ◌++◌, length, map, get_or, Option, Some, None, IfSome, refl}
 use Rattle.std.specs.List.{AllByRecursion}
+use Rattle.std.specs.Rc.{rc_str_bytes}
 use Rattle.std.proofs.Common.{zero, sym, ◌∙◌, ap, subst, inl, inr, arith}
 use Rattle.std.proofs.lemmas.Bool.Decides.{eqb_tells}
 use Rattle.std.proofs.lemmas.List.{get_or_append_left, get_or-map, length-map, nil_from_length}
@@ -13,7 +14,7 @@ use Rattle.kishu_store_laws.specs.TableLaws.{AreFit}
 use Rattle.kishu_store_laws.specs.WalkLaws.{rows_left, rows_back, found-back}
 use Rattle.kishu_graph.specs.declared.commits.Commit as rust
 use Rattle.kishu_graph.specs.declared.tables.Noted as rust_noted
-use Rattle.kishu_graph.specs.Kept.{Noted, HaveParents, CountsRows, count_of, outline, outlines, parents_of, noted_of, noted_in, texts_of, row_of, note}
+use Rattle.kishu_graph.specs.Kept.{Noted, HaveParents, CountsRows, count_of, outline, outlines, parents_of, noted_of, noted_in, row_of, note, dropped_in, stored_in}
 use Rattle.kishu_graph.specs.ChangeLaws.{length-noted}
 use Rattle.kishu_graph.specs.Laws.{back_numbers, back-root}
 use Rattle.kishu_graph.specs.Walks.{HaveSame, HaveFound, InEachNoted, IsTableThere}
@@ -76,11 +77,11 @@ own_in (k ∷ ks) of c h many = elim (eqb_tells c (suc (length ks))) [
 
 -- Where it has as many as the commit stored, they are these.
 pub stored-alone : (commits : List rust.Commit) (noted : List rust_noted.Noted) → CountsRows (map outline commits) (map note noted) (map count_of noted) → (c : ℕ) (item : rust_noted.Noted) → c < length noted → item ≡ get_or noted c item
-    → item.rows ≡ Some (length item.stored.items) → IsTableThere commits noted c (map row_of item.stored.items)
+    → item.rows ≡ Some (length (stored_in item)) → IsTableThere commits noted c (map row_of (stored_in item))
 stored-alone commits noted counts c item there is known g cs place parents notes k =
-    let stored : map row_of item.stored.items ≡ (change_of cs c).stored = ap (λ (n : Noted). n.stored) (ap note is ∙ noted_there noted cs notes c item there) in
-    let many = rows-counted commits noted counts c (length item.stored.items) item there is known g cs place parents notes k in
-    stored ∙ sym (own_in g.commits (change_of cs) c (k.each c).rise (many ∙ sym (length-map item.stored.items row_of) ∙ ap length stored))
+    let stored : map row_of (stored_in item) ≡ (change_of cs c).stored = ap (λ (n : Noted). n.stored) (ap note is ∙ noted_there noted cs notes c item there) in
+    let many = rows-counted commits noted counts c (length (stored_in item)) item there is known g cs place parents notes k in
+    stored ∙ sym (own_in g.commits (change_of cs) c (k.each c).rise (many ∙ sym (length-map (stored_in item) row_of) ∙ ap length stored))
 
 -- ---- the rows that lead to a commit's table
 
@@ -107,7 +108,7 @@ lead-all commits noted gone at commit found counted lead g cs place parents note
 
 -- one commit back, whose rows and first names these are
 module _ (commits : List rust.Commit) (noted : List rust_noted.Noted) (at commit : ℕ) (d : rust.Commit) (e f : rust_noted.Noted) (rows : Table) (names : List (List ℕ)) where
-  pub lead-back : HaveParents (map outline commits) → 0 < at → at < length commits → length noted ≡ length commits → rows ≡ map row_of (get_or noted at e).stored.items → names ≡ texts_of (get_or noted at f).dropped
+  pub lead-back : HaveParents (map outline commits) → 0 < at → at < length commits → length noted ≡ length commits → rows ≡ map row_of (stored_in (get_or noted at e)) → names ≡ map rc_str_bytes (dropped_in (get_or noted at f))
       → (gone more : List (List ℕ)) (old new : Table) → HaveFound gone rows old new → HaveSame more (names ++ gone) → LeadTo commits noted gone at commit old → LeadTo commits noted more (get_or commits at d).parent commit new
   lead-back haves some inside counted rows_are names_are gone more old new found same lead g cs place parents notes k =
       let of = change_of cs in

@@ -67,16 +67,16 @@ HasMovedAlong branch commit old new = branches_of new ≡ moved_with (option_map
 -- ---- a commit more
 
 -- the commits, and one more whose parent is the head's
-abbrev pub with_newest : Profile → ℕ → RcStr Global → Kept → List Outline
-with_newest profile cells line kept = kept.commits ++ (record { parent = kept.head.commit; profile = profile; cells = cells; line = rc_str_bytes line } ∷ [])
+abbrev pub with_newest : Profile → ℕ → List ℕ → Kept → List Outline
+with_newest profile cells line kept = kept.commits ++ (record { parent = kept.head.commit; profile = profile; cells = cells; line = line } ∷ [])
 
 -- whatever had the old shape has the new one with a commit of this profile, whatever its cells
 abbrev pub ShapesCommit : Profile → Kept → Kept → Type 0
 ShapesCommit profile old new = (g : Graph) (texts : List (List ℕ)) → HasShapeOf old g → HasShapeOf new (with_commit profile texts g)
 
 -- what was stood for is stood for with a commit of this profile whose cells are so many and have this line
-abbrev pub StandsForCommit : Profile → ℕ → RcStr Global → Kept → Kept → Type 0
-StandsForCommit profile cells line old new = (g : Graph) (texts : List (List ℕ)) → StandsFor old g → length texts ≡ cells → line_in texts ≡ rc_str_bytes line → StandsFor new (with_commit profile texts g)
+abbrev pub StandsForCommit : Profile → ℕ → List ℕ → Kept → Kept → Type 0
+StandsForCommit profile cells line old new = (g : Graph) (texts : List (List ℕ)) → StandsFor old g → length texts ≡ cells → line_in texts ≡ line → StandsFor new (with_commit profile texts g)
 
 -- ---- a head that moves, and a branch that begins
 

@@ -10,12 +10,13 @@ use Rattle.kishu_store.specs.Tables.{Table, Change, are_apart, first_in, names_i
 use Rattle.kishu_store_laws.specs.HistoryLaws.{AreChanges}
 use Rattle.kishu_store_laws.specs.WalkLaws.{rows_left}
 use Rattle.kishu_store.specs.declared.target.Target as rust_target
+use Rattle.kishu_graph.specs.declared.buffer.LineBuffer as rust_buffer
 use Rattle.kishu_graph.specs.declared.commits.Commit as rust
 use Rattle.kishu_graph.specs.declared.heads.HeadRows as rust_heads
 use Rattle.kishu_graph.specs.declared.tables.Noted as rust_noted
 use Rattle.kishu_graph.specs.declared.tables.TableRow as rust_row
 use Rattle.kishu_graph.specs.Fits.{rows_of}
-use Rattle.kishu_graph.specs.Kept.{AreKept, Outline, Noted, outline, note, outlines, parents_of, noted_in}
+use Rattle.kishu_graph.specs.Kept.{AreKept, HaveLines, Outline, Noted, outline, note, outlines, parents_of, noted_in}
 use Rattle.kishu_graph.specs.Walks.{StandAtFirst, HaveSame, all_texts, rows_in}
 
 -- They are the rows of that table, with their names, and with the room that their pictures leave.
@@ -70,5 +71,6 @@ pub record IsMade (commit : ℕ) (t : Table) (h : rust_heads.HeadRows) : Type 0 
   pub holds : IsKeptTable t → Holds h t
 
 -- what holds of the fields of the program's graph
-abbrev pub AreAllKept : List rust.Commit → List (RcStr Global × ℕ) → rust_target.Target → ℕ → List rust_noted.Noted → rust_heads.HeadRows → Type 0
-AreAllKept commits branches head records noted rows = AreKept commits branches head records noted × IsHead (map outline commits) (map note noted) rows
+abbrev pub AreAllKept : List rust.Commit → rust_buffer.LineBuffer → List (RcStr Global × ℕ) → rust_target.Target → ℕ → List rust_noted.Noted → rust_heads.HeadRows → Type 0
+AreAllKept commits lines branches head records noted rows =
+    AreKept commits branches head records noted × (IsHead (map outline commits) (map note noted) rows × HaveLines lines (length (map outline commits)))

@@ -1,10 +1,11 @@
 -- What a graph keeps in memory, and which graph of commits it stands for.
-use Rattle.std.specs.Prelude.{◌≡◌, ◌<◌, ◌≤◌, ℕ, suc, ◌==◌, if◌then◌else◌, List, [], ◌∷◌, ◌++◌, length, map, reverse, get_or, Option, None, IfSome}
+use Rattle.std.specs.Prelude.{◌≡◌, ◌<◌, ◌≤◌, ℕ, suc, ◌==◌, if◌then◌else◌, List, [], ◌∷◌, ◌++◌, length, map, reverse, get_or, Option, Some, None, IfSome}
 use Rattle.std.specs.Cmp.Lexicographic.{slice_cmp}
 use Rattle.std.specs.List.Sorted.{IsStrictlySortedBy}
 use Rattle.std.specs.Ordering.{nat_cmp}
 use Rattle.std.specs.Rc.{rc_str_bytes}
 use Rattle.std.specs.declared.alloc.Global.{Global}
+use Rattle.std.specs.declared.boxed.Box.{Box}
 use Rattle.std.specs.declared.rc.RcStr.{RcStr}
 use Rattle.std.specs.declared.vec.Vec.{Vec}
 use Rattle.kishu_language.specs.declared.profile.Profile.{Profile}
@@ -19,8 +20,11 @@ use Rattle.kishu_store.specs.declared.target.Target as rust_target
 use Rattle.kishu_store.specs.Targets.{target_of}
 use Rattle.kishu_store.specs.Tables.{Row, Table, Change, no_change, table_at, change_of}
 use Rattle.kishu_store_laws.specs.HistoryLaws.{AreChanges}
+use Rattle.kishu_graph.specs.Buffers.{IsCut, lines_in}
+use Rattle.kishu_graph.specs.declared.buffer.LineBuffer as rust_buffer
 use Rattle.kishu_graph.specs.declared.commits.Commit as rust
 use Rattle.kishu_graph.specs.declared.tables.Noted as rust_noted
+use Rattle.kishu_graph.specs.declared.tables.NotedChange as rust_change
 use Rattle.kishu_graph.specs.declared.tables.TableRow as rust_row
 
 -- what is kept of a commit: its parent's number, its profile, how many cells it has, and its line
@@ -137,8 +141,9 @@ path_numbers ks c = 0 ∷ reverse (map (λ k. k.number) (back_in ks c))
 
 -- ---- the values of the program
 
+-- a commit but for its line
 abbrev pub outline : rust.Commit → Outline
-outline k = record { parent = k.parent; profile = k.profile; cells = k.cells; line = rc_str_bytes k.line }
+outline k = record { parent = k.parent; profile = k.profile; cells = k.cells; line = [] }
 
 abbrev pub branches_of : List (RcStr Global × ℕ) → Branches
 branches_of = map (λ e. (rc_str_bytes e.0, e.1))
@@ -149,8 +154,22 @@ texts_of v = map rc_str_bytes v.items
 abbrev pub row_of : rust_row.TableRow → Row
 row_of r = record { group = texts_of r.group.names; version = r.version; place = r.place; len = r.len }
 
+abbrev pub dropped_by : Option (Box rust_change.NotedChange Global) → List (RcStr Global)
+dropped_by None = []
+dropped_by (Some c) = c.value.dropped.items
+
+abbrev pub stored_by : Option (Box rust_change.NotedChange Global) → List rust_row.TableRow
+stored_by None = []
+stored_by (Some c) = c.value.stored.items
+
+abbrev pub dropped_in : rust_noted.Noted → List (RcStr Global)
+dropped_in n = dropped_by n.change
+
+abbrev pub stored_in : rust_noted.Noted → List rust_row.TableRow
+stored_in n = stored_by n.change
+
 abbrev pub note : rust_noted.Noted → Noted
-note n = record { dropped = texts_of n.dropped; stored = map row_of n.stored.items }
+note n = record { dropped = map rc_str_bytes (dropped_in n); stored = map row_of (stored_in n) }
 
 -- in byte order, each once
 abbrev pub Rises : List (List ℕ) → Type 0
@@ -183,12 +202,34 @@ CountsRows os ns counts =
     (g : Graph) (cs : List Change) (place : ℕ) → parents_of os ≡ parents_of (outlines g.commits) → ns ≡ noted_in cs → AreChanges g cs place
     → (c : ℕ) → c < length ns → IfSome (get_or counts c None) (λ n. n ≡ length (table_at g (change_of cs) c))
 
+-- ---- lines
+
+-- with this line
+abbrev pub with_line : List ℕ → Outline → Outline
+with_line line o = record { parent = o.parent; profile = o.profile; cells = o.cells; line = line }
+
+-- each with its line
+abbrev pub with_lines : List (List ℕ) → List Outline → List Outline
+with_lines lines [] = []
+with_lines [] (o ∷ os) = with_line [] o ∷ with_lines [] os
+with_lines (l ∷ lines) (o ∷ os) = with_line l o ∷ with_lines lines os
+
+-- what is kept, where the commits have these lines
+abbrev pub told : List (List ℕ) → Kept → Kept
+told lines kept = record { commits = with_lines lines kept.commits; branches = kept.branches; head = kept.head; records = kept.records; noted = kept.noted }
+
+-- Each of so many commits has a line, and the root's is empty.
+pub record HaveLines (lines : rust_buffer.LineBuffer) (commits : ℕ) : Type 0 where
+  pub cut : IsCut lines
+  pub each : length lines.ends.items ≡ commits
+  pub root_is : get_or (lines_in lines) 0 [] ≡ []
+
 -- ---- the fields of the program's graph
 
 abbrev pub count_of : rust_noted.Noted → Option ℕ
 count_of n = n.rows
 
--- what they keep
+-- what they keep but for the lines
 abbrev pub kept_in : List rust.Commit → List (RcStr Global × ℕ) → rust_target.Target → ℕ → List rust_noted.Noted → Kept
 kept_in commits branches head records noted = record { commits = map outline commits; branches = branches_of branches; head = target_of head; records = records; noted = map note noted }
 

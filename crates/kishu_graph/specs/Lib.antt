@@ -1,3 +1,4 @@
+pub mod Buffers
 pub mod Kept
 pub mod Tables
 pub mod Refusals

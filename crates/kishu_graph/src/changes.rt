@@ -31,12 +31,12 @@ impl Graph {
         &mut self,
         profile: Profile,
         cells: u32,
-        line: RcStr,
+        line: &str,
     ) -> Result<u32, GraphFault>
         ensures number { IfOk result (λ c. Answers self.old (λ g. suc (newest g)) c) }
-        ensures added { OnOk result (self.new.commits ≡ with_newest profile cells line self.old) }
+        ensures added { OnOk result (self.new.commits ≡ with_newest profile cells line.now self.old) }
         ensures shape { OnOk result (ShapesCommit profile self.old self.new) }
-        ensures stands { IfOk result (λ c. StandsForCommit profile cells line self.old self.new) }
+        ensures stands { IfOk result (λ c. StandsForCommit profile cells line.now self.old self.new) }
         ensures noted { OnOk result (self.new.noted ≡ self.old.noted ++ (noted_of no_change ∷ [])) }
         ensures room { OnOk result (self.old.records < most_records) }
         ensures full { IsErrOf result StoreFull ↔ (self.old.records ≡ most_records) }
@@ -51,10 +51,12 @@ impl Graph {
             parent: self.head.commit,
             cells,
             profile,
-            line,
         };
-        let bare = Noted::bare(self.alloc, self.noted[self.head.commit as usize].rows);
+        let bare = Noted::bare(self.noted[self.head.commit as usize].rows);
         let Ok(()) = make_room(&mut self.commits, &mut self.noted) else {
+            return Err(GraphFault::NoMemory);
+        };
+        let Ok(()) = self.lines.reserve(line) else {
             return Err(GraphFault::NoMemory);
         };
         let Ok(()) = branches::move_along(&mut self.branches, &self.head.branch, number) else {
@@ -62,6 +64,7 @@ impl Graph {
         };
         push_in_room(&mut self.commits, commit);
         push_in_room(&mut self.noted, bare);
+        self.lines.add(line);
         self.head_rows.go_on(self.head.commit, number);
         self.head.commit = number;
         self.records += 1;

@@ -7,15 +7,13 @@ ghost use Rattle.kishu_graph.specs.Kept.{outline, HaveParents};
 use crate::tables::Noted;
 use kishu_language::Profile;
 use std::alloc::{AllocError, Global};
-use std::rc::RcStr;
 
-/// What is kept of a commit: its cells' texts are in the store's file alone.
+/// What is kept of a commit beside its line: its cells' texts are in the store's file alone.
 #[derive(Drop)]
 pub(crate) struct Commit {
     pub(crate) parent: u32,
     pub(crate) cells: u32,
     pub(crate) profile: Profile,
-    pub(crate) line: RcStr,
 }
 
 /// Makes room for one commit more, and for what is noted of it.

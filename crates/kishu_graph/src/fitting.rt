@@ -6,7 +6,7 @@ ghost use Rattle.kishu_store.specs.Groups.{AreGroups, AreStored, is_group};
 ghost use Rattle.kishu_store.specs.Limits.{most_pictured};
 ghost use Rattle.kishu_store.specs.Tables.{are_apart, names_in};
 ghost use Rattle.kishu_graph.specs.Fits.{AddsNames, StaysOf, TellsFit, TellsFitWith, bytes_of, is_next, lengths_in, names_at, names_of, rows_of};
-ghost use Rattle.kishu_graph.specs.Kept.{texts_of};
+ghost use Rattle.kishu_graph.specs.Kept.{texts_of, stored_in};
 ghost use Rattle.kishu_graph.specs.Tables.{stored_of, table_of_rows, FitsHead, FailsHead};
 
 use crate::Graph;
@@ -89,10 +89,10 @@ fn fits_rows(
 /// Whether a commit is known to have stored all rows of its table itself, and these are all their
 /// groups: nothing is left of the table where they are dropped.
 fn drops_all(noted: &Noted, dropped: &[Vec<RcStr>]) -> bool
-    ensures own { result ≡ true → noted.now.rows ≡ Some (length noted.now.stored.items) }
-    ensures all { result ≡ true → map names_at noted.now.stored.items ≡ map texts_of dropped.now }
+    ensures own { result ≡ true → noted.now.rows ≡ Some (length (stored_in noted.now)) }
+    ensures all { result ≡ true → map names_at (stored_in noted.now) ≡ map texts_of dropped.now }
 {
-    are_all(noted, noted.stored.len()) && have_groups(&noted.stored, dropped)
+    are_all(noted, noted.stored().len()) && have_groups(noted.stored(), dropped)
 }
 
 /// Whether rows have just these groups, in this order.

@@ -1,7 +1,6 @@
 // A graph, and what is read of it.
 ghost use Rattle.std.specs.Prelude.{◌≡◌, ◌<◌, ◌≤◌, suc, [], IsTrue, IfOk, IfSome, MatchOption, Some, None, length, get_or, map, option_map};
 ghost use Rattle.std.specs.List.{list_all};
-ghost use Rattle.std.specs.Rc.{rc_str_bytes};
 ghost use Rattle.kishu_store.specs.Graph.{new_graph, newest};
 ghost use Rattle.kishu_store.specs.Limits.{most_records};
 ghost use Rattle.kishu_language.specs.tokens.Names.{is_digit};
@@ -12,6 +11,7 @@ ghost use Rattle.kishu_graph.specs.Kept.{HasShapeOf, StandsFor, TellsChanges, Is
 ghost use Rattle.kishu_graph.specs.Refusals.{start_of};
 
 use crate::branches;
+use crate::buffer::LineBuffer;
 use crate::commits::{Commit, path_to};
 use crate::heads::HeadRows;
 use crate::references::{is_decimal, number_of};
@@ -29,6 +29,8 @@ pub struct Graph {
     pub(crate) alloc: Global,
     /// By their numbers, the root first.
     pub(crate) commits: Vec<Commit>,
+    /// By the numbers of the commits.
+    pub(crate) lines: LineBuffer,
     pub(crate) branches: BTreeMap<RcStr, u32>,
     pub(crate) head: Target,
     pub(crate) records: u32,
@@ -43,14 +45,16 @@ pub struct Graph {
 
 impl Model for Graph {
     ghost use Rattle.kishu_graph.specs.Heads.{AreAllKept};
-    ghost use Rattle.kishu_graph.specs.Kept.{Kept, kept_in};
+    ghost use Rattle.kishu_graph.specs.Buffers.{lines_in};
+    ghost use Rattle.kishu_graph.specs.Kept.{Kept, kept_in, told};
 
     ghost Value = { Kept };
 
-    ghost view = { λ g. kept_in g.commits.items g.branches.entries g.head g.records g.noted.items };
+    ghost view = { λ g.
+        told (lines_in g.lines) (kept_in g.commits.items g.branches.entries g.head g.records g.noted.items) };
 
     ghost invariant = { λ g.
-        AreAllKept g.commits.items g.branches.entries g.head g.records g.noted.items g.head_rows };
+        AreAllKept g.commits.items g.lines g.branches.entries g.head g.records g.noted.items g.head_rows };
 }
 
 impl Graph {
@@ -64,16 +68,17 @@ impl Graph {
             parent: 0,
             cells: 0,
             profile: Profile::One,
-            line: RcStr::from_str(alloc, "")?,
         })?;
+        let lines = LineBuffer::of_root(alloc)?;
         let mut noted = Vec::new(alloc);
-        noted.push(Noted::bare(alloc, Some(0)))?;
+        noted.push(Noted::bare(Some(0)))?;
         let main = RcStr::from_str(alloc, "main")?;
         let mut branches = BTreeMap::new(alloc);
         branches::put(&mut branches, main.clone()?, 0)?;
         Ok(Graph {
             alloc,
             commits,
+            lines,
             branches,
             head: Target {
                 commit: 0,
@@ -132,12 +137,12 @@ impl Graph {
     }
 
     /// The line by which a commit is told. The commit is there.
-    pub fn line(&self, commit: u32) -> &RcStr
+    pub fn line(&self, commit: u32) -> &str
         requires { commit < length self.now.commits }
-        ensures kept { rc_str_bytes result.now ≡ (get_or self.now.commits commit root).line }
-        ensures told { Tells self.now (λ o. o.line) commit (rc_str_bytes result.now) }
+        ensures kept { result.now ≡ (get_or self.now.commits commit root).line }
+        ensures told { Tells self.now (λ o. o.line) commit result.now }
     {
-        &self.commits[commit as usize].line
+        self.lines.line(commit as usize)
     }
 
     /// Where the head stands.

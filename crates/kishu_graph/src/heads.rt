@@ -85,8 +85,8 @@ impl HeadRows {
         ensures stand { OnOk result (StandAtFirst self.new.rows.entries) }
         ensures changes { OnOk result (Changes (note noted.now) self.old self.new) }
     {
-        self.leave_out(&noted.dropped);
-        self.store(&noted.stored)
+        self.leave_out(noted.dropped());
+        self.store(noted.stored())
     }
 
     /// Puts rows among the others. An error says that no memory is left; nothing is said of the rows then.

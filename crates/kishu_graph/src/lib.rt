@@ -8,6 +8,7 @@
 #![tactic(auto)]
 
 mod branches;
+mod buffer;
 mod changes;
 mod commits;
 mod fault;
@@ -26,5 +27,5 @@ mod walking;
 pub use fault::GraphFault;
 pub use graph::Graph;
 pub use kishu_store::Target;
-pub use lines::{line_of, shared_line_of};
+pub use lines::line_of;
 pub use tables::{Changed, Group, Table, TableRow};

@@ -1,14 +1,10 @@
 // The line by which a commit is told.
-ghost use Rattle.std.specs.Prelude.{◌≡◌, ◌||◌, ◌==◌, IfOk, take};
-ghost use Rattle.std.specs.Rc.{rc_str_bytes};
+ghost use Rattle.std.specs.Prelude.{◌≡◌, ◌||◌, ◌==◌, take};
 ghost use Rattle.std.specs.Str.{IsCharBoundary};
 ghost use Rattle.kishu_language.specs.tokens.Lines.{line_feed};
 ghost use Rattle.kishu_language.specs.tokens.PlainLines.{carriage_return};
 ghost use Rattle.kishu_store.specs.CommitLines.{goes_on};
 ghost use Rattle.kishu_graph.specs.Facts.{line_of_text};
-
-use std::alloc::{AllocError, Global};
-use std::rc::RcStr;
 
 /// The most characters that a line has.
 const LONGEST_LINE: usize = 60;
@@ -48,22 +44,10 @@ fn line_length(text: &[u8]) -> usize
 }
 
 /// The line of a commit whose first cell is this text: up to its first line feed or carriage return, cut
-/// to 60 characters. An error says that no memory is left.
-pub fn line_of(alloc: Global, text: &str) -> Result<RcStr, AllocError>
-    ensures { IfOk result (λ line. rc_str_bytes line ≡ line_of_text text.now) }
+/// to 60 characters.
+pub fn line_of(text: &str) -> &str
+    ensures { result.now ≡ line_of_text text.now }
 {
     let (line, _) = text.split_at(line_length(text.as_bytes()));
-    RcStr::from_str(alloc, line)
-}
-
-/// The line of a commit whose first cell is this text, as `line_of` gives it. Where the text is its own
-/// line, the two are shared. An error says that no memory is left.
-pub fn shared_line_of(alloc: Global, text: &RcStr) -> Result<RcStr, AllocError>
-    ensures { IfOk result (λ line. rc_str_bytes line ≡ line_of_text (rc_str_bytes text.now)) }
-{
-    let bytes = text.as_str().as_bytes();
-    if line_length(bytes) == bytes.len() {
-        return Ok(text.clone()?);
-    }
-    line_of(alloc, text.as_str())
+    line
 }

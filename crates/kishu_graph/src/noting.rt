@@ -9,7 +9,7 @@ ghost use Rattle.kishu_graph.specs.Tables.{change_with, CountsAfter, FitsParent,
 use crate::Graph;
 use crate::heads::take_rows;
 use crate::order::names_rise;
-use crate::tables::{Group, Noted, TableRow};
+use crate::tables::{Group, Noted, NotedChange, TableRow};
 use std::alloc::{AllocError, Global};
 use std::collections::BTreeSet;
 use std::rc::RcStr;
@@ -68,9 +68,9 @@ fn noted_of(
     let dropped = first_names(alloc, texts, dropped)?;
     let rows = rows_after(rows, &dropped, stored.len());
     let stored = shared_rows(alloc, texts, stored)?;
+    let change = Box::new(alloc, NotedChange { dropped, stored })?;
     Ok(Noted {
-        dropped,
-        stored,
+        change: Some(change),
         rows,
     })
 }

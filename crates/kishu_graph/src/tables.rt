@@ -1,7 +1,7 @@
 // Tables of commits, and what is kept of them.
 ghost use Rattle.std.specs.Prelude.{◌≡◌, []};
 ghost use Rattle.kishu_store.specs.Tables.{no_change};
-ghost use Rattle.kishu_graph.specs.Kept.{noted_of, note};
+ghost use Rattle.kishu_graph.specs.Kept.{noted_of, note, dropped_in, stored_in};
 
 use std::alloc::Global;
 use std::rc::RcStr;
@@ -52,23 +52,46 @@ impl Changed {
 /// What is kept of what a commit changes of its parent's table.
 #[derive(Drop)]
 pub(crate) struct Noted {
-    /// The first names of the groups that it drops.
-    pub(crate) dropped: Vec<RcStr>,
-    pub(crate) stored: Vec<TableRow>,
+    /// There is none where nothing changes: most commits take no more memory than this then.
+    pub(crate) change: Option<Box<NotedChange>>,
     /// How many rows its table has, where 32 bits count them.
     pub(crate) rows: Option<u32>,
 }
 
+/// What a commit drops and stores.
+#[derive(Drop)]
+pub(crate) struct NotedChange {
+    /// The first names of the groups that it drops.
+    pub(crate) dropped: Vec<RcStr>,
+    pub(crate) stored: Vec<TableRow>,
+}
+
 impl Noted {
     /// Of a commit that changes nothing, whose table has so many rows.
-    pub(crate) fn bare(alloc: Global, rows: Option<u32>) -> Noted
+    pub(crate) fn bare(rows: Option<u32>) -> Noted
         ensures note { note result ≡ noted_of no_change }
         ensures rows { result.rows ≡ rows }
     {
-        Noted {
-            dropped: Vec::new(alloc),
-            stored: Vec::new(alloc),
-            rows,
+        Noted { change: None, rows }
+    }
+
+    /// The first names of the groups that the commit drops.
+    pub(crate) fn dropped(&self) -> &[RcStr]
+        ensures { result.now ≡ dropped_in self.now }
+    {
+        match &self.change {
+            Some(change) => &change.dropped,
+            None => &[],
+        }
+    }
+
+    /// The rows that the commit stores.
+    pub(crate) fn stored(&self) -> &[TableRow]
+        ensures { result.now ≡ stored_in self.now }
+    {
+        match &self.change {
+            Some(change) => &change.stored,
+            None => &[],
         }
     }
 }

@@ -30,8 +30,8 @@ impl Graph {
         let noted = &self.noted[commit as usize];
         let before = rows_to(self.alloc, &self.commits, &self.noted, parent)?;
         Ok(Changed {
-            dropped: groups_at(self.alloc, &before, &noted.dropped)?,
-            stored: groups_of(self.alloc, &noted.stored)?,
+            dropped: groups_at(self.alloc, &before, noted.dropped())?,
+            stored: groups_of(self.alloc, noted.stored())?,
         })
     }
 }

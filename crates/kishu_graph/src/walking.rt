@@ -52,8 +52,8 @@ pub(crate) fn rows_to(
         if are_all(&noted[commit as usize], found.len()) {
             return Ok(found);
         }
-        find_rows(alloc, &mut found, &gone, &noted[at as usize].stored)?;
-        put_names(&mut gone, &noted[at as usize].dropped)?;
+        find_rows(alloc, &mut found, &gone, noted[at as usize].stored())?;
+        put_names(&mut gone, noted[at as usize].dropped())?;
         at = commits[at as usize].parent;
     }
     Ok(found)

@@ -1,9 +1,8 @@
 // Graphs after some calls, and what they refuse.
-use kishu_graph::{Graph, GraphFault, line_of, shared_line_of};
+use kishu_graph::{Graph, GraphFault, line_of};
 use kishu_language::Profile;
 use std::alloc::{AllocError, Global};
 use std::fmt::Write;
-use std::rc::RcStr;
 use std::test::Fail;
 
 /// A call that changes a graph.
@@ -26,12 +25,9 @@ enum Change {
 type Step = (Change, Result<u32, GraphFault>);
 
 /// What a change answers.
-fn answer_to(alloc: Global, graph: &mut Graph, change: &Change) -> Result<u32, GraphFault> {
+fn answer_to(graph: &mut Graph, change: &Change) -> Result<u32, GraphFault> {
     match change {
-        Change::Commit(cells, line) => match RcStr::from_str(alloc, line) {
-            Ok(line) => graph.add_commit(Profile::One, *cells, line),
-            Err(AllocError) => Err(GraphFault::NoMemory),
-        },
+        Change::Commit(cells, line) => graph.add_commit(Profile::One, *cells, line),
         Change::Branch(name, at) => graph.add_branch(name, *at),
         Change::BranchAt(name, commit) => graph.add_branch_at(name, *commit),
         Change::Head(to) => graph.move_head(to),
@@ -41,11 +37,11 @@ fn answer_to(alloc: Global, graph: &mut Graph, change: &Change) -> Result<u32, G
 }
 
 /// The number of the first step, from 1, that answers something else, or 0.
-fn first_other(alloc: Global, graph: &mut Graph, steps: &[Step]) -> u32 {
+fn first_other(graph: &mut Graph, steps: &[Step]) -> u32 {
     let mut number = 0u32;
     for (made, want) in steps {
         number = number.wrapping_add(1);
-        if answer_to(alloc, graph, made) != *want {
+        if answer_to(graph, made) != *want {
             return number;
         }
     }
@@ -111,10 +107,7 @@ fn commits_and_branches(rt: HostRuntime) -> Result<(), Fail> {
     assert!(rt; is_told(alloc, &graph, "1 0 at 0 on main, main 0")?);
     for (step, want) in &STEPS {
         let (made, answer) = step;
-        assert!(rt;
-            answer_to(alloc, &mut graph, made) == *answer,
-            "before {want}"
-        );
+        assert!(rt; answer_to(&mut graph, made) == *answer, "before {want}");
         assert!(rt; is_told(alloc, &graph, want)?, "{want}");
     }
     Ok(())
@@ -127,7 +120,7 @@ fn commit_told(alloc: Global, graph: &Graph, commit: u32) -> Result<String, Allo
         return Ok(words);
     }
     let (parent, cells) = (graph.parent(commit), graph.cells(commit));
-    let (profile, line) = (graph.profile(commit), graph.line(commit).as_str());
+    let (profile, line) = (graph.profile(commit), graph.line(commit));
     write!(words, "{parent} {cells} {profile:?} {line}:")?;
     for on_path in &graph.path(commit)? {
         write!(words, " {on_path}")?;
@@ -149,7 +142,7 @@ fn is_commit_told(
 fn has_plain_root(graph: &Graph) -> bool {
     graph.commits() > 0
         && graph.cells(0) == 0
-        && graph.line(0).as_str() == ""
+        && graph.line(0) == ""
         && graph.profile(0) == Profile::One
 }
 
@@ -172,7 +165,7 @@ const TOLD: [(u32, &str); 3] = [
 fn tells_commits(rt: HostRuntime) -> Result<(), Fail> {
     let alloc = rt.alloc();
     let mut graph = Graph::new(alloc)?;
-    assert!(rt; first_other(alloc, &mut graph, &COMMITS) == 0);
+    assert!(rt; first_other(&mut graph, &COMMITS) == 0);
     for (commit, want) in &TOLD {
         assert!(rt; is_commit_told(alloc, &graph, *commit, want)?, "{commit}");
     }
@@ -223,7 +216,7 @@ const REFERENCES: [(&str, &str); 12] = [
 fn resolves_references(rt: HostRuntime) -> Result<(), Fail> {
     let alloc = rt.alloc();
     let mut graph = Graph::new(alloc)?;
-    assert!(rt; first_other(alloc, &mut graph, &REFERRED) == 0);
+    assert!(rt; first_other(&mut graph, &REFERRED) == 0);
     for (text, want) in &REFERENCES {
         assert!(rt; names(alloc, &graph, text, want)?, "{text}");
     }
@@ -278,7 +271,7 @@ const REFUSED: [Step; 19] = [
 fn refuses(rt: HostRuntime) -> Result<(), Fail> {
     let alloc = rt.alloc();
     let mut graph = Graph::new(alloc)?;
-    assert!(rt; first_other(alloc, &mut graph, &REFUSED) == 0);
+    assert!(rt; first_other(&mut graph, &REFUSED) == 0);
     assert!(rt; graph.records() == 5);
     Ok(())
 }
@@ -300,7 +293,7 @@ fn a_full_store_takes_no_record(rt: HostRuntime) -> Result<(), Fail> {
     for _ in 0..1_000_000 {
         assert!(rt; graph.move_head("0") == Ok(0));
     }
-    assert!(rt; first_other(alloc, &mut graph, &FULL) == 0);
+    assert!(rt; first_other(&mut graph, &FULL) == 0);
     assert!(rt; graph.records() == 1_000_000);
     assert!(rt; graph.commits() == 1);
     Ok(())
@@ -323,17 +316,10 @@ const LINES: [(&str, &str); 7] = [
     ),
 ];
 
-/// Whether this is the line of a cell, by both calls.
-fn has_line(alloc: Global, text: &str, want: &str) -> Result<bool, AllocError> {
-    let shared = RcStr::from_str(alloc, text)?;
-    Ok(line_of(alloc, text)?.as_str() == want && shared_line_of(alloc, &shared)?.as_str() == want)
-}
-
 #[test]
 fn lines_of_cells(rt: HostRuntime) -> Result<(), Fail> {
-    let alloc = rt.alloc();
     for (text, want) in &LINES {
-        assert!(rt; has_line(alloc, text, want)?, "{text}");
+        assert!(rt; line_of(text) == *want, "{text}");
     }
     Ok(())
 }

@@ -1,9 +1,9 @@
 use Rattle.std.proofs.Common.{◌≡◌, ◌<◌, ◌∙◌, [], length, map, ap, sym, subst, arith}
 use Rattle.std.proofs.lemmas.List.{length-map}
 use Rattle.std.specs.Rc.{rc_str_bytes}
-use Rattle.kishu_graph.specs.Kept.{row_of}
+use Rattle.kishu_graph.specs.Kept.{dropped_in, row_of, stored_in}
 use Rattle.kishu_graph.specs.Walks.{rows_in, StandAtFirst, all_texts}
-use Rattle.kishu_graph.proofs.Outlines.{parent-below}
+use Rattle.kishu_graph.proofs.Outlines.{parent-below, parent-there}
 use Rattle.kishu_graph.proofs.WayBack.{LeadTo, rows-counted, lead-first, lead-root, lead-all, lead-back}
 use Rattle.kishu_graph.proofs.walking.rows_to.Goals as goal
 
@@ -32,21 +32,20 @@ returns-then-are_all-clause-table c =
     lead-all commits noted (all_texts c.loop-at.gone.keys) c.loop-at.at commit found (λ g cs place p n k. counted g cs place p n k ∙ many) c.loop-at.invariant.lead
 
 pub loop-at-smaller : goal.loop-at-smaller
-loop-at-smaller c = parent-below c.args.commits.now c.loop-at.at c.index-commits-at.result c.requires.parents (omega arith) c.loop-at.invariant.there
+loop-at-smaller c = parent-below c.args.commits.now c.loop-at.at _ c.requires.parents (omega arith) c.loop-at.invariant.there
 
 pub loop-at-preserved : goal.loop-at-preserved
 loop-at-preserved c =
     let commits = c.args.commits.now in
     let noted = c.args.noted.now in
     let at = c.loop-at.at in
-    let below = parent-below commits at c.index-commits-at.result c.requires.parents (omega arith) c.loop-at.invariant.there in
     record {
-      there = omega (arith, below, c.loop-at.invariant.there);
+      there = parent-there commits at _ c.requires.parents (omega arith) c.loop-at.invariant.there;
       stand = c.in_ok-find_rows.ensures.stand;
       lead =
-          lead-back commits noted at c.args.commit c.index-commits-at.result c.index-noted-at.result c.index-noted-at-in-loop-at.result (map row_of c.deref.result.now) (map rc_str_bytes c.deref-in-loop-at.result.now)
+          lead-back commits noted at c.args.commit _ c.index-noted-at.result c.index-noted-at-in-loop-at.result (map row_of c.stored.result.now) (map rc_str_bytes c.dropped.result.now)
           c.requires.parents (omega arith) c.loop-at.invariant.there c.requires.noted
-          (ap (map row_of) c.deref.ensures.value) (ap (map rc_str_bytes) c.deref-in-loop-at.ensures.value)
+          (ap (map row_of) (c.stored.ensures ∙ ap stored_in c.index-noted-at.is)) (ap (map rc_str_bytes) (c.dropped.ensures ∙ ap dropped_in c.index-noted-at-in-loop-at.is))
           (all_texts c.loop-at.gone.keys) (all_texts c.put_names.new.among.keys) (rows_in c.loop-at.found.entries) (rows_in c.find_rows.new.found.entries)
           c.in_ok-find_rows.ensures.found c.in_ok-put_names.ensures c.loop-at.invariant.lead;
     }

@@ -2,11 +2,13 @@ use Rattle.std.proofs.Common.{◌≡◌, ◌<◌, ◌∙◌, ap, sym, subst, tru
 use Rattle.std.specs.Prelude.{IfSome}
 use Rattle.kishu_store.specs.Branches.{commit_of}
 use Rattle.kishu_store.specs.References.{is_decimal, number_from}
-use Rattle.kishu_graph.specs.Kept.{Kept, outline, branches_of}
+use Rattle.kishu_graph.specs.Kept.{Kept, AreBelow, outline, branches_of, with_lines}
 use Rattle.kishu_graph.specs.Refusals.{at_commit}
 use Rattle.kishu_graph.proofs.Changing.{there-is, resolves-number}
 use Rattle.kishu_graph.proofs.Soundness.{finds_below}
 use Rattle.kishu_graph.proofs.Targets.{number-below, target-below, ok-below}
+use Rattle.kishu_graph.specs.Buffers.{lines_in}
+use Rattle.kishu_graph.proofs.LinesKept.{length-told}
 use Rattle.kishu_graph.proofs.graph.Graph.resolve.Goals as goal
 
 pub returns-then-is_decimal-clause-value : goal.returns-then-is_decimal-clause-value
@@ -30,6 +32,9 @@ pub returns-clause-there : goal.returns-clause-there
 returns-clause-there c =
     let to = c.args.to.now in
     let branches = branches_of c.self.inside.branches.entries in
-    let found = finds_below (length (map outline c.self.inside.commits.items)) to branches c.self.invariant.0.0.branches in
+    let lines = lines_in c.self.inside.lines in
+    let os = map outline c.self.inside.commits.items in
+    let below = subst (λ (n : ℕ). AreBelow n branches) (sym (length-told lines os)) c.self.invariant.0.0.branches in
+    let found = finds_below (length (with_lines lines os)) to branches below in
     let there = subst (λ (k : Kept). IfSome (commit_of to branches) (λ x. x < length k.commits)) c.self.view_is found in
     ok-below (length c.args.self.now.commits) (Some to) c.target_of.result (commit_of to branches) c.target_of.ensures there
