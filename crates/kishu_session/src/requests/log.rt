@@ -9,9 +9,10 @@ use crate::prepared::Prepared;
 use kishu_graph::Graph;
 use kishu_model::{Answer, PathRow};
 use std::alloc::{AllocError, Global};
+use std::rc::RcStr;
 
 /// The row of a commit that isn't the root.
-fn row(graph: &Graph, commit: u32) -> Result<PathRow, AllocError>
+fn row(alloc: Global, graph: &Graph, commit: u32) -> Result<PathRow, AllocError>
     requires there { commit < length graph.now.commits }
     requires not_root { 0 < commit }
     ensures row { IfOk result (IsRowOf graph.now commit) }
@@ -20,7 +21,7 @@ fn row(graph: &Graph, commit: u32) -> Result<PathRow, AllocError>
     Ok(PathRow {
         cells: graph.cells(commit),
         commit,
-        line: graph.line(commit).clone()?,
+        line: RcStr::from_str(alloc, graph.line(commit))?,
         parent: graph.parent(commit),
     })
 }
@@ -32,7 +33,7 @@ fn rows(alloc: Global, graph: &Graph) -> Result<Vec<PathRow>, AllocError>
     let mut rows = Vec::new(alloc);
     let mut commit = graph.head().commit;
     while commit != 0 {
-        let row = row(graph, commit)?;
+        let row = row(alloc, graph, commit)?;
         commit = row.parent;
         rows.push(row)?;
     }
