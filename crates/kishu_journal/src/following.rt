@@ -9,7 +9,7 @@ ghost use Rattle.kishu_journal.specs.Following.{GoOn, TakesCommit, TakesChange, 
 
 use crate::Entry;
 use crate::rows::rows_of;
-use kishu_graph::{Graph, GraphFault, TableRow, shared_line_of};
+use kishu_graph::{Graph, GraphFault, TableRow, line_of};
 use kishu_language::Profile;
 use kishu_record::MoveTo;
 use std::alloc::{AllocError, Global};
@@ -29,7 +29,6 @@ fn is_made(change: Result<u32, GraphFault>) -> Result<bool, AllocError>
 
 /// Adds a commit of these cells to the head's, if there is room for a record. Nothing is noted of it.
 fn add_commit(
-    alloc: Global,
     graph: &mut Graph,
     profile: Profile,
     cells: &[RcStr],
@@ -41,14 +40,13 @@ fn add_commit(
     ensures refused { result ≡ Ok false → IsFull graph.old }
     ensures stays { result ≡ Ok false → graph.new ≡ graph.old }
 {
-    let line = shared_line_of(alloc, &cells[0])?;
+    let line = line_of(cells[0].as_str());
     is_made(graph.add_commit(profile, cells.len() as u32, line))
 }
 
 /// Adds a commit of these cells to the head's, if there is room for a record, and notes the groups that it
 /// drops and the rows that it stores, which fit the head's table. Its number is that of the commits so far.
 fn add_with_groups(
-    alloc: Global,
     graph: &mut Graph,
     profile: Profile,
     cells: &[RcStr],
@@ -64,7 +62,7 @@ fn add_with_groups(
     ensures stays { result ≡ Ok false → graph.new ≡ graph.old }
 {
     let number = graph.commits();
-    if !add_commit(alloc, graph, profile, cells)? {
+    if !add_commit(graph, profile, cells)? {
         return Ok(false);
     }
     graph.note_groups(number, dropped, rows)?;
@@ -100,7 +98,7 @@ pub fn follow(
                 return Ok(false);
             }
             let rows = rows_of(alloc, graph.commits(), body, entry)?;
-            add_with_groups(alloc, graph, *profile, cells, dropped, &rows)
+            add_with_groups(graph, *profile, cells, dropped, &rows)
         }
         Entry::Move { to } => match to {
             MoveTo::Commit(number) => is_made(graph.move_to_commit(*number)),
