@@ -28,11 +28,7 @@ fn is_made(change: Result<u32, GraphFault>) -> Result<bool, AllocError>
 }
 
 /// Adds a commit of these cells to the head's, if there is room for a record. Nothing is noted of it.
-fn add_commit(
-    graph: &mut Graph,
-    profile: Profile,
-    cells: &[RcStr],
-) -> Result<bool, AllocError>
+fn add_commit(graph: &mut Graph, profile: Profile, cells: &[RcStr]) -> Result<bool, AllocError>
     requires some { 0 < length cells.now }
     requires few { length cells.now < 2 ^ 32 }
     ensures made { result ≡ Ok true → TakesCommit graph.old profile (map rc_str_bytes cells.now) graph.new }

@@ -59,6 +59,29 @@ short_at of bytes [] i d small h = absurd (omega arith)
 short_at of bytes (r ∷ items) zero d small h = omega (arith, h, length-append (bytes (of r)) (flat_map bytes (map of items)))
 short_at of bytes (r ∷ items) (suc i) d small h = short_at of bytes items i d (omega (arith, small)) (omega (arith, h, length-append (bytes (of r)) (flat_map bytes (map of items))))
 
+-- Items behind their number.
+module _ {A : Type 0} (bytes : A → List ℕ) (fits : A → Type 0) (cuts : Cuts bytes fits) (full : (a : A) → 0 < length (bytes a)) where
+  -- as many items follow as are told
+  pub counts_told : (P : List A → Type 0) (n : ℕ) (list x : List ℕ) → length list < 2 ^ 32 → n < 2 ^ 32 → list ≡ four n ++ x → (b : Begins (many bytes) P list) → (n ≡ length b.item) × (x ≡ flat_map bytes b.item ++ b.rest)
+  counts_told P n list x short small e b =
+      let many_short : length (flat_map bytes b.item) < 2 ^ 32 = omega (arith, short, ap length b.is, length-append (many bytes b.item) b.rest) in
+      four-unique n (length b.item) x (flat_map bytes b.item ++ b.rest) small (omega (arith, many_short, items-long bytes fits cuts full b.item)) (sym e ∙ b.is ∙ append_assoc (four (length b.item)) (flat_map bytes b.item) b.rest)
+
+  -- where fewer were read and none follows, no such list stands there
+  pub none_behind : (read : List A) (n : ℕ) (list x y : List ℕ) → length list < 2 ^ 32 → n < 2 ^ 32 → list ≡ four n ++ x → x ≡ flat_map bytes read ++ y → length read < n → AllByRecursion fits read
+      → (Begins bytes fits y → ⊥) → Begins (many bytes) (AllByRecursion fits) list → ⊥
+  none_behind read n list x y short small e f fewer h none b =
+      let many_short : length (flat_map bytes b.item) < 2 ^ 32 = omega (arith, short, ap length b.is, length-append (many bytes b.item) b.rest) in
+      let counts = counts_told (AllByRecursion fits) n list x short small e b in
+      let read_short : length (flat_map bytes read) < 2 ^ 32 = omega (arith, short, ap length e, length-append (four n) x, ap length f, length-append (flat_map bytes read) y) in
+      let next = items-follow bytes fits cuts read b.item y b.rest (omega (arith, counts.0, fewer)) h b.is_fit read_short many_short (sym f ∙ counts.1) in
+      none (record { item = next.0; rest = next.1; is_fit = next.2; is = next.3 })
+
+-- as many as were told
+pub all_told : {A : Type 0} (bytes : A → List ℕ) (read : List A) (n : ℕ) (list x y : List ℕ) → length read ≡ n → list ≡ four n ++ x → x ≡ flat_map bytes read ++ y → list ≡ many bytes read ++ y
+all_told bytes read n list x y size e f =
+    e ∙ ap (λ (l : List ℕ). four n ++ l) f ∙ ap (λ (k : ℕ). four k ++ (flat_map bytes read ++ y)) (sym size) ∙ sym (append_assoc (four (length read)) (flat_map bytes read) y)
+
 -- Items of the program, each of which spells one of the list.
 module _ {R A : Type 0} (of : R → A) (bytes : A → List ℕ) (fits : A → Type 0) where
   -- one item more
@@ -78,9 +101,7 @@ module _ {R A : Type 0} (of : R → A) (bytes : A → List ℕ) (fits : A → Ty
 
   -- as many as were told
   pub all_read : (items : List R) (n : ℕ) (list x y : List ℕ) → length items ≡ n → list ≡ four n ++ x → x ≡ flat_map bytes (map of items) ++ y → list ≡ many bytes (map of items) ++ y
-  all_read items n list x y size e f =
-      let count : length (map of items) ≡ n = length-map items of ∙ size in
-      e ∙ ap (λ (l : List ℕ). four n ++ l) f ∙ ap (λ (k : ℕ). four k ++ (flat_map bytes (map of items) ++ y)) (sym count) ∙ sym (append_assoc (four (length (map of items))) (flat_map bytes (map of items)) y)
+  all_read items n list x y size e f = all_told bytes (map of items) n list x y (length-map items of ∙ size) e f
 
   -- the same, where they are written
   pub all_put : (items : List R) (old start now : List ℕ) → start ≡ old ++ four (length items) → now ≡ start ++ flat_map (λ r. bytes (of r)) items → now ≡ old ++ many bytes (map of items)
@@ -92,13 +113,7 @@ module _ {R A : Type 0} (of : R → A) (bytes : A → List ℕ) (fits : A → Ty
   module _ (cuts : Cuts bytes fits) (full : (a : A) → 0 < length (bytes a)) where
     pub none_follows : (items : List R) (n : ℕ) (list x y : List ℕ) → length list < 2 ^ 32 → n < 2 ^ 32 → list ≡ four n ++ x → x ≡ flat_map bytes (map of items) ++ y → length items < n → AllByRecursion fits (map of items)
         → (Begins bytes fits y → ⊥) → Begins (many bytes) (AllByRecursion fits) list → ⊥
-    none_follows items n list x y short small e f fewer h none b =
-        let whole = length-append (many bytes b.item) b.rest in
-        let many_short : length (flat_map bytes b.item) < 2 ^ 32 = omega (arith, short, ap length b.is, whole) in
-        let counts = four-unique n (length b.item) x (flat_map bytes b.item ++ b.rest) small (omega (arith, many_short, items-long bytes fits cuts full b.item)) (sym e ∙ b.is ∙ append_assoc (four (length b.item)) (flat_map bytes b.item) b.rest) in
-        let read_short : length (flat_map bytes (map of items)) < 2 ^ 32 = omega (arith, short, ap length e, length-append (four n) x, ap length f, length-append (flat_map bytes (map of items)) y) in
-        let next = items-follow bytes fits cuts (map of items) b.item y b.rest (omega (arith, length-map items of, counts.0, fewer)) h b.is_fit read_short many_short (sym f ∙ counts.1) in
-        none (record { item = next.0; rest = next.1; is_fit = next.2; is = next.3 })
+    none_follows items n list x y short small e f fewer h none b = none_behind bytes fits cuts full (map of items) n list x y short small e f (omega (arith, fewer, length-map items of)) h none b
 
     -- there are fewer than 2^32, where their bytes are fewer
     pub few_items : (items : List R) → length (many bytes (map of items)) < 2 ^ 32 → length items < 2 ^ 32

@@ -53,10 +53,6 @@ record_of e pictures = record { entry = entry_of e; pictures = map (λ p. p.item
 
 -- ---- bytes
 
--- a cell's text behind its length
-abbrev pub cell_bytes : RcStr Global → List ℕ
-cell_bytes t = text_bytes (rc_str_bytes t)
-
 -- cells' texts behind their number
 abbrev pub cell_list_bytes : Vec (RcStr Global) Global → List ℕ
 cell_list_bytes v = many text_bytes (texts_of v)

@@ -1,3 +1,4 @@
 pub mod Entries
 pub mod Readings
 pub mod Took
+pub mod Commits

@@ -1,12 +1,12 @@
 -- What bytes begin with.
-use Rattle.std.specs.Prelude.{◌≡◌, ℕ, List, ◌++◌, ◌∷◌}
+use Rattle.std.specs.Prelude.{◌≡◌, ◌<◌, ℕ, List, ◌++◌, ◌∷◌, length}
 use Rattle.std.specs.List.{AllByRecursion, sum}
 use Rattle.kishu_bytes.specs.Numbers.{profile_number}
 use Rattle.kishu_store.specs.Entries.{Entry, lengths_in}
 use Rattle.kishu_store.specs.EntryBytes.{head_of, many, group_bytes, stored_bytes}
 use Rattle.kishu_store.specs.Groups.{IsGroup, IsStored}
 use Rattle.kishu_store.specs.Limits.{newest_profile}
-use Rattle.kishu_store.specs.Rules.{IsEntry}
+use Rattle.kishu_store.specs.Rules.{AreCells, IsEntry}
 
 -- They begin with such a thing.
 pub record Begins {A : Type 0} (bytes : A → List ℕ) (fits : A → Type 0) (list : List ℕ) : Type 0 where
@@ -14,6 +14,11 @@ pub record Begins {A : Type 0} (bytes : A → List ℕ) (fits : A → Type 0) (l
   pub rest : List ℕ
   pub is_fit : fits item
   pub is : list ≡ bytes item ++ rest
+
+-- cells of a commit, which has one at least
+pub record AreSome (texts : List (List ℕ)) : Type 0 where
+  pub some : 0 < length texts
+  pub each : AreCells texts
 
 -- They are the head of this entry, whose pictures take so many bytes.
 pub record IsHead (head : List ℕ) (pictures : ℕ) (e : Entry) : Type 0 where

@@ -3,9 +3,9 @@ ghost use Rattle.std.specs.Rc.{rc_str_bytes};
 ghost use Rattle.kishu_bytes.specs.Numbers.{four};
 ghost use Rattle.kishu_store.specs.EntryBytes.{eight, text_bytes, name_bytes, many};
 ghost use Rattle.kishu_store.specs.Rules.{IsCell, AreCells, IsTitle};
-ghost use Rattle.kishu_record.specs.Entries.{texts_of, cell_bytes, cell_list_bytes, title_bytes};
-ghost use Rattle.kishu_record.specs.Readings.{Begins};
-ghost use Rattle.kishu_record.specs.Took.{Took};
+ghost use Rattle.kishu_record.specs.Entries.{texts_of, cell_list_bytes, title_bytes};
+ghost use Rattle.kishu_record.specs.Readings.{AreSome, Begins};
+ghost use Rattle.kishu_record.specs.Took.{Took, TookCells};
 
 use kishu_language::LONGEST_TEXT;
 use simdutf8::basic::from_utf8;
@@ -16,6 +16,13 @@ use std::rc::RcStr;
 #[derive(Drop)]
 pub(crate) struct Cursor<'a> {
     pub(crate) rest: &'a [u8],
+}
+
+/// Cells, one at least: how many there are, and the text of the first.
+#[derive(Clone, Copy)]
+pub(crate) struct Cells<'a> {
+    pub(crate) count: u32,
+    pub(crate) first: &'a str,
 }
 
 impl<'a> Cursor<'a> {
@@ -74,25 +81,20 @@ impl<'a> Cursor<'a> {
     }
 
     /// The next cell's text, or none where no such text follows.
-    fn text(&mut self, alloc: Global) -> Result<Option<RcStr>, AllocError>
-        ensures found { IfOk result (λ o. IfSome o (λ t. Took self.old (cell_bytes t) self.new)) }
-        ensures fits { IfOk result (λ o. IfSome o (λ t. IsCell (rc_str_bytes t))) }
-        ensures none { result ≡ Ok None → Begins text_bytes IsCell self.old.rest.now → ⊥ }
+    fn text(&mut self) -> Option<&'a str>
+        ensures found { IfSome result (λ t. self.old.rest.now ≡ text_bytes t.now ++ self.new.rest.now) }
+        ensures fits { IfSome result (λ t. IsCell t.now) }
+        ensures none { result ≡ None → Begins text_bytes IsCell self.old.rest.now → ⊥ }
     {
-        let Some(length) = self.number() else {
-            return Ok(None);
-        };
-        let length = length as usize;
+        let length = self.number()? as usize;
         if length > LONGEST_TEXT {
-            return Ok(None);
+            return None;
         }
-        let Some(bytes) = self.bytes(length) else {
-            return Ok(None);
-        };
+        let bytes = self.bytes(length)?;
         let Ok(text) = from_utf8(bytes) else {
-            return Ok(None);
+            return None;
         };
-        Ok(Some(RcStr::from_str(alloc, text)?))
+        Some(text)
     }
 
     /// The texts of the next cells behind their number, or none where no such texts follow.
@@ -108,12 +110,30 @@ impl<'a> Cursor<'a> {
         // Most commits have one cell.
         let mut texts = Vec::with_capacity(alloc, 1)?;
         for _ in 0..count {
-            let Some(text) = self.text(alloc)? else {
+            let Some(text) = self.text() else {
                 return Ok(None);
             };
-            texts.push(text)?;
+            texts.push(RcStr::from_str(alloc, text)?)?;
         }
         Ok(Some(texts))
+    }
+
+    /// How many cells follow behind their number, of which one is there at least, and the text of the
+    /// first; or none where no such cells follow. The others' texts are read, and not kept.
+    pub(crate) fn cells(&mut self) -> Option<Cells<'a>>
+        requires { length self.old.rest.now < 2 ^ 32 }
+        ensures found { IfSome result (λ c. TookCells self.old c self.new) }
+        ensures none { result ≡ None → Begins (many text_bytes) AreSome self.old.rest.now → ⊥ }
+    {
+        let count = self.number()?;
+        if count == 0 {
+            return None;
+        }
+        let first = self.text()?;
+        for _ in 1..count {
+            self.text()?;
+        }
+        Some(Cells { count, first })
     }
 
     /// The next name of a branch, or none where no text of at most 255 bytes follows.

@@ -3,9 +3,11 @@
 //! A record's body is its head behind the head's length, and then the pictures of the groups that it
 //! stores. `encode` gives the body of an entry and its pictures, and `head_len` how long its head is.
 //! `decode` gives the entry that a head spells, or tells that no entry within the rules has that head
-//! and pictures of that length.
+//! and pictures of that length. `commit_in` reads the head of a commit where it stands, and takes no memory
+//! for the texts of its cells.
 #![tactic(auto)]
 
+mod commits;
 mod cursor;
 mod entry;
 mod groups;
@@ -15,6 +17,7 @@ mod parts;
 mod reader;
 mod writer;
 
+pub use commits::{CommitHead, commit_in};
 pub use entry::{Entry, EntryFault, MoveTo};
 pub use lengths::head_len;
 pub use reader::decode;

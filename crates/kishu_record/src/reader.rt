@@ -19,7 +19,7 @@ use std::alloc::{AllocError, Global};
 use std::rc::RcStr;
 
 /// The next byte's profile, or none where no cells run under it.
-fn profile(cursor: &mut Cursor) -> Option<Profile>
+pub(crate) fn profile(cursor: &mut Cursor) -> Option<Profile>
     ensures found { IfSome result (λ p. cursor.old.rest.now ≡ profile_number p ∷ cursor.new.rest.now) }
     ensures known { IfSome result (λ p. p ≡ newest_profile) }
     ensures none { result ≡ None → LacksProfile cursor.old.rest.now }
@@ -168,7 +168,7 @@ fn entry_in(alloc: Global, head: &[u8]) -> Result<Option<Entry>, AllocError>
 }
 
 /// Whether pictures of these lengths take so many bytes.
-fn take_in_all(stored: &[(Vec<RcStr>, u64)], pictures: u64) -> bool
+pub(crate) fn take_in_all(stored: &[(Vec<RcStr>, u64)], pictures: u64) -> bool
     ensures yes { result ≡ true → sum (map (λ s. s.1) stored.now) ≡ pictures }
     ensures no { result ≡ false → sum (map (λ s. s.1) stored.now) ≡ pictures → ⊥ }
 {
