@@ -43,6 +43,3 @@ records-below h (e ∷ es) all = omega (arith, length-append (framed (body_of e)
 -- No store is so long that its places aren't numbers of eight bytes.
 pub end-below : (es : List Record) → AreRecords new_history es → end_of es < 2 ^ 62
 end-below es all = omega (arith, length-append header (records es), length-header, records-below new_history es all, records-most es all)
-
-pub end-least : (es : List Record) → 16 ≤ end_of es
-end-least es = omega (arith, length-append header (records es), length-header)

@@ -2,6 +2,7 @@
 use Rattle.std.proofs.Common.{◌≡◌, ◌≢◌, ◌<◌, ◌≤◌, ◌⊎◌, inl, inr, ◌↔◌, ℕ, ◌^◌, Bool, true, false, IsTrue, List, [], ◌∷◌, ◌++◌, length, map, flat_map, get_or, Option, Some, None, Result, Ok, Err, refl, sym, ap, subst, ◌∙◌, ⊎_elim, arith, length-append}
 use Rattle.std.proofs.lemmas.Bool.{false≢true}
 use Rattle.std.proofs.lemmas.Bool.Decides.{leb_tells}
+use Rattle.std.proofs.lemmas.List.{length-map}
 use Rattle.std.specs.Prelude.{not, is_some, if◌then◌else◌, option_map, IsOk, IsErrOf, IfOk, IfErr, OnOk, OnErr}
 use Rattle.std.specs.Rc.{rc_str_bytes}
 use Rattle.std.specs.declared.alloc.Global.{Global}
@@ -15,7 +16,7 @@ use Rattle.kishu_graph.specs.Refusals.{full, unless_there, unless_named, at_comm
 use Rattle.kishu_bytes.specs.Numbers.{four}
 use Rattle.kishu_language.specs.declared.profile.Profile.{Profile}
 use Rattle.kishu_store.specs.Branches.{commit_of, is_branch_name}
-use Rattle.kishu_store.specs.CommitLines.{first_line, first_characters, longest_line, line_in}
+use Rattle.kishu_store.specs.CommitLines.{line_in}
 use Rattle.kishu_store.specs.Entries.{commit, move, name, to_commit, to_branch}
 use Rattle.kishu_store.specs.EntryBytes.{text_bytes}
 use Rattle.kishu_store.specs.Fitting.{Fits}
@@ -26,7 +27,7 @@ use Rattle.kishu_store.specs.Limits.{most_records}
 use Rattle.kishu_store.specs.Rules.{IsEntry}
 use Rattle.kishu_store_laws.specs.EntryLaws.{length-commit}
 use Rattle.kishu_store.specs.Tables.{no_change}
-use Rattle.kishu_journal.specs.Following.{GoesOn, HasNewest, TakesCommit}
+use Rattle.kishu_journal.specs.Following.{GoesOn, HasNewest, TakesCells, TakesCommit}
 
 -- ---- answers
 
@@ -68,10 +69,10 @@ added old new r profile texts cells line ok room stands count is = record {
   stands = λ g s. (ok-value r ok stands).1 g texts s count is;
 }
 
-pub newest-added : (old new : Kept) (r : Result ℕ GraphFault) (profile : Profile) (cells : ℕ) (line : RcStr Global) → IsOk r → OnOk r (new.commits ≡ with_newest profile cells line old)
+pub newest-added : (old new : Kept) (r : Result ℕ GraphFault) (profile : Profile) (cells : ℕ) (line : List ℕ) → IsOk r → OnOk r (new.commits ≡ with_newest profile cells line old)
     → OnOk r (new.noted ≡ old.noted ++ (noted_of no_change ∷ [])) → HasNewest old new
 newest-added old new r profile cells line ok added noted = record {
-  outline = record { parent = old.head.commit; profile = profile; cells = cells; line = rc_str_bytes line };
+  outline = record { parent = old.head.commit; profile = profile; cells = cells; line = line };
   parent = refl;
   commits = ok-fact r ok added;
   noted = ok-fact r ok noted;
@@ -191,11 +192,15 @@ made-name title n body h c old new k b =
       };
     }
 
--- ---- the line of a first cell
+-- ---- the first cell
 
-pub line-first : (cells : List (RcStr Global)) (d : RcStr Global) → 0 < length cells → line_in (map rc_str_bytes cells) ≡ first_characters longest_line (first_line (rc_str_bytes (get_or cells 0 d)))
-line-first [] d h = absurd (omega (arith, h))
-line-first (k ∷ ks) d h = refl
+-- a commit of so many cells, the first with this text, is one of these
+pub takes-texts : (old new : Kept) (profile : Profile) (cells : List (RcStr Global)) (d : RcStr Global) (count : ℕ) (first : List ℕ) → 0 < length cells → count ≡ length cells → first ≡ rc_str_bytes (get_or cells 0 d)
+    → TakesCells old profile count first new → TakesCommit old profile (map rc_str_bytes cells) new
+takes-texts old new profile [] d count first some is same takes = absurd (omega (arith, some))
+takes-texts old new profile (k ∷ ks) d count first some is same takes =
+    let others = map rc_str_bytes ks in
+    subst (λ (t : List ℕ). TakesCommit old profile (t ∷ others) new) same (takes others (omega (arith, is, length-map ks rc_str_bytes)))
 
 -- ---- how many cells a commit has
 

@@ -1,5 +1,5 @@
 -- A history that goes on with a commit, and one that doesn't.
-use Rattle.std.proofs.Common.{◌≡◌, ℕ, suc, ◌+◌, List, ◌∷◌, map, sym, ◌∙◌, ap, subst}
+use Rattle.std.proofs.Common.{◌≡◌, ℕ, suc, ◌+◌, List, ◌∷◌, length, map, sym, ◌∙◌, ap, subst, arith}
 use Rattle.std.specs.declared.alloc.Global.{Global}
 use Rattle.std.specs.declared.rc.RcStr.{RcStr}
 use Rattle.std.specs.declared.vec.Vec.{Vec}
@@ -7,11 +7,14 @@ use Rattle.kishu_graph.specs.Kept.{Kept, TellsChanges, row_of, texts_of}
 use Rattle.kishu_graph.specs.Tables.{FailsHead, FitsHead, change_with, stored_of}
 use Rattle.kishu_graph.specs.declared.tables.TableRow.{TableRow}
 use Rattle.kishu_language.specs.declared.profile.Profile.{Profile}
+use Rattle.kishu_record.specs.Commits.{IsCommitHead, commit_told}
+use Rattle.kishu_record.specs.declared.commits.CommitHead.{CommitHead}
 use Rattle.kishu_store.specs.Entries.{Entry, commit}
 use Rattle.kishu_store.specs.Graph.{Target, newest}
 use Rattle.kishu_store.specs.Histories.{FollowsAt, History, before_pictures}
 use Rattle.kishu_store.specs.Tables.{FitsTable, Table, change_of, rows_from, table_at}
-use Rattle.kishu_journal.specs.Following.{FitsNext, GoesOn, IsFull, IsKept, TakesChange, TakesCommit}
+use Rattle.kishu_store_laws.specs.EntryLaws.{head-unique}
+use Rattle.kishu_journal.specs.Following.{FitsNext, FitsNotWith, GoOnWith, GoesOn, IsFull, IsKept, IsPlaced, NoneFits, TakesCells, TakesChange, TakesCommit, TakesHead}
 
 -- rows of what may be stored may be stored
 pub next-fits : (old : Kept) (dropped : List (Vec (RcStr Global) Global)) (stored : List (Vec (RcStr Global) Global × ℕ)) (rows : List TableRow) (number place : ℕ) → map row_of rows ≡ rows_from number place (map stored_of stored)
@@ -53,3 +56,34 @@ module _ (old : Kept) (parent : ℕ) (profile : Profile) (cells : List (List ℕ
 
   pub no-room : IsFull old → FollowsAt body h e → ⊥
   no-room full f = full h.graph k.keeps.graph f.graph.room
+
+-- ---- a commit whose head was read in place
+
+module _ (old : Kept) (c : CommitHead) (pictures body : ℕ) (others : List (List ℕ)) (placed : IsPlaced c pictures body others) (h : History) (k : IsKept old h) where
+  pub told-on : (new : Kept) (head : Target) (rows : List TableRow) (number : ℕ) → head ≡ old.head → c.parent ≡ head.commit → FitsHead old c.dropped.items c.stored.items → number ≡ suc (newest h.graph)
+      → map row_of rows ≡ rows_from number pictures (map stored_of c.stored.items) → TakesCells old c.profile c.cells c.first.now new → TakesChange old (change_with c.dropped.items rows) new → GoesOn body h (commit_told c others) new
+  told-on new head rows number is parent_is fits number_is are takes change =
+      let there : map row_of rows ≡ rows_from number (body + before_pictures (commit_told c others)) (map stored_of c.stored.items) = are ∙ ap (λ (n : ℕ). rows_from number n (map stored_of c.stored.items)) placed.place in
+      commit-on old c.parent c.profile (c.first.now ∷ others) c.dropped.items c.stored.items body h k new head rows number is parent_is fits number_is there (takes others placed.count) change
+
+  pub told-not-child : (head : Target) → head ≡ old.head → (c.parent ≡ head.commit → ⊥) → FollowsAt body h (commit_told c others) → ⊥
+  told-not-child head is other f = not-child old c.parent c.profile (c.first.now ∷ others) c.dropped.items c.stored.items body h k head is other f
+
+  pub told-not-groups : FailsHead old c.dropped.items c.stored.items → FollowsAt body h (commit_told c others) → ⊥
+  told-not-groups fails f = not-groups old c.parent c.profile (c.first.now ∷ others) c.dropped.items c.stored.items body h k fails f
+
+  pub told-no-room : IsFull old → FollowsAt body h (commit_told c others) → ⊥
+  told-no-room full f = no-room old c.parent c.profile (c.first.now ∷ others) c.dropped.items c.stored.items body h k full f
+
+-- its pictures lie behind its head
+module _ (old : Kept) (c : CommitHead) (head : List ℕ) (pictures body place : ℕ) (t : IsCommitHead head pictures c) (is : place ≡ body + 4 + length head) where
+  is_placed : IsPlaced c place body t.others
+  is_placed = record { count = t.count; place = omega (arith, is, ap length t.is_head.is) }
+
+  pub takes-told : (new : Kept) → GoOnWith old c place new → TakesHead old body head pictures new
+  takes-told new goes = record { entry = commit_told c t.others; says = t.is_head; goes = goes body t.others is_placed }
+
+  pub none-told : FitsNotWith old c place → NoneFits old body head pictures
+  none-told unfit h e kept says fits =
+      let one : commit_told c t.others ≡ e = head-unique (commit_told c t.others) e t.is_head.entry says.entry (sym t.is_head.is ∙ says.is) in
+      unfit body t.others is_placed h kept (subst (λ (x : Entry). FollowsAt body h x) (sym one) fits)

@@ -9,8 +9,6 @@ use Rattle.std.specs.List.{sum}
 use Rattle.kishu_bytes.specs.Numbers.{four}
 use Rattle.kishu_bytes_laws.specs.NumberLaws.{four-unique, append-unique}
 use Rattle.kishu_host.specs.Host.{State}
-use Rattle.kishu_record.specs.declared.entry.Entry as program
-use Rattle.kishu_record.specs.Entries.{entry_of}
 use Rattle.kishu_record.specs.Readings.{IsHead}
 use Rattle.kishu_store.specs.Entries.{Entry, Record, lengths_in}
 use Rattle.kishu_store.specs.EntryBytes.{head_of, body_of}
@@ -120,10 +118,7 @@ no-record file at h none = record { rest = none.rest; split = none.split; none =
 pub body-long : (r : Record) → IsRecord r → length (body_of r) ≡ body_length r.entry
 body-long r rules = (let sizes : sum (map length r.pictures) ≡ sum (lengths_in r.entry) = ap sum rules.pictures in omega (arith, length-body r, joined-length r.pictures, sizes))
 
-module _ (head : List ℕ) (n : ℕ) (p : program.Entry) (is : IsHead head n (entry_of p)) where
-  abbrev e : Entry
-  e = entry_of p
-
+module _ (head : List ℕ) (n : ℕ) (e : Entry) (is : IsHead head n e) where
   -- any bytes of that length are pictures of the entry, one behind another
   module _ (joined : List ℕ) (long : length joined ≡ n) where
     abbrev cut : Record
@@ -147,7 +142,7 @@ module _ (head : List ℕ) (n : ℕ) (p : program.Entry) (is : IsHead head n (en
   head-length = (let size = ap length is.is in let all = is.sum in omega (arith, size, all))
 
   -- The pictures are those of the file, where it is told, and zeros else.
-  pub record-there : (s : State) (at : ℕ) → 4 + length head + n ≤ longest_body → (s.tells ≡ true → BeginsHead (drop at s.file) head n) → RecordAt s at p
+  pub record-there : (s : State) (at : ℕ) → 4 + length head + n ≤ longest_body → (s.tells ≡ true → BeginsHead (drop at s.file) head n) → RecordAt s at e
   record-there s at small there = elim (cases_Bool s.tells) [
     | inl told ↦ (
         let h = there told in

@@ -96,7 +96,7 @@ module _ (kept : Kept) (all rest : List (ℕ × program.Entry)) (p : ℕ × prog
   followed-kept : IsKept kept (with_changes f.graph f.told f.to)
   followed-kept = record { keeps = f.keeps; most = furthest f.told; changes = told-changes }
 
-  pub followed-on : (later : Kept) → GoOn kept p.0 p.1 later → Followed later all rest
+  pub followed-on : (later : Kept) → GoOn kept p.0 e later → Followed later all rest
   followed-on later goes =
       let on = goes (with_changes f.graph f.told f.to) followed-kept in
       let fits : Follows (with_changes f.graph f.real f.place) e = follows-alike f.graph f.told f.real (furthest f.told) f.to f.place f.same told-changes p.0 (f.place + before_body) e on.fits in
@@ -117,7 +117,7 @@ module _ (kept : Kept) (all rest : List (ℕ × program.Entry)) (p : ℕ × prog
         on = λ fit. (f.on fit).1;
       }
 
-  pub not-followed : FitsNot kept p.0 p.1 → AllFit new_history (entries_of all) → ⊥
+  pub not-followed : FitsNot kept p.0 e → AllFit new_history (entries_of all) → ⊥
   not-followed unfit fit =
       unfit (with_changes f.graph f.told f.to) followed-kept
       (follows-alike f.graph f.real f.told f.place f.place f.to (sym f.same) f.known.changes (f.place + before_body) p.0 e (f.on fit).0)

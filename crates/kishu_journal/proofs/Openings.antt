@@ -1,5 +1,5 @@
 -- What follows from an opened file.
-use Rattle.std.proofs.Common.{◌≡◌, ◌<◌, ◌≤◌, ◌^◌, ℕ, true, List, [], ◌∷◌, ◌++◌, length, sym, ◌∙◌, ap, subst, arith}
+use Rattle.std.proofs.Common.{◌≡◌, ◌<◌, ◌≤◌, ◌^◌, ℕ, true, List, [], ◌∷◌, ◌++◌, length, refl, sym, ◌∙◌, ap, subst, arith}
 use Rattle.std.proofs.lemmas.List.{length-map}
 use Rattle.std.specs.List.{AllByRecursion}
 use Rattle.kishu_host.specs.Host.{State}
@@ -17,7 +17,7 @@ use Rattle.kishu_store_laws.specs.HistoryLaws.{IsHistory, place-end, records-his
 use Rattle.kishu_store_laws.specs.Laws.{ends-gives, ends-holds, history-graph, one_changes}
 use Rattle.kishu_journal.specs.Found.{entries_of, AllFit, AreBelow}
 use Rattle.kishu_journal.specs.Going.{IsQuiet}
-use Rattle.kishu_journal.specs.Opened.{IsOpened}
+use Rattle.kishu_journal.specs.Opened.{AreRead, IsOpened}
 use Rattle.kishu_journal.specs.Stands.{JournalState, Stands}
 use Rattle.kishu_journal.proofs.Anew.{anew-ends}
 use Rattle.kishu_journal.proofs.Behind.{end-none, end-below}
@@ -79,16 +79,46 @@ module _ (s : State) (at : ℕ) (found : List (ℕ × program.Entry)) (o : IsOpe
   pub opened-near : AreBelow (2 ^ 63) found
   opened-near = placed-below (2 ^ 63) [] found o.records o.placed (omega (arith, end-below o.records o.fit))
 
-  -- what the commits of a file change that gives what was found
-  pub opened-gives : s.tells ≡ true → (cs : List Change) → Gives s.file cs → cs ≡ (history_of (entries_of found)).changes
-  opened-gives told cs gives = one_changes s.file cs (changes_by o.records) gives (ends-gives s.file o.records (o.ends told)) ∙ ap (λ (es : List Entry). (history_of es).changes) says
+-- ---- records that were read
 
-  -- what was found is a history to which records lead
-  pub opened-history : IsHistory (history_of (entries_of found))
-  opened-history = subst (λ (es : List Entry). IsHistory (history_of es)) says (records-history o.records o.fit)
+-- Calls that change no content change nothing here.
+pub read-still : (a b : State) (at : ℕ) (rs : List Record) → IsQuiet a b → AreRead a at rs → AreRead b at rs
+read-still a b at rs quiet o = record {
+  fit = o.fit;
+  place = o.place;
+  ends = λ told. subst (λ (f : List ℕ). Ends f rs) (sym quiet.keeps.file) (o.ends (sym quiet.time.tells ∙ told));
+}
 
-  pub opened-place : (history_of (entries_of found)).place ≡ at
-  opened-place = ap (λ (es : List Entry). (history_of es).place) (sym says) ∙ place-end o.records o.fit ∙ sym o.place
+-- a file that is begun anew has none
+pub read-anew : (s : State) → (s.tells ≡ true → s.file ≡ front [] ++ (0 ∷ [])) → AreRead s 16 []
+read-anew s fresh = record { fit = tt; place = sym end-none; ends = λ told. anew-ends s.file (fresh told) }
 
-  pub opened-graph : (history_of (entries_of found)).graph ≡ graph_of (entries_of found)
-  opened-graph = subst (λ (es : List Entry). (history_of es).graph ≡ graph_of es) says (history-graph o.records)
+module _ (s : State) (at : ℕ) (rs : List Record) (o : AreRead s at rs) where
+  pub read-stands : (journal : JournalState) → journal.place ≡ at → s.tells ≡ true → Stands journal s.file (entries_in rs)
+  read-stands journal place told = record { found = rs; says = refl; ends = o.ends told; place = place ∙ o.place }
+
+  pub read-holds : s.tells ≡ true → Holds s.file (graph_of (entries_in rs))
+  read-holds told = ends-holds s.file rs (o.ends told)
+
+  pub read-fit : AllFit new_history (entries_in rs)
+  read-fit = records-fit new_history rs o.fit
+
+  pub read-rules : AllByRecursion IsEntry (entries_in rs)
+  read-rules = records-rules new_history rs o.fit
+
+  pub read-below : at < 2 ^ 62
+  read-below = omega (arith, o.place, end-below rs o.fit)
+
+  -- what the commits of a file change that gives them
+  pub read-gives : s.tells ≡ true → (cs : List Change) → Gives s.file cs → cs ≡ (history_of (entries_in rs)).changes
+  read-gives told cs gives = one_changes s.file cs (changes_by rs) gives (ends-gives s.file rs (o.ends told))
+
+  -- they lead to a history
+  pub read-history : IsHistory (history_of (entries_in rs))
+  read-history = records-history rs o.fit
+
+  pub read-place : (history_of (entries_in rs)).place ≡ at
+  read-place = place-end rs o.fit ∙ sym o.place
+
+  pub read-graph : (history_of (entries_in rs)).graph ≡ graph_of (entries_in rs)
+  read-graph = history-graph rs

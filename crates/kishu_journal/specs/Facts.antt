@@ -4,17 +4,16 @@ use Rattle.std.specs.Prelude.{◌≡◌, ◌≤◌, ◌<◌, ◌⊎◌, ◌+◌,
 use Rattle.kishu_host.specs.Host.{State, Told, Only, Keeps, Elapses, Now, Rises, ReadsMore, overwrite}
 use Rattle.kishu_graph.specs.Kept.{Kept, StandsFor, KeepsHistory, TellsChanges}
 use Rattle.kishu_record.specs.declared.entry.Entry as program
-use Rattle.kishu_record.specs.Entries.{entry_of}
 use Rattle.kishu_store.specs.Entries.{Entry, Record}
 use Rattle.kishu_store.specs.EntryBytes.{body_of}
-use Rattle.kishu_store.specs.Histories.{History}
+use Rattle.kishu_store.specs.Histories.{History, body_length}
 use Rattle.kishu_store.specs.Holds.{Ends, Gives, Holds, IsBroken, IsForeign, IsGood, fresh_length, graph_of, open_gate}
 use Rattle.kishu_store.specs.Rules.{IsRecord}
 use Rattle.kishu_store.specs.Tables.{Change}
 use Rattle.kishu_store_laws.specs.HistoryLaws.{IsHistory}
 use Rattle.kishu_journal.specs.Bytes.{fresh, appended}
-use Rattle.kishu_journal.specs.Following.{IsKept}
-use Rattle.kishu_journal.specs.Found.{BeginsBody, BeginsHead, HasNoBody, HasNoRecord, before_head, body_at, entries_of, history_at, with_pictures}
+use Rattle.kishu_journal.specs.Following.{GoOn, IsKept}
+use Rattle.kishu_journal.specs.Found.{BeginsBody, BeginsHead, HasNoBody, HasNoRecord, before_body, before_head, body_at, entries_of, history_at, with_pictures}
 use Rattle.kishu_journal.specs.Going.{LeavesShort, ReadsAtMost, WithOrWithout, WithOrWithoutRecord}
 use Rattle.kishu_journal.specs.Stands.{JournalState, Stands, IsNext, IsWhole, with_entry, with_record}
 use Rattle.kishu_journal.specs.declared.head.Head.{Head}
@@ -74,10 +73,17 @@ abbrev pub end_at : ℕ → Head → ℕ
 end_at at head = at + before_head + head.bytes + head.pictures
 
 -- A record that says this: where the host tells its file, an open gate is there, and behind it the whole record.
-pub record RecordAt (s : State) (at : ℕ) (e : program.Entry) : Type 0 where
+pub record RecordAt (s : State) (at : ℕ) (e : Entry) : Type 0 where
   pub pictures : List (List ℕ)
-  pub rules : IsRecord (with_pictures (entry_of e) pictures)
-  pub there : Told s (BeginsBody (drop at s.file) (body_of (with_pictures (entry_of e) pictures)))
+  pub rules : IsRecord (with_pictures e pictures)
+  pub there : Told s (BeginsBody (drop at s.file) (body_of (with_pictures e pictures)))
+
+-- A record is there whose body has this length, and what is kept goes on with what it says.
+pub record NotesRecord (old : Kept) (s : State) (at : ℕ) (new : Kept) (size : ℕ) : Type 0 where
+  pub entry : Entry
+  pub there : RecordAt s at entry
+  pub goes : GoOn old (at + before_body) entry new
+  pub size_is : size ≡ body_length entry
 
 -- the place is that of the gate, which is open, and no whole record stands behind it
 abbrev pub LacksBody : State → ℕ → ℕ → Type 0

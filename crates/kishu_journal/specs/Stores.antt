@@ -1,29 +1,29 @@
 -- What an opening answers that makes the graph of a store while it reads its records.
 use Rattle.std.specs.Prelude.{ℕ, List}
 use Rattle.std.specs.List.{AllByRecursion}
-use Rattle.kishu_graph.specs.Kept.{Kept, TellsChanges}
-use Rattle.kishu_host.specs.Host.{State}
-use Rattle.kishu_record.specs.declared.entry.Entry as program
+use Rattle.kishu_graph.specs.Kept.{Kept, StandsFor, TellsChanges}
+use Rattle.kishu_host.specs.Host.{State, Told}
+use Rattle.kishu_store.specs.Entries.{Record, entries_in}
 use Rattle.kishu_store.specs.Histories.{new_history}
-use Rattle.kishu_store.specs.Holds.{history_of}
+use Rattle.kishu_store.specs.Holds.{Holds, graph_of, history_of}
 use Rattle.kishu_store.specs.Rules.{IsEntry}
-use Rattle.kishu_journal.specs.Facts.{HoldsFound, IsGraphOf, StandsFound}
-use Rattle.kishu_journal.specs.Found.{AllFit, entries_of}
-use Rattle.kishu_journal.specs.Opened.{IsOpened}
+use Rattle.kishu_journal.specs.Found.{AllFit}
+use Rattle.kishu_journal.specs.Opened.{AreRead}
+use Rattle.kishu_journal.specs.Stands.{Stands}
 use Rattle.kishu_journal.specs.declared.open_store.OpenStore.{OpenStore}
 
--- This is the graph of what was found, with its tables, and behind that is this place; it is in the host's file, where the host tells it.
+-- This is the graph of records, with its tables, and behind them is this place; they are the host's file's, where the host tells it.
 pub record IsRead (s : State) (place : ℕ) (kept : Kept) : Type 0 where
-  pub found : List (ℕ × program.Entry)
-  pub is_found : IsOpened s place found
-  pub graph : IsGraphOf found kept
-  pub changes : TellsChanges kept (history_of (entries_of found)).changes
+  pub records : List Record
+  pub are_read : AreRead s place records
+  pub graph : StandsFor kept (graph_of (entries_in records))
+  pub changes : TellsChanges kept (history_of (entries_in records)).changes
 
--- So it is after an opening. Where the host tells its files, the old one held the graph of what was found, and the journal stands behind
--- that in the new one. It fits and keeps the rules, whatever the host tells.
+-- So it is after an opening. Where the host tells its files, the old one held the graph of these records, and the journal stands behind
+-- them in the new one. They fit and keep the rules, whatever the host tells.
 pub record Opens (old new : State) (store : OpenStore) : Type 0 where
   pub read : IsRead new store.journal.place store.graph
-  pub good : HoldsFound old read.found
-  pub stands : StandsFound old new store.journal read.found
-  pub fit : AllFit new_history (entries_of read.found)
-  pub rules : AllByRecursion IsEntry (entries_of read.found)
+  pub good : Told old (Holds old.file (graph_of (entries_in read.records)))
+  pub stands : Told old (Stands store.journal new.file (entries_in read.records))
+  pub fit : AllFit new_history (entries_in read.records)
+  pub rules : AllByRecursion IsEntry (entries_in read.records)

@@ -5,7 +5,7 @@ ghost use Rattle.kishu_graph.specs.Tables.{change_with};
 ghost use Rattle.kishu_graph.specs.declared.fault.GraphFault.TheVariants.{NoMemory};
 ghost use Rattle.kishu_store.specs.Rules.{IsEntry};
 ghost use Rattle.kishu_record.specs.Entries.{entry_of};
-ghost use Rattle.kishu_journal.specs.Following.{GoOn, TakesCommit, TakesChange, HasNewest, FitsNext, IsFull, FitsNot};
+ghost use Rattle.kishu_journal.specs.Following.{GoOn, TakesCommit, TakesCells, TakesChange, HasNewest, FitsNext, IsFull, FitsNot};
 
 use crate::Entry;
 use crate::rows::rows_of;
@@ -27,21 +27,49 @@ fn is_made(change: Result<u32, GraphFault>) -> Result<bool, AllocError>
     }
 }
 
-/// Adds a commit of these cells to the head's, if there is room for a record. Nothing is noted of it.
-fn add_commit(graph: &mut Graph, profile: Profile, cells: &[RcStr]) -> Result<bool, AllocError>
-    requires some { 0 < length cells.now }
-    requires few { length cells.now < 2 ^ 32 }
-    ensures made { result ≡ Ok true → TakesCommit graph.old profile (map rc_str_bytes cells.now) graph.new }
+/// Adds a commit of so many cells, the first with this text, to the head's, if there is room for a record.
+/// Nothing is noted of it.
+fn add_commit(
+    graph: &mut Graph,
+    profile: Profile,
+    cells: u32,
+    first: &str,
+) -> Result<bool, AllocError>
+    ensures made { result ≡ Ok true → TakesCells graph.old profile cells first.now graph.new }
     ensures newest { result ≡ Ok true → HasNewest graph.old graph.new }
     ensures refused { result ≡ Ok false → IsFull graph.old }
     ensures stays { result ≡ Ok false → graph.new ≡ graph.old }
 {
-    let line = line_of(cells[0].as_str());
-    is_made(graph.add_commit(profile, cells.len() as u32, line))
+    let line = line_of(first);
+    is_made(graph.add_commit(profile, cells, line))
 }
 
-/// Adds a commit of these cells to the head's, if there is room for a record, and notes the groups that it
-/// drops and the rows that it stores, which fit the head's table. Its number is that of the commits so far.
+/// Adds a commit of so many cells, the first with this text, to the head's, if there is room for a record,
+/// and notes the groups that it drops and the rows that it stores, which fit the head's table. Its number is
+/// that of the commits so far.
+pub(crate) fn add_counted(
+    graph: &mut Graph,
+    profile: Profile,
+    cells: u32,
+    first: &str,
+    dropped: &[Vec<RcStr>],
+    rows: &[TableRow],
+) -> Result<bool, AllocError>
+    requires fits { FitsNext graph.old (change_with dropped.now rows.now) }
+    ensures made { result ≡ Ok true → TakesCells graph.old profile cells first.now graph.new }
+    ensures noted { result ≡ Ok true → TakesChange graph.old (change_with dropped.now rows.now) graph.new }
+    ensures refused { result ≡ Ok false → IsFull graph.old }
+    ensures stays { result ≡ Ok false → graph.new ≡ graph.old }
+{
+    let number = graph.commits();
+    if !add_commit(graph, profile, cells, first)? {
+        return Ok(false);
+    }
+    graph.note_groups(number, dropped, rows)?;
+    Ok(true)
+}
+
+/// The same with the texts of the cells, of which there is one at least.
 fn add_with_groups(
     graph: &mut Graph,
     profile: Profile,
@@ -57,12 +85,8 @@ fn add_with_groups(
     ensures refused { result ≡ Ok false → IsFull graph.old }
     ensures stays { result ≡ Ok false → graph.new ≡ graph.old }
 {
-    let number = graph.commits();
-    if !add_commit(graph, profile, cells)? {
-        return Ok(false);
-    }
-    graph.note_groups(number, dropped, rows)?;
-    Ok(true)
+    let first = cells[0].as_str();
+    add_counted(graph, profile, cells.len() as u32, first, dropped, rows)
 }
 
 /// Changes a graph by the entry of a record that fits behind those before, and whose body stands at that
@@ -78,8 +102,8 @@ pub fn follow(
 ) -> Result<bool, AllocError>
     requires rules { IsEntry (entry_of entry.now) }
     requires near { body < 2 ^ 63 }
-    ensures made { result ≡ Ok true → GoOn graph.old body entry.now graph.new }
-    ensures refused { result ≡ Ok false → FitsNot graph.old body entry.now }
+    ensures made { result ≡ Ok true → GoOn graph.old body (entry_of entry.now) graph.new }
+    ensures refused { result ≡ Ok false → FitsNot graph.old body (entry_of entry.now) }
     ensures stays { result ≡ Ok false → graph.new ≡ graph.old }
 {
     match entry {

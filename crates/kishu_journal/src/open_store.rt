@@ -1,17 +1,21 @@
 // The opening of a store whose graph is made while its records are read.
-ghost use Rattle.std.specs.Prelude.{◌≡◌, ◌≤◌, ◌<◌, ◌⊎◌, ◌-◌, ◌^◌, ℕ, length, take, false, IfOk, OnOk, IsErrOf};
+ghost use Rattle.std.specs.Prelude.{◌≡◌, ◌≤◌, ◌<◌, ◌⊎◌, ◌+◌, ◌-◌, ◌^◌, ℕ, length, take, false, Ok, None, IfOk, IfSome, OnOk, IsErrOf};
 ghost use Rattle.kishu_host.specs.Host.{Told};
 ghost use Rattle.kishu_store.specs.Holds.{header, fresh_length};
-ghost use Rattle.kishu_journal.specs.Facts.{DiskRises, FailsBy, FailsOutside, WasForeign, WasBroken, WhereForeign, WhereBroken, WhereGood};
+ghost use Rattle.kishu_journal.specs.Facts.{DiskRises, FailsBy, FailsOutside, NotesRecord, TellsDamage, WasForeign, WasBroken, WhereForeign, WhereBroken, WhereGood};
 ghost use Rattle.kishu_journal.specs.Facts.{KeepsTables, IsOfHistory, IsDurable, KeepsLong, StaysShort, BeginsShort, Settles, StopsAtOpening, ReadsFile};
+ghost use Rattle.kishu_journal.specs.Found.{before_body, IsShut};
 ghost use Rattle.kishu_journal.specs.Going.{IsQuiet, ReadsAtMost};
 ghost use Rattle.kishu_journal.specs.Stores.{IsRead, Opens};
+ghost use Rattle.kishu_journal.specs.Windows.{IsAhead, Shows, end_of};
 ghost use Rattle.kishu_journal.specs.declared.journal.JournalFault.TheVariants.{DiskFault, NotAJournal, Damaged};
 
-use crate::opening::{begin, next_record, read_header};
+use crate::head::read_head;
+use crate::opening::{begin, read_header};
 use crate::read::settle;
+use crate::take::note_record;
 use crate::window::Window;
-use crate::{Entry, Journal, JournalFault};
+use crate::{Journal, JournalFault};
 use kishu_graph::Graph;
 use kishu_host::Host;
 use std::alloc::Global;
@@ -25,11 +29,41 @@ pub struct OpenStore {
     pub graph: Graph,
 }
 
-/// How long a record's body is. What it says isn't kept.
-fn size_alone(next: (Entry, u64)) -> u64
-    ensures { result ≡ next.1 }
+/// Changes the graph by what the record behind the gate at a place says, and answers the length of its
+/// body. The record isn't kept.
+fn note_next<H: Host>(
+    alloc: Global,
+    host: &mut H,
+    window: &mut Window,
+    graph: &mut Graph,
+    at: u64,
+    len: u64,
+) -> Result<Option<u64>, JournalFault>
+    requires len { Told (H.state host.old) (len ≡ length (H.state host.old).file) }
+    requires inside { at < len }
+    requires shows { Shows (H.state host.old) window.old }
+    requires end { end_of window.old ≤ len }
+    requires from { window.old.from ≤ at }
+    requires near { at + before_body < 2 ^ 63 }
+    ensures ahead { IsAhead (H.state host.old) (H.state host.new) window.old window.new len }
+    ensures from { window.new.from ≤ at }
+    ensures noted { IfOk result (λ o. IfSome o (NotesRecord graph.old (H.state host.old) at graph.new)) }
+    ensures stays { result ≡ Ok None → graph.new ≡ graph.old }
+    ensures within { IfOk result (λ o. IfSome o (λ size. at + before_body + size < len)) }
+    ensures closed { result ≡ Ok None → Told (H.state host.old) (IsShut (H.state host.old).file at) }
+    ensures damaged { TellsDamage graph.old (H.state host.old) at result }
+    ensures disk_fault { IsErrOf result DiskFault → DiskRises (H.state host.old) (H.state host.new) }
+    ensures not_foreign { IsErrOf result NotAJournal → ⊥ }
 {
-    next.1
+    let Some(head) = read_head(host, window, at, len)? else {
+        return Ok(None);
+    };
+    let bytes = window.part(at + 13, head.bytes);
+    match note_record(alloc, graph, at + 9, bytes, head.pictures) {
+        Ok(true) => Ok(Some(4 + head.bytes as u64 + head.pictures)),
+        Ok(false) => Err(JournalFault::Damaged { at }),
+        Err(_) => Err(JournalFault::NoMemory),
+    }
 }
 
 /// Reads the records of a file of this length: the graph to which they lead, and the place of the closed
@@ -50,8 +84,8 @@ fn read_graph<H: Host>(alloc: Global, host: &mut H, len: u64) -> Result<(Graph, 
     };
     let mut window = Window::new(alloc, 16);
     let mut at = 16;
-    while let Some(next) = next_record(alloc, host, &mut window, &mut graph, at, len)? {
-        at = at + 9 + size_alone(next);
+    while let Some(size) = note_next(alloc, host, &mut window, &mut graph, at, len)? {
+        at = at + 9 + size;
     }
     Ok((graph, at))
 }

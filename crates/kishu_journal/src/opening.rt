@@ -50,7 +50,7 @@ pub(crate) fn begin<H: Host>(host: &mut H) -> Result<(), Failed>
 }
 
 /// What the record behind the gate at a place says, and its body's length. The graph is changed by it.
-pub(crate) fn next_record<H: Host>(
+fn next_record<H: Host>(
     alloc: Global,
     host: &mut H,
     window: &mut Window,
@@ -66,8 +66,8 @@ pub(crate) fn next_record<H: Host>(
     requires near { at + before_body < 2 ^ 63 }
     ensures ahead { IsAhead (H.state host.old) (H.state host.new) window.old window.new len }
     ensures from { window.new.from ≤ at }
-    ensures record { IfOk result (λ o. IfSome o (λ r. RecordAt (H.state host.old) at r.0)) }
-    ensures made { IfOk result (λ o. IfSome o (λ r. GoOn graph.old (at + before_body) r.0 graph.new)) }
+    ensures record { IfOk result (λ o. IfSome o (λ r. RecordAt (H.state host.old) at (entry_of r.0))) }
+    ensures made { IfOk result (λ o. IfSome o (λ r. GoOn graph.old (at + before_body) (entry_of r.0) graph.new)) }
     ensures stays { result ≡ Ok None → graph.new ≡ graph.old }
     ensures size { IfOk result (λ o. IfSome o (λ r. r.1 ≡ body_length (entry_of r.0))) }
     ensures within { IfOk result (λ o. IfSome o (λ r. at + before_body + r.1 < len)) }

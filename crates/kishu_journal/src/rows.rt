@@ -30,7 +30,7 @@ fn shared(alloc: Global, names: &[RcStr]) -> Result<Vec<RcStr>, AllocError>
 }
 
 /// The rows of groups with the lengths of their pictures, which lie one behind another from a place on.
-fn rows_from(
+pub(crate) fn rows_from(
     alloc: Global,
     commit: u32,
     place: u64,

@@ -4,7 +4,7 @@ use Rattle.std.specs.Prelude.{true, Option}
 use Rattle.std.proofs.Math.Logic.{∥∥₁_elim}
 use Rattle.std.proofs.lemmas.Bool.{cases_lt}
 use Rattle.kishu_host.specs.Host.{State, Told}
-use Rattle.kishu_store.specs.Entries.{Entry}
+use Rattle.kishu_store.specs.Entries.{Entry, entries_in}
 use Rattle.kishu_store.specs.Graph.{Graph, new_graph}
 use Rattle.kishu_store.specs.Histories.{History, head_table}
 use Rattle.kishu_store.specs.Holds.{Holds, Gives, graph_of, history_of, history_by}
@@ -17,7 +17,6 @@ use Rattle.kishu_objects.specs.Lists.{In}
 use Rattle.kishu_history_laws.specs.tables.WithinLaws.{tables_within}
 use Rattle.kishu_live_laws.specs.Loads.{good_loads}
 use Rattle.kishu_journal.specs.Facts.{IsOfHistory, KeepsLong, ReadsFile, StaysShort}
-use Rattle.kishu_journal.specs.Found.{entries_of}
 use Rattle.kishu_journal.specs.Going.{ReadsAtMost}
 use Rattle.kishu_journal.specs.Stands.{JournalState, Stands}
 use Rattle.kishu_journal.specs.Stores.{Opens}
@@ -54,7 +53,7 @@ good-each file g good r m =
     (_, loads)
 
 module _ (old new : State) (store : OpenStore) (o : Opens old new store) (told : old.tells ≡ true) where
-  pub stands : Stands store.journal new.file (entries_of o.read.found)
+  pub stands : Stands store.journal new.file (entries_in o.read.records)
   stands = o.stands told
 
   abbrev pub opened-history : History
@@ -97,11 +96,11 @@ module _ (old new : State) (store : OpenStore) (o : Opens old new store) (told :
 
   module _ (session : Session) (now : State) (same-journal : session.journal ≡ store.journal) (same-graph : session.head.graph ≡ store.graph) (same-file : now.file ≡ new.file)
       (tables : (cs : List Change) → Gives old.file cs → TellsChanges store.graph cs) (back : (cs : List Change) → Gives new.file cs → Gives old.file cs) where
-    pub opened-at-end : (g : Graph) → g ≡ graph_of (entries_of o.read.found) → IsAtEnd session now g
+    pub opened-at-end : (g : Graph) → g ≡ graph_of (entries_in o.read.records) → IsAtEnd session now g
     opened-at-end g is = record {
       journal = record {
-        entries = entries_of o.read.found;
-        stands = subst (λ (f : List ℕ). Stands session.journal f (entries_of o.read.found)) (sym same-file) (subst (λ (j : JournalState). Stands j new.file (entries_of o.read.found)) (sym same-journal) stands);
+        entries = entries_in o.read.records;
+        stands = subst (λ (f : List ℕ). Stands session.journal f (entries_in o.read.records)) (sym same-file) (subst (λ (j : JournalState). Stands j new.file (entries_in o.read.records)) (sym same-journal) stands);
         graph = is;
       };
       graph = subst (λ (k : Kept). StandsFor k g) (sym same-graph) (subst (λ (x : Graph). StandsFor store.graph x) (sym is) o.read.graph);

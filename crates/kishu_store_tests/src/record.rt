@@ -1,6 +1,6 @@
 // Bodies of each kind of entry, both ways, and heads that are no entry.
 use kishu_language::Profile;
-use kishu_record::{Entry, EntryFault, MoveTo, decode, encode, head_len};
+use kishu_record::{Entry, EntryFault, MoveTo, commit_in, decode, encode, head_len};
 use std::alloc::{AllocError, Global};
 use std::fmt::Write;
 use std::rc::RcStr;
@@ -290,6 +290,40 @@ fn finds_no_entry(rt: HostRuntime) -> Result<(), Fail> {
     Ok(())
 }
 
+/// Whether a head is read in place as the commit on 1 of so many cells, this text the first, that drops and
+/// stores so many groups.
+fn is_commit(alloc: Global, case: &Case, cells: u32, first: &str, groups: (usize, usize)) -> bool {
+    let Ok(Some(commit)) = commit_in(alloc, case.head, size_of(case.pictures)) else {
+        return false;
+    };
+    commit.parent == 1
+        && commit.cells == cells
+        && commit.first == first
+        && (commit.dropped.len(), commit.stored.len()) == groups
+}
+
+/// Whether no commit has this head and pictures of this length.
+fn is_no_commit(alloc: Global, head: &[u8], pictures: u64) -> bool {
+    match commit_in(alloc, head, pictures) {
+        Ok(None) => true,
+        Ok(Some(_)) | Err(_) => false,
+    }
+}
+
+#[test]
+fn reads_a_commit_in_place(rt: HostRuntime) -> Result<(), Fail> {
+    let alloc = rt.alloc();
+    assert!(rt; is_commit(alloc, &CASES[1], 2, "", (0, 0)));
+    assert!(rt; is_commit(alloc, &CASES[2], 1, "y = 0", (1, 2)));
+    for case in &CASES[3..] {
+        assert!(rt; is_no_commit(alloc, case.head, 0), "{}", case.words);
+    }
+    for (name, head, pictures) in &NO_ENTRIES {
+        assert!(rt; is_no_commit(alloc, head, *pictures), "{name}");
+    }
+    Ok(())
+}
+
 /// The head of a commit whose one cell has so many bytes.
 fn long_head(alloc: Global, size: u32) -> Result<Vec<u8>, AllocError> {
     let mut head = Vec::new(alloc);
@@ -309,5 +343,6 @@ fn finds_no_cell_that_is_too_long(rt: HostRuntime) -> Result<(), Fail> {
     assert!(rt; decode(alloc, &longest, 0).is_ok());
     let longer = long_head(alloc, 1_048_577)?;
     assert!(rt; is_no_entry(alloc, &longer, 0));
+    assert!(rt; is_no_commit(alloc, &longer, 0));
     Ok(())
 }

@@ -35,14 +35,14 @@ returns-in-Ok-Some-clause-record g c =
     let here = λ (told : s.tells ≡ true). subst (λ (l : List ℕ). BeginsHead (drop at s.file) l head.pictures) (sym (same told)) (there told) in
     let says : IsHead bytes head.pictures (entry_of c.in-Ok-Some.entry) = rw c.in-Ok-Some.field-0-is at c.in-Ok-Some.ensures.head in
     let small : 4 + head.bytes + head.pictures ≤ longest_body = rw c.in-Some.is at c.in_ok-head.ensures.small in
-    record-there bytes head.pictures c.in-Ok-Some.entry says s at (omega (arith, small, c.part-bytes.ensures.len)) here
+    record-there bytes head.pictures (entry_of c.in-Ok-Some.entry) says s at (omega (arith, small, c.part-bytes.ensures.len)) here
 
 pub returns-in-Ok-Some-clause-size : goal.returns-in-Ok-Some-clause-size
 returns-in-Ok-Some-clause-size g c =
     let head = c.in-Some.head in
     let bytes = c.part-bytes.result.now in
     let says : IsHead bytes head.pictures (entry_of c.in-Ok-Some.entry) = rw c.in-Ok-Some.field-0-is at c.in-Ok-Some.ensures.head in
-    let is = head-length bytes head.pictures c.in-Ok-Some.entry says in
+    let is = head-length bytes head.pictures (entry_of c.in-Ok-Some.entry) says in
     omega (arith, is, c.part-bytes.ensures.len)
 
 pub returns-in-Ok-None-clause-damaged : goal.returns-in-Ok-None-clause-damaged

@@ -1,7 +1,7 @@
 use Rattle.std.proofs.Common.{◌<◌, ◌≤◌, ◌-◌}
 use Rattle.kishu_journal.specs.Going.{IsQuiet, ReadsAtMost}
 use Rattle.kishu_journal.specs.Windows.{Shows, end_of}
-use Rattle.kishu_journal.proofs.Reached.{Reached}
+use Rattle.kishu_journal.proofs.Reached.{ReachedFound}
 use Rattle.kishu_journal.proofs.opening.read_records.Given as goal
 
 abbrev pub invariant-loop-found : goal.invariant-loop-found
@@ -15,7 +15,7 @@ invariant-loop-found g l =
       most : end_of l.window ≤ l.len;
       least : 16 ≤ end_of l.window;
       reads : ReadsAtMost (st l.fn.host).reads (st l.host).reads (end_of l.window - 16);
-      reached : Reached (st l.fn.host) l.found.items l.at l.graph;
+      reached : ReachedFound (st l.fn.host) l.found.items l.at l.graph;
     }
 
 abbrev pub decreases-loop-found : goal.decreases-loop-found

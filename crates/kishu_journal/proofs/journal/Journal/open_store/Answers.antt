@@ -5,7 +5,7 @@ use Rattle.kishu_journal.specs.declared.journal.JournalFault.TheVariants.{NotAJo
 use Rattle.kishu_journal.specs.Stands.{JournalState}
 use Rattle.kishu_journal.specs.Stores.{IsRead}
 use Rattle.kishu_journal.proofs.Faults.{not_damaged, damaged_there, only_outside}
-use Rattle.kishu_journal.proofs.Openings.{opened-below}
+use Rattle.kishu_journal.proofs.Openings.{read-below}
 use Rattle.kishu_journal.proofs.Stored.{anew-opens, read-opens, opens-history, long-tables, short-tables}
 use Rattle.kishu_journal.proofs.journal.Journal.open_store.Goals as goal
 
@@ -71,7 +71,7 @@ returns-in_err-graph-clause-good_file g c told good =
     broken-holds file at good.0 (subst (λ (f : List ℕ). IsBroken f at) same (c.read_store.ensures.damaged at was told1)) good.1)
 
 pub at-requires-2 : goal.at-requires-2
-at-requires-2 g c = omega (arith, opened-below _ _ _ c.in_ok-graph.ensures.read.is_found)
+at-requires-2 g c = (let read = c.in_ok-graph.ensures.read in omega (arith, read-below _ _ read.records read.are_read))
 
 pub returns-clause-opens : goal.returns-clause-opens
 returns-clause-opens g c =

@@ -1,9 +1,9 @@
 use Rattle.std.proofs.Common.{◌≡◌, ◌*◌, inl, inr, ℕ, List, Err, length, refl, sym, ◌∙◌, ap, subst, arith}
 use Rattle.std.specs.Prelude.{IsErrOf, Option}
 use Rattle.std.proofs.lemmas.Result.{err_from_is_err_and}
+use Rattle.kishu_store.specs.Entries.{entries_in}
 use Rattle.kishu_store.specs.Holds.{graph_of}
 use Rattle.kishu_store_laws.specs.Laws.{one_graph}
-use Rattle.kishu_journal.specs.Found.{entries_of}
 use Rattle.kishu_checkout.specs.Pictures.{told_file}
 use Rattle.kishu_session.specs.Head.{IsLoaded}
 use Rattle.kishu_session.specs.Lives.{state_of}
@@ -239,9 +239,9 @@ returns-clause-at_end g c told =
     let t = st c.of_store.new.host in
     let opens = c.in_ok-journal.ensures.opens in
     let opening = c.in_ok-journal.ensures.opening in (
-      graph_of (entries_of opens.read.found),
+      graph_of (entries_in opens.read.records),
       opened-at-end s s1 c.in_ok-journal.field-0 opens told _ t refl c.in_ok-head.ensures.graph c.of_store.ensures.quiet.keeps.file (c.in_ok-journal.ensures.tables told)
-          (gave-back s.file s1.file (opening.long told) (opening.short told)) (graph_of (entries_of opens.read.found)) refl,
+          (gave-back s.file s1.file (opening.long told) (opening.short told)) (graph_of (entries_in opens.read.records)) refl,
     )
 
 pub returns-clause-loaded : goal.returns-clause-loaded
@@ -267,7 +267,7 @@ returns-clause-attached g c told g' good =
     let opens = c.in_ok-journal.ensures.opens in
     let opening = c.in_ok-journal.ensures.opening in
     let quiet = c.of_store.ensures.quiet in
-    let same : g' ≡ graph_of (entries_of opens.read.found) = one_graph s.file g' (graph_of (entries_of opens.read.found)) good.holds (opens.good told) in
+    let same : g' ≡ graph_of (entries_in opens.read.records) = one_graph s.file g' (graph_of (entries_in opens.read.records)) good.holds (opens.good told) in
     let at_end = opened-at-end s s1 c.in_ok-journal.field-0 opens told _ t refl c.in_ok-head.ensures.graph quiet.keeps.file (c.in_ok-journal.ensures.tables told)
     (gave-back s.file s1.file (opening.long told) (opening.short told)) g' same in
     let here = subst (λ (o : Option (List ℕ)). IsLoaded o c.in_ok-head.head) (sym (told-file-same s1 t quiet.time.tells quiet.keeps.file)) c.in_ok-head.ensures.loaded in
