@@ -1,3 +1,4 @@
+pub mod Partly
 pub mod Places
 pub mod Values
 pub mod Views

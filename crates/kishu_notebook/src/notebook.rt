@@ -1,5 +1,5 @@
 // A notebook, from its bytes and back.
-ghost use Rattle.std.specs.Prelude.{◌≡◌, ◌<◌, ◌^◌, [], ◌∷◌, length, map, IfOk, IfErr, IfSome, OnOk, OnErr, Ok, false};
+ghost use Rattle.std.specs.Prelude.{◌≡◌, ◌<◌, ◌^◌, [], ◌∷◌, length, map, IfOk, IfErr, IfSome, OnOk, OnErr, Ok, None, false};
 ghost use Rattle.std.specs.Rc.{rc_str_bytes};
 ghost use Rattle.serde_json.specs.Events.{items_len};
 ghost use Rattle.serde_json.specs.View.{view};
@@ -8,6 +8,7 @@ ghost use Rattle.kishu_meaning.specs.values.Values.{fault, report_of};
 ghost use Rattle.kishu_model.specs.Answers.{refusal_name};
 ghost use Rattle.kishu_model.specs.Request.{cells};
 ghost use Rattle.kishu_model.specs.requests.Cells.{HasRoom};
+ghost use Rattle.kishu_notebook.specs.Partly.{IsPartlySet, IsCutShort};
 ghost use Rattle.kishu_notebook.specs.Places.{code_places};
 ghost use Rattle.kishu_notebook.specs.Values.{Tells};
 ghost use Rattle.kishu_notebook.specs.declared.refusal.NotebookFault.TheVariants.{NoMemory};
@@ -167,6 +168,8 @@ impl Notebook {
     pub fn set_answer(&mut self, at: u32, answer: &Answer) -> Result<(), AllocError>
         ensures ok { OnOk result (IfSome (answer_of answer.now)
             (λ a. data_of self.new ≡ with_answer at a (data_of self.old))) }
+        ensures none { answer_of answer.now ≡ None → OnOk result (data_of self.new ≡ data_of self.old) }
+        ensures err { OnErr result (IsCutShort at answer.now (data_of self.old) (data_of self.new)) }
         ensures sources { sources_of (data_of self.new) ≡ sources_of (data_of self.old) }
     {
         match answer {
@@ -191,6 +194,8 @@ impl Notebook {
     fn set_results(&mut self, at: usize, results: &[Counted]) -> Result<(), AllocError>
         ensures ok { OnOk result (data_of self.new
             ≡ with_results at (map counted_of results.now) (data_of self.old)) }
+        ensures err { OnErr result
+            (IsPartlySet at (map counted_of results.now) (data_of self.old) (data_of self.new)) }
         ensures sources { sources_of (data_of self.new) ≡ sources_of (data_of self.old) }
     {
         for place in at..self.code.len() {
@@ -206,6 +211,8 @@ impl Notebook {
     fn set_refusal(&mut self, at: usize, number: u8, bytes: Option<u64>) -> Result<(), AllocError>
         ensures ok { OnOk result (IfSome (numbered number bytes)
             (λ r. data_of self.new ≡ with_refused at (refusal_name r) (data_of self.old))) }
+        ensures none { numbered number bytes ≡ None → OnOk result (data_of self.new ≡ data_of self.old) }
+        ensures err { OnErr result (data_of self.new ≡ data_of self.old) }
         ensures sources { sources_of (data_of self.new) ≡ sources_of (data_of self.old) }
     {
         match Refusal::numbered(number, bytes) {
