@@ -146,19 +146,23 @@ fn has_plain_root(graph: &Graph) -> bool {
         && graph.profile(0) == Profile::One
 }
 
-/// Commits, of which the last has the first as its parent.
-const COMMITS: [Step; 4] = [
+/// Commits, of which the third has the first as its parent.
+const COMMITS: [Step; 6] = [
     (Change::Commit(1, "a = [1]; b = a"), Ok(1)),
     (Change::Commit(2, "b.append(2)"), Ok(2)),
     (Change::Head("1"), Ok(1)),
     (Change::Commit(7, "print(a, a is b)"), Ok(3)),
+    (Change::Commit(1, ""), Ok(4)),
+    (Change::Commit(1, "s = 'é🐢'"), Ok(5)),
 ];
 
 /// Commits, and what is told of them.
-const TOLD: [(u32, &str); 3] = [
+const TOLD: [(u32, &str); 5] = [
     (1, "0 1 One a = [1]; b = a: 0 1"),
     (2, "1 2 One b.append(2): 0 1 2"),
     (3, "1 7 One print(a, a is b): 0 1 3"),
+    (4, "3 1 One : 0 1 3 4"),
+    (5, "4 1 One s = 'é🐢': 0 1 3 4 5"),
 ];
 
 #[test]
