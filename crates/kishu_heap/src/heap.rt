@@ -108,6 +108,10 @@ impl Heap {
         ensures ok { OnOk result (self.new ≡ self.old ++ map node_of nodes.items) }
         ensures err { OnErr result (self.new ≡ self.old) }
     {
+        if self.nodes.is_empty() {
+            self.nodes = nodes;
+            return Ok(());
+        }
         self.nodes.append(&mut nodes)
     }
 
