@@ -1,5 +1,5 @@
 // The fields of a picture, read from the front.
-ghost use Rattle.std.specs.Prelude.{◌≡◌, ◌==◌, length, is_some, IsTrue, IfOk, IfSome};
+ghost use Rattle.std.specs.Prelude.{◌≡◌, ◌==◌, ◌<◌, length, is_some, IsTrue, IfOk, IfSome};
 ghost use Rattle.std.specs.Option.{option_map};
 ghost use Rattle.std.specs.Int.{w32, w128, from_be_bytes, cast_signed};
 ghost use Rattle.std.specs.Rc.{rc_str_bytes};
@@ -58,6 +58,14 @@ impl<'a> Cursor<'a> {
         Stop::Fault {
             left: self.rest.len(),
         }
+    }
+
+    /// Room for so many things of so many bytes at least, where as many bytes are left: a number that bytes
+    /// tell may be false.
+    pub(crate) fn room(&self, count: u32, least: usize) -> usize
+        requires { 0 < least }
+    {
+        (count as usize).min(self.rest.len() / least)
     }
 
     pub(crate) fn byte(&mut self) -> Result<u8, Stop>

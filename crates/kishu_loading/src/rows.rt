@@ -20,6 +20,12 @@ use kishu_meaning::{ClassId, Key, Value};
 use std::alloc::Global;
 use std::rc::RcStr;
 
+/// An entry with a whole number as its key takes so many bytes at least.
+const LEAST_ENTRY: usize = 18;
+
+/// A row takes so many bytes at least, with the value that its node is where it is met.
+const LEAST_ROW: usize = 10;
+
 /// A key that is none of those of the entries before it.
 fn new_key(alloc: Global, cursor: &mut Cursor, entries: &IndexMap<Key, Value>) -> Result<Key, Stop>
     ensures gives { Reads key_of (new_key entries.now.entries) cursor.old result cursor.new }
@@ -66,7 +72,7 @@ impl Nodes {
         ensures forward { GoesOn cursor.old result cursor.new }
         ensures sound { IfOk result (λ m. AreSoundEntries self.now m.entries) }
     {
-        let mut entries = IndexMap::new(alloc);
+        let mut entries = IndexMap::with_capacity(alloc, cursor.room(count, LEAST_ENTRY))?;
         for _turn in 0..count {
             let key = new_key(alloc, cursor, &entries)?;
             let value = self.value(alloc, cursor)?;
@@ -162,7 +168,7 @@ impl Nodes {
         ensures count { IfOk result (λ v. length v.items ≡ count) }
         ensures met { OnOk result (count ≤ cursor.new.met) }
     {
-        let mut rows = Vec::new(alloc);
+        let mut rows = Vec::with_capacity(alloc, cursor.room(count, LEAST_ROW))?;
         for row in 0..count {
             if row >= cursor.met {
                 return Err(cursor.fault());

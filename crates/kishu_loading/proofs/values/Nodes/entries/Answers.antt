@@ -14,10 +14,10 @@ use Rattle.kishu_loading.proofs.values.Nodes.entries.Goals as goal
 pub loop-turn-init : goal.loop-turn-init
 loop-turn-init c = record {
   so_far = paired_begin is_one one_key (moved_value c.args.self.now.base c.args.self.now.count) c.args.count (front_of c.args.cursor.now) _
-      (ap entries_of c.new-entries.ensures.empty);
+      (ap entries_of c.in_ok-entries.ensures.empty);
   forward = (omega arith, omega arith);
   sound = ap (λ es. list_all (λ (e : Key × Value). is_sound (top c.args.self.now.base c.args.self.now.count) e.1) (entries_of es))
-      c.new-entries.ensures.empty;
+      c.in_ok-entries.ensures.empty;
 }
 
 pub loop-turn-preserved : goal.loop-turn-preserved
@@ -40,7 +40,7 @@ loop-turn-preserved c =
 
 pub returns-in_err-key-clause-gives : goal.returns-in_err-key-clause-gives
 returns-in_err-key-clause-gives c =
-    let p = err_from_is_err_and c.from_residual.result c.from_residual.ensures.1 in
+    let p = err_from_is_err_and c.from_residual-in_err-key.result c.from_residual-in_err-key.ensures.1 in
     rw (p.1, p.2) (key_fails is_one one_key (moved_value c.args.self.now.base c.args.self.now.count) c.args.count (front_of c.args.cursor.now)
     c.loop-turn._turn _ (front_of c.loop-turn.cursor) c.loop-turn-test.true c.loop-turn.invariant.so_far _ c.in_err-key.ensures.gives)
 

@@ -1,4 +1,4 @@
-use Rattle.std.proofs.Common.{ap, map, arith}
+use Rattle.std.proofs.Common.{ap, length, map, arith}
 use Rattle.std.proofs.lemmas.Result.{err_from_is_err_and}
 use Rattle.kishu_heap.specs.Cells.{node_of}
 use Rattle.kishu_meaning.specs.values.Sound.{is_sound_node, are_sound_nodes}
@@ -11,10 +11,10 @@ use Rattle.kishu_loading.proofs.values.Nodes.rows.Goals as goal
 pub loop-row-init : goal.loop-row-init
 loop-row-init c = record {
   so_far = rowed_begin (moved_value c.args.self.now.base c.args.self.now.count) c.args.count (front_of c.args.cursor.now) _
-      (ap (map node_of) c.new-rows.ensures.items);
+      (ap (map node_of) c.in_ok-rows.ensures.items);
   forward = (omega arith, omega arith);
-  sound = ap (λ ms. are_sound_nodes (top c.args.self.now.base c.args.self.now.count) (map node_of ms)) c.new-rows.ensures.items;
-  many = omega arith;
+  sound = ap (λ ms. are_sound_nodes (top c.args.self.now.base c.args.self.now.count) (map node_of ms)) c.in_ok-rows.ensures.items;
+  many = ap length c.in_ok-rows.ensures.items;
   met = omega arith;
 }
 
@@ -39,7 +39,7 @@ returns-then-row-cursor-clause-gives c =
 
 pub returns-in_err-node-clause-gives : goal.returns-in_err-node-clause-gives
 returns-in_err-node-clause-gives c =
-    let p = err_from_is_err_and c.from_residual.result c.from_residual.ensures.1 in
+    let p = err_from_is_err_and c.from_residual-in_err-node.result c.from_residual-in_err-node.ensures.1 in
     rw (p.1, p.2) (row_fails (moved_value c.args.self.now.base c.args.self.now.count) c.args.count (front_of c.args.cursor.now) c.loop-row.row _
     (front_of c.loop-row.cursor) c.loop-row-test.true c.loop-row.invariant.so_far (omega arith) _ c.in_err-node.ensures.gives)
 
