@@ -1,5 +1,5 @@
 -- A body that may be appended, and the journal after it was.
-use Rattle.std.proofs.Common.{◌≡◌, ◌⊎◌, inl, inr, ⊎_elim, ◌+◌, ℕ, List, [], ◌∷◌, ◌++◌, length, sym, ◌∙◌, ap, subst, arith}
+use Rattle.std.proofs.Common.{◌≡◌, inl, inr, ⊎_elim, ◌+◌, ℕ, List, [], ◌∷◌, ◌++◌, length, sym, ◌∙◌, ap, subst, arith}
 use Rattle.kishu_host.specs.Host.{State, Elapses}
 use Rattle.kishu_host.specs.Going.{weaker}
 use Rattle.kishu_store.specs.Entries.{Entry}

@@ -1,5 +1,5 @@
 -- A commit more, of which nothing is noted yet: what fits the head's table before fits that of its parent.
-use Rattle.std.proofs.Common.{◌≡◌, ◌<◌, ℕ, suc, ◌+◌, List, [], ◌∷◌, ◌++◌, length, map, get_or, refl, sym, ◌∙◌, ap, subst, arith, length-append}
+use Rattle.std.proofs.Common.{◌≡◌, ◌<◌, ℕ, suc, List, [], ◌∷◌, ◌++◌, length, map, get_or, refl, sym, ◌∙◌, ap, subst, arith, length-append}
 use Rattle.std.proofs.Math.Seq.{get_or-append_seam}
 use Rattle.kishu_graph.specs.ChangeLaws.{changes-before, older-changes, older-field, same-last}
 use Rattle.kishu_graph.specs.Kept.{Kept, HasShapeOf, Noted, Outline, StandsFor, TellsChanges, noted_in, noted_of, outline_in, outlines, parents_of, profiles_of}

@@ -1,5 +1,5 @@
 -- How far the reading of a file has come.
-use Rattle.std.proofs.Common.{◌≡◌, ◌<◌, ◌≤◌, ℕ, ◌+◌, ◌^◌, true, List, [], ◌∷◌, ◌++◌, length, take, drop, refl, sym, ap, subst, ◌∙◌, arith}
+use Rattle.std.proofs.Common.{◌≡◌, ◌<◌, ℕ, ◌+◌, ◌^◌, true, List, [], ◌∷◌, ◌++◌, length, take, drop, refl, sym, ap, subst, ◌∙◌, arith}
 use Rattle.kishu_graph.specs.Kept.{Kept, KeepsHistory}
 use Rattle.kishu_host.specs.Host.{State}
 use Rattle.kishu_record.specs.declared.entry.Entry as program

@@ -2,13 +2,13 @@
 use Rattle.std.proofs.Common.{◌≡◌, ◌≤◌, inl, ℕ, ◌+◌, true, List, [], ◌∷◌, ◌++◌, length, take, refl, sym, ◌∙◌, subst}
 use Rattle.kishu_graph.specs.Kept.{Kept, KeepsHistory, StandsFor, TellsChanges}
 use Rattle.kishu_host.specs.Host.{State}
-use Rattle.kishu_store.specs.Entries.{Entry, Record, entries_in}
+use Rattle.kishu_store.specs.Entries.{Record, entries_in}
 use Rattle.kishu_store.specs.Graph.{Graph}
-use Rattle.kishu_store.specs.Histories.{body_length, new_history}
+use Rattle.kishu_store.specs.Histories.{new_history}
 use Rattle.kishu_store.specs.Holds.{Gives, Holds, fresh_length, front, graph_of, header, history_of}
 use Rattle.kishu_store.specs.Tables.{Change}
 use Rattle.kishu_store_laws.specs.Laws.{history-graph, one_changes}
-use Rattle.kishu_journal.specs.Facts.{IsOfHistory, KeepsTables, NotesRecord, RecordAt}
+use Rattle.kishu_journal.specs.Facts.{IsOfHistory, KeepsTables, NotesRecord}
 use Rattle.kishu_journal.specs.Found.{IsShut, before_body, with_pictures}
 use Rattle.kishu_journal.specs.Going.{IsQuiet}
 use Rattle.kishu_journal.specs.Opened.{AreRead}

@@ -67,7 +67,8 @@ fn next_record<H: Host>(
     ensures ahead { IsAhead (H.state host.old) (H.state host.new) window.old window.new len }
     ensures from { window.new.from ≤ at }
     ensures record { IfOk result (λ o. IfSome o (λ r. RecordAt (H.state host.old) at (entry_of r.0))) }
-    ensures made { IfOk result (λ o. IfSome o (λ r. GoOn graph.old (at + before_body) (entry_of r.0) graph.new)) }
+    ensures made { IfOk result (λ o.
+        IfSome o (λ r. GoOn graph.old (at + before_body) (entry_of r.0) graph.new)) }
     ensures stays { result ≡ Ok None → graph.new ≡ graph.old }
     ensures size { IfOk result (λ o. IfSome o (λ r. r.1 ≡ body_length (entry_of r.0))) }
     ensures within { IfOk result (λ o. IfSome o (λ r. at + before_body + r.1 < len)) }

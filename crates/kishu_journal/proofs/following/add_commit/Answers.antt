@@ -1,4 +1,4 @@
-use Rattle.std.proofs.Common.{◌≡◌, ◌∷◌, length, sym, ◌∙◌, arith}
+use Rattle.std.proofs.Common.{◌∷◌, sym}
 use Rattle.kishu_journal.proofs.ByKind.{added, newest-added}
 use Rattle.kishu_journal.proofs.following.add_commit.Goals as goal
 

@@ -1,4 +1,4 @@
-use Rattle.std.proofs.Common.{sym, ap, ◌∙◌, arith}
+use Rattle.std.proofs.Common.{ap, ◌∙◌, arith}
 use Rattle.std.specs.Rc.{rc_str_bytes}
 use Rattle.kishu_journal.proofs.ByKind.{takes-texts}
 use Rattle.kishu_journal.proofs.following.add_with_groups.Goals as goal

@@ -5,7 +5,6 @@ use Rattle.kishu_store.specs.Histories.{Follows, FollowsAt}
 use Rattle.kishu_store.specs.Limits.{longest_body}
 use Rattle.kishu_journal.specs.declared.journal.JournalFault.TheVariants.{Damaged}
 use Rattle.kishu_journal.specs.Facts.{head_at}
-use Rattle.kishu_journal.specs.Following.{TakesHead}
 use Rattle.kishu_journal.specs.Found.{BeginsHead, before_body, before_head}
 use Rattle.kishu_journal.specs.Windows.{end_of}
 use Rattle.kishu_journal.proofs.Cuts.{none-fits, no-record, record-there, head-length}

@@ -1,4 +1,4 @@
-use Rattle.std.proofs.Common.{◌≡◌, ◌+◌, length, refl}
+use Rattle.std.proofs.Common.{◌+◌, length, refl}
 use Rattle.kishu_record.specs.Commits.{IsCommitHead}
 use Rattle.kishu_journal.proofs.Committing.{none-told, takes-told}
 use Rattle.kishu_journal.proofs.take.note_record.Goals as goal

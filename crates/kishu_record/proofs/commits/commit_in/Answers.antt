@@ -1,4 +1,4 @@
-use Rattle.std.proofs.Common.{◌≡◌, ◌∷◌, ◌∙◌, ℕ, List, map, ap, sym, subst, arith}
+use Rattle.std.proofs.Common.{◌≡◌, ◌∷◌, ◌∙◌, ℕ, map, ap, sym, subst, arith}
 use Rattle.std.specs.List.{sum}
 use Rattle.kishu_store.specs.Entries.{commit}
 use Rattle.kishu_record.specs.Commits.{SpellsCommit}
