@@ -25,6 +25,7 @@ module _ (nodes : List Node) (names : Namespace) (group : List (RcStr Global)) (
         record {
           order = refl;
           low = below;
+          differ = order_distinct s of;
           closed = λ i m a h. child_in s sound of i a m h;
           met = λ x i m e. root_in s sound of x i m e;
           few = (let l = few (length nodes) (order_of nodes names group) (order_distinct s of) below in omega (arith, l, small));

@@ -17,7 +17,7 @@ use Rattle.kishu_names.specs.Record.{texts_of}
 use Rattle.kishu_picture.specs.Held.{order_of}
 use Rattle.kishu_objects.specs.Bytes.{long, many, value_bytes, entry_bytes, name_bytes}
 use Rattle.kishu_objects.specs.Fits.{AllFit, KeyFits, ValueFits}
-use Rattle.kishu_objects.specs.Lists.{In}
+use Rattle.kishu_objects.specs.Lists.{AllDiffer, In}
 use Rattle.kishu_objects.specs.Picture.{place, renumbered, named, bound}
 use Rattle.kishu_objects.specs.Shape.{children, each_child, node_at}
 
@@ -114,6 +114,7 @@ AreClosed nodes found = (i : ℕ) → In i found → AreFound found (children (n
 pub record IsMet (nodes : List Node) (names : Namespace) (group : List (RcStr Global)) (found : List ℕ) : Type 0 where
   pub order : found ≡ order_of nodes names group
   pub low : (i : ℕ) → In i found → i < length nodes
+  pub differ : AllDiffer found
   pub closed : AreClosed nodes found
   pub met : AreMet names.bound (texts_of group) found
   pub few : length found < 2 ^ 32

@@ -6,6 +6,7 @@ ghost use Rattle.kishu_heap.specs.Cells.{node_of, entries_of, attributes_of};
 ghost use Rattle.kishu_objects.specs.Shape.{children};
 ghost use Rattle.kishu_objects.specs.Bytes.{row_bytes};
 ghost use Rattle.kishu_objects.specs.Fits.{AllFit, ValueFits, NodeFits};
+ghost use Rattle.kishu_objects.specs.Lists.{AllDiffer};
 ghost use Rattle.kishu_bytes.specs.Numbers.{profile_number};
 ghost use Rattle.kishu_picture.specs.Rows.{AreFound, EntriesFit, NamesFit, HasShort, HasShortNames, values_in};
 ghost use Rattle.kishu_picture.specs.Rows.{values_at, entries_at, attributes_at, node_at_places};
@@ -26,8 +27,10 @@ fn put_values(
     out: &mut Vec<u8>,
     values: &[Value],
     found: &IndexSet<u32, NearHash>,
+    next: &mut usize,
 ) -> Result<(), AllocError>
     requires met { AreFound found.now.keys (map value_of values.now) }
+    requires differ { AllDiffer found.now.keys }
     requires few { length found.now.keys < 2 ^ 32 }
     requires short { length (list_bytes found.now.keys values.now) < 2 ^ 32 }
     ensures bytes { OnOk result (out.new.items ≡ out.old.items ++ list_bytes found.now.keys values.now) }
@@ -35,7 +38,7 @@ fn put_values(
 {
     put_number(out, values.len() as u32)?;
     for value in values {
-        put_value(out, value, found)?;
+        put_value(out, value, found, next)?;
     }
     Ok(())
 }
@@ -45,8 +48,10 @@ fn put_entries(
     out: &mut Vec<u8>,
     entries: &IndexMap<Key, Value>,
     found: &IndexSet<u32, NearHash>,
+    next: &mut usize,
 ) -> Result<(), AllocError>
     requires met { AreFound found.now.keys (values_in (entries_of entries.now.entries)) }
+    requires differ { AllDiffer found.now.keys }
     requires few { length found.now.keys < 2 ^ 32 }
     requires short { length (dict_bytes found.now.keys entries.now.entries) < 2 ^ 32 }
     ensures bytes { OnOk result
@@ -59,7 +64,7 @@ fn put_entries(
             unreachable!()
         };
         put_key(out, key)?;
-        put_value(out, value, found)?;
+        put_value(out, value, found, next)?;
     }
     Ok(())
 }
@@ -69,8 +74,10 @@ fn put_attributes(
     out: &mut Vec<u8>,
     attributes: &IndexMap<RcStr, Value>,
     found: &IndexSet<u32, NearHash>,
+    next: &mut usize,
 ) -> Result<(), AllocError>
     requires met { AreFound found.now.keys (values_in (attributes_of attributes.now.entries)) }
+    requires differ { AllDiffer found.now.keys }
     requires few { length found.now.keys < 2 ^ 32 }
     requires names { HasShort (attributes_of attributes.now.entries) }
     requires short { length (object_bytes found.now.keys attributes.now.entries) < 2 ^ 32 }
@@ -84,7 +91,7 @@ fn put_attributes(
             unreachable!()
         };
         put_name(out, name.as_str())?;
-        put_value(out, value, found)?;
+        put_value(out, value, found, next)?;
     }
     Ok(())
 }
@@ -104,8 +111,10 @@ fn put_function(
     out: &mut Vec<u8>,
     function: &FunctionNode,
     found: &IndexSet<u32, NearHash>,
+    next: &mut usize,
 ) -> Result<(), AllocError>
     requires met { AreFound found.now.keys (map value_of function.now.defaults.items) }
+    requires differ { AllDiffer found.now.keys }
     requires few { length found.now.keys < 2 ^ 32 }
     requires short { length (function_bytes found.now.keys function.now) < 2 ^ 32 }
     ensures bytes { OnOk result
@@ -115,7 +124,7 @@ fn put_function(
 {
     out.push(profile_number(function.profile))?;
     put_text(out, function.code.as_str())?;
-    put_values(out, function.defaults.as_slice(), found)
+    put_values(out, function.defaults.as_slice(), found, next)
 }
 
 /// Puts a node behind the number of its kind. Its values get the places of their nodes among those
@@ -124,8 +133,10 @@ pub(crate) fn put_row(
     out: &mut Vec<u8>,
     node: &Node,
     found: &IndexSet<u32, NearHash>,
+    next: &mut usize,
 ) -> Result<(), AllocError>
     requires met { AreFound found.now.keys (children (node_of node.now)) }
+    requires differ { AllDiffer found.now.keys }
     requires few { length found.now.keys < 2 ^ 32 }
     requires names { HasShortNames (node_of node.now) }
     requires short { length (row_bytes (node_at_places found.now.keys node.now)) < 2 ^ 32 }
@@ -136,28 +147,28 @@ pub(crate) fn put_row(
     match node {
         Node::List(items) => {
             out.push(1)?;
-            put_values(out, items.as_slice(), found)
+            put_values(out, items.as_slice(), found, next)
         }
         Node::Tuple(items) => {
             out.push(2)?;
-            put_values(out, items.as_slice(), found)
+            put_values(out, items.as_slice(), found, next)
         }
         Node::Dict(entries) => {
             out.push(3)?;
-            put_entries(out, entries, found)
+            put_entries(out, entries, found, next)
         }
         Node::Object(attributes) => {
             out.push(4)?;
-            put_attributes(out, attributes, found)
+            put_attributes(out, attributes, found, next)
         }
         Node::Function(function) => {
             out.push(5)?;
-            put_function(out, function, found)
+            put_function(out, function, found, next)
         }
         Node::Exception(class, arguments) => {
             out.push(6)?;
             out.push(class.0)?;
-            put_values(out, arguments.as_slice(), found)
+            put_values(out, arguments.as_slice(), found, next)
         }
     }
 }

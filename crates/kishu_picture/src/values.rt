@@ -4,7 +4,8 @@ ghost use Rattle.kishu_meaning.specs.values.Keys.{part_of, key_of};
 ghost use Rattle.kishu_meaning.specs.values.Values.{value_of, node};
 ghost use Rattle.kishu_objects.specs.Bytes.{many, value_bytes, part_bytes, key_bytes};
 ghost use Rattle.kishu_objects.specs.Fits.{AllFit, ValueFits, PartFits, KeyFits};
-ghost use Rattle.kishu_objects.specs.Lists.{In};
+ghost use Rattle.kishu_objects.specs.Lists.{AllDiffer, In};
+ghost use Rattle.kishu_objects.specs.Picture.{place};
 ghost use Rattle.kishu_picture.specs.Rows.{value_at};
 
 use crate::parts::{put_number, put_range, put_text, put_whole};
@@ -13,13 +14,34 @@ use kishu_hash::NearHash;
 use kishu_meaning::{Key, KeyPart, Value};
 use std::alloc::AllocError;
 
-/// Puts a value behind. A node gets its place among those found as its number.
+/// The place of a node among those found. Where nodes stand in the order of first meeting, `next` is the place
+/// of the next one that is met, and a node that stands there is found without a look into the table.
+fn place_of(found: &IndexSet<u32, NearHash>, id: u32, next: &mut usize) -> usize
+    requires met { In id found.now.keys }
+    requires differ { AllDiffer found.now.keys }
+    ensures place { result ≡ place found.now.keys id }
+    ensures below { result < length found.now.keys }
+{
+    let first = *next;
+    match found.get_index(first) {
+        Some(there) if *there == id => {
+            *next = first.saturating_add(1);
+            first
+        }
+        _ => found.get_index_of(&id).unwrap_or(0),
+    }
+}
+
+/// Puts a value behind. A node gets its place among those found as its number. At `next` the place of the next
+/// node that is met is thought to be.
 pub(crate) fn put_value(
     out: &mut Vec<u8>,
     value: &Value,
     found: &IndexSet<u32, NearHash>,
+    next: &mut usize,
 ) -> Result<(), AllocError>
     requires met { (i : ℕ) → value_of value.now ≡ node i → In i found.now.keys }
+    requires differ { AllDiffer found.now.keys }
     requires few { length found.now.keys < 2 ^ 32 }
     requires short { length (value_bytes (value_at found.now.keys value.now)) < 2 ^ 32 }
     ensures bytes { OnOk result (
@@ -51,9 +73,7 @@ pub(crate) fn put_value(
             out.push(class.0)?;
         }
         Value::Node(id) => {
-            let Some(place) = found.get_index_of(&id.0) else {
-                unreachable!()
-            };
+            let place = place_of(found, id.0, next);
             out.push(8)?;
             put_number(out, place as u32)?;
         }

@@ -5,7 +5,7 @@ ghost use Rattle.kishu_heap.specs.Costs.{Reads};
 ghost use Rattle.kishu_names.specs.Record.{texts_of};
 ghost use Rattle.kishu_objects.specs.Bytes.{many, row_bytes};
 ghost use Rattle.kishu_objects.specs.Fits.{AllFit, NodeFits, StateFits};
-ghost use Rattle.kishu_objects.specs.Lists.{In};
+ghost use Rattle.kishu_objects.specs.Lists.{AllDiffer, In};
 ghost use Rattle.kishu_picture.specs.Held.{AreBound, order_of, picture_of, bytes_of};
 ghost use Rattle.kishu_picture.specs.Rows.{AreClosed, AreMet, NamesFit, names_of, names_bytes, rows_of};
 
@@ -28,9 +28,11 @@ fn put_names(
     names: &Names,
     group: &[RcStr],
     found: &IndexSet<u32, NearHash>,
+    next: &mut usize,
 ) -> Result<(), AllocError>
     requires bound { AreBound names.now.bound (texts_of group.now) }
     requires met { AreMet names.now.bound (texts_of group.now) found.now.keys }
+    requires differ { AllDiffer found.now.keys }
     requires few { length found.now.keys < 2 ^ 32 }
     requires short { length (names_bytes found.now.keys names.now group.now) < 2 ^ 32 }
     ensures bytes { OnOk result
@@ -43,7 +45,7 @@ fn put_names(
             unreachable!()
         };
         put_name(out, name.as_str())?;
-        put_value(out, value, found)?;
+        put_value(out, value, found, next)?;
     }
     Ok(())
 }
@@ -54,10 +56,12 @@ fn put_rows<L: Ledger>(
     out: &mut Vec<u8>,
     heap: &Heap,
     found: &IndexSet<u32, NearHash>,
+    next: &mut usize,
     steps: &mut Steps<L>,
 ) -> Result<(), AllocError>
     requires low { (i : ℕ) → In i found.now.keys → i < length heap.now }
     requires closed { AreClosed heap.now found.now.keys }
+    requires differ { AllDiffer found.now.keys }
     requires few { length found.now.keys < 2 ^ 32 }
     requires short { length (many row_bytes (rows_of heap.now found.now.keys)) < 2 ^ 32 }
     ensures bytes { OnOk result
@@ -71,7 +75,7 @@ fn put_rows<L: Ledger>(
             unreachable!()
         };
         let node = heap.node(NodeId(*id), steps);
-        put_row(out, node, found)?;
+        put_row(out, node, found, next)?;
     }
     Ok(())
 }
@@ -95,7 +99,8 @@ pub fn picture<L: Ledger>(
 {
     let found = met(alloc, heap, names, group, steps)?;
     let mut out = Vec::new(alloc);
-    put_names(&mut out, names, group, &found)?;
-    put_rows(&mut out, heap, &found, steps)?;
+    let mut next = 0;
+    put_names(&mut out, names, group, &found, &mut next)?;
+    put_rows(&mut out, heap, &found, &mut next, steps)?;
     Ok(out)
 }

@@ -1,11 +1,10 @@
-use Rattle.std.proofs.Common.{◌≡◌, [], ◌∷◌, ◌++◌, ap, ◌∙◌, Some, None, ℕ, rules, arith, to_z, of_z}
+use Rattle.std.proofs.Common.{◌≡◌, [], ◌∷◌, ◌++◌, ap, ◌∙◌, ℕ, rules, arith, to_z, of_z}
 use Rattle.std.specs.Str.{IsUtf8}
 use Rattle.std.specs.Int.{w128}
 use Rattle.std.proofs.lemmas.Int.{to_z-of_z}
 use Rattle.kishu_meaning.specs.values.Values.{value_of}
 use Rattle.kishu_objects.specs.Bytes.{in_four}
-use Rattle.kishu_objects.specs.Picture.{place}
-use Rattle.kishu_picture.proofs.Places.{place_is, position_place, put_in, text_short, text_spells}
+use Rattle.kishu_picture.proofs.Places.{place_is, put_in, text_short, text_spells}
 use Rattle.kishu_picture.proofs.values.put_value.Goals as goal
 
 pub put_text-requires : goal.put_text-requires
@@ -13,21 +12,15 @@ put_text-requires c =
     let s = rw c.in-Text.is at c.requires.short in
     text_short c.as_str.result.now c.as_str.utf8 (rw c.as_str.ensures.value s)
 
-pub unreachable-requires : goal.unreachable-requires
-unreachable-requires c =
-    let e : None ≡ Some (place c.args.found.now.keys c.in-Node.id.0) = c.in_default.ensures.index
-    ∙ position_place c.args.found.now.keys c.in-Node.id.0 (c.requires.met c.in-Node.id.0 (ap value_of c.in-Node.is)) in
-    absurd (cc)
+pub place_of-place-requires-clause-met : goal.place_of-place-requires-clause-met
+place_of-place-requires-clause-met c = c.requires.met c.in-Node.id.0 (ap value_of c.in-Node.is)
 
 pub returns-in_ok-put_number-in-Node-clause-bytes : goal.returns-in_ok-put_number-in-Node-clause-bytes
 returns-in_ok-put_number-in-Node-clause-bytes c =
-    let e : Some c.in-Some.place ≡ Some (place c.args.found.now.keys c.in-Node.id.0) = c.in-Some.ensures.index
-    ∙ position_place c.args.found.now.keys c.in-Node.id.0 (c.requires.met c.in-Node.id.0 (ap value_of c.in-Node.is)) in
-    let f : c.in-Some.place ≡ place c.args.found.now.keys c.in-Node.id.0 = cc in
     rw c.in-Node.is
-    (put_in c.args.out.now.items c.push-in-Node.new.self.items (in_four c.in-Some.place) c.put_number.new.out.items (8 ∷ [])
+    (put_in c.args.out.now.items c.push-in-Node.new.self.items (in_four c.place_of-place.result) c.put_number.new.out.items (8 ∷ [])
     c.in_ok-push-in-Node.ensures.items c.in_ok-put_number-in-Node.ensures
-    ∙ ap (λ (n : ℕ). c.args.out.now.items ++ (8 ∷ in_four n)) f)
+    ∙ ap (λ (n : ℕ). c.args.out.now.items ++ (8 ∷ in_four n)) c.place_of-place.ensures.place)
 
 pub returns-in_ok-put_range-in-Range-clause-bytes : goal.returns-in_ok-put_range-in-Range-clause-bytes
 returns-in_ok-put_range-in-Range-clause-bytes c =
