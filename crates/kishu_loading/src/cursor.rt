@@ -60,8 +60,8 @@ impl<'a> Cursor<'a> {
         }
     }
 
-    /// Room for so many things of so many bytes at least, where as many bytes are left: a number that bytes
-    /// tell may be false.
+    /// For how many things room is taken at once, of `count` that the bytes tell: no more than the bytes that
+    /// are left can hold, if each takes `least` bytes or more, for the number told may be false.
     pub(crate) fn room(&self, count: u32, least: usize) -> usize
         requires { 0 < least }
     {
