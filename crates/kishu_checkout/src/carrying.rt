@@ -9,7 +9,7 @@ ghost use Rattle.kishu_loading.specs.Loaded.{held, KeepsNodes, LeadsWithin};
 ghost use Rattle.kishu_checkout.specs.Fetched.{contents, taken_by, AreFetched, LacksBytes};
 ghost use Rattle.kishu_checkout.specs.Loads.{AreCarried};
 ghost use Rattle.kishu_checkout.specs.Pictures.{told_file, LacksAt, LacksSome};
-ghost use Rattle.kishu_checkout.specs.Placed.{ArePlaced, FailsAt};
+ghost use Rattle.kishu_checkout.specs.Placed.{ArePlaced, FailsAt, IsCarriedOut, IsFirstDamage};
 ghost use Rattle.kishu_checkout.specs.Plans.{groups_dropped, rows_loaded, names_of};
 ghost use Rattle.kishu_checkout.specs.declared.fault.CheckoutFault.TheVariants.{Damaged, DiskFault};
 
@@ -111,6 +111,10 @@ pub fn carry_out<H: Host>(
     requires room { length heap.old ≤ 2 ^ 31 }
     requires small { bytes_in (rows_loaded plan.now) ≤ 2 ^ 28 }
 
+    // It is what `fetch` and then `place` leave.
+    ensures placed { OnOk result (IsCarriedOut (H.state host.old) (groups_dropped plan.now)
+        (rows_loaded plan.now) (held heap.old names.old) (held heap.new names.new)) }
+
     // The pictures are those that are stored for the rows; names of other groups, and the nodes before, stay.
     ensures carried { OnOk result (AreCarried (told_file (H.state host.old)) (groups_dropped plan.now)
         (rows_loaded plan.now) (held heap.old names.old) (held heap.new names.new)) }
@@ -134,7 +138,10 @@ pub fn carry_out<H: Host>(
         ⊎ ReadsMore (H.state host.old).reads (H.state host.new).reads (bytes_in (rows_loaded plan.now)) }
     ensures unread { IsErrOf result DiskFault → (heap.new ≡ heap.old) × (names.new ≡ names.old) }
 
-    // Damage is told at the place of a row to load, where no picture is that may be loaded for it.
+    // Damage is told as `fetch` tells it, or as `place` does: at the place of a row to load, where no picture
+    // is that may be loaded for it.
+    ensures first { (at : ℕ) → IsErrOf result (Damaged at)
+        → IsFirstDamage (H.state host.old) (rows_loaded plan.now) at }
     ensures damaged { (at : ℕ) → IsErrOf result (Damaged at)
         → LacksAt (H.state host.old) (rows_loaded plan.now) at }
     ensures undamaged { (at : ℕ) → IsErrOf result (Damaged at)

@@ -14,6 +14,11 @@ returns-in_err-pictures-clause-damaged g c at e =
     let was : IsErrOf c.fetch.result (Damaged at) = search rules in
     bytes_lack (g.H.Host.state c.args.host.now) (rows_loaded c.args.plan.now) at (c.fetch.ensures.damaged at was)
 
+pub returns-in_err-pictures-clause-first : goal.returns-in_err-pictures-clause-first
+returns-in_err-pictures-clause-first g c at e =
+    let was : IsErrOf c.fetch.result (Damaged at) = search rules in
+    inl (c.fetch.ensures.damaged at was)
+
 pub returns-in_err-pictures-clause-undamaged : goal.returns-in_err-pictures-clause-undamaged
 returns-in_err-pictures-clause-undamaged g c at e =
     lacks_some (g.H.Host.state c.args.host.now) (rows_loaded c.args.plan.now) at (returns-in_err-pictures-clause-damaged g c at e)
@@ -32,9 +37,25 @@ returns-in_err-place-clause-damaged g c at e =
     fails_lacks (g.H.Host.state c.args.host.now) t (contents c.in_ok-pictures.pictures.items) at c.in_ok-pictures.ensures.fetched
     (subst (λ ps. FailsAt t (contents ps) at) c.deref.ensures.value (c.place.ensures.damaged at was))
 
+pub returns-in_err-place-clause-first : goal.returns-in_err-place-clause-first
+returns-in_err-place-clause-first g c at e =
+    let was : IsErrOf c.place.result (Damaged at) = search rules in
+    inr (record {
+      bytes = contents c.in_ok-pictures.pictures.items;
+      fetched = c.in_ok-pictures.ensures.fetched;
+      fails = subst (λ ps. FailsAt (rows_loaded c.args.plan.now) (contents ps) at) c.deref.ensures.value (c.place.ensures.damaged at was);
+    })
+
 pub returns-in_err-place-clause-undamaged : goal.returns-in_err-place-clause-undamaged
 returns-in_err-place-clause-undamaged g c at e =
     lacks_some (g.H.Host.state c.args.host.now) (rows_loaded c.args.plan.now) at (returns-in_err-place-clause-damaged g c at e)
+
+pub returns-clause-placed : goal.returns-clause-placed
+returns-clause-placed g c = record {
+  bytes = contents c.in_ok-pictures.pictures.items;
+  fetched = c.in_ok-pictures.ensures.fetched;
+  placed = subst (λ ps. ArePlaced (groups_dropped c.args.plan.now) (rows_loaded c.args.plan.now) (contents ps) (held c.args.heap.now c.args.names.now) (held c.place.new.heap c.place.new.names)) c.deref.ensures.value c.in_ok-place.ensures.placed;
+}
 
 pub returns-clause-carried : goal.returns-clause-carried
 returns-clause-carried g c =
