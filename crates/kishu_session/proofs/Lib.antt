@@ -42,6 +42,7 @@ mod Grown
 mod Applied
 mod Staying
 mod LiveFacts
+mod AttachedLaws
 mod Silent
 mod ReadFacts
 mod RefusedBranch

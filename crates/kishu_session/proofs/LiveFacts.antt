@@ -152,7 +152,7 @@ module _ (file : List ℕ) (old new : Head) (h : History) (q : Request) (r : Opt
   next-state kept kind = ⊎_elim still-next (⊎_elim (moved-next kept) (⊎_elim (reloaded-next kept) committed-next)) kind
 
 -- The cells that a session counts are those on the path to the head of each history that is kept.
-counts-known : (head : Head) (place : ℕ) (h : History) → IsHistoryOf head.graph h → IsKnown head place → CountsPath head h.graph
+pub counts-known : (head : Head) (place : ℕ) (h : History) → IsHistoryOf head.graph h → IsKnown head place → CountsPath head h.graph
 counts-known head place h kept known = record {
   is = ∥∥₁_elim known (Coded-set coded_ℕ _ _) (λ k. (one-count head.graph k.0 h k.1.kept kept head k.1.count).is);
   few = ∥∥₁_elim known le_prop (λ k. (one-count head.graph k.0 h k.1.kept kept head k.1.count).few);

@@ -24,6 +24,7 @@ mod counting;
 mod halt;
 mod head;
 mod keeping;
+mod laws;
 mod live;
 mod prepared;
 mod preparing;
@@ -35,4 +36,5 @@ mod session;
 mod unprepared;
 
 pub use halt::Halt;
+pub use laws::sessions_are_attached;
 pub use session::Session;
