@@ -16,7 +16,7 @@ use Rattle.kishu_meaning.specs.values.Numbers.{is_whole, number_read, floor_quot
 use Rattle.kishu_meaning.specs.values.Values.{Value, none, bool, integer, text, range, builtin, class, node, Node, list, tuple, dict, object, exception}
 use Rattle.kishu_meaning.specs.moments.Moment.{Moment, Ends, fine, raised, stopped, Thrown, fresh, M, and_then, ◌>>=◌, ◌>>◌, give, or_else, spend, tick, look, make, node_now, raise, exhausted}
 use Rattle.kishu_meaning.specs.values.Kinds.{not_iterable}
-use Rattle.kishu_meaning.specs.comparing.Equal.{number_in, range_length, less, less_in}
+use Rattle.kishu_meaning.specs.comparing.Equal.{number_in, range_length, less, less_in, greater, greater_in}
 use Rattle.kishu_meaning.specs.calls.Operators.{bad_arguments, bad_operands, list_from, truth, whole, divided, operate, new_list, new_tuple}
 use Rattle.kishu_meaning.specs.comparing.Comparing.{compare, or_unordered, comparison_sign}
 use Rattle.kishu_meaning.specs.items.Walks as walks
@@ -39,7 +39,7 @@ use Rattle.kishu_builtins.specs.Called.{plainly}
 use Rattle.kishu_meaning_laws.specs.BareLaws.{then_bare, give_bare, look_bare, make_bare, raise_bare, spend_bare, counted_bare}
 use Rattle.kishu_meaning_laws.specs.MakingLaws.{end_of}
 use Rattle.kishu_meaning.specs.moments.Counting.{Count, Counted, answer, too_deep, spent, ended_in, counted}
-use Rattle.kishu_meaning_laws.specs.CountingLaws.{left_of, Falls, less_in_falls, repr_falls, show_falls}
+use Rattle.kishu_meaning_laws.specs.CountingLaws.{left_of, Falls, less_in_falls, greater_in_falls, repr_falls, show_falls}
 
 -- an exception of a class of exceptions, with a text
 abbrev pub is_text_thrown : Thrown → Bool
@@ -255,13 +255,16 @@ or_unordered_kept comparison v u None = bad_operands_kept (comparison_sign compa
 less_kept : (v u : Value) → Keeps (less v u)
 less_kept v u = counted_kept (λ ns depth. less_in ns depth v u) (λ ns depth. less_in_falls ns depth v u)
 
+greater_kept : (v u : Value) → Keeps (greater v u)
+greater_kept v u = counted_kept (λ ns depth. greater_in ns depth v u) (λ ns depth. greater_in_falls ns depth v u)
+
 -- `max` and `min` compare by these two.
 pub data Extreme : Comparison → Type 0 where
   greatest : Extreme comparisons.Greater
   least : Extreme comparisons.Less
 
 compare_kept : (comparison : Comparison) → Extreme comparison → (v u : Value) → Keeps (compare comparison v u)
-compare_kept _ greatest v u = then_kept (less u v) (or_unordered comparisons.Greater v u) (less_kept u v) (or_unordered_kept comparisons.Greater v u)
+compare_kept _ greatest v u = then_kept (greater v u) (or_unordered comparisons.Greater v u) (greater_kept v u) (or_unordered_kept comparisons.Greater v u)
 compare_kept _ least v u = then_kept (less v u) (or_unordered comparisons.Less v u) (less_kept v u) (or_unordered_kept comparisons.Less v u)
 
 better_kept : (comparison : Comparison) → Extreme comparison → (o : Option Value) (v : Value) → Keeps (better comparison o v)

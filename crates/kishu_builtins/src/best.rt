@@ -73,8 +73,8 @@ fn bad_operands<L: Ledger>(
     )
 }
 
-// Whether a value is less than another, as a comparison of the two asks.
-fn less<L: Ledger>(
+// Whether a value is greater than the best one, or less, as a comparison of the two asks.
+fn is_before<L: Ledger>(
     which: Extreme,
     value: &Value,
     best: &Value,
@@ -86,7 +86,7 @@ fn less<L: Ledger>(
     ensures spends { Spends 8 budget.old steps.old budget.new steps.new }
 {
     match which {
-        Extreme::Greatest => heap.less(best, value, budget, steps),
+        Extreme::Greatest => heap.greater(value, best, budget, steps),
         Extreme::Least => heap.less(value, best, budget, steps),
     }
 }
@@ -106,7 +106,7 @@ fn goes_before<L: Ledger>(
     ensures gives { Gives (λ x. x) result (moment_of heap.now budget.new) (compare (comparison_of which) (value_of value.now) (value_of best.now) (moment_of heap.now budget.old)) }
     ensures spends { Spends 10 budget.old steps.old budget.new steps.new }
 {
-    match less(which, value, best, heap, budget, steps) {
+    match is_before(which, value, best, heap, budget, steps) {
         Ok(before) => Ok(before),
         Err(CompareFault::Unordered) => bad_operands(alloc, which, value, best, heap, steps),
         Err(CompareFault::Depth) => {

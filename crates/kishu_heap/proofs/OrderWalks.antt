@@ -4,9 +4,9 @@ use Rattle.std.specs.Prelude.{min, nat_lt, if◌then◌else◌}
 use Rattle.std.proofs.lemmas.Option.{slice_get_read}
 use Rattle.std.proofs.lemmas.Bool.Decides.{nat_tests}
 use Rattle.kishu_meaning.specs.declared.value.Value as rust
-use Rattle.kishu_meaning.specs.values.Values.{value_of}
+use Rattle.kishu_meaning.specs.values.Values.{Value, value_of}
 use Rattle.kishu_meaning.specs.moments.Counting.{Counted, Count, answer, and_then}
-use Rattle.kishu_meaning.specs.comparing.Equal.{pair_equal, less_by, items_less}
+use Rattle.kishu_meaning.specs.comparing.Equal.{less_by, items_less}
 use Rattle.kishu_heap.specs.declared.fault.CompareFault.{CompareFault}
 use Rattle.kishu_heap.specs.declared.fault.CompareFault.TheVariants as faults
 use Rattle.kishu_heap.specs.Compared.{Gives, Orders}
@@ -23,26 +23,26 @@ fault_ordered faults.Unordered n e g h = absurd h
 fault_ordered faults.Depth n e g h = rw h refl
 fault_ordered faults.Spent n e g h = rw h refl
 
-module _ (same_nodes : ℕ → ℕ → Count Bool) (nodes : ℕ → ℕ → Count (Option Bool)) where
+module _ (pairs : Value → Value → Count Bool) (nodes : ℕ → ℕ → Count (Option Bool)) where
   module _ (xs ys : List rust.Value) (i : ℕ) (x y : rust.Value) (in_xs : i < length xs) (in_ys : i < length ys) (is_x : x ≡ get_or xs i x) (is_y : y ≡ get_or ys i y) (n m : ℕ) where
     abbrev from : ℕ → Count (Option Bool)
-    from k = items_less same_nodes nodes (map value_of (drop k xs)) (map value_of (drop k ys))
+    from k = items_less pairs nodes (map value_of (drop k xs)) (map value_of (drop k ys))
 
-    order_at : from i n ≡ and_then (pair_equal same_nodes (value_of x) (value_of y) n) (λ same. if same then from (i + 1) else less_by nodes (value_of x) (value_of y))
+    order_at : from i n ≡ and_then (pairs (value_of x) (value_of y) n) (λ same. if same then from (i + 1) else less_by nodes (value_of x) (value_of y))
     order_at = rw (dropped xs i x in_xs is_x, dropped ys i y in_ys is_y) refl
 
-    pub order_fault : (f : CompareFault) → Gives {A = Bool} (Err f) m (pair_equal same_nodes (value_of x) (value_of y) n) → Orders (Err f) m (from i n)
+    pub order_fault : (f : CompareFault) → Gives {A = Bool} (Err f) m (pairs (value_of x) (value_of y) n) → Orders (Err f) m (from i n)
     order_fault f h = rw order_at (fault_ordered f m _ _ h)
 
-    pub order_differs : pair_equal same_nodes (value_of x) (value_of y) n ≡ answer false m → from i n ≡ less_by nodes (value_of x) (value_of y) m
+    pub order_differs : pairs (value_of x) (value_of y) n ≡ answer false m → from i n ≡ less_by nodes (value_of x) (value_of y) m
     order_differs h = order_at ∙ rw h refl
 
-    pub order_goes_on : pair_equal same_nodes (value_of x) (value_of y) n ≡ answer true m → from i n ≡ from (i + 1) m
+    pub order_goes_on : pairs (value_of x) (value_of y) n ≡ answer true m → from i n ≡ from (i + 1) m
     order_goes_on h = order_at ∙ rw h refl
 
   -- where one of the lists ends
   pub order_end : (xs ys : List rust.Value) (i n : ℕ) → i ≤ min (length xs) (length ys) → min (length xs) (length ys) ≤ i
-      → items_less same_nodes nodes (map value_of (drop i xs)) (map value_of (drop i ys)) n ≡ answer (Some (nat_lt (length xs) (length ys))) n
+      → items_less pairs nodes (map value_of (drop i xs)) (map value_of (drop i ys)) n ≡ answer (Some (nat_lt (length xs) (length ys))) n
   order_end [] [] zero n p q = refl
   order_end [] [] (suc i) n p q = absurd (omega arith)
   order_end [] (y ∷ ys) zero n p q = let h : nat_lt 0 (length (y ∷ ys)) ≡ true = grind (arith, nat_tests) in rw h refl

@@ -7,7 +7,7 @@ ghost use Rattle.kishu_language.specs.tokens.Names.{is_name};
 ghost use Rattle.kishu_meaning.specs.values.Values.{value_of};
 ghost use Rattle.kishu_meaning.specs.values.Nodes.{on_dict, changed, found, list_in, last_item, value_under, attribute, set_item, push, pop, replace_list, insert, remove, set_attr, remove_attr};
 ghost use Rattle.kishu_meaning.specs.values.Sound.{is_sound, are_sound, is_sound_node, are_sound_nodes, is_sound_heap};
-ghost use Rattle.kishu_meaning.specs.comparing.Equal.{pair_equal, equal_nodes, equal_in, less_in, room_at};
+ghost use Rattle.kishu_meaning.specs.comparing.Equal.{pair_equal, equal_nodes, equal_in, less_in, greater_in, room_at};
 ghost use Rattle.kishu_meaning_laws.specs.EqualLaws.{value_under_equal, insert_by_values};
 ghost use Rattle.kishu_heap.specs.Cells.{node_of};
 ghost use Rattle.kishu_heap.specs.Compared.{Gives, Orders};
@@ -259,7 +259,24 @@ impl Heap {
         ensures takes { Compares 8 budget.old.left steps.old budget.new.left steps.new }
     {
         let room = room_at(budget.depth);
-        less_values(self, a, b, room, &mut budget.left, steps)
+        less_values(self, false, a, b, room, &mut budget.left, steps)
+    }
+
+    /// Whether a value is greater than another: the other is less, where of each pair of items it is asked
+    /// whether the first one's equals the second one's. Steps and faults are as in `less`.
+    pub fn greater<L: Ledger>(
+        &self,
+        a: &Value,
+        b: &Value,
+        budget: &mut Budget,
+        steps: &mut Steps<L>,
+    ) -> Result<bool, CompareFault>
+        ensures gives { Orders result budget.new.left (greater_in self.now budget.old.depth (value_of a.now) (value_of b.now) budget.old.left) }
+        ensures depth { budget.new.depth ≡ budget.old.depth }
+        ensures takes { Compares 8 budget.old.left steps.old budget.new.left steps.new }
+    {
+        let room = room_at(budget.depth);
+        less_values(self, true, b, a, room, &mut budget.left, steps)
     }
 }
 

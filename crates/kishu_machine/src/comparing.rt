@@ -4,7 +4,7 @@ ghost use Rattle.std.specs.Prelude.{Bool, Err, IsTrue, Option, is_some, map, nat
 ghost use Rattle.std.specs.Str.{chars};
 ghost use Rattle.kishu_meaning.specs.comparing.Comparing.{among, compare, comparison_sign, identical, in_node, in_range, is_number_of, member, or_unordered, part_in};
 ghost use Rattle.kishu_meaning.specs.moments.Counting.{Counted, ended_in};
-ghost use Rattle.kishu_meaning.specs.comparing.Equal.{equal, less, number_in};
+ghost use Rattle.kishu_meaning.specs.comparing.Equal.{equal, greater, less, number_in};
 ghost use Rattle.kishu_meaning.specs.moments.Moment.{Ends, Moment, and_then, give, node_now, ◌>>=◌ as ◌⊳◌};
 ghost use Rattle.kishu_meaning.specs.items.KeyOf.{key_of_value};
 ghost use Rattle.kishu_meaning.specs.values.Keys.{is_one, key_of};
@@ -108,7 +108,7 @@ fn equal<L: Ledger>(
     answered(machine.alloc, answer)
 }
 
-// How a comparison by order ends that has no answer. `a` and `b` are the operands as they stand in it.
+// How a comparison by order ends that has no answer.
 fn unanswered<L: Ledger>(
     machine: &Machine,
     comparison: Comparison,
@@ -151,24 +151,41 @@ fn ordered<L: Ledger>(
     }
 }
 
-// Whether one is less than the other; `a` and `b` are the operands as they stand in the comparison.
+// Whether one is less than the other.
 fn less<L: Ledger>(
     machine: &mut Machine,
     comparison: Comparison,
-    one: &Value,
-    other: &Value,
     a: &Value,
     b: &Value,
     steps: &mut Steps<L>,
 ) -> Result<bool, Fault>
     requires sound_a { IsSoundIn machine.old.heap a.now }
     requires sound_b { IsSoundIn machine.old.heap b.now }
-    ensures gives { Gives (λ b. b) result (moment_of machine.new) ((less (value_of one.now) (value_of other.now) ⊳ or_unordered comparison (value_of a.now) (value_of b.now)) (moment_of machine.old)) }
+    ensures gives { Gives (λ b. b) result (moment_of machine.new) ((less (value_of a.now) (value_of b.now) ⊳ or_unordered comparison (value_of a.now) (value_of b.now)) (moment_of machine.old)) }
     ensures sound { SoundEnd machine.new.heap result }
     ensures costs { Costs 0 10 machine.old steps.old machine.new steps.new }
     ensures heap { machine.new.heap ≡ machine.old.heap }
 {
-    let answer = machine.heap.less(one, other, &mut machine.budget, steps);
+    let answer = machine.heap.less(a, b, &mut machine.budget, steps);
+    ordered(machine, comparison, answer, a, b, steps)
+}
+
+// Whether one is greater than the other.
+fn greater<L: Ledger>(
+    machine: &mut Machine,
+    comparison: Comparison,
+    a: &Value,
+    b: &Value,
+    steps: &mut Steps<L>,
+) -> Result<bool, Fault>
+    requires sound_a { IsSoundIn machine.old.heap a.now }
+    requires sound_b { IsSoundIn machine.old.heap b.now }
+    ensures gives { Gives (λ b. b) result (moment_of machine.new) ((greater (value_of a.now) (value_of b.now) ⊳ or_unordered comparison (value_of a.now) (value_of b.now)) (moment_of machine.old)) }
+    ensures sound { SoundEnd machine.new.heap result }
+    ensures costs { Costs 0 10 machine.old steps.old machine.new steps.new }
+    ensures heap { machine.new.heap ≡ machine.old.heap }
+{
+    let answer = machine.heap.greater(a, b, &mut machine.budget, steps);
     ordered(machine, comparison, answer, a, b, steps)
 }
 
@@ -429,10 +446,10 @@ pub fn compare<L: Ledger>(
     ensures heap { machine.new.heap ≡ machine.old.heap }
 {
     match comparison {
-        Comparison::Less => less(machine, comparison, a, b, a, b, steps),
-        Comparison::LessEqual => negated(less(machine, comparison, b, a, a, b, steps)),
-        Comparison::Greater => less(machine, comparison, b, a, a, b, steps),
-        Comparison::GreaterEqual => negated(less(machine, comparison, a, b, a, b, steps)),
+        Comparison::Less => less(machine, comparison, a, b, steps),
+        Comparison::LessEqual => negated(greater(machine, comparison, a, b, steps)),
+        Comparison::Greater => greater(machine, comparison, a, b, steps),
+        Comparison::GreaterEqual => negated(less(machine, comparison, a, b, steps)),
         Comparison::Equal => equal(machine, a, b, steps),
         Comparison::NotEqual => negated(equal(machine, a, b, steps)),
         Comparison::In => member(machine, comparison, a, b, steps),

@@ -6,7 +6,7 @@ use Rattle.kishu_meaning.specs.values.Values.{Value, Node}
 use Rattle.kishu_meaning.specs.values.Nodes.{value_at, list_in, tuple_in, dict_in, object_in}
 use Rattle.kishu_meaning.specs.moments.Counting.{Count, ◌>>◌, give, spend}
 use Rattle.kishu_meaning.specs.comparing.Equal as e
-use Rattle.kishu_meaning.specs.comparing.Equal.{by_both, node_in, is_same, is_equal, pair_steps, less_plain, equal_by, pair_equal, equal_nodes, less_by, less_nodes, room_at, equal_in, less_in}
+use Rattle.kishu_meaning.specs.comparing.Equal.{by_both, node_in, is_same, is_equal, pair_steps, less_plain, equal_by, pair_equal, equal_nodes, pair_turned, less_by, less_nodes, room_at, equal_in, less_in, greater_in}
 use Rattle.kishu_meaning.specs.items.Finding.{is_found, place_from, count_from}
 use Rattle.kishu_meaning.specs.comparing.Show.{repr_in, show_in}
 pub use Rattle.kishu_meaning_laws.specs.CountLaws.{left_of, Wider, both_answer, both_deep, one_spent, Falls, then_falls, both_fall, give_falls, spend_falls, deep_falls, either_falls}
@@ -74,30 +74,40 @@ equal_in_falls ns depth = equal_falls (equal_nodes ns (room_at depth)) (equal_no
 
 -- ---- order
 
-module _ (same_nodes : ℕ → ℕ → Count Bool) (nodes : ℕ → ℕ → Count (Option Bool)) (hs : (i j : ℕ) → Falls (same_nodes i j)) (h : (i j : ℕ) → Falls (nodes i j)) where
+turned_falls : (turned : Bool) (nodes : ℕ → ℕ → Count Bool) → ((i j : ℕ) → Falls (nodes i j)) → (v w : Value) → Falls (pair_turned turned nodes v w)
+turned_falls true nodes h v w = pair_falls nodes h w v
+turned_falls false nodes h v w = pair_falls nodes h v w
+
+module _ (pairs : Value → Value → Count Bool) (nodes : ℕ → ℕ → Count (Option Bool)) (hs : (v w : Value) → Falls (pairs v w)) (h : (i j : ℕ) → Falls (nodes i j)) where
   less_falls : (a b : Value) → Falls (less_by nodes a b)
   less_falls a b = by_both_falls (node_in a) (node_in b) nodes (spend (pair_steps a b) >> give (less_plain a b)) h (spent_then_given (pair_steps a b) (less_plain a b))
 
-  items_less_fall : (vs ws : List Value) → Falls (e.items_less same_nodes nodes vs ws)
+  items_less_fall : (vs ws : List Value) → Falls (e.items_less pairs nodes vs ws)
   items_less_fall [] [] = give_falls (Some false)
   items_less_fall [] (w ∷ ws) = give_falls (Some true)
   items_less_fall (v ∷ vs) [] = give_falls (Some false)
   items_less_fall (v ∷ vs) (w ∷ ws) =
-      then_falls (pair_equal same_nodes v w) (λ same. if same then e.items_less same_nodes nodes vs ws else less_by nodes v w) (pair_falls same_nodes hs v w)
-      (λ same. either_falls same (e.items_less same_nodes nodes vs ws) (less_by nodes v w) (items_less_fall vs ws) (less_falls v w))
+      then_falls (pairs v w) (λ same. if same then e.items_less pairs nodes vs ws else less_by nodes v w) (hs v w)
+      (λ same. either_falls same (e.items_less pairs nodes vs ws) (less_by nodes v w) (items_less_fall vs ws) (less_falls v w))
 
-  contents_less_fall : (a b : Node) → Falls (e.contents_less same_nodes nodes a b)
+  contents_less_fall : (a b : Node) → Falls (e.contents_less pairs nodes a b)
   contents_less_fall a b = by_both_falls (list_in a) (list_in b) _ _ items_less_fall (by_both_falls (tuple_in a) (tuple_in b) _ _ items_less_fall (give_falls None))
 
-  nodes_less_fall : (a b : Option Node) → Falls (e.nodes_less same_nodes nodes a b)
+  nodes_less_fall : (a b : Option Node) → Falls (e.nodes_less pairs nodes a b)
   nodes_less_fall a b = by_both_falls a b _ _ contents_less_fall (give_falls None)
 
-pub less_nodes_fall : (ns : List Node) (room i j : ℕ) → Falls (less_nodes ns room i j)
-less_nodes_fall ns zero i j = deep_falls
-less_nodes_fall ns (suc room) i j = nodes_less_fall (equal_nodes ns room) (less_nodes ns room) (equal_nodes_fall ns room) (less_nodes_fall ns room) (slice_get ns i) (slice_get ns j)
+pub less_nodes_fall : (turned : Bool) (ns : List Node) (room i j : ℕ) → Falls (less_nodes turned ns room i j)
+less_nodes_fall turned ns zero i j = deep_falls
+less_nodes_fall turned ns (suc room) i j = nodes_less_fall (pair_turned turned (equal_nodes ns room)) (less_nodes turned ns room) (turned_falls turned (equal_nodes ns room) (equal_nodes_fall ns room)) (less_nodes_fall turned ns room) (slice_get ns i) (slice_get ns j)
+
+order_falls : (turned : Bool) (ns : List Node) (room : ℕ) (a b : Value) → Falls (less_by (less_nodes turned ns room) a b)
+order_falls turned ns room = less_falls (pair_turned turned (equal_nodes ns room)) (less_nodes turned ns room) (turned_falls turned (equal_nodes ns room) (equal_nodes_fall ns room)) (less_nodes_fall turned ns room)
 
 pub less_in_falls : (ns : List Node) (depth : ℕ) (a b : Value) → Falls (less_in ns depth a b)
-less_in_falls ns depth = less_falls (equal_nodes ns (room_at depth)) (less_nodes ns (room_at depth)) (equal_nodes_fall ns (room_at depth)) (less_nodes_fall ns (room_at depth))
+less_in_falls ns depth = order_falls false ns (room_at depth)
+
+pub greater_in_falls : (ns : List Node) (depth : ℕ) (a b : Value) → Falls (greater_in ns depth a b)
+greater_in_falls ns depth a b = order_falls true ns (room_at depth) b a
 
 -- ---- items that are equal to a value
 

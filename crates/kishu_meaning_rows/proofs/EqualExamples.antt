@@ -4,7 +4,7 @@ use Rattle.std.specs.Prelude.{pos, negsuc, codes, Some, None}
 use Rattle.kishu_meaning.specs.values.Keys as p
 use Rattle.kishu_meaning.specs.values.Values.{none, bool, integer, text, range, builtin, class, node, list, tuple, dict, object, exception}
 use Rattle.kishu_meaning.specs.moments.Counting.{answer, too_deep, spent}
-use Rattle.kishu_meaning.specs.comparing.Equal.{equal_in, less_in}
+use Rattle.kishu_meaning.specs.comparing.Equal.{equal_in, less_in, greater_in}
 
 compare_1 : equal_in [] 0 none none 100 ≡ answer true 100
 compare_1 = refl
@@ -302,3 +302,48 @@ compare_98 = refl
 
 compare_99 : less_in ((list ((integer (pos 1)) ∷ [])) ∷ (list ((integer (pos 2)) ∷ [])) ∷ []) 0 (node 0) (node 1) 1 ≡ answer (Some true) 0
 compare_99 = refl
+
+compare_100 : greater_in [] 0 (integer (pos 2)) (integer (pos 1)) 100 ≡ answer (Some true) 100
+compare_100 = refl
+
+compare_101 : greater_in [] 0 (integer (pos 1)) (integer (pos 2)) 100 ≡ answer (Some false) 100
+compare_101 = refl
+
+compare_102 : greater_in [] 0 (text (codes "ab")) (text (codes "a")) 100 ≡ answer (Some true) 99
+compare_102 = refl
+
+compare_103 : greater_in ((list []) ∷ (list ((integer (pos 1)) ∷ [])) ∷ []) 0 (node 0) (node 1) 100 ≡ answer (Some false) 100
+compare_103 = refl
+
+compare_104 : greater_in ((list ((integer (pos 1)) ∷ (integer (pos 3)) ∷ [])) ∷ (list ((integer (pos 1)) ∷ (integer (pos 2)) ∷ [])) ∷ []) 0 (node 0) (node 1) 100 ≡ answer (Some true) 98
+compare_104 = refl
+
+compare_105 : greater_in ((tuple ((integer (pos 1)) ∷ (integer (pos 2)) ∷ [])) ∷ []) 0 (node 0) (node 0) 100 ≡ answer (Some false) 98
+compare_105 = refl
+
+compare_106 : greater_in ((list ((node 2) ∷ [])) ∷ (list ((node 3) ∷ [])) ∷ (list ((integer (pos 1)) ∷ (integer (pos 6)) ∷ [])) ∷ (list ((integer (pos 1)) ∷ (integer (pos 5)) ∷ [])) ∷ []) 0 (node 0) (node 1) 100 ≡ answer (Some true) 95
+compare_106 = refl
+
+compare_107 : greater_in [] 0 none (integer (pos 1)) 100 ≡ answer None 100
+compare_107 = refl
+
+compare_108 : greater_in ((list ((node 2) ∷ [])) ∷ (list ((node 3) ∷ [])) ∷ (dict (((p.single (p.integer (pos 1))), (integer (pos 1))) ∷ ((p.single (p.integer (pos 2))), (integer (pos 2))) ∷ [])) ∷ (dict (((p.single (p.integer (pos 2))), (integer (pos 3))) ∷ ((p.single (p.integer (pos 1))), (integer (pos 1))) ∷ [])) ∷ []) 0 (node 0) (node 1) 100 ≡ answer None 97
+compare_108 = refl
+
+compare_109 : greater_in ((list ((node 2) ∷ [])) ∷ (list ((node 3) ∷ [])) ∷ (dict (((p.single (p.integer (pos 2))), (integer (pos 3))) ∷ ((p.single (p.integer (pos 1))), (integer (pos 1))) ∷ [])) ∷ (dict (((p.single (p.integer (pos 1))), (integer (pos 1))) ∷ ((p.single (p.integer (pos 2))), (integer (pos 2))) ∷ [])) ∷ []) 0 (node 0) (node 1) 100 ≡ answer None 98
+compare_109 = refl
+
+compare_110 : less_in ((list ((node 2) ∷ [])) ∷ (list ((node 3) ∷ [])) ∷ (dict (((p.single (p.integer (pos 1))), (integer (pos 1))) ∷ ((p.single (p.integer (pos 2))), (integer (pos 2))) ∷ [])) ∷ (dict (((p.single (p.integer (pos 2))), (integer (pos 3))) ∷ ((p.single (p.integer (pos 1))), (integer (pos 1))) ∷ [])) ∷ []) 0 (node 0) (node 1) 100 ≡ answer None 97
+compare_110 = refl
+
+compare_111 : less_in ((list ((node 2) ∷ [])) ∷ (list ((node 3) ∷ [])) ∷ (dict (((p.single (p.integer (pos 2))), (integer (pos 3))) ∷ ((p.single (p.integer (pos 1))), (integer (pos 1))) ∷ [])) ∷ (dict (((p.single (p.integer (pos 1))), (integer (pos 1))) ∷ ((p.single (p.integer (pos 2))), (integer (pos 2))) ∷ [])) ∷ []) 0 (node 0) (node 1) 100 ≡ answer None 98
+compare_111 = refl
+
+compare_112 : greater_in ((list ((node 2) ∷ [])) ∷ (list ((node 3) ∷ [])) ∷ (dict (((p.single (p.integer (pos 1))), (node 4)) ∷ ((p.single (p.integer (pos 2))), (integer (pos 2))) ∷ [])) ∷ (dict (((p.single (p.integer (pos 2))), (integer (pos 3))) ∷ ((p.single (p.integer (pos 1))), (node 5)) ∷ [])) ∷ (list ((node 4) ∷ [])) ∷ (list ((node 5) ∷ [])) ∷ []) 990 (node 0) (node 1) 100 ≡ too_deep 89
+compare_112 = refl
+
+compare_113 : greater_in ((list ((node 2) ∷ [])) ∷ (list ((node 3) ∷ [])) ∷ (dict (((p.single (p.integer (pos 2))), (integer (pos 3))) ∷ ((p.single (p.integer (pos 1))), (node 4)) ∷ [])) ∷ (dict (((p.single (p.integer (pos 1))), (node 5)) ∷ ((p.single (p.integer (pos 2))), (integer (pos 2))) ∷ [])) ∷ (list ((node 4) ∷ [])) ∷ (list ((node 5) ∷ [])) ∷ []) 990 (node 0) (node 1) 100 ≡ answer None 98
+compare_113 = refl
+
+compare_114 : greater_in ((list ((node 2) ∷ [])) ∷ (list ((node 3) ∷ [])) ∷ (object (((codes "a"), (integer (pos 1))) ∷ ((codes "b"), (integer (pos 2))) ∷ [])) ∷ (object (((codes "b"), (integer (pos 3))) ∷ ((codes "a"), (integer (pos 1))) ∷ [])) ∷ []) 0 (node 0) (node 1) 100 ≡ answer None 97
+compare_114 = refl

@@ -23,10 +23,6 @@ use Rattle.kishu_meaning.specs.values.Values.{none, bool, integer, text, node, l
 use Rattle.kishu_meaning.specs.cells.Meaning.{run}
 use Rattle.kishu_meaning_rows.proofs.Cells.{ran, ran_over}
 
-over_93 : run One (codes "(1).a = x") empty ≡ ran Raised (fault (codes "NameError") (codes "name 'x' is not defined") ∷ []) [] (codes "x" ∷ []) 26
-unfolding reserved_marks delimiter operator numeral Q.escape Q.item Q.closes Q.body Q.quoted token_piece lexeme cut indented begin bracket step layout encode_utf8 code_of E.keyword_begins E.another E.argument E.attribute E.call E.slice_after E.item_or_slice E.trailer E.parenthesised E.list E.pair E.dict E.atom E.primary_parts E.primary E.power E.unary_level E.term E.sum E.compared E.negated_level E.conjunction E.disjunction E.expr_level E.exprs_level E.phrase S.primary_at S.another_simple S.raise S.return S.assertion S.delete S.global S.import S.update_of S.assignment_of S.update_or_assignment S.simple S.simples S.line S.block S.block_after S.arm S.choice S.while S.for S.caught S.handler S.handled S.finished S.try S.parameter S.definition S.define S.compound S.chunk S.program R.piece read_chars chars digits power builtin_names class_names run
-over_93 = refl
-
 over_94 : run One (codes "[1].x = 2") empty ≡ ran_over Raised (fault (codes "AttributeError") (codes "'list' object has no attribute 'x'") ∷ []) [] (list (integer (pos 1) ∷ []) ∷ []) [] 39
 unfolding reserved_marks delimiter operator numeral Q.escape Q.item Q.closes Q.body Q.quoted token_piece lexeme cut indented begin bracket step layout encode_utf8 code_of E.keyword_begins E.another E.argument E.attribute E.call E.slice_after E.item_or_slice E.trailer E.parenthesised E.list E.pair E.dict E.atom E.primary_parts E.primary E.power E.unary_level E.term E.sum E.compared E.negated_level E.conjunction E.disjunction E.expr_level E.exprs_level E.phrase S.primary_at S.another_simple S.raise S.return S.assertion S.delete S.global S.import S.update_of S.assignment_of S.update_or_assignment S.simple S.simples S.line S.block S.block_after S.arm S.choice S.while S.for S.caught S.handler S.handled S.finished S.try S.parameter S.definition S.define S.compound S.chunk S.program R.piece read_chars chars digits power builtin_names class_names run
 over_94 = refl
@@ -199,194 +195,202 @@ over_136 : run One (codes "[1, []] >= [1, {}]") empty ≡ ran_over Raised (fault
 unfolding reserved_marks delimiter operator numeral Q.escape Q.item Q.closes Q.body Q.quoted token_piece lexeme cut indented begin bracket step layout encode_utf8 code_of E.keyword_begins E.another E.argument E.attribute E.call E.slice_after E.item_or_slice E.trailer E.parenthesised E.list E.pair E.dict E.atom E.primary_parts E.primary E.power E.unary_level E.term E.sum E.compared E.negated_level E.conjunction E.disjunction E.expr_level E.exprs_level E.phrase S.primary_at S.another_simple S.raise S.return S.assertion S.delete S.global S.import S.update_of S.assignment_of S.update_or_assignment S.simple S.simples S.line S.block S.block_after S.arm S.choice S.while S.for S.caught S.handler S.handled S.finished S.try S.parameter S.definition S.define S.compound S.chunk S.program R.piece read_chars chars digits power builtin_names class_names run
 over_136 = refl
 
-over_137 : run One (codes "[] != [], [[]] != [[], 1]") empty ≡ ran_over Done (shown (codes "(False, True)") ∷ []) [] (list [] ∷ list [] ∷ list [] ∷ list (node 2 ∷ []) ∷ list [] ∷ list (node 4 ∷ integer (pos 1) ∷ []) ∷ tuple (bool false ∷ bool true ∷ []) ∷ []) [] 24
+over_137 : run One (codes "[{1: 1, 2: 2}] > [{2: 3, 1: 1}]") empty ≡ ran_over Raised (fault (codes "TypeError") (codes "bad operand types for >: 'list' and 'list'") ∷ []) [] (dict ((p.single (p.integer (pos 1)), integer (pos 1)) ∷ (p.single (p.integer (pos 2)), integer (pos 2)) ∷ []) ∷ list (node 0 ∷ []) ∷ dict ((p.single (p.integer (pos 2)), integer (pos 3)) ∷ (p.single (p.integer (pos 1)), integer (pos 1)) ∷ []) ∷ list (node 2 ∷ []) ∷ []) [] 60
 unfolding reserved_marks delimiter operator numeral Q.escape Q.item Q.closes Q.body Q.quoted token_piece lexeme cut indented begin bracket step layout encode_utf8 code_of E.keyword_begins E.another E.argument E.attribute E.call E.slice_after E.item_or_slice E.trailer E.parenthesised E.list E.pair E.dict E.atom E.primary_parts E.primary E.power E.unary_level E.term E.sum E.compared E.negated_level E.conjunction E.disjunction E.expr_level E.exprs_level E.phrase S.primary_at S.another_simple S.raise S.return S.assertion S.delete S.global S.import S.update_of S.assignment_of S.update_or_assignment S.simple S.simples S.line S.block S.block_after S.arm S.choice S.while S.for S.caught S.handler S.handled S.finished S.try S.parameter S.definition S.define S.compound S.chunk S.program R.piece read_chars chars digits power builtin_names class_names run
 over_137 = refl
 
-over_138 : run One (codes "{1: [2], 3: 4} == {3: 4, 1: [2]}") empty ≡ ran_over Done (shown (codes "True") ∷ []) [] (list (integer (pos 2) ∷ []) ∷ dict ((p.single (p.integer (pos 1)), node 0) ∷ (p.single (p.integer (pos 3)), integer (pos 4)) ∷ []) ∷ list (integer (pos 2) ∷ []) ∷ dict ((p.single (p.integer (pos 3)), integer (pos 4)) ∷ (p.single (p.integer (pos 1)), node 2) ∷ []) ∷ []) [] 21
+over_138 : run One (codes "[{1: 1, 2: 2}] <= [{2: 3, 1: 1}]") empty ≡ ran_over Raised (fault (codes "TypeError") (codes "bad operand types for <=: 'list' and 'list'") ∷ []) [] (dict ((p.single (p.integer (pos 1)), integer (pos 1)) ∷ (p.single (p.integer (pos 2)), integer (pos 2)) ∷ []) ∷ list (node 0 ∷ []) ∷ dict ((p.single (p.integer (pos 2)), integer (pos 3)) ∷ (p.single (p.integer (pos 1)), integer (pos 1)) ∷ []) ∷ list (node 2 ∷ []) ∷ []) [] 61
 unfolding reserved_marks delimiter operator numeral Q.escape Q.item Q.closes Q.body Q.quoted token_piece lexeme cut indented begin bracket step layout encode_utf8 code_of E.keyword_begins E.another E.argument E.attribute E.call E.slice_after E.item_or_slice E.trailer E.parenthesised E.list E.pair E.dict E.atom E.primary_parts E.primary E.power E.unary_level E.term E.sum E.compared E.negated_level E.conjunction E.disjunction E.expr_level E.exprs_level E.phrase S.primary_at S.another_simple S.raise S.return S.assertion S.delete S.global S.import S.update_of S.assignment_of S.update_or_assignment S.simple S.simples S.line S.block S.block_after S.arm S.choice S.while S.for S.caught S.handler S.handled S.finished S.try S.parameter S.definition S.define S.compound S.chunk S.program R.piece read_chars chars digits power builtin_names class_names run
 over_138 = refl
 
-over_139 : run One (codes "1 in [1, 2], 'a' in ('b',), [1] in [[1]], 3 not in [1, 2]") empty ≡ ran_over Done (shown (codes "(True, False, True, True)") ∷ []) [] (list (integer (pos 1) ∷ integer (pos 2) ∷ []) ∷ tuple (text (codes "b") ∷ []) ∷ list (integer (pos 1) ∷ []) ∷ list (integer (pos 1) ∷ []) ∷ list (node 3 ∷ []) ∷ list (integer (pos 1) ∷ integer (pos 2) ∷ []) ∷ tuple (bool true ∷ bool false ∷ bool true ∷ bool true ∷ []) ∷ []) [] 54
+over_139 : run One (codes "max([{1: 1, 2: 2}], [{2: 3, 1: 1}])") empty ≡ ran_over Raised (fault (codes "TypeError") (codes "bad operand types for >: 'list' and 'list'") ∷ []) [] (dict ((p.single (p.integer (pos 1)), integer (pos 1)) ∷ (p.single (p.integer (pos 2)), integer (pos 2)) ∷ []) ∷ list (node 0 ∷ []) ∷ dict ((p.single (p.integer (pos 2)), integer (pos 3)) ∷ (p.single (p.integer (pos 1)), integer (pos 1)) ∷ []) ∷ list (node 2 ∷ []) ∷ []) (codes "max" ∷ []) 62
 unfolding reserved_marks delimiter operator numeral Q.escape Q.item Q.closes Q.body Q.quoted token_piece lexeme cut indented begin bracket step layout encode_utf8 code_of E.keyword_begins E.another E.argument E.attribute E.call E.slice_after E.item_or_slice E.trailer E.parenthesised E.list E.pair E.dict E.atom E.primary_parts E.primary E.power E.unary_level E.term E.sum E.compared E.negated_level E.conjunction E.disjunction E.expr_level E.exprs_level E.phrase S.primary_at S.another_simple S.raise S.return S.assertion S.delete S.global S.import S.update_of S.assignment_of S.update_or_assignment S.simple S.simples S.line S.block S.block_after S.arm S.choice S.while S.for S.caught S.handler S.handled S.finished S.try S.parameter S.definition S.define S.compound S.chunk S.program R.piece read_chars chars digits power builtin_names class_names run
 over_139 = refl
 
-over_140 : run One (codes "1 in {True: 0}, 'k' in {}, (1,) in {(1,): 2}") empty ≡ ran_over Done (shown (codes "(True, False, True)") ∷ []) [] (dict ((p.single (p.bool true), integer (pos 0)) ∷ []) ∷ dict [] ∷ tuple (integer (pos 1) ∷ []) ∷ tuple (integer (pos 1) ∷ []) ∷ dict ((p.tuple (p.integer (pos 1) ∷ []), integer (pos 2)) ∷ []) ∷ tuple (bool true ∷ bool false ∷ bool true ∷ []) ∷ []) [] 38
+over_140 : run One (codes "[] != [], [[]] != [[], 1]") empty ≡ ran_over Done (shown (codes "(False, True)") ∷ []) [] (list [] ∷ list [] ∷ list [] ∷ list (node 2 ∷ []) ∷ list [] ∷ list (node 4 ∷ integer (pos 1) ∷ []) ∷ tuple (bool false ∷ bool true ∷ []) ∷ []) [] 24
 unfolding reserved_marks delimiter operator numeral Q.escape Q.item Q.closes Q.body Q.quoted token_piece lexeme cut indented begin bracket step layout encode_utf8 code_of E.keyword_begins E.another E.argument E.attribute E.call E.slice_after E.item_or_slice E.trailer E.parenthesised E.list E.pair E.dict E.atom E.primary_parts E.primary E.power E.unary_level E.term E.sum E.compared E.negated_level E.conjunction E.disjunction E.expr_level E.exprs_level E.phrase S.primary_at S.another_simple S.raise S.return S.assertion S.delete S.global S.import S.update_of S.assignment_of S.update_or_assignment S.simple S.simples S.line S.block S.block_after S.arm S.choice S.while S.for S.caught S.handler S.handled S.finished S.try S.parameter S.definition S.define S.compound S.chunk S.program R.piece read_chars chars digits power builtin_names class_names run
 over_140 = refl
 
-over_141 : run One (codes "[] in {}") empty ≡ ran_over Raised (fault (codes "TypeError") (codes "unhashable key: 'list'") ∷ []) [] (list [] ∷ dict [] ∷ []) [] 27
+over_141 : run One (codes "{1: [2], 3: 4} == {3: 4, 1: [2]}") empty ≡ ran_over Done (shown (codes "True") ∷ []) [] (list (integer (pos 2) ∷ []) ∷ dict ((p.single (p.integer (pos 1)), node 0) ∷ (p.single (p.integer (pos 3)), integer (pos 4)) ∷ []) ∷ list (integer (pos 2) ∷ []) ∷ dict ((p.single (p.integer (pos 3)), integer (pos 4)) ∷ (p.single (p.integer (pos 1)), node 2) ∷ []) ∷ []) [] 21
 unfolding reserved_marks delimiter operator numeral Q.escape Q.item Q.closes Q.body Q.quoted token_piece lexeme cut indented begin bracket step layout encode_utf8 code_of E.keyword_begins E.another E.argument E.attribute E.call E.slice_after E.item_or_slice E.trailer E.parenthesised E.list E.pair E.dict E.atom E.primary_parts E.primary E.power E.unary_level E.term E.sum E.compared E.negated_level E.conjunction E.disjunction E.expr_level E.exprs_level E.phrase S.primary_at S.another_simple S.raise S.return S.assertion S.delete S.global S.import S.update_of S.assignment_of S.update_or_assignment S.simple S.simples S.line S.block S.block_after S.arm S.choice S.while S.for S.caught S.handler S.handled S.finished S.try S.parameter S.definition S.define S.compound S.chunk S.program R.piece read_chars chars digits power builtin_names class_names run
 over_141 = refl
 
-over_142 : run One (codes "1 in 1") empty ≡ ran Raised (fault (codes "TypeError") (codes "'int' object is not iterable") ∷ []) [] [] 33
+over_142 : run One (codes "1 in [1, 2], 'a' in ('b',), [1] in [[1]], 3 not in [1, 2]") empty ≡ ran_over Done (shown (codes "(True, False, True, True)") ∷ []) [] (list (integer (pos 1) ∷ integer (pos 2) ∷ []) ∷ tuple (text (codes "b") ∷ []) ∷ list (integer (pos 1) ∷ []) ∷ list (integer (pos 1) ∷ []) ∷ list (node 3 ∷ []) ∷ list (integer (pos 1) ∷ integer (pos 2) ∷ []) ∷ tuple (bool true ∷ bool false ∷ bool true ∷ bool true ∷ []) ∷ []) [] 54
 unfolding reserved_marks delimiter operator numeral Q.escape Q.item Q.closes Q.body Q.quoted token_piece lexeme cut indented begin bracket step layout encode_utf8 code_of E.keyword_begins E.another E.argument E.attribute E.call E.slice_after E.item_or_slice E.trailer E.parenthesised E.list E.pair E.dict E.atom E.primary_parts E.primary E.power E.unary_level E.term E.sum E.compared E.negated_level E.conjunction E.disjunction E.expr_level E.exprs_level E.phrase S.primary_at S.another_simple S.raise S.return S.assertion S.delete S.global S.import S.update_of S.assignment_of S.update_or_assignment S.simple S.simples S.line S.block S.block_after S.arm S.choice S.while S.for S.caught S.handler S.handled S.finished S.try S.parameter S.definition S.define S.compound S.chunk S.program R.piece read_chars chars digits power builtin_names class_names run
 over_142 = refl
 
-over_143 : run One (codes "1 in None") empty ≡ ran Raised (fault (codes "TypeError") (codes "'NoneType' object is not iterable") ∷ []) [] [] 38
+over_143 : run One (codes "1 in {True: 0}, 'k' in {}, (1,) in {(1,): 2}") empty ≡ ran_over Done (shown (codes "(True, False, True)") ∷ []) [] (dict ((p.single (p.bool true), integer (pos 0)) ∷ []) ∷ dict [] ∷ tuple (integer (pos 1) ∷ []) ∷ tuple (integer (pos 1) ∷ []) ∷ dict ((p.tuple (p.integer (pos 1) ∷ []), integer (pos 2)) ∷ []) ∷ tuple (bool true ∷ bool false ∷ bool true ∷ []) ∷ []) [] 38
 unfolding reserved_marks delimiter operator numeral Q.escape Q.item Q.closes Q.body Q.quoted token_piece lexeme cut indented begin bracket step layout encode_utf8 code_of E.keyword_begins E.another E.argument E.attribute E.call E.slice_after E.item_or_slice E.trailer E.parenthesised E.list E.pair E.dict E.atom E.primary_parts E.primary E.power E.unary_level E.term E.sum E.compared E.negated_level E.conjunction E.disjunction E.expr_level E.exprs_level E.phrase S.primary_at S.another_simple S.raise S.return S.assertion S.delete S.global S.import S.update_of S.assignment_of S.update_or_assignment S.simple S.simples S.line S.block S.block_after S.arm S.choice S.while S.for S.caught S.handler S.handled S.finished S.try S.parameter S.definition S.define S.compound S.chunk S.program R.piece read_chars chars digits power builtin_names class_names run
 over_143 = refl
 
-over_144 : run One (codes "1 in [2, 1, x]") empty ≡ ran Raised (fault (codes "NameError") (codes "name 'x' is not defined") ∷ []) [] (codes "x" ∷ []) 30
+over_144 : run One (codes "[] in {}") empty ≡ ran_over Raised (fault (codes "TypeError") (codes "unhashable key: 'list'") ∷ []) [] (list [] ∷ dict [] ∷ []) [] 27
 unfolding reserved_marks delimiter operator numeral Q.escape Q.item Q.closes Q.body Q.quoted token_piece lexeme cut indented begin bracket step layout encode_utf8 code_of E.keyword_begins E.another E.argument E.attribute E.call E.slice_after E.item_or_slice E.trailer E.parenthesised E.list E.pair E.dict E.atom E.primary_parts E.primary E.power E.unary_level E.term E.sum E.compared E.negated_level E.conjunction E.disjunction E.expr_level E.exprs_level E.phrase S.primary_at S.another_simple S.raise S.return S.assertion S.delete S.global S.import S.update_of S.assignment_of S.update_or_assignment S.simple S.simples S.line S.block S.block_after S.arm S.choice S.while S.for S.caught S.handler S.handled S.finished S.try S.parameter S.definition S.define S.compound S.chunk S.program R.piece read_chars chars digits power builtin_names class_names run
 over_144 = refl
 
-over_145 : run One (codes "1 in [x]") empty ≡ ran Raised (fault (codes "NameError") (codes "name 'x' is not defined") ∷ []) [] (codes "x" ∷ []) 28
+over_145 : run One (codes "1 in 1") empty ≡ ran Raised (fault (codes "TypeError") (codes "'int' object is not iterable") ∷ []) [] [] 33
 unfolding reserved_marks delimiter operator numeral Q.escape Q.item Q.closes Q.body Q.quoted token_piece lexeme cut indented begin bracket step layout encode_utf8 code_of E.keyword_begins E.another E.argument E.attribute E.call E.slice_after E.item_or_slice E.trailer E.parenthesised E.list E.pair E.dict E.atom E.primary_parts E.primary E.power E.unary_level E.term E.sum E.compared E.negated_level E.conjunction E.disjunction E.expr_level E.exprs_level E.phrase S.primary_at S.another_simple S.raise S.return S.assertion S.delete S.global S.import S.update_of S.assignment_of S.update_or_assignment S.simple S.simples S.line S.block S.block_after S.arm S.choice S.while S.for S.caught S.handler S.handled S.finished S.try S.parameter S.definition S.define S.compound S.chunk S.program R.piece read_chars chars digits power builtin_names class_names run
 over_145 = refl
 
-over_146 : run One (codes "a = []; a in [[], a]") empty ≡ ran_over Done (shown (codes "True") ∷ []) ((codes "a", node 0) ∷ []) (list [] ∷ list [] ∷ list (node 1 ∷ node 0 ∷ []) ∷ []) (codes "a" ∷ []) 13
+over_146 : run One (codes "1 in None") empty ≡ ran Raised (fault (codes "TypeError") (codes "'NoneType' object is not iterable") ∷ []) [] [] 38
 unfolding reserved_marks delimiter operator numeral Q.escape Q.item Q.closes Q.body Q.quoted token_piece lexeme cut indented begin bracket step layout encode_utf8 code_of E.keyword_begins E.another E.argument E.attribute E.call E.slice_after E.item_or_slice E.trailer E.parenthesised E.list E.pair E.dict E.atom E.primary_parts E.primary E.power E.unary_level E.term E.sum E.compared E.negated_level E.conjunction E.disjunction E.expr_level E.exprs_level E.phrase S.primary_at S.another_simple S.raise S.return S.assertion S.delete S.global S.import S.update_of S.assignment_of S.update_or_assignment S.simple S.simples S.line S.block S.block_after S.arm S.choice S.while S.for S.caught S.handler S.handled S.finished S.try S.parameter S.definition S.define S.compound S.chunk S.program R.piece read_chars chars digits power builtin_names class_names run
 over_146 = refl
 
-over_147 : run One (codes "1 < 2 in [2, True]") empty ≡ ran_over Done (shown (codes "True") ∷ []) [] (list (integer (pos 2) ∷ bool true ∷ []) ∷ []) [] 13
+over_147 : run One (codes "1 in [2, 1, x]") empty ≡ ran Raised (fault (codes "NameError") (codes "name 'x' is not defined") ∷ []) [] (codes "x" ∷ []) 30
 unfolding reserved_marks delimiter operator numeral Q.escape Q.item Q.closes Q.body Q.quoted token_piece lexeme cut indented begin bracket step layout encode_utf8 code_of E.keyword_begins E.another E.argument E.attribute E.call E.slice_after E.item_or_slice E.trailer E.parenthesised E.list E.pair E.dict E.atom E.primary_parts E.primary E.power E.unary_level E.term E.sum E.compared E.negated_level E.conjunction E.disjunction E.expr_level E.exprs_level E.phrase S.primary_at S.another_simple S.raise S.return S.assertion S.delete S.global S.import S.update_of S.assignment_of S.update_or_assignment S.simple S.simples S.line S.block S.block_after S.arm S.choice S.while S.for S.caught S.handler S.handled S.finished S.try S.parameter S.definition S.define S.compound S.chunk S.program R.piece read_chars chars digits power builtin_names class_names run
 over_147 = refl
 
-over_148 : run One (codes "a, b = 1, 2\nb, a = a, b\n(a, b)") empty ≡ ran_over Done (shown (codes "(2, 1)") ∷ []) ((codes "a", integer (pos 2)) ∷ (codes "b", integer (pos 1)) ∷ []) (tuple (integer (pos 1) ∷ integer (pos 2) ∷ []) ∷ tuple (integer (pos 1) ∷ integer (pos 2) ∷ []) ∷ tuple (integer (pos 2) ∷ integer (pos 1) ∷ []) ∷ []) (codes "a" ∷ codes "b" ∷ []) 22
+over_148 : run One (codes "1 in [x]") empty ≡ ran Raised (fault (codes "NameError") (codes "name 'x' is not defined") ∷ []) [] (codes "x" ∷ []) 28
 unfolding reserved_marks delimiter operator numeral Q.escape Q.item Q.closes Q.body Q.quoted token_piece lexeme cut indented begin bracket step layout encode_utf8 code_of E.keyword_begins E.another E.argument E.attribute E.call E.slice_after E.item_or_slice E.trailer E.parenthesised E.list E.pair E.dict E.atom E.primary_parts E.primary E.power E.unary_level E.term E.sum E.compared E.negated_level E.conjunction E.disjunction E.expr_level E.exprs_level E.phrase S.primary_at S.another_simple S.raise S.return S.assertion S.delete S.global S.import S.update_of S.assignment_of S.update_or_assignment S.simple S.simples S.line S.block S.block_after S.arm S.choice S.while S.for S.caught S.handler S.handled S.finished S.try S.parameter S.definition S.define S.compound S.chunk S.program R.piece read_chars chars digits power builtin_names class_names run
 over_148 = refl
 
-over_149 : run One (codes "[a, (b, c)] = 1, [2, 3]\na, b, c") empty ≡ ran_over Done (shown (codes "(1, 2, 3)") ∷ []) ((codes "a", integer (pos 1)) ∷ (codes "b", integer (pos 2)) ∷ (codes "c", integer (pos 3)) ∷ []) (list (integer (pos 2) ∷ integer (pos 3) ∷ []) ∷ tuple (integer (pos 1) ∷ node 0 ∷ []) ∷ tuple (integer (pos 1) ∷ integer (pos 2) ∷ integer (pos 3) ∷ []) ∷ []) (codes "a" ∷ codes "b" ∷ codes "c" ∷ []) 24
+over_149 : run One (codes "a = []; a in [[], a]") empty ≡ ran_over Done (shown (codes "True") ∷ []) ((codes "a", node 0) ∷ []) (list [] ∷ list [] ∷ list (node 1 ∷ node 0 ∷ []) ∷ []) (codes "a" ∷ []) 13
 unfolding reserved_marks delimiter operator numeral Q.escape Q.item Q.closes Q.body Q.quoted token_piece lexeme cut indented begin bracket step layout encode_utf8 code_of E.keyword_begins E.another E.argument E.attribute E.call E.slice_after E.item_or_slice E.trailer E.parenthesised E.list E.pair E.dict E.atom E.primary_parts E.primary E.power E.unary_level E.term E.sum E.compared E.negated_level E.conjunction E.disjunction E.expr_level E.exprs_level E.phrase S.primary_at S.another_simple S.raise S.return S.assertion S.delete S.global S.import S.update_of S.assignment_of S.update_or_assignment S.simple S.simples S.line S.block S.block_after S.arm S.choice S.while S.for S.caught S.handler S.handled S.finished S.try S.parameter S.definition S.define S.compound S.chunk S.program R.piece read_chars chars digits power builtin_names class_names run
 over_149 = refl
 
-over_150 : run One (codes "a, b = 'xy'; a, b") empty ≡ ran_over Done (shown (codes "('x', 'y')") ∷ []) ((codes "a", text (codes "x")) ∷ (codes "b", text (codes "y")) ∷ []) (tuple (text (codes "x") ∷ text (codes "y") ∷ []) ∷ []) (codes "a" ∷ codes "b" ∷ []) 18
+over_150 : run One (codes "1 < 2 in [2, True]") empty ≡ ran_over Done (shown (codes "True") ∷ []) [] (list (integer (pos 2) ∷ bool true ∷ []) ∷ []) [] 13
 unfolding reserved_marks delimiter operator numeral Q.escape Q.item Q.closes Q.body Q.quoted token_piece lexeme cut indented begin bracket step layout encode_utf8 code_of E.keyword_begins E.another E.argument E.attribute E.call E.slice_after E.item_or_slice E.trailer E.parenthesised E.list E.pair E.dict E.atom E.primary_parts E.primary E.power E.unary_level E.term E.sum E.compared E.negated_level E.conjunction E.disjunction E.expr_level E.exprs_level E.phrase S.primary_at S.another_simple S.raise S.return S.assertion S.delete S.global S.import S.update_of S.assignment_of S.update_or_assignment S.simple S.simples S.line S.block S.block_after S.arm S.choice S.while S.for S.caught S.handler S.handled S.finished S.try S.parameter S.definition S.define S.compound S.chunk S.program R.piece read_chars chars digits power builtin_names class_names run
 over_150 = refl
 
-over_151 : run One (codes "(a), = [1]; a") empty ≡ ran_over Done (shown (codes "1") ∷ []) ((codes "a", integer (pos 1)) ∷ []) (list (integer (pos 1) ∷ []) ∷ []) (codes "a" ∷ []) 7
+over_151 : run One (codes "a, b = 1, 2\nb, a = a, b\n(a, b)") empty ≡ ran_over Done (shown (codes "(2, 1)") ∷ []) ((codes "a", integer (pos 2)) ∷ (codes "b", integer (pos 1)) ∷ []) (tuple (integer (pos 1) ∷ integer (pos 2) ∷ []) ∷ tuple (integer (pos 1) ∷ integer (pos 2) ∷ []) ∷ tuple (integer (pos 2) ∷ integer (pos 1) ∷ []) ∷ []) (codes "a" ∷ codes "b" ∷ []) 22
 unfolding reserved_marks delimiter operator numeral Q.escape Q.item Q.closes Q.body Q.quoted token_piece lexeme cut indented begin bracket step layout encode_utf8 code_of E.keyword_begins E.another E.argument E.attribute E.call E.slice_after E.item_or_slice E.trailer E.parenthesised E.list E.pair E.dict E.atom E.primary_parts E.primary E.power E.unary_level E.term E.sum E.compared E.negated_level E.conjunction E.disjunction E.expr_level E.exprs_level E.phrase S.primary_at S.another_simple S.raise S.return S.assertion S.delete S.global S.import S.update_of S.assignment_of S.update_or_assignment S.simple S.simples S.line S.block S.block_after S.arm S.choice S.while S.for S.caught S.handler S.handled S.finished S.try S.parameter S.definition S.define S.compound S.chunk S.program R.piece read_chars chars digits power builtin_names class_names run
 over_151 = refl
 
-over_152 : run One (codes "a, b = {'x': 1, 'y': 2}; a, b") empty ≡ ran_over Done (shown (codes "('x', 'y')") ∷ []) ((codes "a", text (codes "x")) ∷ (codes "b", text (codes "y")) ∷ []) (dict ((p.single (p.text (codes "x")), integer (pos 1)) ∷ (p.single (p.text (codes "y")), integer (pos 2)) ∷ []) ∷ tuple (text (codes "x") ∷ text (codes "y") ∷ []) ∷ []) (codes "a" ∷ codes "b" ∷ []) 22
+over_152 : run One (codes "[a, (b, c)] = 1, [2, 3]\na, b, c") empty ≡ ran_over Done (shown (codes "(1, 2, 3)") ∷ []) ((codes "a", integer (pos 1)) ∷ (codes "b", integer (pos 2)) ∷ (codes "c", integer (pos 3)) ∷ []) (list (integer (pos 2) ∷ integer (pos 3) ∷ []) ∷ tuple (integer (pos 1) ∷ node 0 ∷ []) ∷ tuple (integer (pos 1) ∷ integer (pos 2) ∷ integer (pos 3) ∷ []) ∷ []) (codes "a" ∷ codes "b" ∷ codes "c" ∷ []) 24
 unfolding reserved_marks delimiter operator numeral Q.escape Q.item Q.closes Q.body Q.quoted token_piece lexeme cut indented begin bracket step layout encode_utf8 code_of E.keyword_begins E.another E.argument E.attribute E.call E.slice_after E.item_or_slice E.trailer E.parenthesised E.list E.pair E.dict E.atom E.primary_parts E.primary E.power E.unary_level E.term E.sum E.compared E.negated_level E.conjunction E.disjunction E.expr_level E.exprs_level E.phrase S.primary_at S.another_simple S.raise S.return S.assertion S.delete S.global S.import S.update_of S.assignment_of S.update_or_assignment S.simple S.simples S.line S.block S.block_after S.arm S.choice S.while S.for S.caught S.handler S.handled S.finished S.try S.parameter S.definition S.define S.compound S.chunk S.program R.piece read_chars chars digits power builtin_names class_names run
 over_152 = refl
 
-over_153 : run One (codes "a, b = 1, 2, 3") empty ≡ ran_over Raised (fault (codes "ValueError") (codes "cannot unpack into 2") ∷ []) [] (tuple (integer (pos 1) ∷ integer (pos 2) ∷ integer (pos 3) ∷ []) ∷ []) [] 29
+over_153 : run One (codes "a, b = 'xy'; a, b") empty ≡ ran_over Done (shown (codes "('x', 'y')") ∷ []) ((codes "a", text (codes "x")) ∷ (codes "b", text (codes "y")) ∷ []) (tuple (text (codes "x") ∷ text (codes "y") ∷ []) ∷ []) (codes "a" ∷ codes "b" ∷ []) 18
 unfolding reserved_marks delimiter operator numeral Q.escape Q.item Q.closes Q.body Q.quoted token_piece lexeme cut indented begin bracket step layout encode_utf8 code_of E.keyword_begins E.another E.argument E.attribute E.call E.slice_after E.item_or_slice E.trailer E.parenthesised E.list E.pair E.dict E.atom E.primary_parts E.primary E.power E.unary_level E.term E.sum E.compared E.negated_level E.conjunction E.disjunction E.expr_level E.exprs_level E.phrase S.primary_at S.another_simple S.raise S.return S.assertion S.delete S.global S.import S.update_of S.assignment_of S.update_or_assignment S.simple S.simples S.line S.block S.block_after S.arm S.choice S.while S.for S.caught S.handler S.handled S.finished S.try S.parameter S.definition S.define S.compound S.chunk S.program R.piece read_chars chars digits power builtin_names class_names run
 over_153 = refl
 
-over_154 : run One (codes "a, b = 1,") empty ≡ ran_over Raised (fault (codes "ValueError") (codes "cannot unpack into 2") ∷ []) [] (tuple (integer (pos 1) ∷ []) ∷ []) [] 25
+over_154 : run One (codes "(a), = [1]; a") empty ≡ ran_over Done (shown (codes "1") ∷ []) ((codes "a", integer (pos 1)) ∷ []) (list (integer (pos 1) ∷ []) ∷ []) (codes "a" ∷ []) 7
 unfolding reserved_marks delimiter operator numeral Q.escape Q.item Q.closes Q.body Q.quoted token_piece lexeme cut indented begin bracket step layout encode_utf8 code_of E.keyword_begins E.another E.argument E.attribute E.call E.slice_after E.item_or_slice E.trailer E.parenthesised E.list E.pair E.dict E.atom E.primary_parts E.primary E.power E.unary_level E.term E.sum E.compared E.negated_level E.conjunction E.disjunction E.expr_level E.exprs_level E.phrase S.primary_at S.another_simple S.raise S.return S.assertion S.delete S.global S.import S.update_of S.assignment_of S.update_or_assignment S.simple S.simples S.line S.block S.block_after S.arm S.choice S.while S.for S.caught S.handler S.handled S.finished S.try S.parameter S.definition S.define S.compound S.chunk S.program R.piece read_chars chars digits power builtin_names class_names run
 over_154 = refl
 
-over_155 : run One (codes "a, b = 5") empty ≡ ran Raised (fault (codes "TypeError") (codes "'int' object is not iterable") ∷ []) [] [] 31
+over_155 : run One (codes "a, b = {'x': 1, 'y': 2}; a, b") empty ≡ ran_over Done (shown (codes "('x', 'y')") ∷ []) ((codes "a", text (codes "x")) ∷ (codes "b", text (codes "y")) ∷ []) (dict ((p.single (p.text (codes "x")), integer (pos 1)) ∷ (p.single (p.text (codes "y")), integer (pos 2)) ∷ []) ∷ tuple (text (codes "x") ∷ text (codes "y") ∷ []) ∷ []) (codes "a" ∷ codes "b" ∷ []) 22
 unfolding reserved_marks delimiter operator numeral Q.escape Q.item Q.closes Q.body Q.quoted token_piece lexeme cut indented begin bracket step layout encode_utf8 code_of E.keyword_begins E.another E.argument E.attribute E.call E.slice_after E.item_or_slice E.trailer E.parenthesised E.list E.pair E.dict E.atom E.primary_parts E.primary E.power E.unary_level E.term E.sum E.compared E.negated_level E.conjunction E.disjunction E.expr_level E.exprs_level E.phrase S.primary_at S.another_simple S.raise S.return S.assertion S.delete S.global S.import S.update_of S.assignment_of S.update_or_assignment S.simple S.simples S.line S.block S.block_after S.arm S.choice S.while S.for S.caught S.handler S.handled S.finished S.try S.parameter S.definition S.define S.compound S.chunk S.program R.piece read_chars chars digits power builtin_names class_names run
 over_155 = refl
 
-over_156 : run One (codes "a, b = None") empty ≡ ran Raised (fault (codes "TypeError") (codes "'NoneType' object is not iterable") ∷ []) [] [] 36
+over_156 : run One (codes "a, b = 1, 2, 3") empty ≡ ran_over Raised (fault (codes "ValueError") (codes "cannot unpack into 2") ∷ []) [] (tuple (integer (pos 1) ∷ integer (pos 2) ∷ integer (pos 3) ∷ []) ∷ []) [] 29
 unfolding reserved_marks delimiter operator numeral Q.escape Q.item Q.closes Q.body Q.quoted token_piece lexeme cut indented begin bracket step layout encode_utf8 code_of E.keyword_begins E.another E.argument E.attribute E.call E.slice_after E.item_or_slice E.trailer E.parenthesised E.list E.pair E.dict E.atom E.primary_parts E.primary E.power E.unary_level E.term E.sum E.compared E.negated_level E.conjunction E.disjunction E.expr_level E.exprs_level E.phrase S.primary_at S.another_simple S.raise S.return S.assertion S.delete S.global S.import S.update_of S.assignment_of S.update_or_assignment S.simple S.simples S.line S.block S.block_after S.arm S.choice S.while S.for S.caught S.handler S.handled S.finished S.try S.parameter S.definition S.define S.compound S.chunk S.program R.piece read_chars chars digits power builtin_names class_names run
 over_156 = refl
 
-over_157 : run One (codes "[a, b] = x") empty ≡ ran Raised (fault (codes "NameError") (codes "name 'x' is not defined") ∷ []) [] (codes "x" ∷ []) 26
+over_157 : run One (codes "a, b = 1,") empty ≡ ran_over Raised (fault (codes "ValueError") (codes "cannot unpack into 2") ∷ []) [] (tuple (integer (pos 1) ∷ []) ∷ []) [] 25
 unfolding reserved_marks delimiter operator numeral Q.escape Q.item Q.closes Q.body Q.quoted token_piece lexeme cut indented begin bracket step layout encode_utf8 code_of E.keyword_begins E.another E.argument E.attribute E.call E.slice_after E.item_or_slice E.trailer E.parenthesised E.list E.pair E.dict E.atom E.primary_parts E.primary E.power E.unary_level E.term E.sum E.compared E.negated_level E.conjunction E.disjunction E.expr_level E.exprs_level E.phrase S.primary_at S.another_simple S.raise S.return S.assertion S.delete S.global S.import S.update_of S.assignment_of S.update_or_assignment S.simple S.simples S.line S.block S.block_after S.arm S.choice S.while S.for S.caught S.handler S.handled S.finished S.try S.parameter S.definition S.define S.compound S.chunk S.program R.piece read_chars chars digits power builtin_names class_names run
 over_157 = refl
 
-over_158 : run One (codes "a = b, c = 1, 2\na, b, c") empty ≡ ran_over Done (shown (codes "((1, 2), 1, 2)") ∷ []) ((codes "a", node 0) ∷ (codes "b", integer (pos 1)) ∷ (codes "c", integer (pos 2)) ∷ []) (tuple (integer (pos 1) ∷ integer (pos 2) ∷ []) ∷ tuple (node 0 ∷ integer (pos 1) ∷ integer (pos 2) ∷ []) ∷ []) (codes "a" ∷ codes "b" ∷ codes "c" ∷ []) 25
+over_158 : run One (codes "a, b = 5") empty ≡ ran Raised (fault (codes "TypeError") (codes "'int' object is not iterable") ∷ []) [] [] 31
 unfolding reserved_marks delimiter operator numeral Q.escape Q.item Q.closes Q.body Q.quoted token_piece lexeme cut indented begin bracket step layout encode_utf8 code_of E.keyword_begins E.another E.argument E.attribute E.call E.slice_after E.item_or_slice E.trailer E.parenthesised E.list E.pair E.dict E.atom E.primary_parts E.primary E.power E.unary_level E.term E.sum E.compared E.negated_level E.conjunction E.disjunction E.expr_level E.exprs_level E.phrase S.primary_at S.another_simple S.raise S.return S.assertion S.delete S.global S.import S.update_of S.assignment_of S.update_or_assignment S.simple S.simples S.line S.block S.block_after S.arm S.choice S.while S.for S.caught S.handler S.handled S.finished S.try S.parameter S.definition S.define S.compound S.chunk S.program R.piece read_chars chars digits power builtin_names class_names run
 over_158 = refl
 
-over_159 : run One (codes "a, (b, c) = 1, 2") empty ≡ ran_over Raised (fault (codes "TypeError") (codes "'int' object is not iterable") ∷ []) ((codes "a", integer (pos 1)) ∷ []) (tuple (integer (pos 1) ∷ integer (pos 2) ∷ []) ∷ []) (codes "a" ∷ []) 35
+over_159 : run One (codes "a, b = None") empty ≡ ran Raised (fault (codes "TypeError") (codes "'NoneType' object is not iterable") ∷ []) [] [] 36
 unfolding reserved_marks delimiter operator numeral Q.escape Q.item Q.closes Q.body Q.quoted token_piece lexeme cut indented begin bracket step layout encode_utf8 code_of E.keyword_begins E.another E.argument E.attribute E.call E.slice_after E.item_or_slice E.trailer E.parenthesised E.list E.pair E.dict E.atom E.primary_parts E.primary E.power E.unary_level E.term E.sum E.compared E.negated_level E.conjunction E.disjunction E.expr_level E.exprs_level E.phrase S.primary_at S.another_simple S.raise S.return S.assertion S.delete S.global S.import S.update_of S.assignment_of S.update_or_assignment S.simple S.simples S.line S.block S.block_after S.arm S.choice S.while S.for S.caught S.handler S.handled S.finished S.try S.parameter S.definition S.define S.compound S.chunk S.program R.piece read_chars chars digits power builtin_names class_names run
 over_159 = refl
 
-over_160 : run One (codes "a = [0, 0]; i = 0; i, a[i] = 1, 2; a") empty ≡ ran_over Done (shown (codes "[0, 2]") ∷ []) ((codes "a", node 0) ∷ (codes "i", integer (pos 1)) ∷ []) (list (integer (pos 0) ∷ integer (pos 2) ∷ []) ∷ tuple (integer (pos 1) ∷ integer (pos 2) ∷ []) ∷ []) (codes "a" ∷ codes "i" ∷ []) 22
+over_160 : run One (codes "[a, b] = x") empty ≡ ran Raised (fault (codes "NameError") (codes "name 'x' is not defined") ∷ []) [] (codes "x" ∷ []) 26
 unfolding reserved_marks delimiter operator numeral Q.escape Q.item Q.closes Q.body Q.quoted token_piece lexeme cut indented begin bracket step layout encode_utf8 code_of E.keyword_begins E.another E.argument E.attribute E.call E.slice_after E.item_or_slice E.trailer E.parenthesised E.list E.pair E.dict E.atom E.primary_parts E.primary E.power E.unary_level E.term E.sum E.compared E.negated_level E.conjunction E.disjunction E.expr_level E.exprs_level E.phrase S.primary_at S.another_simple S.raise S.return S.assertion S.delete S.global S.import S.update_of S.assignment_of S.update_or_assignment S.simple S.simples S.line S.block S.block_after S.arm S.choice S.while S.for S.caught S.handler S.handled S.finished S.try S.parameter S.definition S.define S.compound S.chunk S.program R.piece read_chars chars digits power builtin_names class_names run
 over_160 = refl
 
-over_161 : run One (codes "a = [1, 2]; a[0], a[1] = a[1], a[0]; a") empty ≡ ran_over Done (shown (codes "[2, 1]") ∷ []) ((codes "a", node 0) ∷ []) (list (integer (pos 2) ∷ integer (pos 1) ∷ []) ∷ tuple (integer (pos 2) ∷ integer (pos 1) ∷ []) ∷ []) (codes "a" ∷ []) 26
+over_161 : run One (codes "a = b, c = 1, 2\na, b, c") empty ≡ ran_over Done (shown (codes "((1, 2), 1, 2)") ∷ []) ((codes "a", node 0) ∷ (codes "b", integer (pos 1)) ∷ (codes "c", integer (pos 2)) ∷ []) (tuple (integer (pos 1) ∷ integer (pos 2) ∷ []) ∷ tuple (node 0 ∷ integer (pos 1) ∷ integer (pos 2) ∷ []) ∷ []) (codes "a" ∷ codes "b" ∷ codes "c" ∷ []) 25
 unfolding reserved_marks delimiter operator numeral Q.escape Q.item Q.closes Q.body Q.quoted token_piece lexeme cut indented begin bracket step layout encode_utf8 code_of E.keyword_begins E.another E.argument E.attribute E.call E.slice_after E.item_or_slice E.trailer E.parenthesised E.list E.pair E.dict E.atom E.primary_parts E.primary E.power E.unary_level E.term E.sum E.compared E.negated_level E.conjunction E.disjunction E.expr_level E.exprs_level E.phrase S.primary_at S.another_simple S.raise S.return S.assertion S.delete S.global S.import S.update_of S.assignment_of S.update_or_assignment S.simple S.simples S.line S.block S.block_after S.arm S.choice S.while S.for S.caught S.handler S.handled S.finished S.try S.parameter S.definition S.define S.compound S.chunk S.program R.piece read_chars chars digits power builtin_names class_names run
 over_161 = refl
 
-over_162 : run One (codes "a = [0]; a[0] = a; a") empty ≡ ran_over Done (shown (codes "[[...]]") ∷ []) ((codes "a", node 0) ∷ []) (list (node 0 ∷ []) ∷ []) (codes "a" ∷ []) 16
+over_162 : run One (codes "a, (b, c) = 1, 2") empty ≡ ran_over Raised (fault (codes "TypeError") (codes "'int' object is not iterable") ∷ []) ((codes "a", integer (pos 1)) ∷ []) (tuple (integer (pos 1) ∷ integer (pos 2) ∷ []) ∷ []) (codes "a" ∷ []) 35
 unfolding reserved_marks delimiter operator numeral Q.escape Q.item Q.closes Q.body Q.quoted token_piece lexeme cut indented begin bracket step layout encode_utf8 code_of E.keyword_begins E.another E.argument E.attribute E.call E.slice_after E.item_or_slice E.trailer E.parenthesised E.list E.pair E.dict E.atom E.primary_parts E.primary E.power E.unary_level E.term E.sum E.compared E.negated_level E.conjunction E.disjunction E.expr_level E.exprs_level E.phrase S.primary_at S.another_simple S.raise S.return S.assertion S.delete S.global S.import S.update_of S.assignment_of S.update_or_assignment S.simple S.simples S.line S.block S.block_after S.arm S.choice S.while S.for S.caught S.handler S.handled S.finished S.try S.parameter S.definition S.define S.compound S.chunk S.program R.piece read_chars chars digits power builtin_names class_names run
 over_162 = refl
 
-over_163 : run One (codes "a = [0]; a[-1] = 5; a") empty ≡ ran_over Done (shown (codes "[5]") ∷ []) ((codes "a", node 0) ∷ []) (list (integer (pos 5) ∷ []) ∷ []) (codes "a" ∷ []) 13
+over_163 : run One (codes "a = [0, 0]; i = 0; i, a[i] = 1, 2; a") empty ≡ ran_over Done (shown (codes "[0, 2]") ∷ []) ((codes "a", node 0) ∷ (codes "i", integer (pos 1)) ∷ []) (list (integer (pos 0) ∷ integer (pos 2) ∷ []) ∷ tuple (integer (pos 1) ∷ integer (pos 2) ∷ []) ∷ []) (codes "a" ∷ codes "i" ∷ []) 22
 unfolding reserved_marks delimiter operator numeral Q.escape Q.item Q.closes Q.body Q.quoted token_piece lexeme cut indented begin bracket step layout encode_utf8 code_of E.keyword_begins E.another E.argument E.attribute E.call E.slice_after E.item_or_slice E.trailer E.parenthesised E.list E.pair E.dict E.atom E.primary_parts E.primary E.power E.unary_level E.term E.sum E.compared E.negated_level E.conjunction E.disjunction E.expr_level E.exprs_level E.phrase S.primary_at S.another_simple S.raise S.return S.assertion S.delete S.global S.import S.update_of S.assignment_of S.update_or_assignment S.simple S.simples S.line S.block S.block_after S.arm S.choice S.while S.for S.caught S.handler S.handled S.finished S.try S.parameter S.definition S.define S.compound S.chunk S.program R.piece read_chars chars digits power builtin_names class_names run
 over_163 = refl
 
-over_164 : run One (codes "d = {}; d['k'] = d['j'] = 1; d") empty ≡ ran_over Done (shown (codes "{'k': 1, 'j': 1}") ∷ []) ((codes "d", node 0) ∷ []) (dict ((p.single (p.text (codes "k")), integer (pos 1)) ∷ (p.single (p.text (codes "j")), integer (pos 1)) ∷ []) ∷ []) (codes "d" ∷ []) 26
+over_164 : run One (codes "a = [1, 2]; a[0], a[1] = a[1], a[0]; a") empty ≡ ran_over Done (shown (codes "[2, 1]") ∷ []) ((codes "a", node 0) ∷ []) (list (integer (pos 2) ∷ integer (pos 1) ∷ []) ∷ tuple (integer (pos 2) ∷ integer (pos 1) ∷ []) ∷ []) (codes "a" ∷ []) 26
 unfolding reserved_marks delimiter operator numeral Q.escape Q.item Q.closes Q.body Q.quoted token_piece lexeme cut indented begin bracket step layout encode_utf8 code_of E.keyword_begins E.another E.argument E.attribute E.call E.slice_after E.item_or_slice E.trailer E.parenthesised E.list E.pair E.dict E.atom E.primary_parts E.primary E.power E.unary_level E.term E.sum E.compared E.negated_level E.conjunction E.disjunction E.expr_level E.exprs_level E.phrase S.primary_at S.another_simple S.raise S.return S.assertion S.delete S.global S.import S.update_of S.assignment_of S.update_or_assignment S.simple S.simples S.line S.block S.block_after S.arm S.choice S.while S.for S.caught S.handler S.handled S.finished S.try S.parameter S.definition S.define S.compound S.chunk S.program R.piece read_chars chars digits power builtin_names class_names run
 over_164 = refl
 
-over_165 : run One (codes "d = {}; d[1, 2] = 3; d") empty ≡ ran_over Done (shown (codes "{(1, 2): 3}") ∷ []) ((codes "d", node 0) ∷ []) (dict ((p.tuple (p.integer (pos 1) ∷ p.integer (pos 2) ∷ []), integer (pos 3)) ∷ []) ∷ tuple (integer (pos 1) ∷ integer (pos 2) ∷ []) ∷ []) (codes "d" ∷ []) 23
+over_165 : run One (codes "a = [0]; a[0] = a; a") empty ≡ ran_over Done (shown (codes "[[...]]") ∷ []) ((codes "a", node 0) ∷ []) (list (node 0 ∷ []) ∷ []) (codes "a" ∷ []) 16
 unfolding reserved_marks delimiter operator numeral Q.escape Q.item Q.closes Q.body Q.quoted token_piece lexeme cut indented begin bracket step layout encode_utf8 code_of E.keyword_begins E.another E.argument E.attribute E.call E.slice_after E.item_or_slice E.trailer E.parenthesised E.list E.pair E.dict E.atom E.primary_parts E.primary E.power E.unary_level E.term E.sum E.compared E.negated_level E.conjunction E.disjunction E.expr_level E.exprs_level E.phrase S.primary_at S.another_simple S.raise S.return S.assertion S.delete S.global S.import S.update_of S.assignment_of S.update_or_assignment S.simple S.simples S.line S.block S.block_after S.arm S.choice S.while S.for S.caught S.handler S.handled S.finished S.try S.parameter S.definition S.define S.compound S.chunk S.program R.piece read_chars chars digits power builtin_names class_names run
 over_165 = refl
 
-over_166 : run One (codes "a = [1]; a[1] = 2") empty ≡ ran_over Raised (fault (codes "IndexError") (codes "index out of range") ∷ []) ((codes "a", node 0) ∷ []) (list (integer (pos 1) ∷ []) ∷ []) (codes "a" ∷ []) 26
+over_166 : run One (codes "a = [0]; a[-1] = 5; a") empty ≡ ran_over Done (shown (codes "[5]") ∷ []) ((codes "a", node 0) ∷ []) (list (integer (pos 5) ∷ []) ∷ []) (codes "a" ∷ []) 13
 unfolding reserved_marks delimiter operator numeral Q.escape Q.item Q.closes Q.body Q.quoted token_piece lexeme cut indented begin bracket step layout encode_utf8 code_of E.keyword_begins E.another E.argument E.attribute E.call E.slice_after E.item_or_slice E.trailer E.parenthesised E.list E.pair E.dict E.atom E.primary_parts E.primary E.power E.unary_level E.term E.sum E.compared E.negated_level E.conjunction E.disjunction E.expr_level E.exprs_level E.phrase S.primary_at S.another_simple S.raise S.return S.assertion S.delete S.global S.import S.update_of S.assignment_of S.update_or_assignment S.simple S.simples S.line S.block S.block_after S.arm S.choice S.while S.for S.caught S.handler S.handled S.finished S.try S.parameter S.definition S.define S.compound S.chunk S.program R.piece read_chars chars digits power builtin_names class_names run
 over_166 = refl
 
-over_167 : run One (codes "a = [1]; a['x'] = 2") empty ≡ ran_over Raised (fault (codes "TypeError") (codes "bad index type: 'str'") ∷ []) ((codes "a", node 0) ∷ []) (list (integer (pos 1) ∷ []) ∷ []) (codes "a" ∷ []) 29
+over_167 : run One (codes "d = {}; d['k'] = d['j'] = 1; d") empty ≡ ran_over Done (shown (codes "{'k': 1, 'j': 1}") ∷ []) ((codes "d", node 0) ∷ []) (dict ((p.single (p.text (codes "k")), integer (pos 1)) ∷ (p.single (p.text (codes "j")), integer (pos 1)) ∷ []) ∷ []) (codes "d" ∷ []) 26
 unfolding reserved_marks delimiter operator numeral Q.escape Q.item Q.closes Q.body Q.quoted token_piece lexeme cut indented begin bracket step layout encode_utf8 code_of E.keyword_begins E.another E.argument E.attribute E.call E.slice_after E.item_or_slice E.trailer E.parenthesised E.list E.pair E.dict E.atom E.primary_parts E.primary E.power E.unary_level E.term E.sum E.compared E.negated_level E.conjunction E.disjunction E.expr_level E.exprs_level E.phrase S.primary_at S.another_simple S.raise S.return S.assertion S.delete S.global S.import S.update_of S.assignment_of S.update_or_assignment S.simple S.simples S.line S.block S.block_after S.arm S.choice S.while S.for S.caught S.handler S.handled S.finished S.try S.parameter S.definition S.define S.compound S.chunk S.program R.piece read_chars chars digits power builtin_names class_names run
 over_167 = refl
 
-over_168 : run One (codes "d = {}; d[[]] = 1") empty ≡ ran_over Raised (fault (codes "TypeError") (codes "unhashable key: 'list'") ∷ []) ((codes "d", node 0) ∷ []) (dict [] ∷ list [] ∷ []) (codes "d" ∷ []) 29
+over_168 : run One (codes "d = {}; d[1, 2] = 3; d") empty ≡ ran_over Done (shown (codes "{(1, 2): 3}") ∷ []) ((codes "d", node 0) ∷ []) (dict ((p.tuple (p.integer (pos 1) ∷ p.integer (pos 2) ∷ []), integer (pos 3)) ∷ []) ∷ tuple (integer (pos 1) ∷ integer (pos 2) ∷ []) ∷ []) (codes "d" ∷ []) 23
 unfolding reserved_marks delimiter operator numeral Q.escape Q.item Q.closes Q.body Q.quoted token_piece lexeme cut indented begin bracket step layout encode_utf8 code_of E.keyword_begins E.another E.argument E.attribute E.call E.slice_after E.item_or_slice E.trailer E.parenthesised E.list E.pair E.dict E.atom E.primary_parts E.primary E.power E.unary_level E.term E.sum E.compared E.negated_level E.conjunction E.disjunction E.expr_level E.exprs_level E.phrase S.primary_at S.another_simple S.raise S.return S.assertion S.delete S.global S.import S.update_of S.assignment_of S.update_or_assignment S.simple S.simples S.line S.block S.block_after S.arm S.choice S.while S.for S.caught S.handler S.handled S.finished S.try S.parameter S.definition S.define S.compound S.chunk S.program R.piece read_chars chars digits power builtin_names class_names run
 over_168 = refl
 
-over_169 : run One (codes "x = 'ab'\nx[0] = 'c'") empty ≡ ran Raised (fault (codes "TypeError") (codes "'str' object is not subscriptable") ∷ []) ((codes "x", text (codes "ab")) ∷ []) (codes "x" ∷ []) 40
+over_169 : run One (codes "a = [1]; a[1] = 2") empty ≡ ran_over Raised (fault (codes "IndexError") (codes "index out of range") ∷ []) ((codes "a", node 0) ∷ []) (list (integer (pos 1) ∷ []) ∷ []) (codes "a" ∷ []) 26
 unfolding reserved_marks delimiter operator numeral Q.escape Q.item Q.closes Q.body Q.quoted token_piece lexeme cut indented begin bracket step layout encode_utf8 code_of E.keyword_begins E.another E.argument E.attribute E.call E.slice_after E.item_or_slice E.trailer E.parenthesised E.list E.pair E.dict E.atom E.primary_parts E.primary E.power E.unary_level E.term E.sum E.compared E.negated_level E.conjunction E.disjunction E.expr_level E.exprs_level E.phrase S.primary_at S.another_simple S.raise S.return S.assertion S.delete S.global S.import S.update_of S.assignment_of S.update_or_assignment S.simple S.simples S.line S.block S.block_after S.arm S.choice S.while S.for S.caught S.handler S.handled S.finished S.try S.parameter S.definition S.define S.compound S.chunk S.program R.piece read_chars chars digits power builtin_names class_names run
 over_169 = refl
 
-over_170 : run One (codes "(1, 2)[0] = 3") empty ≡ ran_over Raised (fault (codes "TypeError") (codes "'tuple' object is not subscriptable") ∷ []) [] (tuple (integer (pos 1) ∷ integer (pos 2) ∷ []) ∷ []) [] 42
+over_170 : run One (codes "a = [1]; a['x'] = 2") empty ≡ ran_over Raised (fault (codes "TypeError") (codes "bad index type: 'str'") ∷ []) ((codes "a", node 0) ∷ []) (list (integer (pos 1) ∷ []) ∷ []) (codes "a" ∷ []) 29
 unfolding reserved_marks delimiter operator numeral Q.escape Q.item Q.closes Q.body Q.quoted token_piece lexeme cut indented begin bracket step layout encode_utf8 code_of E.keyword_begins E.another E.argument E.attribute E.call E.slice_after E.item_or_slice E.trailer E.parenthesised E.list E.pair E.dict E.atom E.primary_parts E.primary E.power E.unary_level E.term E.sum E.compared E.negated_level E.conjunction E.disjunction E.expr_level E.exprs_level E.phrase S.primary_at S.another_simple S.raise S.return S.assertion S.delete S.global S.import S.update_of S.assignment_of S.update_or_assignment S.simple S.simples S.line S.block S.block_after S.arm S.choice S.while S.for S.caught S.handler S.handled S.finished S.try S.parameter S.definition S.define S.compound S.chunk S.program R.piece read_chars chars digits power builtin_names class_names run
 over_170 = refl
 
-over_171 : run One (codes "x = 1\nx[0] = y") empty ≡ ran Raised (fault (codes "NameError") (codes "name 'y' is not defined") ∷ []) ((codes "x", integer (pos 1)) ∷ []) (codes "x" ∷ codes "y" ∷ []) 28
+over_171 : run One (codes "d = {}; d[[]] = 1") empty ≡ ran_over Raised (fault (codes "TypeError") (codes "unhashable key: 'list'") ∷ []) ((codes "d", node 0) ∷ []) (dict [] ∷ list [] ∷ []) (codes "d" ∷ []) 29
 unfolding reserved_marks delimiter operator numeral Q.escape Q.item Q.closes Q.body Q.quoted token_piece lexeme cut indented begin bracket step layout encode_utf8 code_of E.keyword_begins E.another E.argument E.attribute E.call E.slice_after E.item_or_slice E.trailer E.parenthesised E.list E.pair E.dict E.atom E.primary_parts E.primary E.power E.unary_level E.term E.sum E.compared E.negated_level E.conjunction E.disjunction E.expr_level E.exprs_level E.phrase S.primary_at S.another_simple S.raise S.return S.assertion S.delete S.global S.import S.update_of S.assignment_of S.update_or_assignment S.simple S.simples S.line S.block S.block_after S.arm S.choice S.while S.for S.caught S.handler S.handled S.finished S.try S.parameter S.definition S.define S.compound S.chunk S.program R.piece read_chars chars digits power builtin_names class_names run
 over_171 = refl
 
-over_172 : run One (codes "x = [1]; x[print(0)] = print(1)") empty ≡ ran_over Raised (stream (codes "1\n0\n") ∷ fault (codes "TypeError") (codes "bad index type: 'NoneType'") ∷ []) ((codes "x", node 0) ∷ []) (list (integer (pos 1) ∷ []) ∷ []) (codes "print" ∷ codes "x" ∷ []) 42
+over_172 : run One (codes "x = 'ab'\nx[0] = 'c'") empty ≡ ran Raised (fault (codes "TypeError") (codes "'str' object is not subscriptable") ∷ []) ((codes "x", text (codes "ab")) ∷ []) (codes "x" ∷ []) 40
 unfolding reserved_marks delimiter operator numeral Q.escape Q.item Q.closes Q.body Q.quoted token_piece lexeme cut indented begin bracket step layout encode_utf8 code_of E.keyword_begins E.another E.argument E.attribute E.call E.slice_after E.item_or_slice E.trailer E.parenthesised E.list E.pair E.dict E.atom E.primary_parts E.primary E.power E.unary_level E.term E.sum E.compared E.negated_level E.conjunction E.disjunction E.expr_level E.exprs_level E.phrase S.primary_at S.another_simple S.raise S.return S.assertion S.delete S.global S.import S.update_of S.assignment_of S.update_or_assignment S.simple S.simples S.line S.block S.block_after S.arm S.choice S.while S.for S.caught S.handler S.handled S.finished S.try S.parameter S.definition S.define S.compound S.chunk S.program R.piece read_chars chars digits power builtin_names class_names run
 over_172 = refl
 
-over_173 : run One (codes "x = [0]\nprint(x)\nx[0] = x[0] + 1, x[0]\nx") empty ≡ ran_over Done (stream (codes "[0]\n") ∷ shown (codes "[(1, 0)]") ∷ []) ((codes "x", node 0) ∷ []) (list (node 1 ∷ []) ∷ tuple (integer (pos 1) ∷ integer (pos 0) ∷ []) ∷ []) (codes "print" ∷ codes "x" ∷ []) 33
+over_173 : run One (codes "(1, 2)[0] = 3") empty ≡ ran_over Raised (fault (codes "TypeError") (codes "'tuple' object is not subscriptable") ∷ []) [] (tuple (integer (pos 1) ∷ integer (pos 2) ∷ []) ∷ []) [] 42
 unfolding reserved_marks delimiter operator numeral Q.escape Q.item Q.closes Q.body Q.quoted token_piece lexeme cut indented begin bracket step layout encode_utf8 code_of E.keyword_begins E.another E.argument E.attribute E.call E.slice_after E.item_or_slice E.trailer E.parenthesised E.list E.pair E.dict E.atom E.primary_parts E.primary E.power E.unary_level E.term E.sum E.compared E.negated_level E.conjunction E.disjunction E.expr_level E.exprs_level E.phrase S.primary_at S.another_simple S.raise S.return S.assertion S.delete S.global S.import S.update_of S.assignment_of S.update_or_assignment S.simple S.simples S.line S.block S.block_after S.arm S.choice S.while S.for S.caught S.handler S.handled S.finished S.try S.parameter S.definition S.define S.compound S.chunk S.program R.piece read_chars chars digits power builtin_names class_names run
 over_173 = refl
 
-over_174 : run One (codes "a = b = []; a.append(1); b") empty ≡ ran_over Done (shown (codes "[1]") ∷ []) ((codes "a", node 0) ∷ (codes "b", node 0) ∷ []) (list (integer (pos 1) ∷ []) ∷ []) (codes "a" ∷ codes "b" ∷ []) 12
+over_174 : run One (codes "x = 1\nx[0] = y") empty ≡ ran Raised (fault (codes "NameError") (codes "name 'y' is not defined") ∷ []) ((codes "x", integer (pos 1)) ∷ []) (codes "x" ∷ codes "y" ∷ []) 28
 unfolding reserved_marks delimiter operator numeral Q.escape Q.item Q.closes Q.body Q.quoted token_piece lexeme cut indented begin bracket step layout encode_utf8 code_of E.keyword_begins E.another E.argument E.attribute E.call E.slice_after E.item_or_slice E.trailer E.parenthesised E.list E.pair E.dict E.atom E.primary_parts E.primary E.power E.unary_level E.term E.sum E.compared E.negated_level E.conjunction E.disjunction E.expr_level E.exprs_level E.phrase S.primary_at S.another_simple S.raise S.return S.assertion S.delete S.global S.import S.update_of S.assignment_of S.update_or_assignment S.simple S.simples S.line S.block S.block_after S.arm S.choice S.while S.for S.caught S.handler S.handled S.finished S.try S.parameter S.definition S.define S.compound S.chunk S.program R.piece read_chars chars digits power builtin_names class_names run
 over_174 = refl
 
-over_175 : run One (codes "a = [1]\na, a[0] = [2], 3\na") empty ≡ ran_over Done (shown (codes "[3]") ∷ []) ((codes "a", node 1) ∷ []) (list (integer (pos 1) ∷ []) ∷ list (integer (pos 3) ∷ []) ∷ tuple (node 1 ∷ integer (pos 3) ∷ []) ∷ []) (codes "a" ∷ []) 17
+over_175 : run One (codes "x = [1]; x[print(0)] = print(1)") empty ≡ ran_over Raised (stream (codes "1\n0\n") ∷ fault (codes "TypeError") (codes "bad index type: 'NoneType'") ∷ []) ((codes "x", node 0) ∷ []) (list (integer (pos 1) ∷ []) ∷ []) (codes "print" ∷ codes "x" ∷ []) 42
 unfolding reserved_marks delimiter operator numeral Q.escape Q.item Q.closes Q.body Q.quoted token_piece lexeme cut indented begin bracket step layout encode_utf8 code_of E.keyword_begins E.another E.argument E.attribute E.call E.slice_after E.item_or_slice E.trailer E.parenthesised E.list E.pair E.dict E.atom E.primary_parts E.primary E.power E.unary_level E.term E.sum E.compared E.negated_level E.conjunction E.disjunction E.expr_level E.exprs_level E.phrase S.primary_at S.another_simple S.raise S.return S.assertion S.delete S.global S.import S.update_of S.assignment_of S.update_or_assignment S.simple S.simples S.line S.block S.block_after S.arm S.choice S.while S.for S.caught S.handler S.handled S.finished S.try S.parameter S.definition S.define S.compound S.chunk S.program R.piece read_chars chars digits power builtin_names class_names run
 over_175 = refl
 
-over_176 : run One (codes "a = [1]; b = a; a += [2]; print(a, b, a is b)") empty ≡ ran_over Done (stream (codes "[1, 2] [1, 2] True\n") ∷ []) ((codes "a", node 0) ∷ (codes "b", node 0) ∷ []) (list (integer (pos 1) ∷ integer (pos 2) ∷ []) ∷ list (integer (pos 2) ∷ []) ∷ []) (codes "a" ∷ codes "b" ∷ codes "print" ∷ []) 38
+over_176 : run One (codes "x = [0]\nprint(x)\nx[0] = x[0] + 1, x[0]\nx") empty ≡ ran_over Done (stream (codes "[0]\n") ∷ shown (codes "[(1, 0)]") ∷ []) ((codes "x", node 0) ∷ []) (list (node 1 ∷ []) ∷ tuple (integer (pos 1) ∷ integer (pos 0) ∷ []) ∷ []) (codes "print" ∷ codes "x" ∷ []) 33
 unfolding reserved_marks delimiter operator numeral Q.escape Q.item Q.closes Q.body Q.quoted token_piece lexeme cut indented begin bracket step layout encode_utf8 code_of E.keyword_begins E.another E.argument E.attribute E.call E.slice_after E.item_or_slice E.trailer E.parenthesised E.list E.pair E.dict E.atom E.primary_parts E.primary E.power E.unary_level E.term E.sum E.compared E.negated_level E.conjunction E.disjunction E.expr_level E.exprs_level E.phrase S.primary_at S.another_simple S.raise S.return S.assertion S.delete S.global S.import S.update_of S.assignment_of S.update_or_assignment S.simple S.simples S.line S.block S.block_after S.arm S.choice S.while S.for S.caught S.handler S.handled S.finished S.try S.parameter S.definition S.define S.compound S.chunk S.program R.piece read_chars chars digits power builtin_names class_names run
 over_176 = refl
 
-over_177 : run One (codes "a = [1]; b = a; a = a + [2]; print(a, b)") empty ≡ ran_over Done (stream (codes "[1, 2] [1]\n") ∷ []) ((codes "a", node 2) ∷ (codes "b", node 0) ∷ []) (list (integer (pos 1) ∷ []) ∷ list (integer (pos 2) ∷ []) ∷ list (integer (pos 1) ∷ integer (pos 2) ∷ []) ∷ []) (codes "a" ∷ codes "b" ∷ codes "print" ∷ []) 28
+over_177 : run One (codes "a = b = []; a.append(1); b") empty ≡ ran_over Done (shown (codes "[1]") ∷ []) ((codes "a", node 0) ∷ (codes "b", node 0) ∷ []) (list (integer (pos 1) ∷ []) ∷ []) (codes "a" ∷ codes "b" ∷ []) 12
 unfolding reserved_marks delimiter operator numeral Q.escape Q.item Q.closes Q.body Q.quoted token_piece lexeme cut indented begin bracket step layout encode_utf8 code_of E.keyword_begins E.another E.argument E.attribute E.call E.slice_after E.item_or_slice E.trailer E.parenthesised E.list E.pair E.dict E.atom E.primary_parts E.primary E.power E.unary_level E.term E.sum E.compared E.negated_level E.conjunction E.disjunction E.expr_level E.exprs_level E.phrase S.primary_at S.another_simple S.raise S.return S.assertion S.delete S.global S.import S.update_of S.assignment_of S.update_or_assignment S.simple S.simples S.line S.block S.block_after S.arm S.choice S.while S.for S.caught S.handler S.handled S.finished S.try S.parameter S.definition S.define S.compound S.chunk S.program R.piece read_chars chars digits power builtin_names class_names run
 over_177 = refl
 
-over_178 : run One (codes "a = [1]; a += 'xy'; a += (3,); a += {4: 5}; a") empty ≡ ran_over Done (shown (codes "[1, 'x', 'y', 3, 4]") ∷ []) ((codes "a", node 0) ∷ []) (list (integer (pos 1) ∷ text (codes "x") ∷ text (codes "y") ∷ integer (pos 3) ∷ integer (pos 4) ∷ []) ∷ tuple (integer (pos 3) ∷ []) ∷ dict ((p.single (p.integer (pos 4)), integer (pos 5)) ∷ []) ∷ []) (codes "a" ∷ []) 43
+over_178 : run One (codes "a = [1]\na, a[0] = [2], 3\na") empty ≡ ran_over Done (shown (codes "[3]") ∷ []) ((codes "a", node 1) ∷ []) (list (integer (pos 1) ∷ []) ∷ list (integer (pos 3) ∷ []) ∷ tuple (node 1 ∷ integer (pos 3) ∷ []) ∷ []) (codes "a" ∷ []) 17
 unfolding reserved_marks delimiter operator numeral Q.escape Q.item Q.closes Q.body Q.quoted token_piece lexeme cut indented begin bracket step layout encode_utf8 code_of E.keyword_begins E.another E.argument E.attribute E.call E.slice_after E.item_or_slice E.trailer E.parenthesised E.list E.pair E.dict E.atom E.primary_parts E.primary E.power E.unary_level E.term E.sum E.compared E.negated_level E.conjunction E.disjunction E.expr_level E.exprs_level E.phrase S.primary_at S.another_simple S.raise S.return S.assertion S.delete S.global S.import S.update_of S.assignment_of S.update_or_assignment S.simple S.simples S.line S.block S.block_after S.arm S.choice S.while S.for S.caught S.handler S.handled S.finished S.try S.parameter S.definition S.define S.compound S.chunk S.program R.piece read_chars chars digits power builtin_names class_names run
 over_178 = refl
 
-over_179 : run One (codes "a = [1]; a += a; a") empty ≡ ran_over Done (shown (codes "[1, 1]") ∷ []) ((codes "a", node 0) ∷ []) (list (integer (pos 1) ∷ integer (pos 1) ∷ []) ∷ []) (codes "a" ∷ []) 16
+over_179 : run One (codes "a = [1]; b = a; a += [2]; print(a, b, a is b)") empty ≡ ran_over Done (stream (codes "[1, 2] [1, 2] True\n") ∷ []) ((codes "a", node 0) ∷ (codes "b", node 0) ∷ []) (list (integer (pos 1) ∷ integer (pos 2) ∷ []) ∷ list (integer (pos 2) ∷ []) ∷ []) (codes "a" ∷ codes "b" ∷ codes "print" ∷ []) 38
 unfolding reserved_marks delimiter operator numeral Q.escape Q.item Q.closes Q.body Q.quoted token_piece lexeme cut indented begin bracket step layout encode_utf8 code_of E.keyword_begins E.another E.argument E.attribute E.call E.slice_after E.item_or_slice E.trailer E.parenthesised E.list E.pair E.dict E.atom E.primary_parts E.primary E.power E.unary_level E.term E.sum E.compared E.negated_level E.conjunction E.disjunction E.expr_level E.exprs_level E.phrase S.primary_at S.another_simple S.raise S.return S.assertion S.delete S.global S.import S.update_of S.assignment_of S.update_or_assignment S.simple S.simples S.line S.block S.block_after S.arm S.choice S.while S.for S.caught S.handler S.handled S.finished S.try S.parameter S.definition S.define S.compound S.chunk S.program R.piece read_chars chars digits power builtin_names class_names run
 over_179 = refl
 
-over_180 : run One (codes "a = [1]; a += 1") empty ≡ ran_over Raised (fault (codes "TypeError") (codes "'int' object is not iterable") ∷ []) ((codes "a", node 0) ∷ []) (list (integer (pos 1) ∷ []) ∷ []) (codes "a" ∷ []) 36
+over_180 : run One (codes "a = [1]; b = a; a = a + [2]; print(a, b)") empty ≡ ran_over Done (stream (codes "[1, 2] [1]\n") ∷ []) ((codes "a", node 2) ∷ (codes "b", node 0) ∷ []) (list (integer (pos 1) ∷ []) ∷ list (integer (pos 2) ∷ []) ∷ list (integer (pos 1) ∷ integer (pos 2) ∷ []) ∷ []) (codes "a" ∷ codes "b" ∷ codes "print" ∷ []) 28
 unfolding reserved_marks delimiter operator numeral Q.escape Q.item Q.closes Q.body Q.quoted token_piece lexeme cut indented begin bracket step layout encode_utf8 code_of E.keyword_begins E.another E.argument E.attribute E.call E.slice_after E.item_or_slice E.trailer E.parenthesised E.list E.pair E.dict E.atom E.primary_parts E.primary E.power E.unary_level E.term E.sum E.compared E.negated_level E.conjunction E.disjunction E.expr_level E.exprs_level E.phrase S.primary_at S.another_simple S.raise S.return S.assertion S.delete S.global S.import S.update_of S.assignment_of S.update_or_assignment S.simple S.simples S.line S.block S.block_after S.arm S.choice S.while S.for S.caught S.handler S.handled S.finished S.try S.parameter S.definition S.define S.compound S.chunk S.program R.piece read_chars chars digits power builtin_names class_names run
 over_180 = refl
 
-over_181 : run One (codes "a = [1]; a *= 2; a") empty ≡ ran_over Done (shown (codes "[1, 1]") ∷ []) ((codes "a", node 1) ∷ []) (list (integer (pos 1) ∷ []) ∷ list (integer (pos 1) ∷ integer (pos 1) ∷ []) ∷ []) (codes "a" ∷ []) 17
+over_181 : run One (codes "a = [1]; a += 'xy'; a += (3,); a += {4: 5}; a") empty ≡ ran_over Done (shown (codes "[1, 'x', 'y', 3, 4]") ∷ []) ((codes "a", node 0) ∷ []) (list (integer (pos 1) ∷ text (codes "x") ∷ text (codes "y") ∷ integer (pos 3) ∷ integer (pos 4) ∷ []) ∷ tuple (integer (pos 3) ∷ []) ∷ dict ((p.single (p.integer (pos 4)), integer (pos 5)) ∷ []) ∷ []) (codes "a" ∷ []) 43
 unfolding reserved_marks delimiter operator numeral Q.escape Q.item Q.closes Q.body Q.quoted token_piece lexeme cut indented begin bracket step layout encode_utf8 code_of E.keyword_begins E.another E.argument E.attribute E.call E.slice_after E.item_or_slice E.trailer E.parenthesised E.list E.pair E.dict E.atom E.primary_parts E.primary E.power E.unary_level E.term E.sum E.compared E.negated_level E.conjunction E.disjunction E.expr_level E.exprs_level E.phrase S.primary_at S.another_simple S.raise S.return S.assertion S.delete S.global S.import S.update_of S.assignment_of S.update_or_assignment S.simple S.simples S.line S.block S.block_after S.arm S.choice S.while S.for S.caught S.handler S.handled S.finished S.try S.parameter S.definition S.define S.compound S.chunk S.program R.piece read_chars chars digits power builtin_names class_names run
 over_181 = refl
 
-over_182 : run One (codes "d = {'n': 1}; d['n'] += 2; d") empty ≡ ran_over Done (shown (codes "{'n': 3}") ∷ []) ((codes "d", node 0) ∷ []) (dict ((p.single (p.text (codes "n")), integer (pos 3)) ∷ []) ∷ []) (codes "d" ∷ []) 20
+over_182 : run One (codes "a = [1]; a += a; a") empty ≡ ran_over Done (shown (codes "[1, 1]") ∷ []) ((codes "a", node 0) ∷ []) (list (integer (pos 1) ∷ integer (pos 1) ∷ []) ∷ []) (codes "a" ∷ []) 16
 unfolding reserved_marks delimiter operator numeral Q.escape Q.item Q.closes Q.body Q.quoted token_piece lexeme cut indented begin bracket step layout encode_utf8 code_of E.keyword_begins E.another E.argument E.attribute E.call E.slice_after E.item_or_slice E.trailer E.parenthesised E.list E.pair E.dict E.atom E.primary_parts E.primary E.power E.unary_level E.term E.sum E.compared E.negated_level E.conjunction E.disjunction E.expr_level E.exprs_level E.phrase S.primary_at S.another_simple S.raise S.return S.assertion S.delete S.global S.import S.update_of S.assignment_of S.update_or_assignment S.simple S.simples S.line S.block S.block_after S.arm S.choice S.while S.for S.caught S.handler S.handled S.finished S.try S.parameter S.definition S.define S.compound S.chunk S.program R.piece read_chars chars digits power builtin_names class_names run
 over_182 = refl
 
-over_183 : run One (codes "a = [[1]]; a[0] += [2]; a") empty ≡ ran_over Done (shown (codes "[[1, 2]]") ∷ []) ((codes "a", node 1) ∷ []) (list (integer (pos 1) ∷ integer (pos 2) ∷ []) ∷ list (node 0 ∷ []) ∷ list (integer (pos 2) ∷ []) ∷ []) (codes "a" ∷ []) 22
+over_183 : run One (codes "a = [1]; a += 1") empty ≡ ran_over Raised (fault (codes "TypeError") (codes "'int' object is not iterable") ∷ []) ((codes "a", node 0) ∷ []) (list (integer (pos 1) ∷ []) ∷ []) (codes "a" ∷ []) 36
 unfolding reserved_marks delimiter operator numeral Q.escape Q.item Q.closes Q.body Q.quoted token_piece lexeme cut indented begin bracket step layout encode_utf8 code_of E.keyword_begins E.another E.argument E.attribute E.call E.slice_after E.item_or_slice E.trailer E.parenthesised E.list E.pair E.dict E.atom E.primary_parts E.primary E.power E.unary_level E.term E.sum E.compared E.negated_level E.conjunction E.disjunction E.expr_level E.exprs_level E.phrase S.primary_at S.another_simple S.raise S.return S.assertion S.delete S.global S.import S.update_of S.assignment_of S.update_or_assignment S.simple S.simples S.line S.block S.block_after S.arm S.choice S.while S.for S.caught S.handler S.handled S.finished S.try S.parameter S.definition S.define S.compound S.chunk S.program R.piece read_chars chars digits power builtin_names class_names run
 over_183 = refl
 
-over_184 : run One (codes "t = (1,); t += (2,); t") empty ≡ ran_over Done (shown (codes "(1, 2)") ∷ []) ((codes "t", node 2) ∷ []) (tuple (integer (pos 1) ∷ []) ∷ tuple (integer (pos 2) ∷ []) ∷ tuple (integer (pos 1) ∷ integer (pos 2) ∷ []) ∷ []) (codes "t" ∷ []) 18
+over_184 : run One (codes "a = [1]; a *= 2; a") empty ≡ ran_over Done (shown (codes "[1, 1]") ∷ []) ((codes "a", node 1) ∷ []) (list (integer (pos 1) ∷ []) ∷ list (integer (pos 1) ∷ integer (pos 1) ∷ []) ∷ []) (codes "a" ∷ []) 17
 unfolding reserved_marks delimiter operator numeral Q.escape Q.item Q.closes Q.body Q.quoted token_piece lexeme cut indented begin bracket step layout encode_utf8 code_of E.keyword_begins E.another E.argument E.attribute E.call E.slice_after E.item_or_slice E.trailer E.parenthesised E.list E.pair E.dict E.atom E.primary_parts E.primary E.power E.unary_level E.term E.sum E.compared E.negated_level E.conjunction E.disjunction E.expr_level E.exprs_level E.phrase S.primary_at S.another_simple S.raise S.return S.assertion S.delete S.global S.import S.update_of S.assignment_of S.update_or_assignment S.simple S.simples S.line S.block S.block_after S.arm S.choice S.while S.for S.caught S.handler S.handled S.finished S.try S.parameter S.definition S.define S.compound S.chunk S.program R.piece read_chars chars digits power builtin_names class_names run
 over_184 = refl
+
+over_185 : run One (codes "d = {'n': 1}; d['n'] += 2; d") empty ≡ ran_over Done (shown (codes "{'n': 3}") ∷ []) ((codes "d", node 0) ∷ []) (dict ((p.single (p.text (codes "n")), integer (pos 3)) ∷ []) ∷ []) (codes "d" ∷ []) 20
+unfolding reserved_marks delimiter operator numeral Q.escape Q.item Q.closes Q.body Q.quoted token_piece lexeme cut indented begin bracket step layout encode_utf8 code_of E.keyword_begins E.another E.argument E.attribute E.call E.slice_after E.item_or_slice E.trailer E.parenthesised E.list E.pair E.dict E.atom E.primary_parts E.primary E.power E.unary_level E.term E.sum E.compared E.negated_level E.conjunction E.disjunction E.expr_level E.exprs_level E.phrase S.primary_at S.another_simple S.raise S.return S.assertion S.delete S.global S.import S.update_of S.assignment_of S.update_or_assignment S.simple S.simples S.line S.block S.block_after S.arm S.choice S.while S.for S.caught S.handler S.handled S.finished S.try S.parameter S.definition S.define S.compound S.chunk S.program R.piece read_chars chars digits power builtin_names class_names run
+over_185 = refl
+
+over_186 : run One (codes "a = [[1]]; a[0] += [2]; a") empty ≡ ran_over Done (shown (codes "[[1, 2]]") ∷ []) ((codes "a", node 1) ∷ []) (list (integer (pos 1) ∷ integer (pos 2) ∷ []) ∷ list (node 0 ∷ []) ∷ list (integer (pos 2) ∷ []) ∷ []) (codes "a" ∷ []) 22
+unfolding reserved_marks delimiter operator numeral Q.escape Q.item Q.closes Q.body Q.quoted token_piece lexeme cut indented begin bracket step layout encode_utf8 code_of E.keyword_begins E.another E.argument E.attribute E.call E.slice_after E.item_or_slice E.trailer E.parenthesised E.list E.pair E.dict E.atom E.primary_parts E.primary E.power E.unary_level E.term E.sum E.compared E.negated_level E.conjunction E.disjunction E.expr_level E.exprs_level E.phrase S.primary_at S.another_simple S.raise S.return S.assertion S.delete S.global S.import S.update_of S.assignment_of S.update_or_assignment S.simple S.simples S.line S.block S.block_after S.arm S.choice S.while S.for S.caught S.handler S.handled S.finished S.try S.parameter S.definition S.define S.compound S.chunk S.program R.piece read_chars chars digits power builtin_names class_names run
+over_186 = refl

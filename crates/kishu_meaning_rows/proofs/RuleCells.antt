@@ -287,7 +287,7 @@ rule_66 : run One (codes "[{1: 1, 2: 2}] < [{2: 2, 1: 0}]") empty ≡ ran_over R
 unfolding reserved_marks delimiter operator numeral Q.escape Q.item Q.closes Q.body Q.quoted token_piece lexeme cut indented begin bracket step layout encode_utf8 code_of E.keyword_begins E.another E.argument E.attribute E.call E.slice_after E.item_or_slice E.trailer E.parenthesised E.list E.pair E.dict E.atom E.primary_parts E.primary E.power E.unary_level E.term E.sum E.compared E.negated_level E.conjunction E.disjunction E.expr_level E.exprs_level E.phrase S.primary_at S.another_simple S.raise S.return S.assertion S.delete S.global S.import S.update_of S.assignment_of S.update_or_assignment S.simple S.simples S.line S.block S.block_after S.arm S.choice S.while S.for S.caught S.handler S.handled S.finished S.try S.parameter S.definition S.define S.compound S.chunk S.program R.piece read_chars chars digits power builtin_names class_names run call
 rule_66 = refl
 
-rule_67 : run One (codes "[{1: 1, 2: 2}] > [{2: 3, 1: 1}]") empty ≡ ran_over Raised (fault (codes "TypeError") (codes "bad operand types for >: 'list' and 'list'") ∷ []) [] (dict ((p.single (p.integer (pos 1)), integer (pos 1)) ∷ (p.single (p.integer (pos 2)), integer (pos 2)) ∷ []) ∷ list (node 0 ∷ []) ∷ dict ((p.single (p.integer (pos 2)), integer (pos 3)) ∷ (p.single (p.integer (pos 1)), integer (pos 1)) ∷ []) ∷ list (node 2 ∷ []) ∷ []) [] 59
+rule_67 : run One (codes "[{1: 1, 2: 2}] > [{2: 3, 1: 1}]") empty ≡ ran_over Raised (fault (codes "TypeError") (codes "bad operand types for >: 'list' and 'list'") ∷ []) [] (dict ((p.single (p.integer (pos 1)), integer (pos 1)) ∷ (p.single (p.integer (pos 2)), integer (pos 2)) ∷ []) ∷ list (node 0 ∷ []) ∷ dict ((p.single (p.integer (pos 2)), integer (pos 3)) ∷ (p.single (p.integer (pos 1)), integer (pos 1)) ∷ []) ∷ list (node 2 ∷ []) ∷ []) [] 60
 unfolding reserved_marks delimiter operator numeral Q.escape Q.item Q.closes Q.body Q.quoted token_piece lexeme cut indented begin bracket step layout encode_utf8 code_of E.keyword_begins E.another E.argument E.attribute E.call E.slice_after E.item_or_slice E.trailer E.parenthesised E.list E.pair E.dict E.atom E.primary_parts E.primary E.power E.unary_level E.term E.sum E.compared E.negated_level E.conjunction E.disjunction E.expr_level E.exprs_level E.phrase S.primary_at S.another_simple S.raise S.return S.assertion S.delete S.global S.import S.update_of S.assignment_of S.update_or_assignment S.simple S.simples S.line S.block S.block_after S.arm S.choice S.while S.for S.caught S.handler S.handled S.finished S.try S.parameter S.definition S.define S.compound S.chunk S.program R.piece read_chars chars digits power builtin_names class_names run call
 rule_67 = refl
 

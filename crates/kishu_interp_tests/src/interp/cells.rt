@@ -1,6 +1,6 @@
 // Made by tools/cells/cells.py: how a cell ended and what it shows, and its text, with \x1f between, and \x1e
 // behind each row. What was printed stands in `<` and `>`.
-pub(crate) const COUNT: usize = 732;
+pub(crate) const COUNT: usize = 735;
 
 // Of these so many spend their steps.
 pub(crate) const SPENT: usize = 21;
@@ -311,6 +311,9 @@ pub(crate) const ROWS: &str = "\
     error TypeError: bad operand types for <: 'list' and 'tuple'\x1f[1] < (1,)\x1e\
     error TypeError: bad operand types for <: 'dict' and 'dict'\x1f{} < {}\x1e\
     error TypeError: bad operand types for >=: 'list' and 'list'\x1f[1, []] >= [1, {}]\x1e\
+    error TypeError: bad operand types for >: 'list' and 'list'\x1f[{1: 1, 2: 2}] > [{2: 3, 1: 1}]\x1e\
+    error TypeError: bad operand types for <=: 'list' and 'list'\x1f[{1: 1, 2: 2}] <= [{2: 3, 1: 1}]\x1e\
+    error TypeError: bad operand types for >: 'list' and 'list'\x1fmax([{1: 1, 2: 2}], [{2: 3, 1: 1}])\x1e\
     ok (False, True)\x1f[] != [], [[]] != [[], 1]\x1e\
     ok True\x1f{1: [2], 3: 4} == {3: 4, 1: [2]}\x1e\
     ok (True, False, True, True)\x1f1 in [1, 2], 'a' in ('b',), [1] in [[1]], 3 not in [1, 2]\x1e\

@@ -10,7 +10,7 @@ use Rattle.kishu_meaning.specs.values.Values.{Value, text, range, node, Node, li
 use Rattle.kishu_meaning.specs.values.Nodes.{value_at}
 use Rattle.kishu_meaning.specs.moments.Moment.{M, ◌>>=◌, ◌>>◌, give, spend, node_now}
 use Rattle.kishu_meaning.specs.moments.Counting.{counted}
-use Rattle.kishu_meaning.specs.comparing.Equal.{number_in, is_same, pair_steps, range_length, pair_equal, equal_nodes, room_at, equal, less}
+use Rattle.kishu_meaning.specs.comparing.Equal.{number_in, is_same, pair_steps, range_length, pair_equal, equal_nodes, room_at, equal, less, greater}
 use Rattle.kishu_meaning.specs.calls.Operators.{bad_operands}
 use Rattle.kishu_meaning.specs.values.Kinds.{not_iterable}
 use Rattle.kishu_meaning.specs.items.KeyOf.{key_of_value}
@@ -90,8 +90,8 @@ negated m = do
 
 abbrev pub compare : Comparison → Value → Value → M Bool
 compare comparisons.Less a b = less a b >>= or_unordered comparisons.Less a b
-compare comparisons.LessEqual a b = negated (less b a >>= or_unordered comparisons.LessEqual a b)
-compare comparisons.Greater a b = less b a >>= or_unordered comparisons.Greater a b
+compare comparisons.LessEqual a b = negated (greater a b >>= or_unordered comparisons.LessEqual a b)
+compare comparisons.Greater a b = greater a b >>= or_unordered comparisons.Greater a b
 compare comparisons.GreaterEqual a b = negated (less a b >>= or_unordered comparisons.GreaterEqual a b)
 compare comparisons.Equal a b = equal a b
 compare comparisons.NotEqual a b = negated (equal a b)

@@ -145,16 +145,20 @@ equal a b = λ s. counted (equal_in s.nodes s.depth a b) s
 
 -- ---- order; there is no answer where a pair is reached that has none
 
+-- A pair of items is equal, asked as it stands or turned round.
+abbrev pub pair_turned : Bool → (ℕ → ℕ → Count Bool) → Value → Value → Count Bool
+pair_turned turned nodes v w = if turned then pair_equal nodes w v else pair_equal nodes v w
+
 abbrev pub less_by : (ℕ → ℕ → Count (Option Bool)) → Value → Value → Count (Option Bool)
 less_by nodes a b = by_both (node_in a) (node_in b) nodes (spend (pair_steps a b) >> give (less_plain a b))
 
-module _ (same_nodes : ℕ → ℕ → Count Bool) (nodes : ℕ → ℕ → Count (Option Bool)) where
+module _ (pairs : Value → Value → Count Bool) (nodes : ℕ → ℕ → Count (Option Bool)) where
   -- by the first items that aren't equal, and where there are none by length
   abbrev pub items_less : List Value → List Value → Count (Option Bool)
   items_less [] [] = give (Some false)
   items_less [] (w ∷ ws) = give (Some true)
   items_less (v ∷ vs) [] = give (Some false)
-  items_less (v ∷ vs) (w ∷ ws) = pair_equal same_nodes v w >>= λ same. if same then items_less vs ws else less_by nodes v w
+  items_less (v ∷ vs) (w ∷ ws) = pairs v w >>= λ same. if same then items_less vs ws else less_by nodes v w
 
   -- two lists, or two tuples
   abbrev pub contents_less : Node → Node → Count (Option Bool)
@@ -163,13 +167,20 @@ module _ (same_nodes : ℕ → ℕ → Count Bool) (nodes : ℕ → ℕ → Coun
   abbrev pub nodes_less : Option Node → Option Node → Count (Option Bool)
   nodes_less a b = by_both a b contents_less (give None)
 
-abbrev pub less_nodes : List Node → ℕ → ℕ → ℕ → Count (Option Bool)
-less_nodes ns zero i j = stop_deep
-less_nodes ns (suc room) i j = nodes_less (equal_nodes ns room) (less_nodes ns room) (slice_get ns i) (slice_get ns j)
+abbrev pub less_nodes : Bool → List Node → ℕ → ℕ → ℕ → Count (Option Bool)
+less_nodes turned ns zero i j = stop_deep
+less_nodes turned ns (suc room) i j = nodes_less (pair_turned turned (equal_nodes ns room)) (less_nodes turned ns room) (slice_get ns i) (slice_get ns j)
 
 abbrev pub less_in : List Node → ℕ → Value → Value → Count (Option Bool)
-less_in ns depth = less_by (less_nodes ns (room_at depth))
+less_in ns depth = less_by (less_nodes false ns (room_at depth))
 
--- The left one is less, where the two have an order.
+-- The right one is less, where each pair of items is asked for as it stands, the left one's first.
+abbrev pub greater_in : List Node → ℕ → Value → Value → Count (Option Bool)
+greater_in ns depth a b = less_by (less_nodes true ns (room_at depth)) b a
+
+-- The left one is less, where the two have an order, or greater.
 abbrev pub less : Value → Value → M (Option Bool)
 less a b = λ s. counted (less_in s.nodes s.depth a b) s
+
+abbrev pub greater : Value → Value → M (Option Bool)
+greater a b = λ s. counted (greater_in s.nodes s.depth a b) s

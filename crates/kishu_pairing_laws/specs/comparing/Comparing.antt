@@ -13,7 +13,7 @@ use Rattle.kishu_pairing_laws.specs.values.Lists.{zip_is_some, entry_at}
 use Rattle.kishu_pairing_laws.specs.moments.Heap.{node_now_quiet}
 use Rattle.kishu_pairing_laws.specs.values.Kinds.{not_iterable_quiet}
 use Rattle.kishu_pairing_laws.specs.moments.Counting.{counted_quiet}
-use Rattle.kishu_pairing_laws.specs.comparing.Equal.{pair_is, rooms, steps_is, same_is, less_quiet, equal_quiet}
+use Rattle.kishu_pairing_laws.specs.comparing.Equal.{pair_is, rooms, steps_is, same_is, less_quiet, greater_quiet, equal_quiet}
 use Rattle.kishu_pairing_laws.specs.calls.Operators.{bad_operands_quiet}
 use Rattle.kishu_pairing_laws.specs.items.KeyOf.{key_quiet}
 
@@ -75,8 +75,8 @@ module _ (W : World) where
 
   pub compare_quiet : (comparison : Comparison) {v w x y : Value} → SameValue W v w → SameValue W x y → GoQuietly W Is (compare comparison v x) (compare comparison w y)
   compare_quiet comparisons.Less vw xy = bind_is W (less_quiet W vw xy) (λ o. unordered_quiet comparisons.Less vw xy o)
-  compare_quiet comparisons.LessEqual vw xy = negated_quiet (bind_is W (less_quiet W xy vw) (λ o. unordered_quiet comparisons.LessEqual vw xy o))
-  compare_quiet comparisons.Greater vw xy = bind_is W (less_quiet W xy vw) (λ o. unordered_quiet comparisons.Greater vw xy o)
+  compare_quiet comparisons.LessEqual vw xy = negated_quiet (bind_is W (greater_quiet W vw xy) (λ o. unordered_quiet comparisons.LessEqual vw xy o))
+  compare_quiet comparisons.Greater vw xy = bind_is W (greater_quiet W vw xy) (λ o. unordered_quiet comparisons.Greater vw xy o)
   compare_quiet comparisons.GreaterEqual vw xy = negated_quiet (bind_is W (less_quiet W vw xy) (λ o. unordered_quiet comparisons.GreaterEqual vw xy o))
   compare_quiet comparisons.Equal vw xy = equal_quiet W vw xy
   compare_quiet comparisons.NotEqual vw xy = negated_quiet (equal_quiet W vw xy)

@@ -5,7 +5,7 @@ use Rattle.std.specs.Str.{bytes_eq}
 use Rattle.std.proofs.Common.{refl, inl, subst, sym, arith, inr, ap, ◌∙◌}
 use Rattle.std.proofs.lemmas.Bool.{cases_eq}
 use Rattle.std.proofs.lemmas.Bool.Decides.{nat_tests}
-use Rattle.kishu_meaning.specs.comparing.Equal.{number_in, is_same, pair_steps, numbers_in, is_like, by_both, same_numbers, is_equal, less_texts, less_plain, node_in, equal_by, pair_equal, items_equal, lists_equal, value_equal, entries_equal, maps_equal, contents_equal, equal_nodes, room_at, equal, less_by, items_less, contents_less, less_nodes, less}
+use Rattle.kishu_meaning.specs.comparing.Equal.{number_in, is_same, pair_steps, numbers_in, is_like, by_both, same_numbers, is_equal, less_texts, less_plain, node_in, equal_by, pair_equal, items_equal, lists_equal, value_equal, entries_equal, maps_equal, contents_equal, equal_nodes, room_at, equal, pair_turned, less_by, items_less, contents_less, less_nodes, less, greater}
 use Rattle.kishu_meaning.specs.moments.Counting.{Count, spend, give, ◌>>◌}
 use Rattle.kishu_meaning.specs.moments.Moment.{Moment}
 use Rattle.kishu_meaning.specs.values.Keys.{is_one}
@@ -162,22 +162,33 @@ module _ (W : World) where
 
   -- ---- order
 
-  module _ {f g : ℕ → ℕ → Count Bool} (fg : Alike f g) {f' g' : ℕ → ℕ → Count (Option Bool)} (fg' : Alike f' g') where
-    less_by_is : {v w x y : Value} → SameValue W v w → SameValue W x y → less_by f' v x ≡ less_by g' w y
-    less_by_is vw xy = by_both_is (nodes_of vw) (nodes_of xy) fg' (count_then (ap spend (steps_is vw xy)) (ap give (plains_less vw xy)))
+  turned_is : (turned : Bool) {f g : ℕ → ℕ → Count Bool} → Alike f g → (v w x y : Value) → SameValue W v w → SameValue W x y → pair_turned turned f v x ≡ pair_turned turned g w y
+  turned_is true fg v w x y vw xy = pair_is fg xy vw
+  turned_is false fg v w x y vw xy = pair_is fg vw xy
 
-    items_less_is : {vs ws xs ys : List Value} → SameValues W vs ws → SameValues W xs ys → items_less f f' vs xs ≡ items_less g g' ws ys
+  less_by_is : {f g : ℕ → ℕ → Count (Option Bool)} → Alike f g → {v w x y : Value} → SameValue W v w → SameValue W x y → less_by f v x ≡ less_by g w y
+  less_by_is fg vw xy = by_both_is (nodes_of vw) (nodes_of xy) fg (count_then (ap spend (steps_is vw xy)) (ap give (plains_less vw xy)))
+
+  module _ {p q : Value → Value → Count Bool} (pq : (v w x y : Value) → SameValue W v w → SameValue W x y → p v x ≡ q w y) {f g : ℕ → ℕ → Count (Option Bool)} (fg : Alike f g) where
+    items_less_is : {vs ws xs ys : List Value} → SameValues W vs ws → SameValues W xs ys → items_less p f vs xs ≡ items_less q g ws ys
     items_less_is nil nil = refl
     items_less_is nil (cons xy z') = refl
     items_less_is (cons vw z) nil = refl
-    items_less_is (cons vw z) (cons xy z') = count_bind (pair_is fg vw xy) (λ b. count_if b (items_less_is z z') (less_by_is vw xy))
+    items_less_is (cons {a = v} {b = w} vw z) (cons {a = x} {b = y} xy z') = count_bind (pq v w x y vw xy) (λ b. count_if b (items_less_is z z') (less_by_is fg vw xy))
 
-    contents_less_is : {a b c d : Node} → SameNode W a b → SameNode W c d → contents_less f f' a c ≡ contents_less g g' b d
+    contents_less_is : {a b c d : Node} → SameNode W a b → SameNode W c d → contents_less p f a c ≡ contents_less q g b d
     contents_less_is ab cd = by_both_is (in_list W ab) (in_list W cd) (λ x y x' y' h h'. items_less_is h h') (by_both_is (in_tuple W ab) (in_tuple W cd) (λ x y x' y' h h'. items_less_is h h') refl)
 
-  less_nodes_is : {ns ms : List Node} → SameHeaps W ns ms → (room : ℕ) → Alike (less_nodes ns room) (less_nodes ms room)
-  less_nodes_is h zero i j k l p q = refl
-  less_nodes_is h (suc room) i j k l p q = by_both_is (h.closed i j p) (h.closed k l q) (λ a b c d ab cd. contents_less_is (equal_nodes_is h room) (less_nodes_is h room) ab cd) refl
+  less_nodes_is : (turned : Bool) {ns ms : List Node} → SameHeaps W ns ms → (room : ℕ) → Alike (less_nodes turned ns room) (less_nodes turned ms room)
+  less_nodes_is turned h zero i j k l p q = refl
+  less_nodes_is turned h (suc room) i j k l p q = by_both_is (h.closed i j p) (h.closed k l q) (λ a b c d ab cd. contents_less_is (turned_is turned (equal_nodes_is h room)) (less_nodes_is turned h room) ab cd) refl
+
+  -- with the room of a moment
+  rooms_less : (turned : Bool) {s t : Moment} → SameMoment W s t → Alike (less_nodes turned s.nodes (room_at s.depth)) (less_nodes turned t.nodes (room_at t.depth))
+  rooms_less turned {s = s} {t = t} st i j k l p q = less_nodes_is turned st.heaps (room_at s.depth) i j k l p q ∙ ap (λ d. less_nodes turned t.nodes (room_at d) j l) st.depth
 
   pub less_quiet : {v w x y : Value} → SameValue W v w → SameValue W x y → GoQuietly W Is (less v x) (less w y)
-  less_quiet vw xy = counted_quiet W _ _ (λ s t st. less_by_is (rooms st) (λ i j k l p q. less_nodes_is st.heaps (room_at s.depth) i j k l p q ∙ ap (λ d. less_nodes t.nodes (room_at d) j l) st.depth) vw xy)
+  less_quiet vw xy = counted_quiet W _ _ (λ s t st. less_by_is (rooms_less false st) vw xy)
+
+  pub greater_quiet : {v w x y : Value} → SameValue W v w → SameValue W x y → GoQuietly W Is (greater v x) (greater w y)
+  greater_quiet vw xy = counted_quiet W _ _ (λ s t st. less_by_is (rooms_less true st) xy vw)

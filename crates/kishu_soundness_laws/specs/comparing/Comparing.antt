@@ -3,7 +3,7 @@ use Rattle.std.specs.Prelude.{ℕ, Option, Bool, Some, None, List, [], ◌∷◌
 use Rattle.kishu_language.specs.declared.tree.Comparison.{Comparison}
 use Rattle.kishu_language.specs.declared.tree.Comparison.TheVariants as comparisons
 use Rattle.kishu_meaning.specs.comparing.Comparing.{or_unordered, comparison_sign, equals_item, among, in_node, member, negated, identical, compare}
-use Rattle.kishu_meaning.specs.comparing.Equal.{pair_equal, equal_nodes, room_at, less, less_in, equal, equal_in, pair_steps}
+use Rattle.kishu_meaning.specs.comparing.Equal.{pair_equal, equal_nodes, room_at, less, less_in, greater, greater_in, equal, equal_in, pair_steps}
 use Rattle.kishu_meaning.specs.moments.Moment.{M}
 use Rattle.kishu_meaning.specs.values.Values.{Value, Node, list, tuple, dict, text, range, node}
 use Rattle.kishu_soundness_laws.specs.Below.{Any}
@@ -43,6 +43,9 @@ module _ {k : ℕ} where
   less_safe : (v w : Value) → IsSafe k Any (less v w)
   less_safe v w = counted_safe (λ s. less_in s.nodes s.depth v w)
 
+  greater_safe : (v w : Value) → IsSafe k Any (greater v w)
+  greater_safe v w = counted_safe (λ s. greater_in s.nodes s.depth v w)
+
   equal_safe : (v w : Value) → IsSafe k Any (equal v w)
   equal_safe v w = counted_safe (λ s. equal_in s.nodes s.depth v w)
 
@@ -51,8 +54,8 @@ module _ {k : ℕ} where
 
   pub compare_safe : (comparison : Comparison) (v w : Value) → IsSafe k Any (compare comparison v w)
   compare_safe comparisons.Less v w = plain_safe (less_safe v w) (λ o. unordered_safe comparisons.Less v w o)
-  compare_safe comparisons.LessEqual v w = negated_safe (plain_safe (less_safe w v) (λ o. unordered_safe comparisons.LessEqual v w o))
-  compare_safe comparisons.Greater v w = plain_safe (less_safe w v) (λ o. unordered_safe comparisons.Greater v w o)
+  compare_safe comparisons.LessEqual v w = negated_safe (plain_safe (greater_safe v w) (λ o. unordered_safe comparisons.LessEqual v w o))
+  compare_safe comparisons.Greater v w = plain_safe (greater_safe v w) (λ o. unordered_safe comparisons.Greater v w o)
   compare_safe comparisons.GreaterEqual v w = negated_safe (plain_safe (less_safe v w) (λ o. unordered_safe comparisons.GreaterEqual v w o))
   compare_safe comparisons.Equal v w = equal_safe v w
   compare_safe comparisons.NotEqual v w = negated_safe (equal_safe v w)

@@ -10,11 +10,11 @@ use Rattle.kishu_meaning.specs.values.Keys.{Key}
 use Rattle.kishu_meaning.specs.values.Values.{Value, none, bool, integer, text, range, builtin, class, node, Node, list, tuple, dict, object, function, exception}
 use Rattle.kishu_meaning.specs.moments.Moment.{Thrown, fresh, thrown_object, most_depth}
 use Rattle.kishu_meaning.specs.moments.Counting.{Counted, answer, too_deep, spent, Count, and_then, ◌>>=◌, ◌>>◌, give, spend, stop_deep, counted}
-use Rattle.kishu_meaning.specs.comparing.Equal.{is_same, pair_steps, pair_equal, equal_nodes, equal_in, less_in, equal, less, room_at}
+use Rattle.kishu_meaning.specs.comparing.Equal.{is_same, pair_steps, pair_equal, equal_nodes, equal_in, less_in, greater_in, equal, less, greater, room_at}
 use Rattle.kishu_meaning.specs.values.Classes.{key_error_class}
 use Rattle.kishu_meaning.specs.comparing.Show.{function_name, function_text, class_name, repr_text, key_text, tuple_end, made, ◌⊕◌, further, listed, repr_by, entry_repr, attribute_repr, tuple_repr, contents_repr, again, repr_at, repr_nodes, repr_in, repr_of, show_by, argument_text, exception_text, show_at, show_nodes, show_in, show, show_all_in, show_all, thrown_in, show_thrown}
 use Rattle.kishu_meaning.specs.items.Finding.{is_found, place_from, count_from, place_among, count_among}
-use Rattle.kishu_meaning_laws.specs.CountingLaws.{Falls, left_of, then_falls, both_fall, give_falls, spend_falls, either_falls, equal_in_falls, less_in_falls, place_falls, count_falls, show_falls, repr_falls}
+use Rattle.kishu_meaning_laws.specs.CountingLaws.{Falls, left_of, then_falls, both_fall, give_falls, spend_falls, either_falls, equal_in_falls, less_in_falls, greater_in_falls, place_falls, count_falls, show_falls, repr_falls}
 use Rattle.kishu_meaning_laws.specs.ShowLaws.{thrown_covers, name_as_read}
 use Rattle.kishu_objects.specs.State.{IsValue, AreValues, IsKey, IsName, IsCode, IsNode, keys_in, values_in}
 use Rattle.kishu_state_laws.specs.Moments.{widest_budget}
@@ -315,6 +315,9 @@ module _ {k : ℕ} where
 
   pub less_s : (v w : Value) → Safe k Any (less v w)
   less_s v w = counted_s (λ s. less_in s.nodes s.depth v w) (λ d s. refl) (λ s. less_in_falls s.nodes s.depth v w)
+
+  pub greater_s : (v w : Value) → Safe k Any (greater v w)
+  greater_s v w = counted_s (λ s. greater_in s.nodes s.depth v w) (λ d s. refl) (λ s. greater_in_falls s.nodes s.depth v w)
 
   pub pair_s : (v w : Value) → Safe k Any (λ s. counted (pair_equal (equal_nodes s.nodes (room_at s.depth)) v w) s)
   pair_s v w = counted_s (λ s. pair_equal (equal_nodes s.nodes (room_at s.depth)) v w) (λ d s. refl) (λ s. pair_falls s.nodes s.depth v w)

@@ -26,7 +26,7 @@ use Rattle.kishu_state_laws.specs.keeping.Logic.{Maybe, Any, IsText, Safe, safe_
 use Rattle.kishu_state_laws.specs.keeping.Lists.{each_many}
 use Rattle.kishu_state_laws.specs.keeping.Texts.{scalars_append, text_many, text_decimal, IsScalar, each_scalar, one_text}
 use Rattle.kishu_state_laws.specs.keeping.Numbers.{IsWhole, whole_range}
-use Rattle.kishu_state_laws.specs.keeping.Counting.{equal_s, less_s, pair_s}
+use Rattle.kishu_state_laws.specs.keeping.Counting.{equal_s, less_s, greater_s, pair_s}
 use Rattle.kishu_state_laws.specs.keeping.Leaves.{MaybeValue, not_iterable_s, bad_operands_s, bad_operand_s, list_maybe, tuple_maybe, dict_maybe, list_there, dict_there, key_s, value_of_key_s, count_of_s, items_of_s}
 
 -- ---- operators
@@ -145,8 +145,8 @@ module _ {k : ℕ} where
 
   pub compare_s : (comparison : Comparison) (v w : Value) → IsValue k v → Safe k Any (compare comparison v w)
   compare_s comparisons.Less v w h = plain_s (less_s v w) (λ o. unordered_s comparisons.Less v w o refl)
-  compare_s comparisons.LessEqual v w h = negated_s (plain_s (less_s w v) (λ o. unordered_s comparisons.LessEqual v w o refl))
-  compare_s comparisons.Greater v w h = plain_s (less_s w v) (λ o. unordered_s comparisons.Greater v w o refl)
+  compare_s comparisons.LessEqual v w h = negated_s (plain_s (greater_s v w) (λ o. unordered_s comparisons.LessEqual v w o refl))
+  compare_s comparisons.Greater v w h = plain_s (greater_s v w) (λ o. unordered_s comparisons.Greater v w o refl)
   compare_s comparisons.GreaterEqual v w h = negated_s (plain_s (less_s v w) (λ o. unordered_s comparisons.GreaterEqual v w o refl))
   compare_s comparisons.Equal v w h = equal_s v w
   compare_s comparisons.NotEqual v w h = negated_s (equal_s v w)

@@ -1,6 +1,6 @@
 // Made by tools/cells/cells.py: the cell's outcome and outputs in its answer, and its text, with \x1f between, and
 // \x1e behind each row. The answer is BEGIN, this, END.
-pub(crate) const COUNT: usize = 732;
+pub(crate) const COUNT: usize = 735;
 
 // Of these so many spend their steps.
 pub(crate) const SPENT: usize = 21;
@@ -315,6 +315,9 @@ pub(crate) const ROWS: &str = "\
     \"error\",\"outputs\":[{\"ename\":\"TypeError\",\"evalue\":\"bad operand types for <: 'list' and 'tuple'\",\"output_type\":\"error\",\"traceback\":[\"TypeError: bad operand types for <: 'list' and 'tuple'\"]}]\x1f[1] < (1,)\x1e\
     \"error\",\"outputs\":[{\"ename\":\"TypeError\",\"evalue\":\"bad operand types for <: 'dict' and 'dict'\",\"output_type\":\"error\",\"traceback\":[\"TypeError: bad operand types for <: 'dict' and 'dict'\"]}]\x1f{} < {}\x1e\
     \"error\",\"outputs\":[{\"ename\":\"TypeError\",\"evalue\":\"bad operand types for >=: 'list' and 'list'\",\"output_type\":\"error\",\"traceback\":[\"TypeError: bad operand types for >=: 'list' and 'list'\"]}]\x1f[1, []] >= [1, {}]\x1e\
+    \"error\",\"outputs\":[{\"ename\":\"TypeError\",\"evalue\":\"bad operand types for >: 'list' and 'list'\",\"output_type\":\"error\",\"traceback\":[\"TypeError: bad operand types for >: 'list' and 'list'\"]}]\x1f[{1: 1, 2: 2}] > [{2: 3, 1: 1}]\x1e\
+    \"error\",\"outputs\":[{\"ename\":\"TypeError\",\"evalue\":\"bad operand types for <=: 'list' and 'list'\",\"output_type\":\"error\",\"traceback\":[\"TypeError: bad operand types for <=: 'list' and 'list'\"]}]\x1f[{1: 1, 2: 2}] <= [{2: 3, 1: 1}]\x1e\
+    \"error\",\"outputs\":[{\"ename\":\"TypeError\",\"evalue\":\"bad operand types for >: 'list' and 'list'\",\"output_type\":\"error\",\"traceback\":[\"TypeError: bad operand types for >: 'list' and 'list'\"]}]\x1fmax([{1: 1, 2: 2}], [{2: 3, 1: 1}])\x1e\
     \"ok\",\"outputs\":[{\"data\":{\"text/plain\":\"(False, True)\"},\"execution_count\":1,\"metadata\":{},\"output_type\":\"execute_result\"}]\x1f[] != [], [[]] != [[], 1]\x1e\
     \"ok\",\"outputs\":[{\"data\":{\"text/plain\":\"True\"},\"execution_count\":1,\"metadata\":{},\"output_type\":\"execute_result\"}]\x1f{1: [2], 3: 4} == {3: 4, 1: [2]}\x1e\
     \"ok\",\"outputs\":[{\"data\":{\"text/plain\":\"(True, False, True, True)\"},\"execution_count\":1,\"metadata\":{},\"output_type\":\"execute_result\"}]\x1f1 in [1, 2], 'a' in ('b',), [1] in [[1]], 3 not in [1, 2]\x1e\

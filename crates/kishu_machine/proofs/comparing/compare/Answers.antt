@@ -5,13 +5,13 @@ pub returns-in-Less-clause-gives : goal.returns-in-Less-clause-gives
 returns-in-Less-clause-gives g c = rw c.in-Less.is (rw c.in-Less.is at c.less.ensures.gives)
 
 pub returns-in-LessEqual-clause-gives : goal.returns-in-LessEqual-clause-gives
-returns-in-LessEqual-clause-gives g c = rw c.in-LessEqual.is (c.negated.ensures.gives (moment_of c.less-in-LessEqual.new.machine) _ (rw c.in-LessEqual.is at c.less-in-LessEqual.ensures.gives))
+returns-in-LessEqual-clause-gives g c = rw c.in-LessEqual.is (c.negated.ensures.gives (moment_of c.greater.new.machine) _ (rw c.in-LessEqual.is at c.greater.ensures.gives))
 
 pub returns-in-LessEqual-clause-sound : goal.returns-in-LessEqual-clause-sound
-returns-in-LessEqual-clause-sound g c = c.negated.ensures.sound _ c.less-in-LessEqual.ensures.sound
+returns-in-LessEqual-clause-sound g c = c.negated.ensures.sound _ c.greater.ensures.sound
 
 pub returns-in-Greater-clause-gives : goal.returns-in-Greater-clause-gives
-returns-in-Greater-clause-gives g c = rw c.in-Greater.is (rw c.in-Greater.is at c.less-in-Greater.ensures.gives)
+returns-in-Greater-clause-gives g c = rw c.in-Greater.is (rw c.in-Greater.is at c.greater-in-Greater.ensures.gives)
 
 pub returns-in-GreaterEqual-clause-gives : goal.returns-in-GreaterEqual-clause-gives
 returns-in-GreaterEqual-clause-gives g c = rw c.in-GreaterEqual.is (c.negated-in-GreaterEqual.ensures.gives (moment_of c.less-in-GreaterEqual.new.machine) _ (rw c.in-GreaterEqual.is at c.less-in-GreaterEqual.ensures.gives))

@@ -12,7 +12,7 @@ pub returns-clause-gives : goal.returns-clause-gives
 returns-clause-gives g c =
     let s = moment_of c.args.machine.now in
     let b = c.less-answer.new.budget in
-    let e = less_in s.nodes s.depth (value_of c.args.one.now) (value_of c.args.other.now) s.left in
+    let e = less_in s.nodes s.depth (value_of c.args.a.now) (value_of c.args.b.now) s.left in
     let f = or_unordered c.args.comparison (value_of c.args.a.now) (value_of c.args.b.now) in
     subst (λ (x : Ends (Option Bool)). Gives (λ b. b) c.ordered.result (record s { left = b.left; depth = b.depth }) (and_then x f)) (ended_at s b.left b.depth e c.less-answer.ensures.depth) (c.ordered.ensures.gives e c.less-answer.ensures.gives)
 
@@ -22,8 +22,8 @@ returns-clause-sound g c = c.ordered.ensures.sound
 pub returns-clause-costs : goal.returns-clause-costs
 returns-clause-costs g c =
     let s = moment_of c.args.machine.now in
-    let a = value_of c.args.one.now in
-    let b = value_of c.args.other.now in
+    let a = value_of c.args.a.now in
+    let b = value_of c.args.b.now in
     let left = c.less-answer.new.budget.left in
     let falls : left ≤ s.left = subst (λ (n : ℕ). n ≤ s.left) (orders_left c.less-answer.result left (less_in s.nodes s.depth a b s.left) c.less-answer.ensures.gives) ((less_in_falls s.nodes s.depth a b).falls s.left) in
     record { kept = (omega arith, omega (arith, falls), omega arith); reads = omega (arith, falls) }
