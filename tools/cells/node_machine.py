@@ -190,8 +190,8 @@ class Nodes(Machine):
             return all(k in b.inside and self.pair(v, b.inside[k]) for k, v in a.inside.items())
         return all(self.pair(v, w) for v, w in zip(a.inside, b.inside))
 
-    def less(self, a, b):
-        """None where the two have no order."""
+    def less(self, a, b, turned=False):
+        """None where the two have no order. Pairs of items are asked turned round or not."""
         if not (isinstance(a, Thing) and isinstance(b, Thing)):
             self.texts(a, b)
             ordered = is_number(a) and is_number(b) or isinstance(a, str) and isinstance(b, str)
@@ -199,12 +199,12 @@ class Nodes(Machine):
         if a.kind != b.kind or a.kind not in ("list", "tuple"):
             return None
         for v, w in zip(a.inside, b.inside):
-            if not self.pair(v, w):
-                return self.less(v, w)
+            if not (self.pair(w, v) if turned else self.pair(v, w)):
+                return self.less(v, w, turned)
         return len(a.inside) < len(b.inside)
 
     def ordered(self, sign, a, b):
-        found = self.less(b, a) if sign in (">", "<=") else self.less(a, b)
+        found = self.less(b, a, True) if sign in (">", "<=") else self.less(a, b)
         if found is None:
             raise type_error("bad operand types for %s: %s and %s" % (sign, kind(a), kind(b)))
         return found == (sign in ("<", ">"))

@@ -399,7 +399,7 @@ def compare_best(name, value, best, depth):
     def told():
         fail("TypeError", f"bad operand types for {op}: '{kind(value)}' and '{kind(best)}'")
 
-    return less(best, value, depth, told) if op == ">" else less(value, best, depth, told)
+    return less(best, value, depth, told, True) if op == ">" else less(value, best, depth, told)
 
 
 def call_ord(_, value):

@@ -277,8 +277,8 @@ def equal(one, other, depth):
     return one is other
 
 
-def less(one, other, depth, told):
-    """`one < other`; `told` raises the TypeError of the operator and its operands."""
+def less(one, other, depth, told, turned=False):
+    """`one < other`, with the pairs asked turned round or not; `told` raises the TypeError of the operator and its operands."""
     if is_number(one) and is_number(other):
         return one < other
     if isinstance(one, str) and isinstance(other, str):
@@ -287,8 +287,8 @@ def less(one, other, depth, told):
     if isinstance(one, (list, Tup)) and type(one) is type(other):
         deeper(depth)
         for a, b in zip(one, other):
-            if not equal_pair(a, b, depth):
-                return less(a, b, depth + 1 if is_node(a) and is_node(b) else depth, told)
+            if not (equal_pair(b, a, depth) if turned else equal_pair(a, b, depth)):
+                return less(a, b, depth + 1 if is_node(a) and is_node(b) else depth, told, turned)
         return len(one) < len(other)
     return told()
 
@@ -310,9 +310,9 @@ def compare(nest, op, one, other):
     if op == "<":
         return less(one, other, depth, told)
     if op == ">":
-        return less(other, one, depth, told)
+        return less(other, one, depth, told, True)
     if op == "<=":
-        return not less(other, one, depth, told)
+        return not less(other, one, depth, told, True)
     return not less(one, other, depth, told)
 
 

@@ -196,16 +196,19 @@ class Counter:
     def maps(self, a, b):
         return len(a) == len(b) and all(k in b and self.pair(v, b[k]) for k, v in a.items())
 
-    def less(self, a, b):
+    def less(self, a, b, turned=False):
         self.texts(a, b)
         if type(a) is type(b) and isinstance(a, (list, tuple)):
             for v, w in zip(a, b):
-                if not self.pair(v, w):
-                    return self.inside(self.less, v, w)
+                if not (self.pair(w, v) if turned else self.pair(v, w)):
+                    return self.inside(lambda v, w: self.less(v, w, turned), v, w)
             return len(a) < len(b)
         if isinstance(a, int) and isinstance(b, int) or isinstance(a, str) and isinstance(b, str):
             return a < b
         raise Unordered
+
+    def greater(self, a, b):
+        return self.less(b, a, turned=True)
 
 
 def told(compare, view, counter, a, b):
@@ -234,6 +237,13 @@ def python_less(a, b):
         return None
 
 
+def python_greater(a, b):
+    try:
+        return a > b
+    except (TypeError, RecursionError):
+        return None
+
+
 def equal_row(a, b, left=100, depth=0):
     counter = Counter(left, depth)
     heap = Heap()
@@ -244,16 +254,24 @@ def equal_row(a, b, left=100, depth=0):
     return f"equal_in {heap.nodes()} {depth} {v} {w} {left} ≡ {end}"
 
 
-def less_row(a, b, left=100, depth=0):
+def order_row(word, compare, python, a, b, left, depth):
     counter = Counter(left, depth)
     heap = Heap()
     v, w = heap.value(a), heap.value(b)
-    end = told(counter.less, lambda b: f"(Some {truth(b)})", counter, a, b)
+    end = told(lambda a, b: compare(counter, a, b), lambda b: f"(Some {truth(b)})", counter, a, b)
     if end.startswith("answer"):
-        found = python_less(a, b)
+        found = python(a, b)
         assert end.split()[1] == ("None" if found is None else "(Some"), (a, b)
         assert found is None or end.split()[2] == truth(found) + ")", (a, b)
-    return f"less_in {heap.nodes()} {depth} {v} {w} {left} ≡ {end}"
+    return f"{word} {heap.nodes()} {depth} {v} {w} {left} ≡ {end}"
+
+
+def less_row(a, b, left=100, depth=0):
+    return order_row("less_in", Counter.less, python_less, a, b, left, depth)
+
+
+def greater_row(a, b, left=100, depth=0):
+    return order_row("greater_in", Counter.greater, python_greater, a, b, left, depth)
 
 
 # ---- the files
@@ -381,6 +399,9 @@ def equal_rows():
         less_row([], []), less_row([], [1]), less_row([1], []), less_row([1, 2], [1, 3]), less_row([1, 3], [1, 2]), less_row((1, "ab"), (1, "ac")), less_row([1, 2], [1, 2, 0]),
         less_row([[1], [2]], [[1], [3]]), less_row([[1, 5]], [[1, 6]]), less_row([None, 1], [None, 2]), less_row([None], [1]), less_row([{}], [{}]), less_row([{1: 1}], [{}]), less_row(["a", 1], ["b", 2]),
         less_row(a, a), less_row(a, b, left=5), less_row(a, b, depth=997), less_row([[1]], [[2]], depth=1000), less_row([[1]], [[2]], depth=999), less_row([1], [2], left=0), less_row([1], [2], left=1),
+        greater_row(2, 1), greater_row(1, 2), greater_row("ab", "a"), greater_row([], [1]), greater_row([1, 3], [1, 2]), greater_row((1, 2), (1, 2)), greater_row([[1, 6]], [[1, 5]]), greater_row(None, 1),
+        greater_row([{1: 1, 2: 2}], [{2: 3, 1: 1}]), greater_row([{2: 3, 1: 1}], [{1: 1, 2: 2}]), less_row([{1: 1, 2: 2}], [{2: 3, 1: 1}]), less_row([{2: 3, 1: 1}], [{1: 1, 2: 2}]),
+        greater_row([{1: a, 2: 2}], [{2: 3, 1: b}], depth=990), greater_row([{2: 3, 1: b}], [{1: a, 2: 2}], depth=990), greater_row([SimpleNamespace(a=1, b=2)], [SimpleNamespace(b=3, a=1)]),
     ]
     return rows
 
@@ -399,7 +420,7 @@ def main():
            "use Rattle.kishu_meaning.specs.values.Nodes.{value_at, with_entry, without_entry, last_of, changed, set_item, push, pop, replace_list, insert, remove, set_attr, remove_attr}"], rows), rows, "node")
     write("EqualExamples", "How some comparisons end, as CPython tells, with the steps that are left: computed on the definition.",
           [common, prelude, "use Rattle.kishu_meaning.specs.values.Keys as p", VALUES,
-           "use Rattle.kishu_meaning.specs.moments.Counting.{answer, too_deep, spent}", "use Rattle.kishu_meaning.specs.comparing.Equal.{equal_in, less_in}"], equal_rows(), "compare")
+           "use Rattle.kishu_meaning.specs.moments.Counting.{answer, too_deep, spent}", "use Rattle.kishu_meaning.specs.comparing.Equal.{equal_in, less_in, greater_in}"], equal_rows(), "compare")
 
 
 if __name__ == "__main__":
