@@ -1,11 +1,11 @@
 #!/usr/bin/env python3
-"""Tries the edits that the gate leaves out: those of crates of the language.
+"""Tries the edits that the gate leaves out.
 
     python3 tools/edits/try_edits.py [CRATE ..]
 
 Each folder beside this script holds the edits of one crate, as they would stand in its `must-fail/`. They are
 put there, tried by `rt must-fail`, which must refuse each, and taken away again. With no crate named those of
-all are tried, which takes over an hour. The status is 0 where each was refused.
+all are tried, which takes some four hours of a processor. The status is 0 where each was refused.
 """
 import pathlib
 import shutil
