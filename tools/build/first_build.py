@@ -4,10 +4,9 @@
 usage: first_build.py run SEEN WORD..    runs the program with these words; SEEN is kept as the state that its sources were seen in
        first_build.py install FOLDER     copies the program to FOLDER/kishu
 
-The scripts `kishu` and `install` call it. A proof by `rt lib` locks the crates below its own, so two of them wait for each other where
-they share a checkout. Each crate is therefore proved in a room: a folder with the sources of the crate and of those below, with the
-libraries that were built of those, and with what the crate's earlier checks kept. When a proof ends, however it ends, what it made
-comes home to the crate's own out/, so that the next start goes on there. Whether a library fits its sources is judged by `rt` alone.
+The scripts `kishu` and `install` call it. The proofs are made by `rt ci`, which has as many crates in work at once as processors and
+memory allow, and keeps what it proved beside the toolchain, so that the next build takes it over. It runs in a room: a folder with a copy of
+the sources of the program's crates, of one moment, without the edits that must be refused, and nothing else.
 """
 import fcntl
 import hashlib
@@ -23,19 +22,17 @@ import time
 HOME = os.path.dirname(os.path.dirname(os.path.dirname(os.path.realpath(__file__))))
 TOP = "kishu_cli"
 OUT = f"{HOME}/crates/{TOP}/out"
-PROGRAM, STAMP, SEEN, LOGS = f"{OUT}/{TOP}", f"{OUT}/sources.sha256", f"{OUT}/sources.seen", f"{OUT}/build"
+PROGRAM, STAMP, SEEN, LOG = f"{OUT}/{TOP}", f"{OUT}/sources.sha256", f"{OUT}/sources.seen", f"{OUT}/build.log"
 GB = 1 << 30
-# What a proof takes of the memory, mostly, and what a further job of it takes.
-PROOF_TAKES, JOB_TAKES = 3 * GB, 3 * GB // 2
-MOST_JOBS = 4
-# What must be free on the disk: a proof keeps up to 0.5 GB.
+# What must be free on the disk.
 DISK_LEAST = 1 * GB
-# The status of `rt` when the system killed the proof.
-KILLED = 256 - signal.SIGKILL
 # The signals that end a build, less those that whoever started it has it ignore.
 STOPS = [it for it in (signal.SIGINT, signal.SIGTERM, signal.SIGHUP) if signal.getsignal(it) != signal.SIG_IGN]
-# How often the progress is told when nothing begins or ends, and how often is looked for what ended, in seconds.
-TELLS_EACH, LOOKS_EACH = 60, 0.1
+# What `rt` says of a crate that is proved, and of one that isn't.
+PROVED = re.compile(r"^rt: (\w+) (?:proved$|is kept: )", re.M)
+NOT_PROVED = re.compile(r"^rt: (\w+)(?:: its tests are)? NOT PROVED", re.M)
+# How often the progress is told when nothing ended, and how often is looked for what ended, in seconds.
+TELLS_EACH, LOOKS_EACH = 60, 0.5
 
 
 class Fault(Exception):
@@ -78,14 +75,6 @@ def crates_of(root):
     return found
 
 
-def below(crates, name):
-    """Returns the crates below one, each once."""
-    found = set()
-    for it in crates[name]:
-        found |= {it} | below(crates, it)
-    return found
-
-
 def files_of(root, name):
     """Returns the paths of a crate's sources below the root."""
     for at, folders, files in os.walk(f"{root}/crates/{name}"):
@@ -105,16 +94,6 @@ def sum_of(root):
     return f"{total.hexdigest()}\n"
 
 
-def work_of(root, name):
-    """Returns the work that a crate's proof is likely to take: its lines of code, and a tenth of its lines of definitions and proofs."""
-    code = proofs = 1
-    for file in files_of(root, name):
-        with open(f"{root}/{file}", "rb") as it:
-            lines = it.read().count(b"\n")
-        code, proofs = (code + lines, proofs) if file.endswith(".rt") else (code, proofs + lines)
-    return code + proofs / 10
-
-
 def stands():
     """Returns whether the program was built of the sources as they are now."""
     try:
@@ -122,35 +101,6 @@ def stands():
             return os.access(PROGRAM, os.X_OK) and it.read() == sum_of(HOME)
     except OSError:
         return False
-
-
-# The machine
-
-
-def number_in(file, pattern=r"(\d+)"):
-    """Returns the number that a file of the system has there, or None."""
-    try:
-        with open(file, encoding="utf-8") as it:
-            found = re.search(pattern, it.read())
-            return int(found[1]) if found else None
-    except OSError:
-        return None
-
-
-def processors():
-    """Returns how many processors this process may use, by its group's quota too."""
-    group = "/sys/fs/cgroup/cpu.max"
-    quota, period = number_in(group, r"^(\d+)"), number_in(group, r" (\d+)")
-    found = len(os.sched_getaffinity(0))
-    return min(found, max(quota // period, 1)) if quota and period else found
-
-
-def free_memory():
-    """Returns the bytes of memory that are free, by the group's limit too."""
-    group = "/sys/fs/cgroup"
-    found = 1024 * (number_in("/proc/meminfo", r"MemAvailable:\s+(\d+)") or 0)
-    limit, held = number_in(f"{group}/memory.max", r"^(\d+)"), number_in(f"{group}/memory.stat", r"anon (\d+)")
-    return found if limit is None or held is None else min(found, limit - held)
 
 
 def toolchain():
@@ -161,186 +111,103 @@ def toolchain():
     return found
 
 
-# The rooms
+# The room
 
 
-def rooms_of():
-    """Returns the folder of the rooms: beside the checkout, or else among the temporary files. On the checkout's own disk what is proved
-    gets there by links; inside the checkout `rt ci` and `rt all` would take the rooms for crates of the repository."""
+def room_of():
+    """Returns the folder of the room: beside the checkout, or else among the temporary files. Inside the checkout `rt ci` and `rt all` would
+    take its crates for some of the repository."""
     beside, name = os.path.split(HOME)
     if os.access(beside, os.W_OK):
         return f"{beside}/.{name}-build"
     return f"{tempfile.gettempdir()}/kishu-build-{hashlib.sha256(HOME.encode()).hexdigest()[:16]}"
 
 
-def link_or_copy(one, other):
-    try:
-        os.link(one, other)
-    except OSError:
-        shutil.copy2(one, other)
-
-
-def move_out(one, other, only_missing=False):
-    """Moves what an out/ holds into another, in the place of what is there."""
-    for name in os.listdir(one) if os.path.isdir(one) else []:
-        to = f"{other}/{name}"
-        if f"{one}/{name}" in (LOGS, STAMP, SEEN) or only_missing and os.path.lexists(to):
-            continue
-        os.makedirs(other, exist_ok=True)
-        if os.path.isdir(to):
-            shutil.rmtree(to)
-        shutil.move(f"{one}/{name}", to)
-
-
-def copy_sources(one, other, names):
-    """Copies these crates' lines of crates.txt, HANDLES, and their folders without what was made there."""
-    os.makedirs(other)
-    lines = lines_of(one)
-    with open(f"{other}/crates.txt", "w", encoding="utf-8") as it:
-        it.writelines(lines[name] for name in names)
-    if os.path.isfile(f"{one}/HANDLES"):
-        shutil.copy2(f"{one}/HANDLES", f"{other}/HANDLES")
-    for name in names:
-        shutil.copytree(f"{one}/crates/{name}", f"{other}/crates/{name}", ignore=shutil.ignore_patterns("out", "data", "must-fail"))
+def copy_sources(to):
+    """Copies the program's crates, with their lines of crates.txt, and HANDLES."""
+    crates, lines = crates_of(HOME), lines_of(HOME)
+    os.mkdir(to, 0o700)
+    # (so that the room is the top of a repository, wherever it lies)
+    os.mkdir(f"{to}/.git")
+    with open(f"{to}/crates.txt", "w", encoding="utf-8") as it:
+        it.writelines(lines[name] for name in crates)
+    if os.path.isfile(f"{HOME}/HANDLES"):
+        shutil.copy2(f"{HOME}/HANDLES", f"{to}/HANDLES")
+    for name in crates:
+        shutil.copytree(f"{HOME}/crates/{name}", f"{to}/crates/{name}", ignore=shutil.ignore_patterns("out", "data", "must-fail"))
 
 
 class Build:
-    """One build: which crates are left, which are in work, and which are done."""
+    """One build: a run of `rt ci` in a room."""
 
     def __init__(self, rt, locks):
-        self.rt, self.locks, self.began, self.told, self.asked = rt, locks, time.monotonic(), 0, None
-        self.rooms = rooms_of()
+        self.began, self.told, self.asked, self.done = time.monotonic(), 0, None, set()
+        self.room = room_of()
         self.tidy()
-        os.mkdir(self.rooms, 0o700)
-        # (of one moment, whatever is edited meanwhile)
-        self.sources = f"{self.rooms}/.sources"
-        copy_sources(HOME, self.sources, crates_of(HOME))
-        self.sum, self.crates = sum_of(self.sources), crates_of(self.sources)
-        self.work = {it: work_of(self.sources, it) for it in self.crates}
-        # The work of the longest chain of crates that begins with the crate.
-        self.chain = dict(self.work)
-        for name in reversed(self.crates):
-            for it in self.crates[name]:
-                self.chain[it] = max(self.chain[it], self.work[it] + self.chain[name])
-        self.left, self.running, self.done = list(self.crates), {}, set()
-        self.processors, self.memory = processors(), free_memory()
+        copy_sources(self.room)
+        self.sum, self.crates = sum_of(self.room), crates_of(self.room)
+        with open(LOG, "w", encoding="utf-8") as log:
+            # (its own session, so that Ctrl-C comes here alone; it holds the locks while it lives, even if this process is killed)
+            self.process = subprocess.Popen(
+                [rt, "ci"], cwd=self.room, stdin=subprocess.DEVNULL, stdout=log, stderr=log, start_new_session=True, pass_fds=locks
+            )
 
     def tidy(self):
-        """Removes the rooms, and brings home what a build that was killed left in them."""
-        is_ours = os.path.isdir(self.rooms) and os.lstat(self.rooms).st_uid == os.geteuid()
-        for name in os.listdir(self.rooms) if is_ours else []:
-            if os.path.isdir(f"{HOME}/crates/{name}"):
-                move_out(f"{self.rooms}/{name}/crates/{name}/out", f"{HOME}/crates/{name}/out", only_missing=True)
-        shutil.rmtree(self.rooms, ignore_errors=True)
+        shutil.rmtree(self.room, ignore_errors=True)
+
+    def in_work(self):
+        """Returns the crates in whose folders of the room a process works."""
+        found, top = set(), f"{os.path.realpath(self.room)}/crates/"
+        for pid in filter(str.isdigit, os.listdir("/proc")):
+            try:
+                at = os.readlink(f"/proc/{pid}/cwd")
+            except OSError:
+                continue
+            if at.startswith(top):
+                found.add(at[len(top) :].partition("/")[0])
+        return sorted(found)
 
     def tell(self):
-        now = time.monotonic()
-        self.told = now
-        minutes = lambda since: f"{int(now - since) // 60} min"
-        at_work = [f"{name} ({minutes(it['since'])}{', %d jobs' % it['jobs'] if it['jobs'] > 1 else ''})" for name, it in self.running.items()]
-        say(f"{len(self.done)} of {len(self.crates)} crates proved in {minutes(self.began)}" + "; in work: " * bool(at_work) + ", ".join(at_work))
+        self.told = time.monotonic()
+        work = [it for it in self.in_work() if it not in self.done]
+        say(f"{len(self.done)} of {len(self.crates)} crates proved in {int(self.told - self.began) // 60} min" + "; in work: " * bool(work) + ", ".join(work))
 
-    def takes(self, jobs):
-        return PROOF_TAKES + JOB_TAKES * (jobs - 1)
-
-    def jobs_for(self, name, waiting):
-        """Returns how many jobs a crate gets now, 0 if it has to wait. `waiting` counts the crates that could begin, this one among them."""
-        idle = self.processors - sum(it["jobs"] for it in self.running.values())
-        room = self.memory - sum(self.takes(it["jobs"]) for it in self.running.values())
-        if idle < 1 or self.running and min(room, free_memory()) < PROOF_TAKES:
-            return 0
-        jobs = idle // max(1, min(waiting, room // PROOF_TAKES))
-        undone = [it for it in self.crates if it not in self.done]
-        if self.chain[name] == max(self.chain[it] for it in undone):
-            # The longest chain gets its share of all the processors, of which each other crate has one.
-            jobs = max(jobs, round(self.processors * self.chain[name] / sum(self.work[it] for it in undone)))
-        while jobs > 1 and self.takes(jobs) > room:
-            jobs -= 1
-        return max(1, min(jobs, idle, MOST_JOBS))
-
-    def begin(self, name, jobs):
-        """Starts the proof of a crate in a room of its own."""
-        room = f"{self.rooms}/{name}"
-        folder, out = f"{room}/crates/{name}", f"{HOME}/crates/{name}/out"
-        shutil.rmtree(room, ignore_errors=True)
-        copy_sources(self.sources, room, [name, *below(self.crates, name)])
-        for it in below(self.crates, name):
-            shutil.copytree(f"{HOME}/crates/{it}/out/rlib", f"{room}/crates/{it}/out/rlib", copy_function=link_or_copy)
-        move_out(out, f"{folder}/out")
-        # A program's build runs it too. Without words it ends at once, as a wrong use.
-        verb = "run" if name == TOP else "lib"
-        with open(f"{LOGS}/{name}.log", "w", encoding="utf-8") as log:
-            # (its own session, so that Ctrl-C comes here alone; it holds the locks while it lives, even if this process is killed)
-            process = subprocess.Popen(
-                [self.rt, verb, "--jobs", str(jobs)], cwd=folder, stdin=subprocess.DEVNULL, stdout=log, stderr=log,
-                start_new_session=True, pass_fds=self.locks, env={it: said for it, said in os.environ.items() if it != "RT_BACKEND"},
-            )
-        self.left.remove(name)
-        self.running[name] = {"process": process, "jobs": jobs, "since": time.monotonic(), "folder": folder, "out": out}
-
-    def end(self, name):
-        """Brings home what a proof made, and removes its room."""
-        it = self.running.pop(name)
-        move_out(f"{it['folder']}/out", it["out"])
-        shutil.rmtree(f"{self.rooms}/{name}", ignore_errors=True)
-        return it
-
-    def begin_what_fits(self):
-        """Starts the proofs that can begin, those of the longest chains first, and returns whether there were any."""
-        was = len(self.left)
-        while True:
-            ready = [it for it in self.left if self.done.issuperset(self.crates[it])]
-            ready.sort(key=lambda it: -self.chain[it])
-            jobs = self.jobs_for(ready[0], len(ready)) if ready else 0
-            if not jobs:
-                return len(self.left) < was
-            self.begin(ready[0], jobs)
-
-    def judge(self, name, was):
-        """Takes a proof that ended for done, or for one to try again alone, or says what is wrong."""
-        status = was["process"].returncode
-        # `rt` writes these last. (Where it ran the program, its status is that one's)
-        last = [PROGRAM, f"{PROGRAM}.stamp"] if name == TOP else [f"{was['out']}/rlib/stamp"]
-        if (status == 0 or name == TOP) and all(map(os.path.exists, last)):
-            self.done.add(name)
-        elif status == KILLED and self.processors > 1:
-            say(f"the proof of {name} was killed, most likely for memory: from now on one crate at a time")
-            self.processors = 1
-            self.left.append(name)
-        elif status == KILLED:
-            left = f"{free_memory() / GB:.1f} GB are free, a proof takes 1 to 7"
-            raise Fault(f"the proof of {name} was killed, most likely for memory ({left}): free some and start again")
-        else:
+    def look(self):
+        """Reads what the run has said, and returns whether a further crate is proved."""
+        with open(LOG, encoding="utf-8", errors="replace") as it:
+            said = it.read()
+        lost = NOT_PROVED.search(said)
+        if lost:
             need_disk()
-            raise Fault(f"the crate {name} is not proved, so the program is not built: see {LOGS}/{name}.log")
+            raise Fault(f"the crate {lost[1]} is not proved, so the program is not built: see {LOG}")
+        before, self.done = len(self.done), set(PROVED.findall(said))
+        return len(self.done) > before
 
     def run(self):
-        """Proves every crate, the program's last."""
-        ended = []
-        while self.left or self.running:
-            if self.begin_what_fits() or ended or time.monotonic() - self.told >= TELLS_EACH:
+        """Waits until the run ends, and takes the program over."""
+        while self.process.poll() is None:
+            if self.look() or time.monotonic() - self.told >= TELLS_EACH:
                 self.tell()
             time.sleep(LOOKS_EACH)
             if self.asked:
                 raise Stopped(self.asked)
-            ended = [it for it, was in self.running.items() if was["process"].poll() is not None]
-            for name in ended:
-                self.judge(name, self.end(name))
+        self.look()
+        if self.process.returncode:
+            need_disk()
+            raise Fault(f"the program is not built: see the end of {LOG}")
+        shutil.move(f"{self.room}/crates/{TOP}/out/{TOP}", PROGRAM)
+        with open(STAMP, "w", encoding="utf-8") as it:
+            it.write(self.sum)
 
     def ask_to_stop(self, number, _frame):
-        """Heeds a signal, between two steps of the build."""
+        """Heeds a signal, between two looks."""
         self.asked = number
 
     def stop(self):
-        """Stops the proofs in work and brings home what they kept."""
-        for it in self.running.values():
-            # `rt` ends what it started when it ends.
-            it["process"].terminate()
-        for it in self.running.values():
-            it["process"].wait()
-        time.sleep(0.5 * bool(self.running))
-        for name in list(self.running):
-            self.end(name)
+        """Stops what is in work, and removes the room."""
+        # `rt` ends what it started when it ends.
+        self.process.terminate()
+        self.process.wait()
         self.tidy()
 
 
@@ -358,18 +225,14 @@ def need_disk():
         raise Fault(disk_fault())
 
 
-def locked(names):
-    """Waits until neither another build nor an `rt` works in these crates, and returns what keeps them out: `rt` locks the same folders."""
-    held, waits = [], False
-    for folder in sorted(f"{HOME}/crates/{it}" for it in names):
-        held.append(os.open(folder, os.O_RDONLY))
-        try:
-            fcntl.flock(held[-1], fcntl.LOCK_EX | fcntl.LOCK_NB)
-        except BlockingIOError:
-            if not waits:
-                say("another start builds the program, or an rt works in this checkout: waiting until it ends")
-            waits = True
-            fcntl.flock(held[-1], fcntl.LOCK_EX)
+def locked():
+    """Waits until neither another build nor an `rt` works in the program's crate, and returns what keeps them out: `rt` locks the same folder."""
+    held = os.open(f"{HOME}/crates/{TOP}", os.O_RDONLY)
+    try:
+        fcntl.flock(held, fcntl.LOCK_EX | fcntl.LOCK_NB)
+    except BlockingIOError:
+        say("another start builds the program, or an rt works in this checkout: waiting until it ends")
+        fcntl.flock(held, fcntl.LOCK_EX)
     return held
 
 
@@ -377,31 +240,26 @@ def build():
     """Builds the program where it doesn't stand."""
     if stands():
         return
-    rt = toolchain()
-    locks = locked(crates_of(HOME))
+    rt, lock = toolchain(), locked()
     if stands():
         # (another start has built it meanwhile)
         return
     need_disk()
     say("proving and building the program, since it isn't built or its sources have changed")
+    os.makedirs(OUT, exist_ok=True)
     for it in (PROGRAM, STAMP, SEEN):
         if os.path.lexists(it):
             os.remove(it)
-    os.makedirs(LOGS, exist_ok=True)
-    made = Build(rt, locks)
-    say("from nothing every crate below the program is proved, later only what changed")
-    say(f"it uses {made.processors} processors and up to {made.memory / GB:.0f} GB of memory; the logs are in {LOGS}")
+    made = Build(rt, [lock])
+    say(f"from nothing every crate below the program is proved, later only what changed; the log is {LOG}")
     heed(made.ask_to_stop)
     try:
         made.run()
-        with open(STAMP, "w", encoding="utf-8") as it:
-            it.write(made.sum)
     finally:
         heed(signal.SIG_IGN)
         made.stop()
     say(f"built in {(time.monotonic() - made.began) / 60:.0f} min")
-    for it in locks:
-        os.close(it)
+    os.close(lock)
 
 
 def run(seen, words):
@@ -461,7 +319,7 @@ def main(words):
         say(disk_fault() or f"{error.filename or HOME}: {error.strerror or error}")
         return 1
     except Stopped as stopped:
-        say("stopped; what was proved is kept, and the next start goes on there")
+        say("stopped; the crates that were proved are kept, and the next start goes on there")
         return 128 + stopped.args[0]
 
 
